@@ -1,0 +1,17 @@
+pub mod ByPairs
+pub mod DeadPaths
+pub mod Tables
+pub mod ListedVertices
+pub mod Counts
+pub mod FallingLists
+pub mod NeighbourCounts
+pub mod PlainTests
+pub mod Walk
+pub mod OneReading
+pub mod Descent
+pub mod MappingLines
+pub mod WordEnds
+pub mod NumberWords
+pub mod Steps
+pub mod OneAnswer
+pub mod MappingWords

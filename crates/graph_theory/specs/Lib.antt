@@ -1,0 +1,12 @@
+pub mod Text
+pub mod Lad
+pub mod LadFault
+pub mod Progress
+pub mod Graph
+pub mod Embedding
+pub mod Path
+pub mod Mapping
+pub mod PlainSteps
+pub mod Neighbours
+pub mod NeighbourLaws
+pub mod GraphText

@@ -1,0 +1,9 @@
+pub mod Faults
+pub mod KnownText
+pub mod Sinks
+pub mod NamedFiles
+pub mod Bounded
+pub mod Memory
+pub mod MemorySinks
+pub mod MemoryTold
+pub mod RealEdge
