@@ -1,0 +1,17 @@
+use Rattle.std.proofs.Common.{◌≡◌, ◌+◌, ◌/◌, length, ap, ◌∙◌, arith, rules}
+use Rattle.std.proofs.lemmas.List.{with_items_is}
+use Rattle.graph_rows.proofs.Marking.{no_marks_made}
+use Rattle.graph_rows.proofs.Parts.{graph-made}
+use Rattle.graph_rows.proofs.graph.Graph.new.Goals as goal
+
+pub mark_all-requires-clause-marks : goal.mark_all-requires-clause-marks
+mark_all-requires-clause-marks c =
+    let same : length c.in_ok-labels.labels.items ≡ length c.args.parts.now.labels = ap length (c.in_ok-labels.ensures.items ∙ c.as_slice.ensures) in
+    no_marks_made c.len-size.result _ _ _ c.in_ok-words.words.items c.in_ok-degrees.degrees.items (omega arith) (search rules)
+    c.deref_mut.ensures.value (c.in_ok-words.ensures.items_if_clones_equal (search rules))
+    c.deref_mut-2.ensures.value (c.in_ok-degrees.ensures.items_if_clones_equal (search rules))
+
+pub returns : goal.returns
+returns c =
+    graph-made c.in_ok-labels.labels.items c.args.parts.now.labels c.mark_all.new.words _ c.mark_all.new.degrees (length c.deref_mut-2.result.now) ((c.len-size.result + 63) / 64)
+    c.args.parts.now.neighbours (c.in_ok-labels.ensures.items ∙ c.as_slice.ensures) (with_items_is c.in_ok-words.words c.mark_all.new.words (search rules)) c.requires.lengths (search rules) c.mark_all.ensures.marks c.mark_all.ensures.said

@@ -1,0 +1,3 @@
+pub mod BitRow
+pub mod Held
+pub mod Fitting

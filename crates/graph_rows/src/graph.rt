@@ -1,0 +1,201 @@
+//! Graphs as bit rows: an edge is one bit, and a vertex's neighbours are one row of words. (Ullmann 2010.)
+
+ghost use Rattle.std.specs.Prelude.{◌≡◌, ℕ, ◌+◌, ◌*◌, ◌^◌, ◌<◌, ◌≤◌, ◌==◌, ◌&&◌, ◌||◌, ◌↔◌, not, false, length, is_some, IsTrue, IfOk, slice_index};
+ghost use Rattle.graph_theory.specs.Graph.{size as size_of, label as label_of, edge as edge_of, graph_of};
+ghost use Rattle.graph_theory.specs.Neighbours.{degree as degree_of};
+ghost use Rattle.lad_reader.specs.Parts.{vertices_of, AreBelow, AllBelow};
+ghost use Rattle.graph_rows.specs.BitRow.{has, words_for};
+ghost use Rattle.graph_rows.specs.Held.{marked, AreMarks, AddsMark, AddsListed, either_said};
+
+use lad_reader::{GraphParts, NeighbourLists};
+use std::alloc::{AllocError, Global};
+use std::marker::Model;
+
+/// A graph of at most 8,192 vertices, of which each two have an edge or none.
+#[derive(Drop)]
+pub struct Graph {
+    labels: Vec<u32>,
+    words: Vec<u64>,
+    width: usize,
+    degrees: Vec<u16>,
+}
+
+impl Model for Graph {
+    ghost use Rattle.graph_theory.specs.Graph.{Graph as TheGraph};
+    ghost use Rattle.std.specs.Prelude.{length};
+    ghost use Rattle.graph_rows.specs.Held.{graph_held, AreMarks};
+
+    ghost Value = { TheGraph };
+
+    ghost view = { λ g. graph_held g.labels.items g.words.items g.width };
+
+    ghost invariant = { λ g. AreMarks (length g.labels.items) g.width g.words.items g.degrees.items };
+}
+
+impl Graph {
+    /// The graph of a text's parts; an edge that one end lists counts for both. Cost: linear in the parts and in the
+    /// words of the rows.
+    pub fn new(alloc: Global, parts: &GraphParts) -> Result<Graph, AllocError>
+        requires lengths { length parts.now.labels ≡ length parts.now.neighbours }
+        requires few { length parts.now.labels ≤ 8192 }
+        requires below { AllBelow (length parts.now.labels) parts.now.neighbours }
+        ensures { IfOk result (λ g. g ≡ graph_of (vertices_of parts.now)) }
+    {
+        let labels = Vec::from_slice(alloc, parts.labels.as_slice())?;
+        let size = labels.len();
+        let width = (size + 63) / 64;
+        let mut words = vec![in alloc; 0u64; size * width]?;
+        let mut degrees = vec![in alloc; 0u16; size]?;
+        mark_all(&mut words, &mut degrees, width, &parts.neighbours);
+        Ok(Graph {
+            labels,
+            words,
+            width,
+            degrees,
+        })
+    }
+
+    /// The number of vertices.
+    pub fn size(&self) -> u16
+        ensures size { result ≡ size_of self.now }
+        ensures few { result ≤ 8192 }
+    {
+        self.labels.len() as u16
+    }
+
+    /// The label of a vertex.
+    pub fn label(&self, a: u16) -> u32
+        requires { a < size_of self.now }
+        ensures { result ≡ label_of self.now a }
+    {
+        self.labels[usize::from(a)]
+    }
+
+    /// The label of the edge from `a` to `b`, or none where no edge leads there. Cost: one word.
+    pub fn edge(&self, a: u16, b: u16) -> Option<u32>
+        requires from { a < size_of self.now }
+        requires to { b < size_of self.now }
+        ensures { result ≡ edge_of self.now a b }
+    {
+        if is_marked(&self.words, self.width, usize::from(a), usize::from(b)) {
+            Some(0)
+        } else {
+            None
+        }
+    }
+
+    /// Whether an edge leads from `a` to `b`. Cost: one word.
+    pub fn has_edge(&self, a: u16, b: u16) -> bool
+        requires from { a < size_of self.now }
+        requires to { b < size_of self.now }
+        ensures { result ≡ is_some (edge_of self.now a b) }
+    {
+        self.edge(a, b).is_some()
+    }
+
+    /// How many other vertices an edge leads to from `a`. It was counted when the graph was made.
+    pub fn degree(&self, a: u16) -> u16
+        requires { a < size_of self.now }
+        ensures { result ≡ degree_of self.now a }
+    {
+        self.degrees[usize::from(a)]
+    }
+
+    /// The vertices to which an edge leads from `a`, as a bit row.
+    pub fn row(&self, a: u16) -> &[u64]
+        requires { a < size_of self.now }
+        ensures long { length result.now ≡ words_for (size_of self.now) }
+        ensures neighbours { (b : ℕ) → has result.now b ≡ is_some (edge_of self.now a b) }
+    {
+        let from = usize::from(a) * self.width;
+        &self.words[from..from + self.width]
+    }
+
+    /// Whether the other graph has the same labels and edges. Cost: the words of the rows.
+    pub fn same(&self, other: &Graph) -> bool
+        ensures { IsTrue result ↔ (self.now ≡ other.now) }
+    {
+        same_lists(&self.labels, &other.labels, &self.words, &other.words)
+    }
+}
+
+/// Whether labels are the same, and words are.
+fn same_lists(labels: &[u32], other_labels: &[u32], words: &[u64], other_words: &[u64]) -> bool
+    ensures same { IsTrue result ↔ ((labels.now ≡ other_labels.now) × (words.now ≡ other_words.now)) }
+    ensures fit { (k : ℕ) → slice_index words.now k < 2 ^ 64 }
+    ensures others_fit { (k : ℕ) → slice_index other_words.now k < 2 ^ 64 }
+{
+    labels == other_labels && words == other_words
+}
+
+/// Whether the value is in the set that the row holds.
+fn has_bit(row: &[u64], value: usize) -> bool
+    requires { value < 64 * length row.now }
+    ensures { result ≡ has row.now value }
+{
+    (row[value / 64] >> (value % 64)) & 1 == 1
+}
+
+/// Puts the value into the set that the row holds, and says whether it is new there.
+fn set_bit(row: &mut [u64], value: usize) -> bool
+    requires { value < 64 * length row.old }
+    ensures new { result ≡ not (has row.old value) }
+    ensures set { (v : ℕ) → has row.new v ≡ (has row.old v || value == v) }
+{
+    let is_new = !has_bit(row, value);
+    row[value / 64] |= 1 << (value % 64);
+    is_new
+}
+
+/// Whether `b` is marked in the row of `a`.
+fn is_marked(words: &[u64], width: usize, a: usize, b: usize) -> bool
+    requires narrow { width ≤ 128 }
+    requires from { a < 8192 }
+    requires to { b < 8192 }
+    requires within { a * (64 * width) + b < 64 * length words.now }
+    ensures { result ≡ marked words.now width a b }
+{
+    has_bit(words, a * (64 * width) + b)
+}
+
+/// Marks `b` in the row of `a`, and counts it there where it is a new neighbour.
+fn mark(words: &mut [u64], degrees: &mut [u16], width: usize, a: usize, b: usize)
+    requires marks { AreMarks (length degrees.old) width words.old degrees.old }
+    requires from { a < length degrees.old }
+    requires to { b < length degrees.old }
+    ensures marks { AreMarks (length degrees.old) width words.new degrees.new }
+    ensures added { AddsMark width words.old words.new a b }
+{
+    let is_new = set_bit(words, a * (64 * width) + b);
+    if is_new && a != b {
+        degrees[a] += 1;
+    }
+}
+
+/// Marks an edge between `a` and each vertex that it lists.
+fn mark_listed(words: &mut [u64], degrees: &mut [u16], width: usize, a: usize, listed: &[u32])
+    requires marks { AreMarks (length degrees.old) width words.old degrees.old }
+    requires from { a < length degrees.old }
+    requires to { AreBelow (length degrees.old) listed.now }
+    ensures marks { AreMarks (length degrees.old) width words.new degrees.new }
+    ensures added { AddsListed width words.old words.new a listed.now }
+{
+    for b in listed {
+        mark(words, degrees, width, a, *b as usize);
+        mark(words, degrees, width, *b as usize, a);
+    }
+}
+
+/// Marks the edges that the lists say, in rows without marks.
+fn mark_all(words: &mut [u64], degrees: &mut [u16], width: usize, neighbours: &NeighbourLists)
+    requires marks { AreMarks (length degrees.old) width words.old degrees.old }
+    requires empty { (x y : ℕ) → marked words.old width x y ≡ false }
+    requires all { length neighbours.now ≡ length degrees.old }
+    requires to { AllBelow (length degrees.old) neighbours.now }
+    ensures marks { AreMarks (length degrees.old) width words.new degrees.new }
+    ensures said { (x y : ℕ) → x < 64 * width → y < 64 * width → marked words.new width x y ≡ either_said neighbours.now x y }
+{
+    for a in 0..neighbours.len() {
+        mark_listed(words, degrees, width, a, neighbours.of(a));
+    }
+}

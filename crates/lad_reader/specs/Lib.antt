@@ -1,0 +1,4 @@
+pub mod Parts
+pub use Rattle.graph_theory.specs.Text
+pub use Rattle.graph_theory.specs.Lad
+pub use Rattle.graph_theory.specs.LadFault
