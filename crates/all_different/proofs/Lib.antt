@@ -1,0 +1,9 @@
+pub mod Ranking
+pub mod Unions
+pub mod Choosing
+pub mod Placing
+pub mod Clearing
+pub mod Sums
+pub mod Meeting
+pub mod Scanning
+pub mod Showing

@@ -1,0 +1,6 @@
+pub mod Ranks
+pub mod Prefixes
+pub mod Choices
+pub mod Pruning
+pub mod Steps
+pub mod Memory

@@ -1,0 +1,2 @@
+pub mod Bias
+pub mod Streams

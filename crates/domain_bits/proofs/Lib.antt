@@ -1,0 +1,12 @@
+pub mod Counts
+pub mod WordBits
+pub mod Rows
+pub mod Removed
+pub mod WholeRows
+pub mod Runs
+pub mod Filtering
+pub mod Keeping
+pub mod Undoing
+pub mod Cutting
+pub mod Sizes
+pub mod Fresh

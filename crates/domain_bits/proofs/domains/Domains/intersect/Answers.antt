@@ -1,0 +1,57 @@
+use Rattle.std.proofs.Common.{◌≡◌, ◌-◌, ◌<◌, length, set, get_or, refl, ap, ◌∙◌, arith}
+use Rattle.std.proofs.lemmas.List.{length-set}
+use Rattle.domain_bits.specs.BitRows.{has}
+use Rattle.domain_bits.proofs.Keeping.{row_starts}
+use Rattle.domain_bits.proofs.Cutting.{Cut, part_is, part_room, part_enough, part_length, cut_all, rows_after, sizes_after}
+use Rattle.domain_bits.proofs.domains.Domains.intersect.Goals as goal
+
+pub filter_row-gone-requires-clause-room : goal.filter_row-gone-requires-clause-room
+filter_row-gone-requires-clause-room g c =
+    let f = c.self.inside in
+    let in-range : c.args.p < f.vertices = rw (← c.self.view_is) at c.requires.p_in in
+    part_room f.vertices f.values f.words _ f.rows.items f.sizes.items _ _ c.args.p c.self.invariant in-range
+    (part_is c.args.p c.from.result f.words f.rows.items c.deref_mut.result.now c.from.ensures c.deref_mut.ensures.value)
+
+pub lower-requires-clause-enough : goal.lower-requires-clause-enough
+lower-requires-clause-enough g c =
+    let f = c.self.inside in
+    let in-range : c.args.p < f.vertices = rw (← c.self.view_is) at c.requires.p_in in
+    rw (c.deref_mut-2.ensures.value, c.from-2.ensures)
+    (part_enough f.vertices f.values f.words _ f.rows.items f.sizes.items _ _ c.args.p c.filter_row-gone.result (has c.args.row.now) c.self.invariant in-range
+    (part_is c.args.p c.from.result f.words f.rows.items c.deref_mut.result.now c.from.ensures c.deref_mut.ensures.value) c.filter_row-gone.ensures.count)
+
+cut : (g : _) (c : goal.After-self-2-1 g) → let f = c.self.inside in
+    Cut f.vertices f.values f.words (g.T.Trail.removed f.trail) (g.T.Trail.removed c.filter_row-gone.new.trail) f.rows.items f.sizes.items c.filter_row-gone.new.domain (g.T.Trail.capacity c.filter_row-gone.new.trail) c.args.p c.filter_row-gone.result (has c.args.row.now)
+cut g c =
+    let f = c.self.inside in
+    let in-range : c.args.p < f.vertices = rw (← c.self.view_is) at c.requires.p_in in
+    cut_all f.vertices f.values f.words _ _ f.rows.items f.sizes.items _ c.filter_row-gone.new.domain _ _ c.args.p c.filter_row-gone.result (has c.args.row.now) c.self.invariant in-range
+    (part_is c.args.p c.from.result f.words f.rows.items c.deref_mut.result.now c.from.ensures c.deref_mut.ensures.value)
+    c.filter_row-gone.auto.domain c.filter_row-gone.ensures.row c.filter_row-gone.ensures.count c.filter_row-gone.ensures.trail c.filter_row-gone.ensures.room
+
+pub invariant_of-self : goal.invariant_of-self
+invariant_of-self g c =
+    let f = c.self.inside in
+    let in-range : c.args.p < f.vertices = rw (← c.self.view_is) at c.requires.p_in in
+    let part = part_is c.args.p c.from.result f.words f.rows.items c.deref_mut.result.now c.from.ensures c.deref_mut.ensures.value in
+    let long = c.filter_row-gone.auto.domain ∙ part_length f.vertices f.values f.words _ f.rows.items f.sizes.items _ _ c.args.p c.self.invariant in-range part in
+    let sizes : c.lower.new.sizes ≡ set f.sizes.items c.args.p (get_or f.sizes.items c.args.p 0 - c.filter_row-gone.result) = c.lower.ensures ∙ rw (c.deref_mut-2.ensures.value, c.from-2.ensures) refl in
+    rw (
+      rows_after c.args.p c.from.result f.words f.rows.len f.rows.items c.deref_mut.result.now c.filter_row-gone.new.domain c.from.ensures c.deref_mut.ensures.value (omega (arith, f.rows.ok))
+          (row_starts f.vertices f.values f.words _ f.rows.items f.sizes.items _ c.args.p c.self.invariant in-range) long,
+      sizes_after f.sizes.len f.sizes.items c.lower.new.sizes (omega (arith, f.sizes.ok)) (ap length sizes ∙ length-set f.sizes.items c.args.p _),
+      sizes,
+    )
+    (cut g c).kept
+
+pub returns-clause-after : goal.returns-clause-after
+returns-clause-after g c = rw (← c.self.view_is) (cut g c).after
+
+pub returns-clause-keeps : goal.returns-clause-keeps
+returns-clause-keeps g c = rw (← c.self.view_is) (cut g c).keeps-those
+
+pub returns-clause-vertices : goal.returns-clause-vertices
+returns-clause-vertices g c = (returns-clause-keeps g c).shrinks.vertices_same
+
+pub returns-clause-values : goal.returns-clause-values
+returns-clause-values g c = (returns-clause-keeps g c).shrinks.values_same

@@ -1,0 +1,10 @@
+use Rattle.std.proofs.Common.{◌≡◌}
+use Rattle.domain_bits.specs.BitRows.{has}
+use Rattle.domain_bits.proofs.Filtering.{Filtering}
+use Rattle.domain_bits.proofs.domains.filter_row.Given as goal
+
+abbrev pub invariant-loop-place : goal.invariant-loop-place
+invariant-loop-place g l = record {
+  filtering : Filtering l.fn.domain l.domain (has l.keep) l.place l.p (g.T.Trail.removed l.fn.trail) (g.T.Trail.removed l.trail) l.gone;
+  room : g.T.Trail.capacity l.trail ≡ g.T.Trail.capacity l.fn.trail;
+}

@@ -1,0 +1,5 @@
+pub mod Counting
+pub mod BitRows
+pub mod Removals
+pub mod Changes
+pub mod Inside

@@ -1,0 +1,7 @@
+pub mod Pairs
+pub mod Domains
+pub mod Luby
+pub mod Enough
+pub mod Refuted
+pub mod Rows
+pub mod Left
