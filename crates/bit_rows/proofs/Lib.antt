@@ -1,0 +1,3 @@
+pub mod Writing
+pub mod Shared
+pub mod Filled

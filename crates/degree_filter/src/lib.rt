@@ -1,0 +1,30 @@
+//! The degree filter: a vertex goes to none with fewer neighbours.
+//!
+//! An embedding sends the neighbours of a vertex to neighbours of its image, one to one, so a value with fewer
+//! neighbours lies in none (J. R. Ullmann, "An algorithm for subgraph isomorphism", 1976). Degrees are those that the
+//! graphs keep: loops do not count.
+#![tactic(auto)]
+
+ghost use Rattle.std.specs.Prelude.{◌<◌, ◌≤◌, ◌↔◌, IsTrue};
+ghost use Rattle.graph_theory.specs.Graph.{size};
+ghost use Rattle.graph_theory.specs.Neighbours.{degree};
+ghost use Rattle.degree_filter.specs.Degrees.{LesserDegreesAreDead};
+
+use graph_rows::Problem;
+
+/// Whether `t` has as many neighbours as `p`, at least. Cost: two steps.
+pub fn keeps(q: &Problem, p: u16, t: u16) -> bool
+    requires p_in { p < size q.now.pattern }
+    requires t_in { t < size q.now.target }
+    ensures { IsTrue result ↔ (degree q.now.pattern p ≤ degree q.now.target t) }
+{
+    q.pattern().degree(p) <= q.target().degree(t)
+}
+
+/// A value with fewer neighbours than its vertex lies in no embedding.
+pub fn lesser_degrees_are_dead()
+    ensures { LesserDegreesAreDead }
+{}
+
+#[cfg(test)]
+mod tests;

@@ -1,0 +1,68 @@
+//! Worked first domains.
+
+ghost use Rattle.std.specs.Prelude.{◌≤◌, IfSome};
+ghost use Rattle.graph_theory.specs.Graph.{size};
+
+use super::fill_first;
+use graph_rows::{Graph, Problem};
+use lad_reader::{LadKind, read_lad};
+use nds_filter::Sequences;
+use std::alloc::Global;
+use std::test::Fail;
+
+const TRIANGLE: &[u8] = b"3 2 1 2 2 0 2 2 0 1";
+
+const PATH: &[u8] = b"3 1 1 2 0 2 1 1";
+
+const LOOP: &[u8] = b"1 1 0";
+
+const POINT_AND_LOOP: &[u8] = b"2 0 1 1";
+
+/// The graph of a text of at most 64 vertices.
+fn graph(alloc: Global, text: &[u8]) -> Option<Graph>
+    ensures { IfSome result (λ g. size g ≤ 64) }
+{
+    let Ok(parts) = read_lad(alloc, text, LadKind::Lad, 64) else {
+        return None;
+    };
+    let Ok(graph) = Graph::new(alloc, &parts) else {
+        return None;
+    };
+    if graph.size() > 64 {
+        return None;
+    }
+    Some(graph)
+}
+
+/// The first domain of `p`, as one word.
+fn first(alloc: Global, pattern: &[u8], target: &[u8], induced: bool, p: u16) -> Option<u64> {
+    let q = Problem::new(graph(alloc, pattern)?, graph(alloc, target)?, induced);
+    let Ok(ps) = Sequences::new(alloc, q.pattern()) else {
+        return None;
+    };
+    let Ok(ts) = Sequences::new(alloc, q.target()) else {
+        return None;
+    };
+    if p >= q.pattern().size() || q.target().size() == 0 || q.target().size() > 64 {
+        return None;
+    }
+    let mut row = [u64::MAX];
+    fill_first(&q, &ps, &ts, p, &mut row);
+    Some(row[0])
+}
+
+#[test]
+fn first_domains_are_cut_by_each_filter(rt: HostRuntime) -> Result<(), Fail> {
+    assert_eq!(rt; first(rt.alloc(), PATH, TRIANGLE, false, 1), Some(0b111));
+    assert_eq!(rt; first(rt.alloc(), TRIANGLE, PATH, false, 0), Some(0));
+    assert_eq!(rt; first(rt.alloc(), PATH, PATH, true, 1), Some(0b010));
+    assert_eq!(rt;
+        first(rt.alloc(), LOOP, POINT_AND_LOOP, false, 0),
+        Some(0b10)
+    );
+    assert_eq!(rt;
+        first(rt.alloc(), b"1 0", POINT_AND_LOOP, true, 0),
+        Some(0b01)
+    );
+    Ok(())
+}

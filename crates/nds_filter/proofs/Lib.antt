@@ -1,0 +1,2 @@
+pub mod CountedLists
+pub mod Answering

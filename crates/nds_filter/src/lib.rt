@@ -1,0 +1,15 @@
+//! The filter by neighbours' degrees: a vertex goes to none whose neighbours have lesser degrees, place by place.
+//!
+//! The degrees of a vertex's neighbours in falling order are its sequence. An embedding keeps degrees and sends
+//! neighbours to neighbours, so the image's sequence goes on as long and is nowhere less (S. Zampelli, Y. Deville,
+//! C. Solnon, "Solving subgraph isomorphism problems with constraint programming", 2010). Sequences are made once for
+//! each graph, and two of them are compared without memory.
+#![tactic(auto)]
+
+mod sequences;
+mod shared;
+
+pub use sequences::{SequenceAnswer, Sequences, keeps, lesser_sequences_are_dead};
+
+#[cfg(test)]
+mod tests;

@@ -1,0 +1,72 @@
+//! Worked sequences.
+
+ghost use Rattle.std.specs.Prelude.{◌≤◌, IfSome};
+ghost use Rattle.graph_theory.specs.Graph.{size};
+
+use super::{SequenceAnswer, Sequences, keeps};
+use graph_rows::Graph;
+use lad_reader::{LadKind, read_lad};
+use std::alloc::Global;
+use std::test::Fail;
+
+const TRIANGLE: &[u8] = b"3 2 1 2 2 0 2 2 0 1";
+
+const LONG_PATH: &[u8] = b"4 1 1 2 0 2 2 1 3 1 2";
+
+const EDGE: &[u8] = b"2 1 1 1 0";
+
+/// The graph of a text of at most 64 vertices.
+fn graph(alloc: Global, text: &[u8]) -> Option<Graph>
+    ensures { IfSome result (λ g. size g ≤ 64) }
+{
+    let Ok(parts) = read_lad(alloc, text, LadKind::Lad, 64) else {
+        return None;
+    };
+    let Ok(graph) = Graph::new(alloc, &parts) else {
+        return None;
+    };
+    if graph.size() > 64 {
+        return None;
+    }
+    Some(graph)
+}
+
+/// The answer for two vertices of two texts' graphs.
+fn answer(alloc: Global, pattern: &[u8], target: &[u8], p: u16, t: u16) -> Option<SequenceAnswer> {
+    let (pattern, target) = (graph(alloc, pattern)?, graph(alloc, target)?);
+    let Ok(ps) = Sequences::new(alloc, &pattern) else {
+        return None;
+    };
+    let Ok(ts) = Sequences::new(alloc, &target) else {
+        return None;
+    };
+    if usize::from(p) >= ps.len() || usize::from(t) >= ts.len() {
+        return None;
+    }
+    Some(keeps(&ps, &ts, p, t))
+}
+
+#[test]
+fn sequences_are_compared_place_by_place(rt: HostRuntime) -> Result<(), Fail> {
+    assert_eq!(rt;
+        answer(rt.alloc(), TRIANGLE, LONG_PATH, 0, 1),
+        Some(SequenceAnswer::FailsAt(1))
+    );
+    assert_eq!(rt;
+        answer(rt.alloc(), LONG_PATH, TRIANGLE, 1, 0),
+        Some(SequenceAnswer::Kept)
+    );
+    assert_eq!(rt;
+        answer(rt.alloc(), TRIANGLE, EDGE, 0, 0),
+        Some(SequenceAnswer::FailsAt(0))
+    );
+    assert_eq!(rt;
+        answer(rt.alloc(), EDGE, LONG_PATH, 1, 3),
+        Some(SequenceAnswer::Kept)
+    );
+    assert_eq!(rt;
+        answer(rt.alloc(), LONG_PATH, LONG_PATH, 1, 3),
+        Some(SequenceAnswer::FailsAt(1))
+    );
+    Ok(())
+}

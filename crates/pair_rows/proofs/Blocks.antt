@@ -1,0 +1,201 @@
+-- Blocks of rows, and what a row says of its pair.
+
+use Rattle.std.proofs.Common.{◌≡◌, ℕ, ◌+◌, ◌*◌, ◌<◌, ◌≤◌, true, false, List, ◌++◌, length, take, drop, get_or, set, refl, sym, ap, ◌∙◌, subst, arith, inl, inr, ◌⊎◌, Some, zero-add}
+use Rattle.std.specs.Prelude.{slice_get, slice_index_or}
+use Rattle.std.proofs.lemmas.Bool.{cases_eq, cases_order, eqb-true, eq-eqb}
+use Rattle.std.proofs.lemmas.List.{get_or-set_same, get_or-set_other, length-set, get_or_read, take-append-le}
+use Rattle.std.proofs.lemmas.List.FromFn.{get_or-map-range_with_len}
+use Rattle.std.proofs.lemmas.Option.{slice_get_within}
+use Rattle.std.proofs.Math.Seq.{take-length}
+use native.Mathlib.Nat.{mul-le-mul_right}
+use Rattle.graph_rows.specs.BitRow.{has, words_for}
+use Rattle.graph_rows.proofs.Places.{place_within}
+use Rattle.graph_theory.specs.Graph.{Graph, size}
+use Rattle.graph_theory.specs.Embedding.{Problem}
+use Rattle.search_theory.specs.Consistency.{AreConsistent}
+use Rattle.pair_rows.specs.declared.kinds.PairKind.{PairKind}
+use Rattle.pair_rows.specs.Kinds.{kind_of, Joins, RowIs, HasRow, WordsStay}
+use Rattle.pair_rows.specs.Held.{owns, made_in, Held}
+use Rattle.pair_rows.specs.Rows.{Rows, IsMade}
+use Rattle.pair_rows.proofs.Rowing.{next_row, row_same, part_same}
+
+-- values that join in a pair's kind are consistent, and the other way round
+pub consistent_joins : (q : Problem) (p r t u : ℕ) → Joins q (kind_of q p r) t u → AreConsistent q p t r u
+consistent_joins q p r t u j = record { pair = record { apart = j.apart; out = j.out; back = j.back }; shared = j.shared }
+
+pub joins_consistent : (q : Problem) (p r t u : ℕ) → AreConsistent q p t r u → Joins q (kind_of q p r) t u
+joins_consistent q p r t u c = record { apart = c.pair.apart; out = c.pair.out; back = c.pair.back; shared = c.shared }
+
+-- a vertex whose rows are made owns its block
+pub owns_made : (block_of owners : List ℕ) (t : ℕ) → t < length block_of → slice_index_or (made_in block_of owners) t false ≡ owns block_of owners t
+owns_made block_of owners t t_in = get_or-map-range_with_len (owns block_of owners) 0 (length block_of) t t false t_in (zero-add t)
+
+-- the row of a pair at t is within the words, and is the pair's
+pub record RowGiven (q : Problem) (p r t from width : ℕ) (words : List ℕ) : Type 0 where
+  pub ends : from + width ≤ length words
+  pub long : width ≡ words_for (size q.target)
+  pub row : RowIs q (kind_of q p r) t (take width (drop from words))
+
+pub row_within : (blocks kinds width block place : ℕ) → block < blocks → place < kinds → (block * kinds + place) * width + width ≤ blocks * kinds * width
+row_within blocks kinds width block place b_in p_in = next_row (block * kinds + place) (blocks * kinds) width (place_within blocks kinds block place b_in p_in)
+
+pub row_given : (q : Problem) (vertices width : ℕ) (kinds : List PairKind) (places block_of owners counts pool : List ℕ) (counted : Graph)
+    → Held q vertices width kinds places block_of owners counts pool counted → (rows : Rows) → record { problem = q; made = made_in block_of owners } ≡ rows
+    → (p r t : ℕ) → p < size rows.problem.pattern → r < size rows.problem.pattern → (p ≡ r → ⊥) → t < size rows.problem.target → IsMade rows t
+    → RowGiven rows.problem p r t ((get_or block_of t 0 * length kinds + get_or places (p * vertices + r) 0) * width) width pool
+row_given q vertices width kinds places block_of owners counts pool counted held rows is =
+    subst (λ (x : Rows). (p r t : ℕ) → p < size x.problem.pattern → r < size x.problem.pattern → (p ≡ r → ⊥) → t < size x.problem.target → IsMade x t
+    → RowGiven x.problem p r t ((get_or block_of t 0 * length kinds + get_or places (p * vertices + r) 0) * width) width pool) is given
+  where
+    given : (p r t : ℕ) → p < size q.pattern → r < size q.pattern → (p ≡ r → ⊥) → t < size q.target → slice_index_or (made_in block_of owners) t false ≡ true
+        → RowGiven q p r t ((get_or block_of t 0 * length kinds + get_or places (p * vertices + r) 0) * width) width pool
+    given p r t p_in r_in apart t_in made =
+        let number : p * size q.pattern + r < size q.pattern * size q.pattern = place_within (size q.pattern) (size q.pattern) p r p_in r_in in
+        let kind : slice_get kinds (get_or places (p * vertices + r) 0) ≡ Some (kind_of q p r) = rw held.vertices_are (held.classed.each p r r_in number apart) in
+        let in_kinds = slice_get_within kinds (get_or places (p * vertices + r) 0) (kind_of q p r) kind in
+        let owned : owns block_of owners t ≡ true = sym (owns_made block_of owners t (omega (arith, held.block_of_are))) ∙ made in
+        record {
+          ends = omega (arith, held.pool_is, row_within (length owners) (length kinds) width (get_or block_of t 0) (get_or places (p * vertices + r) 0) (held.blocks_in t t_in) in_kinds);
+          long = held.width_is;
+          row = (held.rows t (get_or places (p * vertices + r) 0) t_in owned).each (kind_of q p r) kind;
+        }
+
+-- the same where the parts are read one by one
+pub row_read : (q : Problem) (vertices width : ℕ) (kinds : List PairKind) (places block_of owners counts pool : List ℕ) (counted : Graph)
+    → Held q vertices width kinds places block_of owners counts pool counted → (rows : Rows) → record { problem = q; made = made_in block_of owners } ≡ rows
+    → (p r t : ℕ) → p < size rows.problem.pattern → r < size rows.problem.pattern → (p ≡ r → ⊥) → t < size rows.problem.target → IsMade rows t
+    → (i j s place block len : ℕ) (words : List ℕ) → i ≡ p → j ≡ r → s ≡ t → place ≡ get_or places (i * vertices + j) place → block ≡ get_or block_of s block
+    → len ≡ length kinds → words ≡ pool → RowGiven rows.problem p r t ((block * len + place) * width) width words
+row_read q vertices width kinds places block_of owners counts pool counted held rows is p r t p_in r_in apart t_in made i j s place block len words i_is j_is s_is place_is block_is len_is words_is =
+    let same : q ≡ rows.problem = ap (λ (x : Rows). x.problem) is in
+    let p_below : p < size q.pattern = subst (λ (x : Problem). p < size x.pattern) (sym same) p_in in
+    let r_below : r < size q.pattern = subst (λ (x : Problem). r < size x.pattern) (sym same) r_in in
+    let t_below : t < size q.target = subst (λ (x : Problem). t < size x.target) (sym same) t_in in
+    let number : i * vertices + j ≡ p * vertices + r = rw (i_is, j_is) refl in
+    let pair : p * size q.pattern + r < size q.pattern * size q.pattern = place_within (size q.pattern) (size q.pattern) p r p_below r_below in
+    let pair_number : p * vertices + r ≡ p * size q.pattern + r = rw held.vertices_are refl in
+    let inside : i * vertices + j < length places = omega (arith, number, pair_number, pair, held.classed.long) in
+    let place_at : place ≡ get_or places (p * vertices + r) 0 = get_or_read places (i * vertices + j) place inside place_is 0 ∙ ap (λ n. get_or places n 0) number in
+    let s_in : s < length block_of = omega (arith, held.block_of_are) in
+    let block_at : block ≡ get_or block_of t 0 = get_or_read block_of s block s_in block_is 0 ∙ ap (λ n. get_or block_of n 0) s_is in
+    rw (place_at, block_at, len_is, words_is) (row_given q vertices width kinds places block_of owners counts pool counted held rows is p r t p_in r_in apart t_in made)
+
+-- a block is within the words
+pub block_within : (blocks kinds width block : ℕ) → block < blocks → (block * kinds + kinds) * width ≤ blocks * kinds * width
+block_within blocks kinds width block b_in =
+    mul-le-mul_right {m = block * kinds + kinds} {n = blocks * kinds} width (next_row block blocks kinds b_in)
+
+pub room_given : (q : Problem) (vertices width : ℕ) (kinds : List PairKind) (places block_of owners counts pool : List ℕ) (counted : Graph)
+    → Held q vertices width kinds places block_of owners counts pool counted → (block len : ℕ) (ks : List PairKind) (words : List ℕ) → block < length owners
+    → len ≡ length kinds → ks ≡ kinds → words ≡ pool → (block * len + length ks) * width ≤ length words
+room_given q vertices width kinds places block_of owners counts pool counted held block len ks words b_in len_is ks_is words_is =
+    rw (len_is, ks_is, words_is) (omega (arith, held.pool_is, block_within (length owners) (length kinds) width block b_in))
+
+-- a list that takes the place of another of its length
+pub whole_after : (n : ℕ) (old new : List ℕ) → n ≡ length old → length new ≡ length old → take n (new ++ drop (length new) old) ≡ new
+whole_after n old new n_is long =
+    let e : n ≡ length new = omega arith in
+    rw e (take-append-le (length new) new (drop (length new) old) (omega arith) ∙ take-length new)
+
+-- the block that a vertex takes is its own
+pub owns_taken : (block_of owners : List ℕ) (t block : ℕ) → t < length block_of → block < length owners → owns (set block_of t block) (set owners block t) t ≡ true
+owns_taken block_of owners t block t_in b_in =
+    let at : get_or (set block_of t block) t 0 ≡ block = get_or-set_same block_of t block 0 t_in in
+    let is : get_or (set owners block t) block 0 ≡ t = get_or-set_same owners block t 0 b_in in
+    rw (at, is) (eq-eqb t t refl)
+
+-- another vertex that owns its block then owned it before, and it is another block
+pub owned_before : (block_of owners : List ℕ) (t block s : ℕ) → block < length owners → (s ≡ t → ⊥) → owns (set block_of t block) (set owners block t) s ≡ true
+    → (owns block_of owners s ≡ true) × (get_or block_of s 0 ≡ block → ⊥)
+owned_before block_of owners t block s b_in ne owned = (owned_old, other)
+  where
+    at : get_or (set block_of t block) s 0 ≡ get_or block_of s 0
+    at = get_or-set_other block_of t s block 0 ne
+
+    now : get_or (set owners block t) (get_or block_of s 0) 0 ≡ s
+    now = ap (λ i. get_or (set owners block t) i 0) (sym at) ∙ eqb-true (get_or (set owners block t) (get_or (set block_of t block) s 0) 0) s owned
+
+    other : get_or block_of s 0 ≡ block → ⊥
+    other e = ne (sym now ∙ ap (λ i. get_or (set owners block t) i 0) e ∙ get_or-set_same owners block t 0 b_in)
+
+    owned_old : owns block_of owners s ≡ true
+    owned_old = eq-eqb (get_or owners (get_or block_of s 0) 0) s (sym (get_or-set_other owners block (get_or block_of s 0) t 0 other) ∙ now)
+
+-- words outside a block keep the rows of other blocks
+pub other_block : (kinds width block b i : ℕ) (old new : List ℕ) → WordsStay (block * kinds * width) ((block * kinds + kinds) * width) old new → (b ≡ block → ⊥) → i < kinds
+    → (v : ℕ) → has (take width (drop ((b * kinds + i) * width) new)) v ≡ has (take width (drop ((b * kinds + i) * width) old)) v
+other_block kinds width block b i old new stay ne i_in =
+    part_same width ((b * kinds + i) * width) old new (λ j j_in. stay.each ((b * kinds + i) * width + j) (outside j j_in (cases_order b block)))
+  where
+    outside : (j : ℕ) → j < width → (b ≡ block) ⊎ ((b < block) ⊎ (block < b)) → ((b * kinds + i) * width + j < block * kinds * width) ⊎ ((block * kinds + kinds) * width ≤ (b * kinds + i) * width + j)
+    outside j j_in (inl e) = absurd (ne e)
+    outside j j_in (inr (inl less)) =
+        let before = next_row b block kinds less in
+        let ends = next_row (b * kinds + i) (block * kinds) width (omega arith) in
+        inl (omega arith)
+    outside j j_in (inr (inr more)) =
+        let after = next_row block b kinds more in
+        let starts = mul-le-mul_right {m = block * kinds + kinds} {n = b * kinds + i} width (omega arith) in
+        inr (omega arith)
+
+-- the rows after a vertex has taken a block
+pub held_more : (q : Problem) (vertices width : ℕ) (kinds : List PairKind) (places block_of owners counts pool : List ℕ) (counted : Graph)
+    → Held q vertices width kinds places block_of owners counts pool counted → (t block : ℕ) (counts' pool' : List ℕ) → t < size q.target → block < length owners
+    → length counts' ≡ length counts → length pool' ≡ length pool → ((i : ℕ) → HasRow q kinds width t i (drop ((block * length kinds + i) * width) pool'))
+    → WordsStay (block * length kinds * width) ((block * length kinds + length kinds) * width) pool pool'
+    → Held q vertices width kinds places (set block_of t block) (set owners block t) counts' pool' counted
+held_more q vertices width kinds places block_of owners counts pool counted held t block counts' pool' t_in b_in counts_long pool_long made stay = record {
+  few_pattern = held.few_pattern;
+  few_target = held.few_target;
+  vertices_are = held.vertices_are;
+  width_is = held.width_is;
+  classed = held.classed;
+  counts_are = counts_long ∙ held.counts_are;
+  counted_is = held.counted_is;
+  block_of_are = length-set block_of t block ∙ held.block_of_are;
+  owners_few = omega (arith, length-set owners block t, held.owners_few);
+  owners_some = λ some. omega (arith, length-set owners block t, b_in);
+  blocks_in = λ s s_in. blocks s s_in (cases_eq s t);
+  pool_is = rw (length-set owners block t) (pool_long ∙ held.pool_is);
+  rows = λ s i s_in owned. rows s i s_in owned (cases_eq s t);
+}
+  where
+    t_within : t < length block_of
+    t_within = omega (arith, held.block_of_are)
+
+    blocks : (s : ℕ) → s < size q.target → (s ≡ t) ⊎ (s ≡ t → ⊥) → get_or (set block_of t block) s 0 < length (set owners block t)
+    blocks s s_in (inl e) = rw (e, length-set owners block t) (omega (arith, get_or-set_same block_of t block 0 t_within))
+    blocks s s_in (inr ne) = omega (arith, length-set owners block t, get_or-set_other block_of t s block 0 ne, held.blocks_in s s_in)
+
+    rows : (s i : ℕ) → s < size q.target → owns (set block_of t block) (set owners block t) s ≡ true → (s ≡ t) ⊎ (s ≡ t → ⊥)
+        → HasRow q kinds width s i (drop ((get_or (set block_of t block) s 0 * length kinds + i) * width) pool')
+    rows s i s_in owned (inl e) =
+        subst (λ (v : ℕ). HasRow q kinds width v i (drop ((get_or (set block_of t block) v 0 * length kinds + i) * width) pool')) (sym e)
+        (subst (λ (b : ℕ). HasRow q kinds width t i (drop ((b * length kinds + i) * width) pool')) (sym (get_or-set_same block_of t block 0 t_within)) (made i))
+    rows s i s_in owned (inr ne) =
+        let before = owned_before block_of owners t block s b_in ne owned in
+        subst (λ (b : ℕ). HasRow q kinds width s i (drop ((b * length kinds + i) * width) pool')) (sym (get_or-set_other block_of t s block 0 ne)) (record {
+          each = λ k k_is. row_same q k s (take width (drop ((get_or block_of s 0 * length kinds + i) * width) pool)) (take width (drop ((get_or block_of s 0 * length kinds + i) * width) pool'))
+              (other_block (length kinds) width block (get_or block_of s 0) i pool pool' stay before.1 (slice_get_within kinds i k k_is)) ((held.rows s i s_in before.0).each k k_is);
+        })
+
+-- rows and words by other names of the same kinds and the same count
+pub row_named : (q : Problem) (width t i block len : ℕ) (ks kinds : List PairKind) (words : List ℕ) → ks ≡ kinds → len ≡ length kinds
+    → HasRow q ks width t i (drop ((block * len + i) * width) words) → HasRow q kinds width t i (drop ((block * length kinds + i) * width) words)
+row_named q width t i block len ks kinds words ks_is len_is row =
+    subst (λ (n : ℕ). HasRow q kinds width t i (drop ((block * n + i) * width) words)) len_is
+    (subst (λ (x : List PairKind). HasRow q x width t i (drop ((block * len + i) * width) words)) ks_is row)
+
+pub stay_named : (width block len : ℕ) (ks kinds : List PairKind) (words old new : List ℕ) → ks ≡ kinds → len ≡ length kinds → words ≡ old
+    → WordsStay (block * len * width) ((block * len + length ks) * width) words new → WordsStay (block * length kinds * width) ((block * length kinds + length kinds) * width) old new
+stay_named width block len ks kinds words old new ks_is len_is words_is stay =
+    subst (λ (x : List ℕ). WordsStay (block * length kinds * width) ((block * length kinds + length kinds) * width) x new) words_is
+    (subst (λ (n : ℕ). WordsStay (block * n * width) ((block * n + length kinds) * width) words new) len_is
+    (subst (λ (x : List PairKind). WordsStay (block * len * width) ((block * len + length x) * width) words new) ks_is stay))
+
+-- the rows of a vertex that has taken a block are made
+pub made_taken : (block_of owners : List ℕ) (s t block : ℕ) → s ≡ t → t < length block_of → block < length owners
+    → slice_index_or (made_in (set block_of s block) (set owners block t)) t false ≡ true
+made_taken block_of owners s t block same t_in b_in =
+    subst (λ (v : ℕ). slice_index_or (made_in (set block_of v block) (set owners block t)) t false ≡ true) (sym same)
+    (owns_made (set block_of t block) (set owners block t) t (omega (arith, length-set block_of t block)) ∙ owns_taken block_of owners t block t_in b_in)

@@ -1,0 +1,7 @@
+use Rattle.std.proofs.Common.{◌*◌}
+use Rattle.graph_theory.specs.Graph.{size}
+use Rattle.pair_rows.specs.Kinds.{AreKinds}
+use Rattle.pair_rows.proofs.kinds.classify.Given as goal
+
+abbrev pub invariant-loop-p : goal.invariant-loop-p
+invariant-loop-p l = AreKinds l.q l.kinds.items l.places.items (l.p * size l.q.pattern)

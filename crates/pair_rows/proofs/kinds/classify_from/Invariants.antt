@@ -1,0 +1,7 @@
+use Rattle.std.proofs.Common.{◌+◌, ◌*◌}
+use Rattle.graph_theory.specs.Graph.{size}
+use Rattle.pair_rows.specs.Kinds.{AreKinds}
+use Rattle.pair_rows.proofs.kinds.classify_from.Given as goal
+
+abbrev pub invariant-loop-r : goal.invariant-loop-r
+invariant-loop-r l = AreKinds l.q l.kinds.items l.places.items (l.p * size l.q.pattern + l.r)

@@ -1,0 +1,43 @@
+-- Kinds of pairs of pattern vertices, and the rows that belong to them.
+
+use Rattle.std.specs.Prelude.{◌≡◌, ℕ, ◌+◌, ◌*◌, ◌<◌, ◌≤◌, true, ◌⊎◌, List, Some, length, take, slice_get, slice_index}
+use Rattle.graph_theory.specs.Graph.{size, edge}
+use Rattle.graph_theory.specs.Embedding.{Problem, Matches}
+use Rattle.graph_theory.specs.Neighbours.{common}
+use Rattle.graph_rows.specs.BitRow.{has}
+use Rattle.pair_rows.specs.declared.kinds.PairKind.{PairKind}
+
+-- The edges between two pattern vertices, and how many neighbours they share.
+abbrev pub kind_of : Problem → ℕ → ℕ → PairKind
+kind_of q p r = record { out = edge q.pattern p r; back = edge q.pattern r p; shared = common q.pattern p r }
+
+-- Target vertices t and u give a pair of this kind what it asks.
+pub record Joins (q : Problem) (k : PairKind) (t u : ℕ) : Type 0 where
+  pub apart : t ≡ u → ⊥
+  pub out : Matches q.induced k.out (edge q.target t u)
+  pub back : Matches q.induced k.back (edge q.target u t)
+  pub shared : k.shared ≤ common q.target t u
+
+-- The row holds the u that join t in a pair of this kind.
+pub record RowIs (q : Problem) (k : PairKind) (t : ℕ) (row : List ℕ) : Type 0 where
+  pub right : (u : ℕ) → has row u ≡ true → (u < size q.target) × Joins q k t u
+  pub complete : (u : ℕ) → u < size q.target → Joins q k t u → has row u ≡ true
+
+-- The next words are the row of the kind that stands at place i.
+pub record HasRow (q : Problem) (kinds : List PairKind) (width t i : ℕ) (words : List ℕ) : Type 0 where
+  pub each : (k : PairKind) → slice_get kinds i ≡ Some k → RowIs q k t (take width words)
+
+-- The words before the first place and from the last one on are as they were.
+pub record WordsStay (first last : ℕ) (old new : List ℕ) : Type 0 where
+  pub each : (w : ℕ) → (w < first) ⊎ (last ≤ w) → slice_index new w ≡ slice_index old w
+
+-- The place of each pair's kind stands at the pair's number, for the pairs numbered below n.
+pub record AreKinds (q : Problem) (kinds : List PairKind) (places : List ℕ) (n : ℕ) : Type 0 where
+  pub long : length places ≡ n
+  pub few : length kinds ≤ n
+  pub each : (p r : ℕ) → r < size q.pattern → p * size q.pattern + r < n → (p ≡ r → ⊥)
+      → slice_get kinds (slice_index places (p * size q.pattern + r)) ≡ Some (kind_of q p r)
+
+-- Each kind stands where it stood.
+pub record KindsStay (old new : List PairKind) : Type 0 where
+  pub each : (i : ℕ) (k : PairKind) → slice_get old i ≡ Some k → slice_get new i ≡ Some k

@@ -1,0 +1,151 @@
+//! Rows of consistent values, made at a target vertex when it is first needed.
+
+ghost use Rattle.std.specs.Prelude.{◌≡◌, ℕ, ◌<◌, ◌≤◌, ◌==◌, true, length, IfOk, slice_index};
+ghost use Rattle.graph_theory.specs.Graph.{size};
+ghost use Rattle.graph_rows.specs.BitRow.{has, words_for};
+ghost use Rattle.search_theory.specs.Consistency.{AreConsistent};
+ghost use Rattle.pair_rows.specs.Rows.{IsMade};
+ghost use Rattle.pair_rows.specs.Held.{owns};
+
+use crate::kinds::{PairKind, classify, fill_block};
+use common_neighbour::Counts;
+use graph_rows::Problem;
+use std::alloc::{AllocError, Global};
+use std::marker::Model;
+
+/// The most words that rows take, where one target vertex alone does not take more.
+const MOST_WORDS: usize = 8388608;
+
+/// The owner of a block that has none.
+const NO_OWNER: u16 = 65535;
+
+/// Rows of consistent values of a problem. Contracts see the problem, and for which target vertices the rows are made.
+///
+/// A block is the rows of all kinds at one target vertex. `block_of[t]` is the block of `t` where `owners` says so.
+#[derive(Drop)]
+pub struct PairRows<'a> {
+    problem: &'a Problem,
+    vertices: usize,
+    width: usize,
+    kinds: Vec<PairKind>,
+    places: Vec<u32>,
+    block_of: Vec<u32>,
+    owners: Vec<u16>,
+    used: usize,
+    sharing: Counts<'a>,
+    counts: Vec<u16>,
+    pool: Vec<u64>,
+}
+
+impl<'a> Model for PairRows<'a> {
+    ghost use Rattle.pair_rows.specs.Rows.{Rows};
+    ghost use Rattle.pair_rows.specs.Held.{made_in, Held};
+
+    ghost Value = { Rows };
+
+    ghost view = { λ r. record { problem = r.problem.now; made = made_in r.block_of.items r.owners.items } };
+
+    ghost invariant = { λ r. Held r.problem.now r.vertices r.width r.kinds.items r.places.items r.block_of.items r.owners.items r.counts.items r.pool.items r.sharing };
+}
+
+impl<'a> PairRows<'a> {
+    /// No rows yet, and the memory for them: a block for each target vertex, but not more than 8,388,608 words in all
+    /// unless one block has more. Cost: one step for each pattern pair, for each kind and for each word.
+    pub fn new(alloc: Global, problem: &'a Problem) -> Result<PairRows<'a>, AllocError>
+        ensures { IfOk result (λ r. r.problem ≡ problem.entry.now) }
+    {
+        let vertices = usize::from(problem.pattern().size());
+        let (kinds, places) = classify(alloc, problem)?;
+        let size = usize::from(problem.target().size());
+        let width = (size + 63) / 64;
+        let blocks = blocks_for(size, kinds.len() * width);
+        let sharing = Counts::new(alloc, problem.target())?;
+        let block_of = vec![in alloc; 0u32; size]?;
+        let owners = vec![in alloc; NO_OWNER; blocks]?;
+        let counts = vec![in alloc; 0u16; size]?;
+        let pool = vec![in alloc; 0u64; blocks * kinds.len() * width]?;
+        Ok(PairRows {
+            problem,
+            vertices,
+            width,
+            kinds,
+            places,
+            block_of,
+            owners,
+            used: 0,
+            sharing,
+            counts,
+            pool,
+        })
+    }
+
+    /// Makes the rows at `t`, unless they are made. They take the next free block; where there is none they take the last, and
+    /// the vertex that had it has its rows no longer. It takes no memory. Cost where they are made already: two steps;
+    /// else one step for each word of the target and for each kind and target vertex.
+    pub fn make(&mut self, t: u16)
+        requires t_in { t < size self.old.problem.target }
+        ensures problem { self.new.problem ≡ self.old.problem }
+        ensures made { IsMade self.new t }
+    {
+        if is_owner(&self.block_of, &self.owners, t) {
+            return;
+        }
+        let block = next_block(self.used, self.owners.len());
+        self.sharing.fill_counts(t, &mut self.counts);
+        fill_block(
+            self.problem,
+            &self.kinds,
+            t,
+            &self.counts,
+            self.width,
+            block * self.kinds.len(),
+            &mut self.pool,
+        );
+        self.owners[block] = t;
+        self.block_of[usize::from(t)] = block as u32;
+        self.used = block + 1;
+    }
+
+    /// The values u of `r` that go together with `t` of `p`, as a bit row. Cost: two steps.
+    pub fn row(&self, p: u16, r: u16, t: u16) -> &[u64]
+        requires p_in { p < size self.now.problem.pattern }
+        requires r_in { r < size self.now.problem.pattern }
+        requires apart { p ≡ r → ⊥ }
+        requires t_in { t < size self.now.problem.target }
+        requires made { IsMade self.now t }
+        ensures long { length result.now ≡ words_for (size self.now.problem.target) }
+        ensures right { (u : ℕ) → has result.now u ≡ true → AreConsistent self.now.problem p t r u }
+        ensures within { (u : ℕ) → has result.now u ≡ true → u < size self.now.problem.target }
+        ensures complete { (u : ℕ) → AreConsistent self.now.problem p t r u → u < size self.now.problem.target → has result.now u ≡ true }
+    {
+        let place = self.places[usize::from(p) * self.vertices + usize::from(r)] as usize;
+        let block = self.block_of[usize::from(t)] as usize;
+        let from = (block * self.kinds.len() + place) * self.width;
+        &self.pool[from..from + self.width]
+    }
+}
+
+/// Whether the block of `t` is its own.
+fn is_owner(block_of: &[u32], owners: &[u16], t: u16) -> bool
+    requires t_in { t < length block_of.now }
+    requires block_in { slice_index block_of.now t < length owners.now }
+    ensures { result ≡ owns block_of.now owners.now t }
+{
+    owners[block_of[usize::from(t)] as usize] == t
+}
+
+/// The next free block, or the last.
+fn next_block(used: usize, blocks: usize) -> usize
+    requires { 0 < blocks }
+    ensures { result < blocks }
+{
+    if used < blocks { used } else { blocks - 1 }
+}
+
+/// How many blocks of so many words are made room for.
+fn blocks_for(size: usize, block: usize) -> usize
+    ensures few { result ≤ size }
+    ensures some { 0 < size → 0 < result }
+{
+    size.min((MOST_WORDS / block.max(1)).max(1))
+}

@@ -1,0 +1,11 @@
+//! Rows of consistent values may be sent to another thread, and read from several at once.
+
+use crate::rows::PairRows;
+
+/// Takes a type that may be sent and shared.
+const fn is_shared<T: Send + Sync>() {}
+
+/// Rows of consistent values may be sent and shared.
+const fn are_shared() {
+    is_shared::<PairRows>();
+}
