@@ -1,0 +1,9 @@
+pub mod Members
+pub mod Clearing
+pub mod LubySteps
+pub mod Marks
+pub mod Levels
+pub mod Distinct
+pub mod HeldAccount
+pub mod RowViews
+pub mod WorkedExample

@@ -1,0 +1,9 @@
+pub mod Narrowing
+pub mod Waiting
+pub mod Sweeping
+pub mod Levels
+pub mod Guessing
+pub mod Closing
+pub mod Beginning
+pub mod Visits
+pub mod Steps

@@ -1,0 +1,133 @@
+-- One step of a search: the vertex of a level, its untried values, and the marks.
+
+use Rattle.std.proofs.Common.{◌≡◌, ℕ, suc, ◌+◌, ◌<◌, ◌≤◌, ◌&&◌, not, Bool, true, false, List, [], ◌∷◌, ◌++◌, length, Option, Some, None, IfSome, refl, sym, ap, ◌∙◌, subst, arith, append_assoc, ◌⊎◌, inl, inr}
+use Rattle.std.proofs.lemmas.Bool.{cases_eq}
+use Rattle.graph_theory.specs.Graph.{size}
+use Rattle.graph_theory.specs.Neighbours.{members}
+use Rattle.graph_theory.specs.Path.{NotOn}
+use Rattle.graph_theory.specs.Embedding.{Problem}
+use Rattle.search_theory.specs.Claims.{Single, Pins, Quiet}
+use Rattle.search_theory.specs.Account.{Account, Step, Event, Deepen, Fail, Restart, Happens, Leads, Spends, Honest, deepened, path, path_of, level_at, level_among, IsAt, NotAmong}
+use Rattle.search_theory.specs.Bounds.{enough}
+use Rattle.domain_bits.specs.Changes as changes
+use Rattle.domain_bits.specs.BitRows.{has}
+use Rattle.domain_bits.specs.Removals.{State, in_domain}
+use Rattle.fail_account.proofs.Members.{off_members, members_off}
+use Rattle.restart_search.specs.Propagation.{Narrows}
+use Rattle.restart_search.specs.Searching.{AtRest, Levels, Based, Sound, IsBest}
+use Rattle.restart_search.proofs.Guessing.{path_deepened, based_guessed, rest_guessed}
+use Rattle.restart_search.proofs.Visits.{single_of}
+
+-- ---- the vertex of a level
+
+-- a vertex that is decided leaves the best one as it is
+pub best_decided : (d : State) (best : Option ℕ) (p t : ℕ) → IsBest d best p → changes.Single d p t → IsBest d best (p + 1)
+best_decided d None p t h s = λ r r_in. by_place r (cases_eq r p) r_in
+  where
+    by_place : (r : ℕ) → (r ≡ p) ⊎ (r ≡ p → ⊥) → r < p + 1 → (u : ℕ) × Single (in_domain d) r u
+    by_place r (inl same) r_in = subst (λ (v : ℕ). (u : ℕ) × Single (in_domain d) v u) (sym same) (t, single_of d p t s)
+    by_place r (inr other) r_in = h r (omega arith)
+best_decided d (Some r) p t h s = (omega (arith, h.0), h.1)
+
+-- an undecided vertex is on no path that the domains are pinned to
+pub off_path : (q : Problem) (ps : List (ℕ × ℕ)) (D : ℕ → ℕ → Bool) (p : ℕ) → Pins q ps D → ((t : ℕ) → Single D p t → ⊥) → NotOn ps p
+off_path q [] D p h none = tt
+off_path q (x ∷ xs) D p h none = (λ same. none x.1 (subst (λ (v : ℕ). Single D v x.1) same h.1), off_path q xs D p h.2 none)
+
+-- the best vertex of all may stand after the path
+pub best_may_stand : (q : Problem) (ps : List (ℕ × ℕ)) (d : State) (v best : Option ℕ) → AtRest q ps d → v ≡ None → IsBest d best (size q.pattern)
+    → IfSome best (λ p. (p < size q.pattern) × NotOn ps p × IsAt v p)
+best_may_stand q ps d v None rest none h = tt
+best_may_stand q ps d v (Some p) rest none h = (h.0, off_path q ps (in_domain d) p rest.pins h.1, subst (λ (o : Option ℕ). IsAt o p) (sym none) tt)
+
+-- ---- its untried values
+
+-- the level after the path is the open one
+pub level_after : (a : Account) → (level_at a (length (path a))).refuted ≡ a.refuted
+level_after a = by_steps a.steps
+  where
+    by_steps : (ss : List Step) → (level_among ss a.vertex a.refuted (length (path_of ss))).refuted ≡ a.refuted
+    by_steps [] = refl
+    by_steps (s ∷ ss) = by_steps ss
+
+both : (a b : Bool) → (a && not b) ≡ true → (a ≡ true) × (b ≡ false)
+both true false h = (refl, refl)
+both true true h = cc
+both false b h = cc
+
+pub untried_of : (us : List ℕ) (row : List ℕ) (n t : ℕ) (here : Bool) → members (has row) n ≡ us → (here && not (has row t)) ≡ true → (here ≡ true) × NotAmong us t
+untried_of us row n t here is h =
+    let parts = both here (has row t) h in
+    (parts.0, subst (λ (xs : List ℕ). NotAmong xs t) is (off_members (has row) n t parts.1))
+
+pub all_untried : (us : List ℕ) (row : List ℕ) (n t : ℕ) (here : Bool) → members (has row) n ≡ us → t < n → here ≡ true → NotAmong us t → (here && not (has row t)) ≡ true
+all_untried us row n t here is t_in h off =
+    let out : has row t ≡ false = members_off (has row) n t t_in (subst (λ (xs : List ℕ). NotAmong xs t) (sym is) off) in
+    rw (h, out) refl
+
+-- ---- marks
+
+-- there is a mark for each level
+pub levels_length : (q : Problem) (d : State) (low : ℕ) (above xs : List (ℕ × ℕ)) (ks : List ℕ) → Levels q d low above xs ks → length ks ≡ length xs
+levels_length q d low above [] [] h = refl
+levels_length q d low above (x ∷ xs) (k ∷ ks) h = ap suc (levels_length q d k (above ++ x ∷ []) xs ks h.2)
+levels_length q d low above [] (k ∷ ks) h = absurd h
+levels_length q d low above (x ∷ xs) [] h = absurd h
+
+-- so a search that may guess has room for one more
+pub guessed_room : (q : Problem) (d : State) (a : Account) (marks : List ℕ) (root room : ℕ) → Levels q d root [] (path a) marks → length (path a) < a.pattern
+    → a.pattern ≡ size q.pattern → size q.pattern ≤ room → length marks < room
+guessed_room q d a marks root room levels few is le = omega (arith, levels_length q d root [] (path a) marks levels, few, is, le)
+
+-- ---- what stands after a guess and its consequences
+
+-- what was removed by an assignment and then by propagation
+pub based_narrowed : (q : Problem) (old mid new : State) (a : Account) (marks : List ℕ) (root p t k : ℕ) (keeps : ℕ → Bool) → Sound q old a marks root
+    → changes.Keeps old mid p keeps → Narrows q mid new → k ≡ length old.removed → Honest q (deepened a p t) → Based q new (deepened a p t) (marks ++ k ∷ []) root
+based_narrowed q old mid new a marks root p t k keeps sound s n is honest =
+    based_guessed q old new a marks root p t k (s.shrinks.rest ++ n.rest) sound (n.vertices_same ∙ s.shrinks.vertices_same) (n.values_same ∙ s.shrinks.values_same)
+    (n.front ∙ ap (λ (xs : List (ℕ × ℕ)). xs ++ n.rest) s.shrinks.front ∙ append_assoc old.removed s.shrinks.rest n.rest) is honest
+
+pub sound_guessed : (q : Problem) (old mid new : State) (a : Account) (marks : List ℕ) (root p t k : ℕ) (keeps : ℕ → Bool) → Sound q old a marks root
+    → changes.Keeps old mid p keeps → Single (in_domain mid) p t → Narrows q mid new → Quiet q (in_domain new) → p < size q.pattern → k ≡ length old.removed
+    → Honest q (deepened a p t) → Sound q new (deepened a p t) (marks ++ k ∷ []) root
+sound_guessed q old mid new a marks root p t k keeps sound s single n quiet p_in is honest = record {
+  based = based_narrowed q old mid new a marks root p t k keeps sound s n is honest;
+  here = subst (λ (ps : List (ℕ × ℕ)). AtRest q ps new) (sym (path_deepened a p t)) (rest_guessed q (path a) old mid new p t keeps sound.here s single p_in n quiet);
+}
+
+-- ---- where no value is left
+
+pub none_left : (d : State) (us row : List ℕ) (p : ℕ) → ((t : ℕ) → in_domain d p t ≡ true → NotAmong us t → has row t ≡ true) → ((t : ℕ) → has row t ≡ false)
+    → (t : ℕ) → in_domain d p t ≡ true → NotAmong us t → ⊥
+none_left d us row p all none t here off = clash (has row t) (all t here off) (none t)
+  where
+    clash : (b : Bool) → b ≡ true → b ≡ false → ⊥
+    clash true h k = cc
+    clash false h k = cc
+
+-- ---- a spent budget
+
+-- an event leaves the sizes
+sizes_happen : (q : Problem) (old : Account) (e : Event) (new : Account) → Happens q old e new → (new.pattern ≡ old.pattern) × (new.target ≡ old.target)
+sizes_happen q old (Deepen p t) new h = (ap (λ (a : Account). a.pattern) h.3, ap (λ (a : Account). a.target) h.3)
+sizes_happen q old Fail new h = (ap (λ (a : Account). a.pattern) h.1.new_is, ap (λ (a : Account). a.target) h.1.new_is)
+sizes_happen q old Restart new h = (ap (λ (a : Account). a.pattern) h.1, ap (λ (a : Account). a.target) h.1)
+
+sizes_lead : (q : Problem) (start : Account) (es : List Event) (a : Account) → Leads q start es a → (a.pattern ≡ start.pattern) × (a.target ≡ start.target)
+sizes_lead q start [] a is = (ap (λ (b : Account). b.pattern) is, ap (λ (b : Account). b.target) is)
+sizes_lead q start (e ∷ es) a led =
+    let rest = sizes_lead q start es led.0 led.1 in
+    let last = sizes_happen q led.0 e a led.2 in
+    (last.0 ∙ rest.0, last.1 ∙ rest.1)
+
+-- what is reached has the problem's sizes and the budget it began with, so that an end of the search is one from the start
+pub spends_from_start : (q r : Problem) (a : Account) (budget : ℕ) → r ≡ q → a.budget ≡ budget → Spends r a.budget a × (a.budget < enough a.pattern a.target)
+    → Spends q budget a × (budget < enough (size q.pattern) (size q.target))
+spends_from_start q r a budget problem is h =
+    let spent : Spends q budget a = subst (λ (p : Problem). Spends p budget a) problem (subst (λ (b : ℕ). Spends r b a) is h.0) in
+    let sizes = sizes_lead q _ spent.reached.events a spent.reached.lead in (
+      spent,
+      subst (λ (n : ℕ). budget < enough n (size q.target)) sizes.0
+          (subst (λ (n : ℕ). budget < enough a.pattern n) sizes.1 (subst (λ (b : ℕ). b < enough a.pattern a.target) is h.1)),
+    )

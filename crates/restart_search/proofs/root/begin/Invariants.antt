@@ -1,0 +1,11 @@
+use Rattle.std.proofs.Common.{◌≡◌, length}
+use Rattle.graph_theory.specs.Graph.{size}
+use Rattle.domain_bits.specs.BitRows.{words_for}
+use Rattle.restart_search.specs.Propagation.{Beginning}
+use Rattle.restart_search.proofs.root.begin.Given as goal
+
+abbrev pub invariant-loop-p : goal.invariant-loop-p
+invariant-loop-p g l = record {
+  begun : Beginning l.q l.fn.d l.d l.waiting l.p;
+  words : length l.row ≡ words_for (size l.q.target);
+}

@@ -1,0 +1,120 @@
+-- Propagation: what taking consequences does to domains, and which vertices still wait for theirs to be taken.
+
+use Rattle.std.specs.Prelude.{◌≡◌, ℕ, ◌+◌, ◌-◌, ◌*◌, ◌<◌, ◌≤◌, Bool, true, false, ◌⊎◌, if◌then◌else◌, List, [], ◌∷◌, ◌++◌, length, slice_index_or, slice_set}
+use Rattle.graph_theory.specs.Graph.{size}
+use Rattle.graph_theory.specs.Embedding.{Problem}
+use Rattle.search_theory.specs.Consistency.{IsFirstValue, AreConsistent}
+use Rattle.search_theory.specs.Claims.{KeepsEmbeddings, NoneInside, Single, Settled, Quiet}
+use Rattle.domain_bits.specs.Removals.{State, in_domain}
+
+-- The domains have a vertex for each pattern vertex and a value for each target vertex.
+pub record IsOf (q : Problem) (d : State) : Type 0 where
+  pub vertices_is : d.vertices ≡ size q.pattern
+  pub values_is : d.values ≡ size q.target
+
+-- Values were removed, and no embedding was lost.
+pub record Narrows (q : Problem) (old new : State) : Type 0 where
+  pub vertices_same : new.vertices ≡ old.vertices
+  pub values_same : new.values ≡ old.values
+  pub rest : List (ℕ × ℕ)
+  pub front : new.removed ≡ old.removed ++ rest
+  pub less : (p t : ℕ) → in_domain new p t ≡ true → in_domain old p t ≡ true
+  pub keeps : KeepsEmbeddings q (in_domain old) (in_domain new)
+
+-- Whether vertex p waits.
+abbrev pub waits_at : List Bool → ℕ → Bool
+waits_at waiting p = slice_index_or waiting p false
+
+-- How many wait.
+abbrev pub waiting_count : List Bool → ℕ
+waiting_count [] = 0
+waiting_count (b ∷ bs) = (if b then 1 else 0) + waiting_count bs
+
+-- What is left to do: it falls with each removal, and with each vertex that is taken up.
+abbrev pub work : State → List Bool → ℕ
+work d waiting = 2 * (d.vertices * d.values - length d.removed) + waiting_count waiting
+
+-- The domain of p has a value, and not only one.
+pub record HasTwo (d : State) (p : ℕ) : Type 0 where
+  pub value : ℕ
+  pub here : in_domain d p value ≡ true
+  pub not_single : (t : ℕ) → Single (in_domain d) p t → ⊥
+
+-- The domain of p is as it was, and p waits as it did.
+pub record IsSame (old : State) (before : List Bool) (new : State) (after : List Bool) (p : ℕ) : Type 0 where
+  pub domain : (t : ℕ) → in_domain new p t ≡ in_domain old p t
+  pub flag : waits_at after p ≡ waits_at before p
+
+-- Values were removed, and each vertex waits, or has two values, or is as it was.
+pub record Shrinks (q : Problem) (old : State) (before : List Bool) (new : State) (after : List Bool) : Type 0 where
+  pub narrows : Narrows q old new
+  pub long : length after ≡ length before
+  pub noted : (p : ℕ) → p < size q.pattern → (waits_at after p ≡ true) ⊎ (HasTwo new p ⊎ IsSame old before new after p)
+  pub bounded : length new.removed ≤ new.vertices * new.values
+  pub less_work : work new after ≤ work old before
+
+-- The domain of p has a value, and where it has one only, this has taken its consequences.
+pub record Rests (q : Problem) (d : State) (p : ℕ) : Type 0 where
+  pub some : (t : ℕ) × (in_domain d p t ≡ true)
+  pub settled : (t : ℕ) → Single (in_domain d) p t → Settled q (in_domain d) p t
+
+-- Each vertex waits or rests.
+pub record Ready (q : Problem) (d : State) (waiting : List Bool) : Type 0 where
+  pub long : length waiting ≡ size q.pattern
+  pub each : (p : ℕ) → p < size q.pattern → (waits_at waiting p ≡ true) ⊎ Rests q d p
+
+-- Each vertex but p waits or rests.
+pub record ReadyBut (q : Problem) (d : State) (waiting : List Bool) (p : ℕ) : Type 0 where
+  pub long : length waiting ≡ size q.pattern
+  pub each : (r : ℕ) → r < size q.pattern → (p ≡ r → ⊥) → (waits_at waiting r ≡ true) ⊎ Rests q d r
+
+-- After a true answer r has a value: it waits where it has only one, and else no flag has changed. After a false one it has none.
+abbrev pub NotesSize : Bool → State → List Bool → List Bool → ℕ → Type 0
+NotesSize true new before after r = ((v : ℕ) × Single (in_domain new) r v × (after ≡ slice_set before r true)) ⊎ (HasTwo new r × (after ≡ before))
+NotesSize false new before after r = ((v : ℕ) → in_domain new r v ≡ true → ⊥) × (after ≡ before)
+
+-- After a true answer the values of r are consistent with p at t; after a false one r has no value.
+abbrev pub Swept : Bool → Problem → State → ℕ → ℕ → ℕ → Type 0
+Swept true q new p t r = (u : ℕ) → (p ≡ r → ⊥) → in_domain new r u ≡ true → AreConsistent q p t r u
+Swept false q new p t r = (u : ℕ) → in_domain new r u ≡ true → ⊥
+
+-- What the step at r leaves: fewer values, none of p's taken, and those of r swept.
+pub record Sweeps (answer : Bool) (q : Problem) (old : State) (before : List Bool) (new : State) (after : List Bool) (p t r : ℕ) : Type 0 where
+  pub narrows : Narrows q old new
+  pub swept : Swept answer q new p t r
+  pub own : (v : ℕ) → in_domain new p v ≡ in_domain old p v
+  pub shrinks : answer ≡ true → Shrinks q old before new after
+
+-- After the steps at the vertices below r.
+pub record Settling (q : Problem) (old : State) (before : List Bool) (new : State) (after : List Bool) (p t r : ℕ) : Type 0 where
+  pub shrinks : Shrinks q old before new after
+  pub own : (v : ℕ) → in_domain new p v ≡ in_domain old p v
+  pub past : (s : ℕ) → s < r → Swept true q new p t s
+
+-- What the steps at all vertices leave.
+abbrev pub Settles : Bool → Problem → State → List Bool → State → List Bool → ℕ → ℕ → Type 0
+Settles true q old before new after p t = Settling q old before new after p t (size q.pattern)
+Settles false q old before new after p t = Narrows q old new × NoneInside q (in_domain new)
+
+-- After the first domains of the vertices below r.
+pub record Beginning (q : Problem) (old new : State) (waiting : List Bool) (r : ℕ) : Type 0 where
+  pub is_of : IsOf q new
+  pub narrows : Narrows q old new
+  pub long : length waiting ≡ size q.pattern
+  pub first : (p t : ℕ) → p < r → in_domain new p t ≡ true → IsFirstValue q p t
+  pub noted : (p : ℕ) → p < r → (waits_at waiting p ≡ true) ⊎ HasTwo new p
+
+-- What the first domains of all vertices leave.
+abbrev pub Begins : Bool → Problem → State → State → List Bool → Type 0
+Begins true q old new waiting = Beginning q old new waiting (size q.pattern)
+Begins false q old new waiting = NoneInside q (in_domain old)
+
+-- What a visit of a vertex that waited leaves: domains in which each vertex waits or rests, or none that an embedding is within.
+abbrev pub Visited : Bool → Problem → State → List Bool → State → List Bool → Type 0
+Visited true q old before new after = Narrows q old new × Ready q new after × (work new after < work old before)
+Visited false q old before new after = Narrows q old new × NoneInside q (in_domain old)
+
+-- What propagation answers: domains at rest, or none that an embedding is within.
+abbrev pub Propagates : Bool → Problem → State → State → Type 0
+Propagates true q old new = Narrows q old new × Quiet q (in_domain new)
+Propagates false q old new = Narrows q old new × NoneInside q (in_domain old)

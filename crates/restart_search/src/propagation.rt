@@ -1,0 +1,163 @@
+//! Propagation. A vertex whose domain has one value takes its consequences: this value, and what is not consistent with
+//! it, leaves the other domains. A vertex waits while its consequences are to be taken; the others are at rest. One row
+//! of consistent values for each pair of vertices makes this one AND of words for each other vertex (Ullmann 2010).
+
+ghost use Rattle.std.specs.Prelude.{◌≡◌, ℕ, [], ◌+◌, ◌*◌, ◌<◌, ◌≤◌, ◌⊎◌, Bool, true, false, length, IfSome, IfNone, IsSome};
+ghost use Rattle.graph_theory.specs.Graph.{size};
+ghost use Rattle.domain_bits.specs.BitRows.{has, words_for};
+ghost use Rattle.domain_bits.specs.Changes.{Keeps};
+ghost use Rattle.domain_bits.specs.Removals.{in_domain};
+ghost use Rattle.search_theory.specs.Claims.{Single, First};
+ghost use Rattle.pair_rows.specs.Rows.{IsMade};
+ghost use Rattle.restart_search.specs.Propagation.{IsOf, waits_at, work, Ready, ReadyBut, NotesSize, Sweeps, Settles, Visited, Propagates, Shrinks};
+
+use domain_bits::{Domains, Trail};
+use pair_rows::PairRows;
+
+/// A vertex that waits, the least one. Cost: one step for each vertex below it.
+fn next_waiting(waiting: &[bool]) -> Option<usize>
+    ensures some { IfSome result (λ p. (p < length waiting.now) × (waits_at waiting.now p ≡ true)) }
+    ensures none { IfNone result ((p : ℕ) → p < length waiting.now → waits_at waiting.now p ≡ false) }
+{
+    for p in 0..waiting.len() {
+        if waiting[p] {
+            return Some(p);
+        }
+    }
+    None
+}
+
+/// Keeps of the domain of `r` what the row has. Where one value is left, `r` waits; where none is, the answer is false.
+/// Cost: the words of a row, and the values that leave.
+pub(crate) fn narrow<T: Trail>(
+    d: &mut Domains<T>,
+    waiting: &mut [bool],
+    row: &[u64],
+    r: u16,
+) -> bool
+    requires r_in { r < d.old.vertices }
+    requires flags { r < length waiting.old }
+    requires long { length row.now ≡ words_for d.old.values }
+    ensures keeps { Keeps d.old d.new r (has row.now) }
+    ensures notes { NotesSize result d.new waiting.old waiting.new r }
+    ensures bounded { length d.new.removed ≤ d.new.vertices * d.new.values }
+{
+    d.intersect(r, row);
+    match d.only(r) {
+        Some(_) => {
+            let _removed = d.mark();
+            waiting[usize::from(r)] = true;
+            true
+        }
+        None => {
+            let _removed = d.mark();
+            if d.size(r) == 0 {
+                return false;
+            }
+            true
+        }
+    }
+}
+
+/// Takes from the domain of `r` what is not consistent with `p` at `t`. A vertex that is decided and does not wait has
+/// taken its consequences, so that nothing is to be done there.
+fn settle_at<T: Trail>(
+    rows: &PairRows,
+    d: &mut Domains<T>,
+    waiting: &mut [bool],
+    p: u16,
+    t: u16,
+    r: u16,
+) -> bool
+    requires is_of { IsOf rows.now.problem d.old }
+    requires ready { ReadyBut rows.now.problem d.old waiting.old p }
+    requires p_in { p < size rows.now.problem.pattern }
+    requires t_in { t < size rows.now.problem.target }
+    requires r_in { r < size rows.now.problem.pattern }
+    requires made { IsMade rows.now t }
+    requires single { Single (in_domain d.old) p t }
+    requires bounded { length d.old.removed ≤ d.old.vertices * d.old.values }
+    ensures { Sweeps result rows.now.problem d.old waiting.old d.new waiting.new p t r }
+{
+    if r == p {
+        return true;
+    }
+    if waiting[usize::from(r)] {
+        return narrow(d, waiting, rows.row(p, r, t), r);
+    }
+    match d.only(r) {
+        Some(_) => true,
+        None => narrow(d, waiting, rows.row(p, r, t), r),
+    }
+}
+
+/// Takes from each other domain what is not consistent with `p` at `t`, up to the first domain that becomes empty.
+/// Cost: one step for each vertex, and a row for each that is not decided.
+fn settle<T: Trail>(
+    rows: &PairRows,
+    d: &mut Domains<T>,
+    waiting: &mut [bool],
+    p: u16,
+    t: u16,
+) -> bool
+    requires is_of { IsOf rows.now.problem d.old }
+    requires ready { ReadyBut rows.now.problem d.old waiting.old p }
+    requires p_in { p < size rows.now.problem.pattern }
+    requires t_in { t < size rows.now.problem.target }
+    requires made { IsMade rows.now t }
+    requires single { Single (in_domain d.old) p t }
+    requires bounded { length d.old.removed ≤ d.old.vertices * d.old.values }
+    ensures { Settles result rows.now.problem d.old waiting.old d.new waiting.new p t }
+{
+    for r in 0..d.vertices() {
+        if !settle_at(rows, d, waiting, p, t, r) {
+            return false;
+        }
+    }
+    true
+}
+
+/// Takes up a vertex that waits.
+fn visit<T: Trail>(rows: &mut PairRows, d: &mut Domains<T>, waiting: &mut [bool], p: u16) -> bool
+    requires is_of { IsOf rows.old.problem d.old }
+    requires ready { Ready rows.old.problem d.old waiting.old }
+    requires first { First rows.old.problem (in_domain d.old) }
+    requires p_in { p < size rows.old.problem.pattern }
+    requires waits { waits_at waiting.old p ≡ true }
+    ensures problem { rows.new.problem ≡ rows.old.problem }
+    ensures visited { Visited result rows.old.problem d.old waiting.old d.new waiting.new }
+{
+    waiting[usize::from(p)] = false;
+    match d.only(p) {
+        Some(t) => {
+            let _removed = d.mark();
+            rows.make(t);
+            settle(rows, d, waiting, p, t)
+        }
+        None => {
+            let _removed = d.mark();
+            if d.size(p) == 0 {
+                return false;
+            }
+            true
+        }
+    }
+}
+
+/// Takes all consequences, or finds that no embedding is within the domains. Cost: for each vertex that is decided on
+/// the way, one row for each that is not, and the values that leave.
+pub fn propagate<T: Trail>(rows: &mut PairRows, d: &mut Domains<T>, waiting: &mut [bool]) -> bool
+    requires is_of { IsOf rows.old.problem d.old }
+    requires ready { Ready rows.old.problem d.old waiting.old }
+    requires first { First rows.old.problem (in_domain d.old) }
+    ensures problem { rows.new.problem ≡ rows.old.problem }
+    ensures propagated { Propagates result rows.old.problem d.old d.new }
+{
+    let _vertices = d.vertices();
+    while let Some(p) = next_waiting(waiting) {
+        if !visit(rows, d, waiting, p as u16) {
+            return false;
+        }
+    }
+    true
+}

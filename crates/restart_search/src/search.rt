@@ -1,0 +1,290 @@
+//! The steps of a search, down a path of guesses and back, and the loop over them.
+
+ghost use Rattle.std.specs.Prelude.{◌≡◌, ℕ, [], ◌+◌, ◌<◌, ◌≤◌, ◌&&◌, not, true, false, length, Some, IfSome, IfNone, IsTrue, vec_capacity};
+ghost use Rattle.graph_theory.specs.Graph.{size};
+ghost use Rattle.graph_theory.specs.Path.{NotOn, Dead};
+ghost use Rattle.domain_bits.specs.BitRows.{has, words_for};
+ghost use Rattle.domain_bits.specs.Removals.{in_domain, size_of};
+ghost use Rattle.search_theory.specs.Claims.{Single, Quiet};
+ghost use Rattle.search_theory.specs.Bounds.{cutoff};
+ghost use Rattle.search_theory.specs.Account.{path, IsAt, NotAmong, MayGuess};
+ghost use Rattle.search_theory.specs.Remaining.{remaining};
+ghost use Rattle.restart_search.specs.Propagation.{IsOf};
+ghost use Rattle.restart_search.specs.Searching.{AtRest, Based, Sound, Ends, FoundOf, IsBest};
+
+use crate::propagation::propagate;
+use domain_bits::{Domains, Mark, Trail, and_not_into};
+use fail_account::Account;
+use graph_rows::Problem;
+use pair_rows::PairRows;
+use std::alloc::Global;
+
+/// How a search ends.
+#[derive(Drop)]
+pub enum Ended {
+    /// An embedding: the target vertex of each pattern vertex in order.
+    Found(Vec<u32>),
+    /// No embedding exists.
+    Refuted,
+    /// The budget is spent, and a further guess is due.
+    Spent,
+    /// Memory was refused.
+    NoMemory,
+}
+
+/// The vertex with the smallest domain of more than one value; of these the one of the greatest degree, and then the
+/// least. Cost: one step for each vertex.
+fn smallest<T: Trail>(q: &Problem, d: &Domains<T>) -> Option<u16>
+    requires is_of { IsOf q.now d.now }
+    ensures { IsBest d.now result (size q.now.pattern) }
+{
+    let mut best: Option<u16> = None;
+    for p in 0..d.vertices() {
+        best = better(q, d, p, best);
+    }
+    best
+}
+
+/// The better of the best vertex so far and `p`, which counts only if it is undecided.
+fn better<T: Trail>(q: &Problem, d: &Domains<T>, p: u16, best: Option<u16>) -> Option<u16>
+    requires is_of { IsOf q.now d.now }
+    requires p_in { p < size q.now.pattern }
+    requires so_far { IsBest d.now best p }
+    ensures { IsBest d.now result (p + 1) }
+{
+    match d.only(p) {
+        Some(_) => best,
+        None => Some(first_of(q, d, p, best)),
+    }
+}
+
+/// Which of `p` and the best vertex so far comes first; `p` where there is none.
+fn first_of<T: Trail>(q: &Problem, d: &Domains<T>, p: u16, best: Option<u16>) -> u16
+    requires is_of { IsOf q.now d.now }
+    requires p_in { p < size q.now.pattern }
+    requires undecided { (t : ℕ) → Single (in_domain d.now) p t → ⊥ }
+    requires so_far { IsBest d.now best p }
+    ensures { IsBest d.now (Some result) (p + 1) }
+{
+    match best {
+        None => p,
+        Some(r) => { if comes_first(q, d, p, r) { p } else { r } }
+    }
+}
+
+/// Whether `p` has a smaller domain than `r`, or an equal one and a greater degree.
+fn comes_first<T: Trail>(q: &Problem, d: &Domains<T>, p: u16, r: u16) -> bool
+    requires is_of { IsOf q.now d.now }
+    requires p_in { p < size q.now.pattern }
+    requires r_in { r < size q.now.pattern }
+{
+    let size = d.size(p);
+    let least = d.size(r);
+    size < least || (size == least && q.pattern().degree(p) > q.pattern().degree(r))
+}
+
+/// The vertex of the level after the path: the one that it has, or for a fresh level the one of the smallest domain of
+/// more than one value; none where each domain has one value.
+fn level_vertex<T: Trail>(q: &Problem, d: &Domains<T>, account: &Account) -> Option<u16>
+    requires is_of { IsOf q.now d.now }
+    requires rest { AtRest q.now (path account.now) d.now }
+    requires sizes { account.now.pattern ≡ size q.now.pattern }
+    ensures some { IfSome result (λ p. (p < size q.now.pattern) × NotOn (path account.now) p × IsAt account.now.vertex p) }
+    ensures none { IfNone result ((p : ℕ) → p < size q.now.pattern → (t : ℕ) × Single (in_domain d.now) p t) }
+{
+    match account.vertex() {
+        Some(p) => Some(p),
+        None => smallest(q, d),
+    }
+}
+
+/// Fills the row with the values of the domain of `p` that are not refuted at the level after the path. Cost: the words
+/// of a row.
+fn fill_untried<T: Trail>(d: &Domains<T>, account: &Account, p: u16, row: &mut [u64])
+    requires p_in { p < d.now.vertices }
+    requires off_path { NotOn (path account.now) p }
+    requires some { (t : ℕ) × (in_domain d.now p t ≡ true) }
+    requires vertices { account.now.pattern ≡ d.now.vertices }
+    requires values { account.now.target ≡ d.now.values }
+    requires long { length row.old ≡ words_for d.now.values }
+    ensures untried { (t : ℕ) → has row.new t ≡ true → (in_domain d.now p t ≡ true) × NotAmong account.now.refuted t }
+    ensures all { (t : ℕ) → in_domain d.now p t ≡ true → NotAmong account.now.refuted t → has row.new t ≡ true }
+    ensures long { length row.new ≡ words_for d.now.values }
+    ensures short { length row.new ≤ 1024 }
+{
+    row.copy_from_slice(d.row(p));
+    let _vertices = d.vertices();
+    let depth = account.path().len();
+    let (_, refuted) = account.level(depth as u16);
+    and_not_into(row, refuted);
+}
+
+/// The least value of a row. Cost: the words up to it.
+fn least_value(row: &[u64]) -> Option<u16>
+    requires { length row.now ≤ 1024 }
+    ensures some { IfSome result (λ t. has row.now t ≡ true) }
+    ensures none { IfNone result ((t : ℕ) → has row.now t ≡ false) }
+{
+    for place in 0..row.len() {
+        if row[place] != 0 {
+            return Some(64 * place as u16 + row[place].trailing_zeros() as u16);
+        }
+    }
+    None
+}
+
+/// Refutes the last guess, and takes back what followed from it. Cost: what had been removed since.
+fn close<T: Trail>(
+    q: &Problem,
+    d: &mut Domains<T>,
+    account: &mut Account,
+    marks: &mut Vec<Mark>,
+    root: Mark,
+)
+    requires based { Based q.now d.old account.old marks.old.items root }
+    requires some { 0 < length (path account.old) }
+    requires dead { Dead q.now (path account.old) }
+    ensures sound { Sound q.now d.new account.new marks.new.items root }
+    ensures nearer { remaining account.new < remaining account.old }
+    ensures budget { account.new.budget ≡ account.old.budget }
+    ensures room { vec_capacity marks.old ≤ vec_capacity marks.new }
+{
+    account.fail(q);
+    match marks.pop() {
+        None => (),
+        Some(mark) => d.undo_to(mark),
+    }
+}
+
+/// Begins the next run. Cost: what had been removed since the root.
+fn begin_again<T: Trail>(
+    q: &Problem,
+    d: &mut Domains<T>,
+    account: &mut Account,
+    marks: &mut Vec<Mark>,
+    root: Mark,
+)
+    requires sound { Sound q.now d.old account.old marks.old.items root }
+    requires due { account.old.count ≡ cutoff account.old.run }
+    ensures sound { Sound q.now d.new account.new marks.new.items root }
+    ensures nearer { remaining account.new < remaining account.old }
+    ensures budget { account.new.budget ≡ account.old.budget }
+    ensures room { vec_capacity marks.old ≤ vec_capacity marks.new }
+{
+    account.restart(q);
+    marks.clear();
+    d.undo_to(root);
+}
+
+/// Lowers all flags.
+fn lower(waiting: &mut [bool])
+    ensures { length waiting.new ≡ length waiting.old }
+{
+    for p in 0..waiting.len() {
+        waiting[p] = false;
+    }
+}
+
+/// Guesses `t` for `p`, and takes the consequences; where no embedding is left, refutes the guess.
+fn guess<T: Trail>(
+    q: &Problem,
+    rows: &mut PairRows,
+    d: &mut Domains<T>,
+    account: &mut Account,
+    marks: &mut Vec<Mark>,
+    waiting: &mut [bool],
+    root: Mark,
+    p: u16,
+    t: u16,
+)
+    requires problem { rows.old.problem ≡ q.now }
+    requires sound { Sound q.now d.old account.old marks.old.items root }
+    requires unspent { account.old.all < account.old.budget }
+    requires before_cutoff { account.old.count < cutoff account.old.run }
+    requires may { MayGuess q.now account.old p t }
+    requires here { in_domain d.old p t ≡ true }
+    requires long { length waiting.old ≡ size q.now.pattern }
+    requires room { size q.now.pattern ≤ vec_capacity marks.old }
+    ensures problem { rows.new.problem ≡ rows.old.problem }
+    ensures sound { Sound q.now d.new account.new marks.new.items root }
+    ensures nearer { remaining account.new < remaining account.old }
+    ensures budget { account.new.budget ≡ account.old.budget }
+    ensures room { vec_capacity marks.old ≤ vec_capacity marks.new }
+{
+    let mark = d.mark();
+    account.deepen(q, p, t);
+    marks.push_reserved(mark);
+    d.assign(p, t);
+    waiting[usize::from(p)] = true;
+    if !propagate(rows, d, waiting) {
+        lower(waiting);
+        close(q, d, account, marks, root);
+    }
+}
+
+/// The embedding that domains of one value are.
+fn found<T: Trail>(alloc: Global, q: &Problem, d: &Domains<T>) -> Ended
+    requires is_of { IsOf q.now d.now }
+    requires quiet { Quiet q.now (in_domain d.now) }
+    requires single { (p : ℕ) → p < size q.now.pattern → (t : ℕ) × Single (in_domain d.now) p t }
+    ensures { FoundOf q.now result }
+{
+    let mut map: Vec<u32> = Vec::new(alloc);
+    for p in 0..d.vertices() {
+        match d.only(p) {
+            Some(t) => {
+                if map.push(u32::from(t)).is_err() {
+                    return Ended::NoMemory;
+                }
+            }
+            None => unreachable!(),
+        }
+    }
+    Ended::Found(map)
+}
+
+/// Searches until an embedding is found, none is left, or the budget is spent.
+pub(crate) fn run<T: Trail>(
+    alloc: Global,
+    q: &Problem,
+    rows: &mut PairRows,
+    d: &mut Domains<T>,
+    account: &mut Account,
+    marks: &mut Vec<Mark>,
+    waiting: &mut [bool],
+    untried: &mut [u64],
+    root: Mark,
+) -> Ended
+    requires problem { rows.old.problem ≡ q.now }
+    requires sound { Sound q.now d.old account.old marks.old.items root }
+    requires long { length waiting.old ≡ size q.now.pattern }
+    requires words { length untried.old ≡ words_for (size q.now.target) }
+    requires room { size q.now.pattern ≤ vec_capacity marks.old }
+    ensures ends { Ends result q.now account.new }
+    ensures budget { account.new.budget ≡ account.old.budget }
+    ensures sound { Sound q.now d.new account.new marks.new.items root }
+    ensures problem { rows.new.problem ≡ q.now }
+    ensures room { size q.now.pattern ≤ vec_capacity marks.new }
+{
+    loop {
+        let Some(p) = level_vertex(q, d, account) else {
+            return found(alloc, q, d);
+        };
+        fill_untried(d, account, p, untried);
+        let Some(t) = least_value(untried) else {
+            if account.path().is_empty() {
+                return Ended::Refuted;
+            }
+            close(q, d, account, marks, root);
+            continue;
+        };
+        if account.spent() {
+            return Ended::Spent;
+        }
+        if account.at_cutoff() {
+            begin_again(q, d, account, marks, root);
+            continue;
+        }
+        guess(q, rows, d, account, marks, waiting, root, p, t);
+    }
+}

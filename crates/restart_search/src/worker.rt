@@ -1,0 +1,165 @@
+//! A worker, and the whole of a search by one.
+
+ghost use Rattle.std.specs.Prelude.{◌≡◌, ℕ, [], ◌^◌, ◌<◌, ◌≤◌, length, vec_capacity, IfOk};
+ghost use Rattle.graph_theory.specs.Graph.{size};
+ghost use Rattle.domain_bits.specs.Removals.{in_domain};
+ghost use Rattle.search_theory.specs.Account.{fresh, path};
+ghost use Rattle.restart_search.specs.Propagation.{IsOf};
+ghost use Rattle.restart_search.specs.Searching.{AtRest, Ends, Decides};
+
+use crate::root::{Rooted, root};
+use crate::search::{Ended, run};
+use domain_bits::{Domains, Mark, PairTrail, Trail};
+use fail_account::Account;
+use graph_rows::Problem;
+use pair_rows::PairRows;
+use std::alloc::{AllocError, Global};
+use std::marker::Model;
+
+/// One search, with where it stands.
+#[derive(Drop)]
+pub struct Worker<'a, T: Trail> {
+    problem: &'a Problem,
+    rows: PairRows<'a>,
+    domains: Domains<T>,
+    account: Account,
+    marks: Vec<Mark>,
+    waiting: Vec<bool>,
+    untried: Vec<u64>,
+    root: Mark,
+}
+
+impl<'a, T: Trail> Model for Worker<'a, T> {
+    ghost use Rattle.std.specs.Prelude.{vec_capacity};
+    ghost use Rattle.restart_search.specs.Searching.{Search, Working};
+
+    ghost Value = { Search };
+
+    ghost view = { λ w. record { problem = w.problem.now; domains = w.domains; account = w.account } };
+
+    ghost invariant = { λ w. Working w.problem.now w.rows.problem w.domains w.account w.marks.items w.waiting.items w.untried.items w.root (vec_capacity w.marks) };
+}
+
+impl<'a, T: Trail> Worker<'a, T> {
+    /// A worker before its first guess. It reserves a mark for each pattern vertex. The seed counts for nothing yet.
+    pub fn new(
+        alloc: Global,
+        q: &'a Problem,
+        domains: Domains<T>,
+        seed: u64,
+        budget: u64,
+    ) -> Result<Worker<'a, T>, AllocError>
+        requires is_of { IsOf q.now domains }
+        requires rest { AtRest q.now [] domains }
+        requires budget { budget < 2 ^ 63 }
+        ensures problem { IfOk result (λ w. w.problem ≡ q.entry.now) }
+        ensures account { IfOk result (λ w. w.account ≡ fresh (size q.entry.now.pattern) (size q.entry.now.target) budget) }
+    {
+        let rows = PairRows::new(alloc, q)?;
+        let account = Account::new(alloc, q, budget)?;
+        let vertices = usize::from(q.pattern().size());
+        let marks = Vec::with_capacity(alloc, vertices)?;
+        let waiting = vec![in alloc; false; vertices]?;
+        let words = (usize::from(q.target().size()) + 63) / 64;
+        let untried = vec![in alloc; 0u64; words]?;
+        let root = domains.mark();
+        Ok(Worker {
+            problem: q,
+            rows,
+            domains,
+            account,
+            marks,
+            waiting,
+            untried,
+            root,
+        })
+    }
+
+    /// Searches to an end.
+    pub fn run(&mut self, alloc: Global) -> Ended
+        ensures ends { Ends result self.new.problem self.new.account }
+        ensures problem { self.new.problem ≡ self.old.problem }
+        ensures budget { self.new.account.budget ≡ self.old.account.budget }
+        ensures rest { AtRest self.new.problem (path self.new.account) self.new.domains }
+    {
+        run(
+            alloc,
+            self.problem,
+            &mut self.rows,
+            &mut self.domains,
+            &mut self.account,
+            &mut self.marks,
+            &mut self.waiting,
+            &mut self.untried,
+            self.root,
+        )
+    }
+
+    /// The account, which tells where the search stands and how often it failed.
+    pub fn into_account(self) -> Account
+        ensures { result ≡ self.entry.account }
+    {
+        let Worker {
+            problem: _,
+            rows: _,
+            domains: _,
+            account,
+            marks: _,
+            waiting: _,
+            untried: _,
+            root: _,
+        } = self;
+        account
+    }
+}
+
+/// What the search of one worker decides.
+#[derive(Drop)]
+pub enum Decided {
+    /// An embedding: the target vertex of each pattern vertex in order.
+    Found(Vec<u32>),
+    /// No embedding exists.
+    Refuted,
+    /// The budget is spent, and a further guess is due: the account that shows it.
+    Spent(Account),
+    /// Memory was refused.
+    NoMemory,
+}
+
+/// Decides the problem by one worker within the budget of fails. The seed counts for nothing yet.
+pub fn decide(alloc: Global, q: &Problem, seed: u64, budget: u64) -> Decided
+    requires { budget < 2 ^ 63 }
+    ensures { Decides result q.now budget }
+{
+    let domains = match root(alloc, q) {
+        Rooted::Quiet(domains) => domains,
+        Rooted::Failed => return Decided::Refuted,
+        Rooted::NoMemory => return Decided::NoMemory,
+    };
+    search_from(alloc, q, domains, seed, budget)
+}
+
+/// Searches from the domains of the root.
+fn search_from(
+    alloc: Global,
+    q: &Problem,
+    domains: Domains<PairTrail>,
+    seed: u64,
+    budget: u64,
+) -> Decided
+    requires is_of { IsOf q.now domains }
+    requires rest { AtRest q.now [] domains }
+    requires budget { budget < 2 ^ 63 }
+    ensures { Decides result q.now budget }
+{
+    let mut worker = match Worker::new(alloc, q, domains, seed, budget) {
+        Ok(worker) => worker,
+        Err(_) => return Decided::NoMemory,
+    };
+    match worker.run(alloc) {
+        Ended::Found(map) => Decided::Found(map),
+        Ended::Refuted => Decided::Refuted,
+        Ended::Spent => Decided::Spent(worker.into_account()),
+        Ended::NoMemory => Decided::NoMemory,
+    }
+}
