@@ -1,0 +1,115 @@
+-- The tests of single vertices and of pairs say what their words say, and on plain graphs speak of neighbours.
+
+use Rattle.std.proofs.Common.{◌≡◌, ℕ, ◌==◌, Bool, true, false, ◌&&◌, ◌||◌, not, is_some, Option, Some, None, refl, ap, ◌∙◌}
+use Rattle.std.proofs.lemmas.Bool.{eqb-true, eqb-false, eq-eqb, ne_eqb, and_parts, and_from, or_parts, not-true, not_from_false}
+use Rattle.graph_theory.specs.Graph.{label, edge}
+use Rattle.graph_theory.specs.Embedding.{Problem, KeepsEdge, Matches, Allowed, Compatible}
+use Rattle.encoding_theory.specs.Pairs.{is_kept, is_match, is_allowed, is_compatible, is_linked, TestLaws, IsPlain, PlainLaws}
+
+kept_from : (e f : Option ℕ) → is_kept e f ≡ true → KeepsEdge e f
+kept_from None f h = tt
+kept_from (Some l) None h = absurd cc
+kept_from (Some l) (Some k) h = ap Some (eqb-true k l h)
+
+kept_to : (e f : Option ℕ) → KeepsEdge e f → is_kept e f ≡ true
+kept_to None f h = refl
+kept_to (Some l) f h = rw h (eq-eqb l l refl)
+
+match_from : (b : Bool) (e f : Option ℕ) → is_match b e f ≡ true → Matches b e f
+match_from false e f h = kept_from e f h
+match_from true e f h = let p = and_parts (is_kept e f) (is_kept f e) h in (kept_from e f p.0, kept_from f e p.1)
+
+match_to : (b : Bool) (e f : Option ℕ) → Matches b e f → is_match b e f ≡ true
+match_to false e f h = kept_to e f h
+match_to true e f h = and_from (is_kept e f) (is_kept f e) (kept_to e f h.0) (kept_to f e h.1)
+
+-- a pair that passes the test is allowed
+pub allowed_from : (q : Problem) (p t : ℕ) → is_allowed q p t ≡ true → Allowed q p t
+allowed_from q p t h =
+    let x = and_parts (label q.target t == label q.pattern p) (is_match q.induced (edge q.pattern p p) (edge q.target t t)) h in
+    record { label_is = eqb-true (label q.target t) (label q.pattern p) x.0; loop_is = match_from q.induced (edge q.pattern p p) (edge q.target t t) x.1 }
+
+-- and one that is allowed passes it
+pub allowed_to : (q : Problem) (p t : ℕ) → Allowed q p t → is_allowed q p t ≡ true
+allowed_to q p t h =
+    and_from (label q.target t == label q.pattern p) (is_match q.induced (edge q.pattern p p) (edge q.target t t))
+    (eq-eqb (label q.target t) (label q.pattern p) h.label_is) (match_to q.induced (edge q.pattern p p) (edge q.target t t) h.loop_is)
+
+-- two pairs that pass the test go together
+pub compatible_from : (q : Problem) (p t r u : ℕ) → is_compatible q p t r u ≡ true → Compatible q p t r u
+compatible_from q p t r u h =
+    let out : Bool = is_match q.induced (edge q.pattern p r) (edge q.target t u) in
+    let back : Bool = is_match q.induced (edge q.pattern r p) (edge q.target u t) in
+    let x = and_parts (not (t == u)) (out && back) h in
+    let y = and_parts out back x.1 in
+    record {
+      apart = eqb-false t u (not-true (t == u) x.0);
+      out = match_from q.induced (edge q.pattern p r) (edge q.target t u) y.0;
+      back = match_from q.induced (edge q.pattern r p) (edge q.target u t) y.1;
+    }
+
+-- and two that go together pass it
+pub compatible_to : (q : Problem) (p t r u : ℕ) → Compatible q p t r u → is_compatible q p t r u ≡ true
+compatible_to q p t r u h =
+    let out : Bool = is_match q.induced (edge q.pattern p r) (edge q.target t u) in
+    let back : Bool = is_match q.induced (edge q.pattern r p) (edge q.target u t) in
+    and_from (not (t == u)) (out && back) (not_from_false (t == u) (ne_eqb t u h.apart))
+    (and_from out back (match_to q.induced (edge q.pattern p r) (edge q.target t u) h.out) (match_to q.induced (edge q.pattern r p) (edge q.target u t) h.back))
+
+pub test_laws : TestLaws
+test_laws = record {
+  allowed = λ q p t. (allowed_from q p t, allowed_to q p t);
+  compatible = λ q p t r u. (compatible_from q p t r u, compatible_to q p t r u);
+}
+
+-- ---- plain graphs
+
+or_same : (x : Bool) → (x || x) ≡ x
+or_same true = refl
+or_same false = refl
+
+-- an edge of label 0 is met by any edge of a plain graph, both ways
+plain_match : (b : Bool) (f : Option ℕ) → ((l : ℕ) → f ≡ Some l → l ≡ 0) → (is_match b (Some 0) f && is_match b (Some 0) f) ≡ is_some f
+plain_match false None z = refl
+plain_match true None z = refl
+plain_match false (Some k) z = let e : k ≡ 0 = z k refl in rw e refl
+plain_match true (Some k) z = let e : k ≡ 0 = z k refl in rw e refl
+
+-- no edge is met by no edge alone
+missing_match : (f : Option ℕ) → (is_match true None f && is_match true None f) ≡ not (is_some f)
+missing_match None = refl
+missing_match (Some k) = refl
+
+no_edge : (e : Option ℕ) → is_some e ≡ false → e ≡ None
+no_edge None h = refl
+no_edge (Some l) h = absurd cc
+
+some_edge : (e : Option ℕ) → is_some e ≡ true → ((l : ℕ) → e ≡ Some l → l ≡ 0) → e ≡ Some 0
+some_edge None h z = absurd cc
+some_edge (Some l) h z = ap Some (z l refl)
+
+both_match : (b : Bool) (e d f g : Option ℕ) → e ≡ d → f ≡ g → (is_match b e f && is_match b d g) ≡ (is_match b e f && is_match b e f)
+both_match b e d f g s t = rw (← s, ← t) refl
+
+pub plain_laws : (q : Problem) → IsPlain q.pattern → IsPlain q.target → PlainLaws q
+plain_laws q h k = record {
+  pair = λ p r. ap (λ (x : Bool). not (p == r) && x)
+      (ap (λ (e : Option ℕ). is_some (edge q.pattern p r) || is_some e) (h.both r p) ∙ or_same (is_some (edge q.pattern p r)));
+  edge_kept = λ p r t u n.
+      let s = and_parts (not (p == r)) (is_some (edge q.pattern p r)) n in
+      let e = some_edge (edge q.pattern p r) s.1 (h.zeros p r) in
+      ap (λ (x : Bool). not (t == u) && x)
+      (both_match q.induced (edge q.pattern p r) (edge q.pattern r p) (edge q.target t u) (edge q.target u t) (h.both p r) (k.both t u)
+      ∙ ap (λ (d : Option ℕ). is_match q.induced d (edge q.target t u) && is_match q.induced d (edge q.target t u)) e
+      ∙ plain_match q.induced (edge q.target t u) (k.zeros t u));
+  non_edge_kept = λ p r t u n.
+      let i = and_parts q.induced (not (p == r) && not (is_linked q.pattern p r)) n in
+      let s = and_parts (not (p == r)) (not (is_linked q.pattern p r)) i.1 in
+      let o = or_parts (is_some (edge q.pattern p r)) (is_some (edge q.pattern r p)) (not-true (is_linked q.pattern p r) s.1) in
+      let e = no_edge (edge q.pattern p r) o.0 in
+      ap (λ (x : Bool). not (t == u) && x)
+      (both_match q.induced (edge q.pattern p r) (edge q.pattern r p) (edge q.target t u) (edge q.target u t) (h.both p r) (k.both t u)
+      ∙ ap (λ (b : Bool). is_match b (edge q.pattern p r) (edge q.target t u) && is_match b (edge q.pattern p r) (edge q.target t u)) i.0
+      ∙ ap (λ (d : Option ℕ). is_match true d (edge q.target t u) && is_match true d (edge q.target t u)) e
+      ∙ missing_match (edge q.target t u));
+}

@@ -1,0 +1,5 @@
+pub mod Variables
+pub mod Pairs
+pub mod Encoding
+pub mod Solutions
+pub mod Places

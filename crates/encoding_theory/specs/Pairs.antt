@@ -1,0 +1,57 @@
+-- What single vertices and pairs of vertices are asked, as tests that compute. Edges with other directions or labels,
+-- and other kinds of maps, change these tests and no form.
+
+use Rattle.std.specs.Prelude.{◌≡◌, ℕ, ◌==◌, Bool, true, false, ◌&&◌, ◌||◌, not, is_some, IsTrue, ◌↔◌, Option, Some, None}
+use Rattle.graph_theory.specs.Graph.{Graph, label, edge}
+use Rattle.graph_theory.specs.Embedding.{Problem, Allowed, Compatible}
+use Rattle.graph_theory.specs.Neighbours.{is_neighbour}
+
+-- Where the first edge stands the second stands too, with its label.
+abbrev pub is_kept : Option ℕ → Option ℕ → Bool
+is_kept None f = true
+is_kept (Some l) None = false
+is_kept (Some l) (Some k) = k == l
+
+-- A pattern edge and its image agree: it is kept, and in the induced kind none is there that was not before.
+abbrev pub is_match : Bool → Option ℕ → Option ℕ → Bool
+is_match false e f = is_kept e f
+is_match true e f = is_kept e f && is_kept f e
+
+-- Vertex p may go to t, as far as label and loop tell.
+abbrev pub is_allowed : Problem → ℕ → ℕ → Bool
+is_allowed q p t = (label q.target t == label q.pattern p) && is_match q.induced (edge q.pattern p p) (edge q.target t t)
+
+-- With p at t, another vertex r may go to u: it is another place, and the edges between p and r agree with those between t and u.
+abbrev pub is_compatible : Problem → ℕ → ℕ → ℕ → ℕ → Bool
+is_compatible q p t r u =
+    not (t == u) && (is_match q.induced (edge q.pattern p r) (edge q.target t u) && is_match q.induced (edge q.pattern r p) (edge q.target u t))
+
+-- An edge stands between the two vertices, in one direction or the other.
+abbrev pub is_linked : Graph → ℕ → ℕ → Bool
+is_linked g a b = is_some (edge g a b) || is_some (edge g b a)
+
+-- Two pattern vertices with an edge between them.
+abbrev pub is_edge_pair : Problem → ℕ → ℕ → Bool
+is_edge_pair q p r = not (p == r) && is_linked q.pattern p r
+
+-- Two pattern vertices without an edge between them, in the induced kind, where their images are to have none either.
+abbrev pub is_non_edge_pair : Problem → ℕ → ℕ → Bool
+is_non_edge_pair q p r = q.induced && (not (p == r) && not (is_linked q.pattern p r))
+
+-- ---- what these tests say
+
+-- The two tests are those by which a problem is a binary constraint problem.
+pub record TestLaws : Type 0 where
+  pub allowed : (q : Problem) (p t : ℕ) → IsTrue (is_allowed q p t) ↔ Allowed q p t
+  pub compatible : (q : Problem) (p t r u : ℕ) → IsTrue (is_compatible q p t r u) ↔ Compatible q p t r u
+
+-- A graph without directions and without labels of edges: each edge stands both ways, with label 0.
+pub record IsPlain (g : Graph) : Type 0 where
+  pub both : (a b : ℕ) → edge g a b ≡ edge g b a
+  pub zeros : (a b l : ℕ) → edge g a b ≡ Some l → l ≡ 0
+
+-- On such graphs an edge goes to neighbours, and in the induced kind a missing edge to two others without an edge.
+pub record PlainLaws (q : Problem) : Type 0 where
+  pub pair : (p r : ℕ) → is_edge_pair q p r ≡ is_neighbour q.pattern p r
+  pub edge_kept : (p r t u : ℕ) → is_neighbour q.pattern p r ≡ true → is_compatible q p t r u ≡ is_neighbour q.target t u
+  pub non_edge_kept : (p r t u : ℕ) → is_non_edge_pair q p r ≡ true → is_compatible q p t r u ≡ (not (t == u) && not (is_some (edge q.target t u)))

@@ -1,0 +1,14 @@
+use Rattle.std.proofs.Common.{ap, ◌∙◌, ◌+◌, ◌*◌}
+use Rattle.encoding_theory.specs.Encoding.{at_most}
+use Rattle.encoding_theory.specs.Places.{at_most_place}
+use Rattle.encoding_theory.proofs.PlaceProofs.{place_laws}
+use Rattle.pb_encoding.proofs.LineNumbers.{at_most_line, form_at}
+use Rattle.pb_encoding.proofs.encoding.Encoding.at_most.Goals as goal
+
+pub returns-clause-line : goal.returns-clause-line
+returns-clause-line c = rw c.from.ensures (at_most_line c.args.self.now c.args.p)
+
+pub returns-clause-form : goal.returns-clause-form
+returns-clause-form c =
+    form_at c.args.self.now (at_most_place c.args.self.now c.args.p) _ (at_most c.args.self.now c.args.p)
+    (rw c.from.ensures (at_most_line c.args.self.now c.args.p)) ((place_laws c.args.self.now).at_most c.args.p c.requires)

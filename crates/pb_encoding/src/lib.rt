@@ -1,0 +1,20 @@
+//! The pseudo-Boolean encoding of a problem, line by line.
+//!
+//! This layer keeps no list of constraints. It keeps the numbers of the pairs that have lines of their own, and from these
+//! makes the constraint of a line, or tells the number of a line, without a search through the encoding, so that a log can
+//! name a line for each value that is removed. The layers above use the lines and their numbers; that the solutions are
+//! exactly the embeddings is the law of the definition that both are of. (Gocht, McCreesh, Nordström, "Subgraph
+//! isomorphism meets cutting planes", IJCAI 2020.)
+#![tactic(auto)]
+
+pub mod encoding;
+#[cfg(test)]
+mod encoding_tests;
+mod line;
+pub mod model;
+mod numbers;
+mod pair_tests;
+mod shared;
+mod terms;
+
+pub use encoding::Encoding;

@@ -1,0 +1,6 @@
+pub mod Fronts
+pub mod Combining
+pub mod Sizes
+pub mod Mapping
+pub mod Trails
+pub mod Ruled

@@ -1,0 +1,4 @@
+pub mod Forms
+pub mod Rules
+pub mod Slack
+pub mod FormLaws
