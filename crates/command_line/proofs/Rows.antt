@@ -1,0 +1,85 @@
+-- Worked rows of the definition: what it says of words that are written out, the program's name first.
+
+use Rattle.std.proofs.Common.{◌≡◌, ℕ, Bool, List, [], ◌∷◌, map, not, true, false, Some, None, is_some, codes, replicate, refl}
+use Rattle.std.specs.List.{list_all}
+use Rattle.clap.proofs.OnLiterals.{clap_on_literals}
+use Rattle.graph_theory.specs.Text.{words}
+use Rattle.graph_theory.specs.declared.lad_text.LadKind.TheVariants.{Lad, VertexLabelledLad}
+use Rattle.command_line.specs.CommandLine.{command}
+use Rattle.command_line.specs.Grammar.{grammar, solve_grammar, verify_grammar, with_graphs, with_kind, with_mapping, with_search}
+use Rattle.command_line.specs.declared.commands.Command.TheVariants.{Solve, Verify}
+
+-- the words of the line are no command
+abbrev is_refused : List ℕ → Bool
+is_refused text = not (is_some (command (words text)))
+
+-- what is missing, too much or repeated
+pub wrong_count : list_all is_refused (
+    codes "" ∷ codes "subgraph" ∷ codes "subgraph solve" ∷ codes "subgraph solve p" ∷ codes "subgraph solve p t u"
+    ∷ codes "subgraph verify p t" ∷ codes "subgraph verify p t m u" ∷ codes "subgraph solve p t --budget"
+    ∷ codes "subgraph solve p t --budget 4 --budget 4" ∷ codes "subgraph solve p t --induced --induced"
+    ∷ codes "subgraph verify p t m --format lad --format lad" ∷ codes "subgraph solve p t --format --induced"
+    ∷ codes "subgraph solve p t --induced=true" ∷ codes "solve p t" ∷ []) ≡ true
+unfolding command grammar solve_grammar verify_grammar with_graphs with_kind with_mapping with_search clap_on_literals
+wrong_count = refl
+
+-- words that the grammar does not have, abbreviations among them
+pub unknown_words : list_all is_refused (
+    codes "subgraph help" ∷ codes "subgraph --help" ∷ codes "subgraph -h" ∷ codes "subgraph solve -h" ∷ codes "subgraph solve p t --help"
+    ∷ codes "subgraph --version" ∷ codes "subgraph -V" ∷ codes "subgraph sol p t" ∷ codes "subgraph SOLVE p t" ∷ codes "subgraph p t"
+    ∷ codes "subgraph solve p t --bud 4" ∷ codes "subgraph solve p t --induce" ∷ codes "subgraph solve p t --threads 65"
+    ∷ codes "subgraph solve p t --seed 1" ∷ codes "subgraph solve p t --prove e" ∷ codes "subgraph verify p t m --budget 4"
+    ∷ codes "subgraph encode p t" ∷ codes "subgraph check e l" ∷ codes "subgraph demo 7" ∷ codes "subgraph --induced solve p t"
+    ∷ codes "subgraph -- solve p t" ∷ codes "subgraph solve -p t" ∷ codes "subgraph solve p -1" ∷ []) ≡ true
+unfolding command grammar solve_grammar verify_grammar with_graphs with_kind with_mapping with_search clap_on_literals
+unknown_words = refl
+
+-- numbers out of range or form, and formats that are none
+pub wrong_values : list_all is_refused (
+    codes "subgraph solve p t --budget 0" ∷ codes "subgraph solve p t --budget 000" ∷ codes "subgraph solve p t --budget=0"
+    ∷ codes "subgraph solve p t --budget 9223372036854775808" ∷ codes "subgraph solve p t --budget 18446744073709551617"
+    ∷ codes "subgraph solve p t --budget +4" ∷ codes "subgraph solve p t --budget -4" ∷ codes "subgraph solve p t --budget 4x"
+    ∷ codes "subgraph solve p t --budget 1_000" ∷ codes "subgraph solve p t --budget 0x4" ∷ codes "subgraph solve p t --budget="
+    ∷ codes "subgraph solve p t --budget=+4" ∷ codes "subgraph solve p t --format foo" ∷ codes "subgraph solve p t --format LAD"
+    ∷ codes "subgraph solve p t --format=" ∷ codes "subgraph verify p t m --format labelledlad" ∷ []) ≡ true
+unfolding command grammar solve_grammar verify_grammar with_graphs with_kind with_mapping with_search clap_on_literals
+wrong_values = refl
+
+-- solves
+pub solves : map (λ (text : List ℕ). command (words text)) (
+    codes "subgraph solve p t" ∷ codes "any solve same same --induced" ∷ codes "subgraph solve --budget 4 p --format vertexlabelledlad t"
+    ∷ codes "subgraph solve p t --budget=004" ∷ codes "subgraph solve --format=lad -- p --induced" ∷ codes "subgraph solve - solve" ∷ [])
+    ≡ Some (Solve (record { pattern = codes "p"; target = codes "t"; induced = false; format = Lad; budget = 9223372036854775807 }))
+    ∷ Some (Solve (record { pattern = codes "same"; target = codes "same"; induced = true; format = Lad; budget = 9223372036854775807 }))
+    ∷ Some (Solve (record { pattern = codes "p"; target = codes "t"; induced = false; format = VertexLabelledLad; budget = 4 }))
+    ∷ Some (Solve (record { pattern = codes "p"; target = codes "t"; induced = false; format = Lad; budget = 4 }))
+    ∷ Some (Solve (record { pattern = codes "p"; target = codes "--induced"; induced = false; format = Lad; budget = 9223372036854775807 }))
+    ∷ Some (Solve (record { pattern = codes "-"; target = codes "solve"; induced = false; format = Lad; budget = 9223372036854775807 }))
+    ∷ []
+unfolding command grammar solve_grammar verify_grammar with_graphs with_kind with_mapping with_search clap_on_literals
+solves = refl
+
+-- verifies
+pub verifies : map (λ (text : List ℕ). command (words text)) (
+    codes "subgraph verify p t m" ∷ codes "subgraph verify p --induced t --format vertexlabelledlad m" ∷ [])
+    ≡ Some (Verify (record { pattern = codes "p"; target = codes "t"; mapping = codes "m"; induced = false; format = Lad }))
+    ∷ Some (Verify (record { pattern = codes "p"; target = codes "t"; mapping = codes "m"; induced = true; format = VertexLabelledLad }))
+    ∷ []
+unfolding command grammar solve_grammar verify_grammar with_graphs with_kind with_mapping with_search clap_on_literals
+verifies = refl
+
+-- an empty word is a name, and no words at all are no command
+pub empty_words : (command (codes "subgraph" ∷ codes "solve" ∷ [] ∷ codes "t" ∷ [])
+    ≡ Some (Solve (record { pattern = []; target = codes "t"; induced = false; format = Lad; budget = 9223372036854775807 })))
+    × (command [] ≡ None)
+unfolding command grammar solve_grammar verify_grammar with_graphs with_kind with_mapping with_search clap_on_literals
+empty_words = (refl, refl)
+
+-- a name of 4,095 bytes is taken, and one of 4,096 is not
+pub long_names : (is_some (command (codes "subgraph" ∷ codes "solve" ∷ replicate 4095 112 ∷ codes "t" ∷ [])) ≡ true)
+    × (is_some (command (codes "subgraph" ∷ codes "solve" ∷ codes "p" ∷ replicate 4095 116 ∷ [])) ≡ true)
+    × (command (codes "subgraph" ∷ codes "solve" ∷ replicate 4096 112 ∷ codes "t" ∷ []) ≡ None)
+    × (command (codes "subgraph" ∷ codes "solve" ∷ codes "p" ∷ replicate 4096 116 ∷ []) ≡ None)
+    × (command (codes "subgraph" ∷ codes "verify" ∷ codes "p" ∷ codes "t" ∷ replicate 4096 109 ∷ []) ≡ None)
+unfolding command grammar solve_grammar verify_grammar with_graphs with_kind with_mapping with_search clap_on_literals
+long_names = (refl, refl, refl, refl, refl)

@@ -1,0 +1,89 @@
+-- Which command a list of words is.
+
+use Rattle.std.specs.Prelude.{ℕ, ◌<◌, ◌≤◌, ◌^◌, Bool, false, if◌then◌else◌, List, length, Option, Some, None, option_and_then, codes}
+use Rattle.std.specs.Option.{option_map_or}
+use Rattle.std.specs.Str.{bytes_eq}
+use Rattle.clap.specs.Words.{Row, Text, first_of, fault_of, subcommand_of}
+use Rattle.clap.specs.Walk.{is_empty}
+use Rattle.graph_theory.specs.declared.lad_text.LadKind.{LadKind}
+use Rattle.graph_theory.specs.declared.lad_text.LadKind.TheVariants.{Lad}
+use Rattle.command_line.specs.Words.{file_name, budget, format}
+use Rattle.command_line.specs.Grammar.{grammar}
+use Rattle.command_line.specs.declared.commands.Command.{Command}
+use Rattle.command_line.specs.declared.commands.Command.TheVariants.{Solve, Verify}
+use Rattle.command_line.specs.declared.commands.SolveWords.{SolveWords}
+use Rattle.command_line.specs.declared.commands.VerifyWords.{VerifyWords}
+
+-- The name of a file that stands in the place of this name.
+abbrev pub name_at : Text → List Row → Option Text
+name_at id rows = option_and_then file_name (first_of id rows)
+
+-- Whether the flag stands among the words.
+abbrev pub flag_at : Text → List Row → Bool
+flag_at id rows = option_map_or (λ t. bytes_eq t (codes "true")) (first_of id rows) false
+
+-- What an option's word is read as, and what stands for an option that is left out.
+abbrev pub or_default : {A : Type 0} → A → (Text → Option A) → Option Text → Option A
+or_default default read None = Some default
+or_default default read (Some text) = read text
+
+-- The format of both graphs, `lad` where none is named.
+abbrev pub format_at : List Row → Option LadKind
+format_at rows = or_default Lad format (first_of (codes "format") rows)
+
+-- The budget, the largest where none is named.
+abbrev pub budget_at : List Row → Option ℕ
+budget_at rows = or_default 9223372036854775807 budget (first_of (codes "budget") rows)
+
+-- A solve, where each of its words is good.
+abbrev pub solve_from : Option Text → Option Text → Bool → Option LadKind → Option ℕ → Option Command
+solve_from (Some p) (Some t) induced (Some f) (Some b) =
+    Some (Solve (record { pattern = p; target = t; induced = induced; format = f; budget = b }))
+solve_from _ _ _ _ _ = None
+
+-- A verify, where each of its words is good.
+abbrev pub verify_from : Option Text → Option Text → Option Text → Bool → Option LadKind → Option Command
+verify_from (Some p) (Some t) (Some m) induced (Some f) =
+    Some (Verify (record { pattern = p; target = t; mapping = m; induced = induced; format = f }))
+verify_from _ _ _ _ _ = None
+
+-- The solve that the words after `solve` are.
+abbrev pub solve_of : List Row → Option Command
+solve_of rows = solve_from (name_at (codes "pattern") rows) (name_at (codes "target") rows)
+    (flag_at (codes "induced") rows) (format_at rows) (budget_at rows)
+
+-- The verify that the words after `verify` are.
+abbrev pub verify_of : List Row → Option Command
+verify_of rows = verify_from (name_at (codes "pattern") rows) (name_at (codes "target") rows)
+    (name_at (codes "mapping") rows) (flag_at (codes "induced") rows) (format_at rows)
+
+-- The command of this name, with what was found for it.
+abbrev pub named_command : Text → List Row → Option Command
+named_command name rows = if bytes_eq name (codes "solve") then solve_of rows
+    else (if bytes_eq name (codes "verify") then verify_of rows else None)
+
+-- The command that a parse entered, if it entered one.
+abbrev pub entered_command : Option (Text × List Row) → Option Command
+entered_command None = None
+entered_command (Some p) = named_command p.0 p.1
+
+-- The command that the words are, the program's name first among them: what `clap`'s function of the words gives, where that passes the tests.
+unfoldable pub command : List Text → Option Command
+command words = if is_empty (fault_of grammar words) then entered_command (subcommand_of grammar words) else None
+
+-- The ranges of a command's names and numbers.
+pub record IsSolveInRange (w : SolveWords) : Type 0 where
+  pub pattern : length w.pattern ≤ 4095
+  pub target : length w.target ≤ 4095
+  pub least : 1 ≤ w.budget
+  pub most : w.budget < 2 ^ 63
+
+pub record IsVerifyInRange (w : VerifyWords) : Type 0 where
+  pub pattern : length w.pattern ≤ 4095
+  pub target : length w.target ≤ 4095
+  pub mapping : length w.mapping ≤ 4095
+
+-- A command's names have at most 4,095 bytes, and its numbers are in their ranges.
+abbrev pub IsInRange : Command → Type 0
+IsInRange (Solve w) = IsSolveInRange w
+IsInRange (Verify w) = IsVerifyInRange w

@@ -1,0 +1,50 @@
+-- The grammar of the words, as the command that `clap` reads them by: one level of subcommands, without help and version.
+
+use Rattle.std.specs.Prelude.{Some, true, codes}
+use Rattle.clap.specs.Words.{App, Rule, Text, new_app, new_rule, with_rule, with_subcommand}
+use Rattle.clap.specs.Simple.{on_top}
+use Rattle.clap.specs.declared.builder.action.ArgAction.TheVariants.{Set, SetTrue}
+
+-- A word that must be there, in its place.
+abbrev pub positional : Text → Rule
+positional name = record (new_rule name) { required = true; action = Some Set }
+
+-- An option with one word after it, which may stand once.
+abbrev pub option : Text → Rule
+option name = record (new_rule name) { long = Some name; action = Some Set }
+
+-- An option with no word after it, which may stand once.
+abbrev pub flag : Text → Rule
+flag name = record (new_rule name) { long = Some name; action = Some SetTrue }
+
+-- The two graphs.
+unfoldable pub with_graphs : App → App
+with_graphs a = with_rule (with_rule a (positional (codes "pattern"))) (positional (codes "target"))
+
+-- The kind of embedding and the format of the graphs.
+unfoldable pub with_kind : App → App
+with_kind a = with_rule (with_rule a (flag (codes "induced"))) (option (codes "format"))
+
+-- The mapping to be tested.
+unfoldable pub with_mapping : App → App
+with_mapping a = with_rule a (positional (codes "mapping"))
+
+-- What bounds the search.
+unfoldable pub with_search : App → App
+with_search a = with_rule a (option (codes "budget"))
+
+-- `solve P T [--induced] [--format F] [--budget N]`
+unfoldable pub solve_grammar : App
+solve_grammar = with_search (with_kind (with_graphs (new_app (codes "solve"))))
+
+-- `verify P T MAP [--induced] [--format F]`
+unfoldable pub verify_grammar : App
+verify_grammar = with_kind (with_mapping (with_graphs (new_app (codes "verify"))))
+
+-- A command without help flag, help command and version flag; its subcommands have none either.
+abbrev pub quiet : App → App
+quiet a = on_top (λ s. record s { disable_help_flag = true; disable_help_subcommand = true; disable_version_flag = true }) a
+
+-- All commands.
+unfoldable pub grammar : App
+grammar = with_subcommand (with_subcommand (quiet (new_app (codes "subgraph"))) solve_grammar.top) verify_grammar.top

@@ -1,0 +1,26 @@
+-- What single words stand for: names of files, numbers and formats.
+
+use Rattle.std.specs.Prelude.{ℕ, ◌&&◌, nat_lt, nat_le, if◌then◌else◌, List, length, Option, Some, None, codes}
+use Rattle.std.specs.Str.{all_ascii_digits, bytes_eq}
+use Rattle.std.specs.Str.Parse.{digits_value}
+use Rattle.graph_theory.specs.declared.lad_text.LadKind.{LadKind}
+use Rattle.graph_theory.specs.declared.lad_text.LadKind.TheVariants.{Lad, VertexLabelledLad}
+
+-- A file's name is a text of at most 4,095 bytes.
+abbrev pub file_name : List ℕ → Option (List ℕ)
+file_name text = if nat_le (length text) 4095 then Some text else None
+
+-- A number is one or more decimal digits and nothing else, with a value from `least` to `most`; leading zeros count for nothing.
+abbrev pub number_within : ℕ → ℕ → List ℕ → Option ℕ
+number_within least most text =
+    if nat_lt 0 (length text) && (all_ascii_digits text && (nat_le least (digits_value 10 text) && nat_le (digits_value 10 text) most))
+    then Some (digits_value 10 text) else None
+
+-- A budget is a number from 1 to 2^63 - 1.
+abbrev pub budget : List ℕ → Option ℕ
+budget = number_within 1 9223372036854775807
+
+-- The format that a word names.
+abbrev pub format : List ℕ → Option LadKind
+format text = if bytes_eq text (codes "lad") then Some Lad
+    else (if bytes_eq text (codes "vertexlabelledlad") then Some VertexLabelledLad else None)

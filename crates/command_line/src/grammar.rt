@@ -1,0 +1,131 @@
+//! The grammar of the words, built for `clap`.
+
+ghost use Rattle.std.specs.Prelude.{◌≡◌, IfOk, false, codes};
+ghost use Rattle.clap.specs.Words.{app_of, new_app, rule_of, with_rule, with_subcommand};
+ghost use Rattle.clap.specs.declared.builder.command.Command.TheViews.{out-Command as fields_of};
+ghost use Rattle.command_line.specs.Grammar as spec;
+
+use clap::{Arg, ArgAction, Command};
+use std::alloc::{AllocError, Global};
+
+/// A word that must be there, in its place.
+fn positional<'a>(alloc: Global, name: &'a str) -> Arg<'a>
+    ensures rule { rule_of result ≡ spec.positional name.entry.now }
+    ensures local { result.global ≡ false }
+{
+    Arg::new(alloc, name).required(true).action(ArgAction::Set)
+}
+
+/// An option with one word after it.
+fn option<'a>(alloc: Global, name: &'a str) -> Arg<'a>
+    ensures rule { rule_of result ≡ spec.option name.entry.now }
+    ensures local { result.global ≡ false }
+{
+    Arg::new(alloc, name).long(name).action(ArgAction::Set)
+}
+
+/// An option with no word after it.
+fn flag<'a>(alloc: Global, name: &'a str) -> Arg<'a>
+    ensures rule { rule_of result ≡ spec.flag name.entry.now }
+    ensures local { result.global ≡ false }
+{
+    Arg::new(alloc, name).long(name).action(ArgAction::SetTrue)
+}
+
+/// The command with one more argument.
+fn add<'a>(command: Command<'a>, arg: Arg<'a>) -> Result<Command<'a>, AllocError>
+    requires { arg.global ≡ false }
+    ensures app { IfOk result (λ c. app_of c ≡ with_rule (app_of command.entry) (rule_of arg.entry)) }
+    ensures local { IfOk result (λ c. (fields_of c).has_globals ≡ (fields_of command.entry).has_globals) }
+{
+    command.arg(arg)
+}
+
+/// The command with the two graphs.
+#[tactic(auto, unfolding(crate::specs::Grammar::with_graphs))]
+fn add_graphs<'a>(alloc: Global, command: Command<'a>) -> Result<Command<'a>, AllocError>
+    ensures app { IfOk result (λ c. app_of c ≡ spec.with_graphs (app_of command.entry)) }
+    ensures local { IfOk result (λ c. (fields_of c).has_globals ≡ (fields_of command.entry).has_globals) }
+{
+    let with_pattern = add(command, positional(alloc, "pattern"))?;
+    add(with_pattern, positional(alloc, "target"))
+}
+
+/// The command with the kind of embedding and the format.
+#[tactic(auto, unfolding(crate::specs::Grammar::with_kind))]
+fn add_kind<'a>(alloc: Global, command: Command<'a>) -> Result<Command<'a>, AllocError>
+    ensures app { IfOk result (λ c. app_of c ≡ spec.with_kind (app_of command.entry)) }
+    ensures local { IfOk result (λ c. (fields_of c).has_globals ≡ (fields_of command.entry).has_globals) }
+{
+    let with_induced = add(command, flag(alloc, "induced"))?;
+    add(with_induced, option(alloc, "format"))
+}
+
+/// The command with the mapping.
+#[tactic(auto, unfolding(crate::specs::Grammar::with_mapping))]
+fn add_mapping<'a>(alloc: Global, command: Command<'a>) -> Result<Command<'a>, AllocError>
+    ensures app { IfOk result (λ c. app_of c ≡ spec.with_mapping (app_of command.entry)) }
+    ensures local { IfOk result (λ c. (fields_of c).has_globals ≡ (fields_of command.entry).has_globals) }
+{
+    add(command, positional(alloc, "mapping"))
+}
+
+/// The command with what bounds the search.
+#[tactic(auto, unfolding(crate::specs::Grammar::with_search))]
+fn add_search<'a>(alloc: Global, command: Command<'a>) -> Result<Command<'a>, AllocError>
+    ensures app { IfOk result (λ c. app_of c ≡ spec.with_search (app_of command.entry)) }
+    ensures local { IfOk result (λ c. (fields_of c).has_globals ≡ (fields_of command.entry).has_globals) }
+{
+    add(command, option(alloc, "budget"))
+}
+
+/// `solve P T [--induced] [--format F] [--budget N]`
+#[tactic(auto, unfolding(crate::specs::Grammar::solve_grammar))]
+fn solve_command<'a>(alloc: Global) -> Result<Command<'a>, AllocError>
+    ensures app { IfOk result (λ c. app_of c ≡ spec.solve_grammar) }
+    ensures local { IfOk result (λ c. (fields_of c).has_globals ≡ false) }
+{
+    let with_graphs = add_graphs(alloc, Command::new(alloc, "solve"))?;
+    let with_kind = add_kind(alloc, with_graphs)?;
+    add_search(alloc, with_kind)
+}
+
+/// `verify P T MAP [--induced] [--format F]`
+#[tactic(auto, unfolding(crate::specs::Grammar::verify_grammar))]
+fn verify_command<'a>(alloc: Global) -> Result<Command<'a>, AllocError>
+    ensures app { IfOk result (λ c. app_of c ≡ spec.verify_grammar) }
+    ensures local { IfOk result (λ c. (fields_of c).has_globals ≡ false) }
+{
+    let with_graphs = add_graphs(alloc, Command::new(alloc, "verify"))?;
+    let with_mapping = add_mapping(alloc, with_graphs)?;
+    add_kind(alloc, with_mapping)
+}
+
+/// The command without help and version, which its subcommands take from it.
+fn quiet<'a>(command: Command<'a>) -> Command<'a>
+    ensures { app_of result ≡ spec.quiet (app_of command.entry) }
+{
+    command
+        .disable_help_flag(true)
+        .disable_help_subcommand(true)
+        .disable_version_flag(true)
+}
+
+/// The command with one more subcommand.
+fn enter<'a>(command: Command<'a>, entered: Command<'a>) -> Result<Command<'a>, AllocError>
+    requires { (fields_of entered).has_globals ≡ false }
+    ensures { IfOk result (λ c. app_of c ≡ with_subcommand (app_of command.entry) (app_of entered.entry).top) }
+{
+    command.subcommand(entered)
+}
+
+/// All commands. It takes memory for each argument, and is to be built once a run.
+#[tactic(auto, unfolding(crate::specs::Grammar::grammar))]
+pub(crate) fn whole_grammar<'a>(alloc: Global) -> Result<Command<'a>, AllocError>
+    ensures { IfOk result (λ c. app_of c ≡ spec.grammar) }
+{
+    let solve = solve_command(alloc)?;
+    let verify = verify_command(alloc)?;
+    let with_solve = enter(quiet(Command::new(alloc, "subgraph")), solve)?;
+    enter(with_solve, verify)
+}

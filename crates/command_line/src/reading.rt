@@ -1,0 +1,229 @@
+//! From words to a command: what `clap` finds among the words, and the project's own tests of it.
+
+ghost use Rattle.std.specs.Prelude.{◌≡◌, ◌≢◌, ◌≤◌, ◌<◌, ◌^◌, IfOk, IsErrOf, Some, None, [], false, map, codes, option_map, string_bytes};
+ghost use Rattle.std.specs.Char.{is_ascii_digit};
+ghost use Rattle.std.specs.List.{list_all};
+ghost use Rattle.clap.specs.Words.{fault_of, first_of, found_of, rows_of, subcommand_of, subcommand_rows_of};
+ghost use Rattle.clap.specs.Walk.{is_empty};
+ghost use Rattle.clap.specs.Values.{kind_of};
+ghost use Rattle.clap.specs.declared.error.kind.ErrorKind.TheVariants.{OutOfMemory};
+ghost use Rattle.command_line.specs.Words.{number_within};
+ghost use Rattle.command_line.specs.Words as word;
+ghost use Rattle.command_line.specs.Grammar.{grammar};
+ghost use Rattle.command_line.specs.CommandLine as line;
+
+use crate::commands::{Command, SolveWords, VerifyWords};
+use crate::file_name::FileName;
+use crate::grammar::whole_grammar;
+use clap::error::ErrorKind;
+use clap::{ArgMatches, Error};
+use graph_theory::lad_text::LadKind;
+use std::alloc::{AllocError, Global};
+
+/// The largest budget, which is the default too.
+const MOST_FAILS: u64 = 9_223_372_036_854_775_807;
+
+/// Why there is no command.
+#[derive(Clone, Copy, PartialEq, Eq, Debug)]
+pub enum Refusal {
+    /// The words are no command.
+    NotACommand,
+    /// Memory was refused.
+    NoMemory,
+}
+
+impl From<AllocError> for Refusal {
+    ghost use Rattle.std.specs.Prelude.{◌≡◌};
+    ghost use Rattle.command_line.specs.declared.reading.Refusal.TheVariants.{NoMemory};
+
+    ghost from_gives = { λ _ e. e ≡ NoMemory };
+
+    fn from(_: AllocError) -> Refusal {
+        Refusal::NoMemory
+    }
+}
+
+/// Whether the text has no byte other than decimal digits.
+fn is_all_digits(text: &str) -> bool
+    ensures { result ≡ list_all is_ascii_digit text.now }
+{
+    text.as_bytes().iter().all(|byte| byte.is_ascii_digit())
+}
+
+/// The number that a word writes, where it is within its range.
+#[tactic(auto, using(crate::proofs::Numbers::each_digit))]
+fn number_of(text: &str, least: u64, most: u64) -> Option<u64>
+    ensures { result ≡ number_within least most text.now }
+{
+    if !is_all_digits(text) {
+        return None;
+    }
+    let number: u64 = match text.parse() {
+        Ok(number) => number,
+        Err(_) => return None,
+    };
+    if number < least || most < number {
+        return None;
+    }
+    Some(number)
+}
+
+/// The format that a word names.
+fn format_named(text: &str) -> Option<LadKind>
+    ensures { result ≡ word.format text.now }
+{
+    if text == "lad" {
+        Some(LadKind::Lad)
+    } else if text == "vertexlabelledlad" {
+        Some(LadKind::VertexLabelledLad)
+    } else {
+        None
+    }
+}
+
+/// The word that was found for an argument.
+fn word_at<'a>(matches: &ArgMatches<'a>, id: &str) -> Option<&'a str>
+    ensures { option_map (λ s. s.now) result ≡ first_of id.now (rows_of (found_of matches.now)) }
+{
+    matches.get_str(id)
+}
+
+/// The name of a file that was found for an argument.
+fn name_at<'a>(matches: &ArgMatches<'a>, id: &str) -> Option<FileName<'a>>
+    ensures { result ≡ line.name_at id.now (rows_of (found_of matches.now)) }
+{
+    match word_at(matches, id) {
+        Some(text) => FileName::new(text),
+        None => None,
+    }
+}
+
+/// Whether the flag stands among the words.
+fn flag_at(matches: &ArgMatches, id: &str) -> bool
+    ensures { result ≡ line.flag_at id.now (rows_of (found_of matches.now)) }
+{
+    match word_at(matches, id) {
+        Some(text) => text == "true",
+        None => false,
+    }
+}
+
+/// The format of both graphs.
+fn format_at(matches: &ArgMatches) -> Option<LadKind>
+    ensures { result ≡ line.format_at (rows_of (found_of matches.now)) }
+{
+    match word_at(matches, "format") {
+        Some(text) => format_named(text),
+        None => Some(LadKind::Lad),
+    }
+}
+
+/// The budget.
+fn budget_at(matches: &ArgMatches) -> Option<u64>
+    ensures { result ≡ line.budget_at (rows_of (found_of matches.now)) }
+{
+    match word_at(matches, "budget") {
+        Some(text) => number_of(text, 1, MOST_FAILS),
+        None => Some(MOST_FAILS),
+    }
+}
+
+/// The solve that was found.
+fn solve_words<'a>(matches: &ArgMatches<'a>) -> Option<Command<'a>>
+    ensures { result ≡ line.solve_of (rows_of (found_of matches.now)) }
+{
+    let pattern = name_at(matches, "pattern")?;
+    let target = name_at(matches, "target")?;
+    let induced = flag_at(matches, "induced");
+    let format = format_at(matches)?;
+    let budget = budget_at(matches)?;
+    Some(Command::Solve(SolveWords {
+        pattern,
+        target,
+        induced,
+        format,
+        budget,
+    }))
+}
+
+/// The verify that was found.
+fn verify_words<'a>(matches: &ArgMatches<'a>) -> Option<Command<'a>>
+    ensures { result ≡ line.verify_of (rows_of (found_of matches.now)) }
+{
+    let pattern = name_at(matches, "pattern")?;
+    let target = name_at(matches, "target")?;
+    let mapping = name_at(matches, "mapping")?;
+    let induced = flag_at(matches, "induced");
+    let format = format_at(matches)?;
+    Some(Command::Verify(VerifyWords {
+        pattern,
+        target,
+        mapping,
+        induced,
+        format,
+    }))
+}
+
+/// The command of this name, with what was found for it.
+fn named_command<'a>(name: &str, matches: &ArgMatches<'a>) -> Option<Command<'a>>
+    ensures { result ≡ line.named_command name.now (rows_of (found_of matches.now)) }
+{
+    if name == "solve" {
+        solve_words(matches)
+    } else if name == "verify" {
+        verify_words(matches)
+    } else {
+        None
+    }
+}
+
+/// The command that a parse entered.
+fn entered_command<'a>(matches: &ArgMatches<'a>) -> Option<Command<'a>>
+    ensures { result ≡ line.entered_command (subcommand_rows_of matches.now) }
+{
+    match matches.subcommand() {
+        Some((name, inner)) => named_command(name, inner),
+        None => None,
+    }
+}
+
+/// Why a parse that failed gives no command.
+fn refusal_of(error: &Error) -> Refusal
+    ensures { result ≡ Refusal.NotACommand → kind_of error.now ≢ OutOfMemory }
+{
+    match error.kind() {
+        ErrorKind::OutOfMemory => Refusal::NoMemory,
+        _ => Refusal::NotACommand,
+    }
+}
+
+/// What `clap` finds among the words.
+fn parsed<'a>(alloc: Global, words: &'a [String]) -> Result<ArgMatches<'a>, Refusal>
+    ensures ok { IfOk result (λ m. (fault_of grammar (map string_bytes words.entry.now) ≡ [])
+        × (subcommand_rows_of m ≡ subcommand_of grammar (map string_bytes words.entry.now))) }
+    ensures refused { IsErrOf result Refusal.NotACommand
+        → is_empty (fault_of grammar (map string_bytes words.entry.now)) ≡ false }
+{
+    let parser = whole_grammar(alloc)?;
+    match parser.try_get_matches_from(words) {
+        Ok(matches) => Ok(matches),
+        Err(error) => Err(refusal_of(&error)),
+    }
+}
+
+/// The command that the words are, the program's name first among them. What it gives borrows from the words. It takes
+/// memory for the grammar and for what stands among the words, and gives it back.
+#[tactic(auto, unfolding(crate::specs::CommandLine::command))]
+pub fn command_of<'a>(alloc: Global, words: &'a [String]) -> Result<Command<'a>, Refusal>
+    ensures given { IfOk result (λ c. line.command (map string_bytes words.entry.now) ≡ Some c) }
+    ensures ranges { IfOk result line.IsInRange }
+    ensures refused { IsErrOf result Refusal.NotACommand → line.command (map string_bytes words.entry.now) ≡ None }
+{
+    match parsed(alloc, words) {
+        Ok(matches) => match entered_command(&matches) {
+            Some(command) => Ok(command),
+            None => Err(Refusal::NotACommand),
+        },
+        Err(refusal) => Err(refusal),
+    }
+}

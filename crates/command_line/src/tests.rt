@@ -1,0 +1,124 @@
+//! That `command_of` gives what it should with ample memory, from words to what a command tells.
+
+use crate::{Command, Refusal, command_of};
+use std::alloc::{AllocError, Global};
+use std::test::Fail;
+
+/// The words of a line, one blank between two; two blanks in a row stand round an empty word.
+fn words_of(alloc: Global, line: &str) -> Result<Vec<String>, AllocError> {
+    let mut words = Vec::new(alloc);
+    for word in line.split(' ') {
+        words.push(String::from_str(alloc, word)?)?;
+    }
+    Ok(words)
+}
+
+/// What a command tells, as text.
+fn told(alloc: Global, command: &Command) -> Result<String, AllocError> {
+    match command {
+        Command::Solve(words) => format!(in alloc;
+            "solve {} {} {} {:?} {}",
+            words.pattern.as_str(),
+            words.target.as_str(),
+            words.induced,
+            words.format,
+            words.budget
+        ),
+        Command::Verify(words) => format!(in alloc;
+            "verify {} {} {} {} {:?}",
+            words.pattern.as_str(),
+            words.target.as_str(),
+            words.mapping.as_str(),
+            words.induced,
+            words.format
+        ),
+    }
+}
+
+/// What the words of a line come to, as text.
+fn answer(alloc: Global, line: &str) -> Result<String, AllocError> {
+    let words = words_of(alloc, line)?;
+    match command_of(alloc, &words) {
+        Ok(command) => told(alloc, &command),
+        Err(refusal) => format!(in alloc; "{refusal:?}"),
+    }
+}
+
+/// Lines, and what they come to.
+static ROWS: [(&str, &str); 16] = [
+    (
+        "subgraph solve p t",
+        "solve p t false Lad 9223372036854775807",
+    ),
+    (
+        "subgraph solve p p --induced",
+        "solve p p true Lad 9223372036854775807",
+    ),
+    (
+        "subgraph solve --budget 4 p --format vertexlabelledlad t",
+        "solve p t false VertexLabelledLad 4",
+    ),
+    (
+        "subgraph solve p t --budget=09223372036854775807",
+        "solve p t false Lad 9223372036854775807",
+    ),
+    (
+        "subgraph solve -- --induced t",
+        "solve --induced t false Lad 9223372036854775807",
+    ),
+    (
+        "subgraph solve  t",
+        "solve  t false Lad 9223372036854775807",
+    ),
+    ("subgraph verify p t m", "verify p t m false Lad"),
+    (
+        "subgraph verify --format lad p --induced t m",
+        "verify p t m true Lad",
+    ),
+    ("", "NotACommand"),
+    ("subgraph solve p", "NotACommand"),
+    ("subgraph verify p t", "NotACommand"),
+    ("subgraph solve p t --budget 0", "NotACommand"),
+    (
+        "subgraph solve p t --budget 9223372036854775808",
+        "NotACommand",
+    ),
+    (
+        "subgraph solve p t --budget 99999999999999999999",
+        "NotACommand",
+    ),
+    ("subgraph solve p t --format foo", "NotACommand"),
+    ("subgraph --help", "NotACommand"),
+];
+
+#[test]
+fn lines_come_to_their_commands(rt: HostRuntime) -> Result<(), Fail> {
+    for (line, expected) in ROWS {
+        let came_to = answer(rt.alloc(), line)?;
+        assert_eq!(rt; came_to.as_str(), expected, "{line}");
+    }
+    Ok(())
+}
+
+/// A word of so many bytes.
+fn long_word(alloc: Global, bytes: usize) -> Result<String, AllocError> {
+    let mut word = String::new(alloc);
+    for _ in 0..bytes {
+        word.push_str("p")?;
+    }
+    Ok(word)
+}
+
+#[test]
+fn a_name_has_at_most_4095_bytes(rt: HostRuntime) -> Result<(), Fail> {
+    for (bytes, is_command) in [(4095, true), (4096, false)] {
+        let mut words = words_of(rt.alloc(), "subgraph solve p")?;
+        words.push(long_word(rt.alloc(), bytes)?)?;
+        assert_eq!(rt;
+            command_of(rt.alloc(), &words).is_ok(),
+            is_command,
+            "{bytes}"
+        );
+    }
+    Ok(())
+}

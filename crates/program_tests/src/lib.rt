@@ -1,0 +1,15 @@
+//! Tests of the whole program, over files and sinks in memory.
+//!
+//! This layer stands above all others and offers nothing. It runs `subgraph_cli::run` on tables of worked examples, with
+//! each file missing and each call failing in turn. What an answer means is proved with the program itself; what only
+//! these tests show is the text of single answers, and that with ample memory none is a want of it.
+#![tactic(auto)]
+
+#[cfg(test)]
+mod fault_tests;
+#[cfg(test)]
+mod running;
+#[cfg(test)]
+mod solve_tests;
+#[cfg(test)]
+mod verify_tests;

@@ -1,0 +1,188 @@
+//! What `verify` answers.
+
+use crate::running::{EDGE, run_three};
+use std::test::Fail;
+
+/// Words, pattern, target, mapping, status, output and error line.
+static ROWS: [(&str, &str, &str, &str, u8, &str, &str); 19] = [
+    (
+        "subgraph verify p t m",
+        EDGE,
+        EDGE,
+        "yes\n0 -> 1\n1 -> 0\n",
+        0,
+        "embedding\n",
+        "",
+    ),
+    (
+        "subgraph verify p t m",
+        EDGE,
+        EDGE,
+        "yes\n0 -> 0\n1 -> 0\n",
+        7,
+        "",
+        "mapping: not an embedding\n",
+    ),
+    (
+        "subgraph verify p t m",
+        EDGE,
+        EDGE,
+        "0 -> 1\n",
+        4,
+        "",
+        "mapping: line 1: Form\n",
+    ),
+    (
+        "subgraph verify p t m",
+        EDGE,
+        EDGE,
+        "yes\n0 -> 0\n",
+        7,
+        "",
+        "mapping: not an embedding\n",
+    ),
+    (
+        "subgraph verify p t m",
+        EDGE,
+        EDGE,
+        "yes\n0 -> 2\n1 -> 0\n",
+        7,
+        "",
+        "mapping: not an embedding\n",
+    ),
+    (
+        "subgraph verify p t m",
+        EDGE,
+        EDGE,
+        "yes\n1 -> 0\n",
+        4,
+        "",
+        "mapping: line 2: Form\n",
+    ),
+    (
+        "subgraph verify p t m",
+        EDGE,
+        EDGE,
+        "",
+        4,
+        "",
+        "mapping: line 1: Form\n",
+    ),
+    (
+        "subgraph verify p t m",
+        EDGE,
+        EDGE,
+        "yes\n0 -> 1\n1 -> 0",
+        4,
+        "",
+        "mapping: line 3: Form\n",
+    ),
+    (
+        "subgraph verify p t m",
+        EDGE,
+        EDGE,
+        "none\n",
+        4,
+        "",
+        "mapping: line 1: Form\n",
+    ),
+    (
+        "subgraph verify p t m",
+        "0\n",
+        "0\n",
+        "yes\n",
+        0,
+        "embedding\n",
+        "",
+    ),
+    (
+        "subgraph verify p t m",
+        EDGE,
+        "2\n1 1\n0\n",
+        "yes\n0 -> 1\n1 -> 0\n",
+        0,
+        "embedding\n",
+        "",
+    ),
+    (
+        "subgraph verify p t m --induced",
+        EDGE,
+        "2\n1 1\n0\n",
+        "yes\n0 -> 0\n1 -> 1\n",
+        0,
+        "embedding\n",
+        "",
+    ),
+    (
+        "subgraph verify p t m",
+        "2\n0\n0\n",
+        EDGE,
+        "yes\n0 -> 0\n1 -> 1\n",
+        0,
+        "embedding\n",
+        "",
+    ),
+    (
+        "subgraph verify p t m --induced",
+        "2\n0\n0\n",
+        EDGE,
+        "yes\n0 -> 0\n1 -> 1\n",
+        7,
+        "",
+        "mapping: not an embedding\n",
+    ),
+    (
+        "subgraph verify p t m --format vertexlabelledlad",
+        "1\n4294967295 0\n",
+        "1\n0 0\n",
+        "yes\n0 -> 0\n",
+        7,
+        "",
+        "mapping: not an embedding\n",
+    ),
+    (
+        "subgraph verify p t m",
+        "1\nx\n",
+        "1\nx\n",
+        "",
+        4,
+        "",
+        "pattern: word 2: NotNumber\n",
+    ),
+    (
+        "subgraph verify p t m",
+        EDGE,
+        "1\nx\n",
+        "",
+        4,
+        "",
+        "target: word 2: NotNumber\n",
+    ),
+    (
+        "subgraph verify p t absent",
+        EDGE,
+        EDGE,
+        "",
+        5,
+        "",
+        "files: fault\n",
+    ),
+    (
+        "subgraph verify p absent absent",
+        "1\nx\n",
+        EDGE,
+        "",
+        4,
+        "",
+        "pattern: word 2: NotNumber\n",
+    ),
+];
+
+#[test]
+fn each_mapping_has_its_answer(rt: HostRuntime) -> Result<(), Fail> {
+    for (line, pattern, target, mapping, status, out, err) in ROWS {
+        let ran = run_three(rt.alloc(), line, pattern, target, mapping.as_bytes())?;
+        assert!(rt; ran.gave(status, out, err), "{line}: {mapping}");
+    }
+    Ok(())
+}

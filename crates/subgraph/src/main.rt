@@ -1,0 +1,51 @@
+//! The program `subgraph`, over the system's files and streams.
+//!
+//! It makes the real objects, lets `subgraph_cli::run` do all the rest, and ends with its status. Nothing stands above
+//! it. Files and streams of the system tell nothing of their contents: what a run says of the bytes that were read is
+//! the contract of `run`, and that the system's calls read and write them is trusted.
+#![tactic(auto)]
+
+ghost use Rattle.std.specs.Prelude.{◌≡◌, [], IfOk};
+
+use outer_io::{RealFiles, RealSink};
+use std::alloc::{AllocError, Global};
+use std::env;
+use std::io::ErrorKind;
+use std::process::ExitCode;
+use std::rt::Env;
+use subgraph_cli::run;
+use subgraph_cli::stop::Stop;
+use subgraph_cli::telling::tell_stop;
+
+/// The program's words, its name first among them. There are none where one of them is no UTF-8, since no such word is
+/// of the grammar.
+fn words_of<R: Env + AllocGlobal>(rt: &R) -> Result<Vec<String>, AllocError> {
+    match env::args(rt) {
+        Ok(words) => words.collect(rt.alloc()),
+        Err(error) => match error.kind() {
+            ErrorKind::OutOfMemory => Err(AllocError),
+            _ => Ok(Vec::new(rt.alloc())),
+        },
+    }
+}
+
+/// The status of the run.
+fn status_of(rt: &HostRuntime) -> Result<u8, AllocError> {
+    let alloc: Global = rt.alloc();
+    let words = words_of(rt)?;
+    let mut files = RealFiles::new(alloc, rt)?;
+    let mut out = RealSink::new(rt.stdout());
+    let mut err = RealSink::new(rt.stderr());
+    let mut spent = Vec::new(alloc);
+    Ok(run(
+        rt, alloc, &words, &mut files, &mut out, &mut err, &mut spent,
+    ))
+}
+
+fn main(rt: HostRuntime) -> ExitCode {
+    let status = match status_of(&rt) {
+        Ok(status) => status,
+        Err(_) => tell_stop(Stop::NoMemory, &mut RealSink::new(rt.stderr())),
+    };
+    ExitCode::from(status)
+}

@@ -1,0 +1,4 @@
+pub mod OneProblem
+pub mod Told
+pub mod SolveStatuses
+pub mod VerifyStatuses

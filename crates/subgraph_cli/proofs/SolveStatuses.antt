@@ -1,0 +1,168 @@
+-- What the status of a solve says, by the cases of its end.
+
+use Rattle.std.specs.Prelude.{◌≡◌, ℕ, ◌<◌, ◌≤◌, ◌⊎◌, List, Option, Result, Ok, Err, IfErr, refl}
+use Rattle.std.proofs.Common.{sym, subst, inl, inr, arith}
+use Rattle.graph_theory.specs.Graph.{size}
+use Rattle.graph_theory.specs.Embedding.{Problem, Embeds, HasNone}
+use Rattle.graph_theory.specs.LadFault.{TextLaws}
+use Rattle.search_theory.specs.Bounds.{enough}
+use Rattle.search_theory.specs.Account.{Account}
+use Rattle.command_line.specs.declared.commands.SolveWords.{SolveWords}
+use Rattle.subgraph_cli.specs.Lines.{refusal_text}
+use Rattle.subgraph_cli.specs.Streams.{Stream, IsAsBefore, Tells}
+use Rattle.subgraph_cli.specs.Outcomes.{outcome}
+use Rattle.subgraph_cli.specs.Questions.{Asks, IsFirstRefused}
+use Rattle.subgraph_cli.specs.Stops.{TellsStop, SparesOutput}
+use Rattle.subgraph_cli.specs.Solving.{IsWritten, StopsInAnswer, SolveSays, SolveStatus, IsOrStops, solve_status}
+use Rattle.subgraph_cli.specs.declared.stop.Role.{Role}
+use Rattle.subgraph_cli.specs.declared.stop.TextFault.{TextFault}
+use Rattle.subgraph_cli.specs.declared.stop.Stop.{Stop}
+use Rattle.subgraph_cli.specs.declared.stop.Stop.TheVariants.{Refused, FilesFault, OutputFault, NoMemory}
+use Rattle.subgraph_cli.specs.declared.solve.Decision.{Decision}
+use Rattle.subgraph_cli.specs.declared.solve.Decision.TheVariants.{Yes, Nothing, Unknown}
+use Rattle.subgraph_cli.proofs.OneProblem.{one_problem, asks_not_refused}
+
+-- Status 0 is that of `yes`.
+yes_says : (r : Result Decision Stop) (w : SolveWords) (p t : Option (List ℕ)) (accounts : List Account) (out : Stream)
+    → SolveSays r w p t accounts out → solve_status r ≡ 0 → IsWritten Yes w p t accounts out
+yes_says (Ok Yes) w p t accounts out says e = says
+yes_says (Ok Nothing) w p t accounts out says e = absurd (omega arith)
+yes_says (Ok Unknown) w p t accounts out says e = absurd (omega arith)
+yes_says (Err (Refused role fault)) w p t accounts out says e = absurd (omega arith)
+yes_says (Err FilesFault) w p t accounts out says e = absurd (omega arith)
+yes_says (Err OutputFault) w p t accounts out says e = absurd (omega arith)
+yes_says (Err NoMemory) w p t accounts out says e = absurd (omega arith)
+
+-- Status 1 is that of `none`.
+none_says : (r : Result Decision Stop) (w : SolveWords) (p t : Option (List ℕ)) (accounts : List Account) (out : Stream)
+    → SolveSays r w p t accounts out → solve_status r ≡ 1 → IsWritten Nothing w p t accounts out
+none_says (Ok Nothing) w p t accounts out says e = says
+none_says (Ok Yes) w p t accounts out says e = absurd (omega arith)
+none_says (Ok Unknown) w p t accounts out says e = absurd (omega arith)
+none_says (Err (Refused role fault)) w p t accounts out says e = absurd (omega arith)
+none_says (Err FilesFault) w p t accounts out says e = absurd (omega arith)
+none_says (Err OutputFault) w p t accounts out says e = absurd (omega arith)
+none_says (Err NoMemory) w p t accounts out says e = absurd (omega arith)
+
+-- Status 2 is that of `unknown`.
+unknown_says : (r : Result Decision Stop) (w : SolveWords) (p t : Option (List ℕ)) (accounts : List Account) (out : Stream)
+    → SolveSays r w p t accounts out → solve_status r ≡ 2 → IsWritten Unknown w p t accounts out
+unknown_says (Ok Unknown) w p t accounts out says e = says
+unknown_says (Ok Yes) w p t accounts out says e = absurd (omega arith)
+unknown_says (Ok Nothing) w p t accounts out says e = absurd (omega arith)
+unknown_says (Err (Refused role fault)) w p t accounts out says e = absurd (omega arith)
+unknown_says (Err FilesFault) w p t accounts out says e = absurd (omega arith)
+unknown_says (Err OutputFault) w p t accounts out says e = absurd (omega arith)
+unknown_says (Err NoMemory) w p t accounts out says e = absurd (omega arith)
+
+-- Status 4 is that of a refused text, of which the error stream is told.
+refused_says : (r : Result Decision Stop) (w : SolveWords) (p t : Option (List ℕ)) (accounts : List Account) (out err : Stream)
+    → SolveSays r w p t accounts out → TellsStop r err → solve_status r ≡ 4
+    → (role : Role) × (fault : TextFault) × IsFirstRefused p t w.format role fault × Tells err (refusal_text role fault)
+refused_says (Err (Refused role fault)) w p t accounts out err says line e = (role, fault, says, line)
+refused_says (Ok Yes) w p t accounts out err says line e = absurd (omega arith)
+refused_says (Ok Nothing) w p t accounts out err says line e = absurd (omega arith)
+refused_says (Ok Unknown) w p t accounts out err says line e = absurd (omega arith)
+refused_says (Err FilesFault) w p t accounts out err says line e = absurd (omega arith)
+refused_says (Err OutputFault) w p t accounts out err says line e = absurd (omega arith)
+refused_says (Err NoMemory) w p t accounts out err says line e = absurd (omega arith)
+
+-- Status 5 is that of a fault: of the files, where nothing was written, or of the output within an answer.
+fault_says : (r : Result Decision Stop) (w : SolveWords) (p t : Option (List ℕ)) (accounts : List Account) (out : Stream) (before after : ℕ)
+    → SolveSays r w p t accounts out → IfErr r (λ (s : Stop). SparesOutput s before after out) → solve_status r ≡ 5
+    → IsAsBefore out ⊎ StopsInAnswer w p t accounts out
+fault_says (Err FilesFault) w p t accounts out before after says spares e = inl spares
+fault_says (Err OutputFault) w p t accounts out before after says spares e = inr says
+fault_says (Ok Yes) w p t accounts out before after says spares e = absurd (omega arith)
+fault_says (Ok Nothing) w p t accounts out before after says spares e = absurd (omega arith)
+fault_says (Ok Unknown) w p t accounts out before after says spares e = absurd (omega arith)
+fault_says (Err (Refused role fault)) w p t accounts out before after says spares e = absurd (omega arith)
+fault_says (Err NoMemory) w p t accounts out before after says spares e = absurd (omega arith)
+
+-- A problem is answered.
+answered_leads : TextLaws → (r : Result Decision Stop) (w : SolveWords) (p t : Option (List ℕ)) (accounts : List Account) (out : Stream)
+    → SolveSays r w p t accounts out → (q : Problem) → Asks p t w.format w.induced q
+    → (solve_status r ≡ 0) ⊎ ((solve_status r ≡ 1) ⊎ IsOrStops 2 (solve_status r))
+answered_leads laws (Ok Yes) w p t accounts out says q asks = inl refl
+answered_leads laws (Ok Nothing) w p t accounts out says q asks = inr (inl refl)
+answered_leads laws (Ok Unknown) w p t accounts out says q asks = inr (inr (inl refl))
+answered_leads laws (Err (Refused role fault)) w p t accounts out says q asks = absurd (asks_not_refused laws p t w.format w.induced q role fault asks says)
+answered_leads laws (Err FilesFault) w p t accounts out says q asks = inr (inr (inr (inl refl)))
+answered_leads laws (Err OutputFault) w p t accounts out says q asks = inr (inr (inr (inl refl)))
+answered_leads laws (Err NoMemory) w p t accounts out says q asks = inr (inr (inr (inr refl)))
+
+-- A problem that was answered is the one that is asked.
+same_problem : TextLaws → (d : Decision) (w : SolveWords) (p t : Option (List ℕ)) (accounts : List Account) (out : Stream)
+    → (says : IsWritten d w p t accounts out) → (q : Problem) → Asks p t w.format w.induced q → q ≡ says.answers.problem
+same_problem laws d w p t accounts out says q asks = one_problem laws p t w.format w.induced q says.answers.problem asks says.answers.asks
+
+-- Where an embedding exists `none` is not told.
+found_leads : TextLaws → (r : Result Decision Stop) (w : SolveWords) (p t : Option (List ℕ)) (accounts : List Account) (out : Stream)
+    → SolveSays r w p t accounts out → (q : Problem) (m : List ℕ) → Asks p t w.format w.induced q → Embeds q m
+    → (solve_status r ≡ 0) ⊎ IsOrStops 2 (solve_status r)
+found_leads laws (Ok Yes) w p t accounts out says q m asks embeds = inl refl
+found_leads laws (Ok Nothing) w p t accounts out says q m asks embeds =
+    let same = same_problem laws Nothing w p t accounts out says q asks in
+    absurd (says.answers.is_answer.0 m (subst (λ (s : Problem). Embeds s m) same embeds))
+found_leads laws (Ok Unknown) w p t accounts out says q m asks embeds = inr (inl refl)
+found_leads laws (Err (Refused role fault)) w p t accounts out says q m asks embeds = absurd (asks_not_refused laws p t w.format w.induced q role fault asks says)
+found_leads laws (Err FilesFault) w p t accounts out says q m asks embeds = inr (inr (inl refl))
+found_leads laws (Err OutputFault) w p t accounts out says q m asks embeds = inr (inr (inl refl))
+found_leads laws (Err NoMemory) w p t accounts out says q m asks embeds = inr (inr (inr refl))
+
+-- Where none exists `yes` is not told.
+refuted_leads : TextLaws → (r : Result Decision Stop) (w : SolveWords) (p t : Option (List ℕ)) (accounts : List Account) (out : Stream)
+    → SolveSays r w p t accounts out → (q : Problem) → Asks p t w.format w.induced q → HasNone q
+    → (solve_status r ≡ 1) ⊎ IsOrStops 2 (solve_status r)
+refuted_leads laws (Ok Yes) w p t accounts out says q asks none =
+    let same = same_problem laws Yes w p t accounts out says q asks in
+    let answer = says.answers.is_answer in
+    absurd (none answer.0 (subst (λ (s : Problem). Embeds s answer.0) (sym same) answer.1))
+refuted_leads laws (Ok Nothing) w p t accounts out says q asks none = inl refl
+refuted_leads laws (Ok Unknown) w p t accounts out says q asks none = inr (inl refl)
+refuted_leads laws (Err (Refused role fault)) w p t accounts out says q asks none = absurd (asks_not_refused laws p t w.format w.induced q role fault asks says)
+refuted_leads laws (Err FilesFault) w p t accounts out says q asks none = inr (inr (inl refl))
+refuted_leads laws (Err OutputFault) w p t accounts out says q asks none = inr (inr (inl refl))
+refuted_leads laws (Err NoMemory) w p t accounts out says q asks none = inr (inr (inr refl))
+
+-- Where the budget is enough `unknown` is not told.
+enough_leads : TextLaws → (r : Result Decision Stop) (w : SolveWords) (p t : Option (List ℕ)) (accounts : List Account) (out : Stream)
+    → SolveSays r w p t accounts out → (q : Problem) → Asks p t w.format w.induced q
+    → enough (size q.pattern) (size q.target) ≤ w.budget → solve_status r ≡ 2 → ⊥
+enough_leads laws r w p t accounts out says q asks most e =
+    let unknown = unknown_says r w p t accounts out says e in
+    let same = same_problem laws Unknown w p t accounts out unknown q asks in
+    let less : w.budget < enough (size q.pattern) (size q.target) =
+    subst (λ (s : Problem). w.budget < enough (size s.pattern) (size s.target)) (sym same) unknown.answers.is_answer.0.not_enough in
+    omega arith
+
+-- Where a text is refused that is told.
+refused_leads : TextLaws → (r : Result Decision Stop) (w : SolveWords) (p t : Option (List ℕ)) (accounts : List Account) (out : Stream)
+    → SolveSays r w p t accounts out → (role : Role) (fault : TextFault) → IsFirstRefused p t w.format role fault → IsOrStops 4 (solve_status r)
+refused_leads laws (Ok d) w p t accounts out says role fault refused =
+    absurd (asks_not_refused laws p t w.format w.induced says.answers.problem role fault says.answers.asks refused)
+refused_leads laws (Err (Refused who why)) w p t accounts out says role fault refused = inl refl
+refused_leads laws (Err FilesFault) w p t accounts out says role fault refused = inr (inl refl)
+refused_leads laws (Err OutputFault) w p t accounts out says role fault refused = inr (inl refl)
+refused_leads laws (Err NoMemory) w p t accounts out says role fault refused = inr (inr refl)
+
+-- The status of a solve says what its end says.
+pub solve_status_says : TextLaws → (r : Result Decision Stop) (w : SolveWords) (p t : Option (List ℕ)) (accounts : List Account) (out err : Stream) (before after status : ℕ)
+    → SolveSays r w p t accounts out → IfErr r (λ (s : Stop). SparesOutput s before after out) → TellsStop r err → status ≡ solve_status r
+    → SolveStatus (outcome status accounts out err) w p t
+solve_status_says laws r w p t accounts out err before after status says spares line is =
+    let at_end : SolveStatus (outcome (solve_status r) accounts out err) w p t = record {
+      yes = yes_says r w p t accounts out says;
+      none = none_says r w p t accounts out says;
+      unknown = unknown_says r w p t accounts out says;
+      refused = refused_says r w p t accounts out err says line;
+      fault = fault_says r w p t accounts out before after says spares;
+      leads = record {
+        answered = answered_leads laws r w p t accounts out says;
+        found = found_leads laws r w p t accounts out says;
+        refuted = refuted_leads laws r w p t accounts out says;
+        enough = enough_leads laws r w p t accounts out says;
+        refused = refused_leads laws r w p t accounts out says;
+      };
+    } in
+    subst (λ (n : ℕ). SolveStatus (outcome n accounts out err) w p t) (sym is) at_end

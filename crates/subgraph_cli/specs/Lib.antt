@@ -1,0 +1,9 @@
+pub mod Lines
+pub mod Streams
+pub mod Outcomes
+pub mod Stops
+pub mod Questions
+pub mod Solving
+pub mod Deciding
+pub mod Verifying
+pub mod Running

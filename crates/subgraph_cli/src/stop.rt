@@ -1,0 +1,39 @@
+//! The ways in which a command stops without an answer.
+
+use graph_files::GraphFault;
+use graph_theory::lad_text::LadCause;
+
+/// What a file is to the command.
+#[derive(Clone, Copy, PartialEq, Eq, Debug)]
+pub enum Role {
+    /// The pattern graph.
+    Pattern,
+    /// The target graph.
+    Target,
+    /// The mapping to be tested.
+    Mapping,
+}
+
+/// Why a text is refused.
+#[derive(Clone, Copy, PartialEq, Eq, Debug)]
+pub enum TextFault {
+    /// The file is over its limit.
+    TooLong,
+    /// The first faulty word of a graph's text, from 1, and its cause.
+    Word { word: u64, cause: LadCause },
+    /// The first faulty line of a mapping's text, from 1.
+    Line { line: u64 },
+}
+
+/// Why a command stopped.
+#[derive(Clone, Copy, PartialEq, Eq, Debug)]
+pub enum Stop {
+    /// A text is refused.
+    Refused { role: Role, fault: TextFault },
+    /// A call on the files failed.
+    FilesFault,
+    /// A call on the output failed.
+    OutputFault,
+    /// Memory was refused.
+    NoMemory,
+}

@@ -1,0 +1,140 @@
+//! The lines on the error stream, and the statuses.
+
+ghost use Rattle.std.specs.Prelude.{◌≡◌};
+ghost use Rattle.outer_io.specs.KnownText.{Wrote};
+ghost use Rattle.outer_io.specs.Sinks.{HasBlame};
+ghost use Rattle.subgraph_cli.specs.Lines.{role_text, cause_text, refusal_text, stop_text, stop_status, no_command_text};
+ghost use Rattle.subgraph_cli.specs.Solving.{solve_status};
+ghost use Rattle.subgraph_cli.specs.Verifying.{verify_status, TellsTested};
+ghost use Rattle.subgraph_cli.specs.Stops.{TellsStop};
+ghost use Rattle.subgraph_cli.specs.Streams.{stream, IsSameSink, Tells};
+
+use crate::solve::Decision;
+use crate::stop::{Role, Stop, TextFault};
+use crate::verify::Tested;
+use graph_theory::lad_text::LadCause;
+use itoa::Buffer;
+use outer_io::fault::Failed;
+use outer_io::put::put_all;
+use outer_io::sink::Sink;
+
+/// What a file is called after its role.
+fn role_name(role: Role) -> &'static [u8]
+    ensures { result.now ≡ role_text role }
+{
+    match role {
+        Role::Pattern => b"pattern",
+        Role::Target => b"target",
+        Role::Mapping => b"mapping",
+    }
+}
+
+/// What a cause is called.
+fn cause_name(cause: LadCause) -> &'static [u8]
+    ensures { result.now ≡ cause_text cause }
+{
+    match cause {
+        LadCause::NotNumber => b"NotNumber",
+        LadCause::TooMany => b"TooMany",
+        LadCause::EndsEarly => b"EndsEarly",
+        LadCause::NoSuchVertex => b"NoSuchVertex",
+        LadCause::WordsLeft => b"WordsLeft",
+    }
+}
+
+/// Puts the line of a refused text.
+fn put_refusal<E: Sink>(role: Role, fault: TextFault, err: &mut E) -> Result<(), Failed>
+    ensures text { Wrote (E.spot err.old).steady (E.contents err.old) (E.contents err.new) result (refusal_text role fault) }
+    ensures cause { HasBlame E.spot E.rest E.faults E.blamed err.old err.new result }
+{
+    let who = role_name(role);
+    let mut digits = Buffer::new();
+    match fault {
+        TextFault::TooLong => put_all(&[who, b": too long", b"\n"], err),
+        TextFault::Word { word, cause } => {
+            let number = digits.format(word).as_bytes();
+            put_all(
+                &[who, b": word ", number, b": ", cause_name(cause), b"\n"],
+                err,
+            )
+        }
+        TextFault::Line { line } => {
+            let number = digits.format(line).as_bytes();
+            put_all(&[who, b": line ", number, b": Form", b"\n"], err)
+        }
+    }
+}
+
+/// Puts the line of a way to stop.
+fn put_stop<E: Sink>(stop: Stop, err: &mut E) -> Result<(), Failed>
+    ensures text { Wrote (E.spot err.old).steady (E.contents err.old) (E.contents err.new) result (stop_text stop) }
+    ensures cause { HasBlame E.spot E.rest E.faults E.blamed err.old err.new result }
+{
+    match stop {
+        Stop::Refused { role, fault } => put_refusal(role, fault, err),
+        Stop::FilesFault => err.put(b"files: fault\n"),
+        Stop::OutputFault => err.put(b"output: fault\n"),
+        Stop::NoMemory => err.put(b"memory: refused\n"),
+    }
+}
+
+/// The status that the program ends with where a command stopped.
+fn status_of(stop: Stop) -> u8
+    ensures { result ≡ stop_status stop }
+{
+    match stop {
+        Stop::Refused { .. } => 4,
+        Stop::FilesFault | Stop::OutputFault => 5,
+        Stop::NoMemory => 6,
+    }
+}
+
+/// Tells why a command stopped, and answers the status. A fault of the error stream changes nothing.
+pub fn tell_stop<E: Sink>(stop: Stop, err: &mut E) -> u8
+    ensures status { result ≡ stop_status stop }
+    ensures line { Tells (stream E.spot E.contents err.old err.new) (stop_text stop) }
+    ensures sink { IsSameSink E.spot E.rest E.faults err.old err.new }
+{
+    let _ = put_stop(stop, err);
+    status_of(stop)
+}
+
+/// Tells that the words are no command, and answers the status.
+pub fn tell_no_command<E: Sink>(err: &mut E) -> u8
+    ensures status { result ≡ 3 }
+    ensures line { Tells (stream E.spot E.contents err.old err.new) no_command_text }
+    ensures sink { IsSameSink E.spot E.rest E.faults err.old err.new }
+{
+    let _ = err.put(b"words: not a command\n");
+    3
+}
+
+/// The status of a solve; where it stopped the error stream is told.
+pub fn end_solve<E: Sink>(ended: Result<Decision, Stop>, err: &mut E) -> u8
+    ensures status { result ≡ solve_status ended }
+    ensures line { TellsStop ended (stream E.spot E.contents err.old err.new) }
+    ensures sink { IsSameSink E.spot E.rest E.faults err.old err.new }
+{
+    match ended {
+        Ok(Decision::Yes) => 0,
+        Ok(Decision::Nothing) => 1,
+        Ok(Decision::Unknown) => 2,
+        Err(stop) => tell_stop(stop, err),
+    }
+}
+
+/// The status of a verify; where the mapping is no embedding, and where it stopped, the error stream is told.
+pub fn end_verify<E: Sink>(ended: Result<Tested, Stop>, err: &mut E) -> u8
+    ensures status { result ≡ verify_status ended }
+    ensures line { TellsTested ended (stream E.spot E.contents err.old err.new) }
+    ensures sink { IsSameSink E.spot E.rest E.faults err.old err.new }
+{
+    match ended {
+        Ok(Tested::Embedding) => 0,
+        Ok(Tested::NotAnEmbedding) => {
+            let _ = err.put(b"mapping: not an embedding\n");
+            7
+        }
+        Err(stop) => tell_stop(stop, err),
+    }
+}

@@ -1,0 +1,102 @@
+//! The command `verify`.
+
+ghost use Rattle.std.specs.Prelude.{◌≡◌, ◌≤◌, ◌∷◌, ◌⊎◌, [], IsTrue, IfErr, IsErrOf};
+ghost use Rattle.outer_io.specs.NamedFiles.{SameFiles};
+ghost use Rattle.subgraph_cli.specs.Verifying.{VerifySays, MappingSays, KeepsWhenBad};
+ghost use Rattle.subgraph_cli.specs.Stops.{HasCause, IsOfFiles, SparesOutput};
+ghost use Rattle.subgraph_cli.specs.Streams.{stream, IsSameSink};
+
+use crate::question::load_problem;
+use crate::stop::{Role, Stop, TextFault};
+use command_line::{FileName, VerifyWords};
+use graph_files::graph_file::FILE_LIMIT;
+use graph_rows::mapping::read_mapping;
+use graph_theory::mapping_text::MapFault;
+use outer_io::fault::LoadFault;
+use outer_io::files::Files;
+use outer_io::reading::load;
+use outer_io::sink::Sink;
+use std::alloc::Global;
+
+/// What a verify tells.
+#[derive(Clone, Copy, PartialEq, Eq, Debug)]
+pub enum Tested {
+    /// The mapping is an embedding, and that was written.
+    Embedding,
+    /// It is none.
+    NotAnEmbedding,
+}
+
+/// A text fault of the mapping.
+fn refused(fault: TextFault) -> Stop
+    ensures { result ≡ Stop.Refused Role.Mapping fault }
+{
+    Stop::Refused {
+        role: Role::Mapping,
+        fault,
+    }
+}
+
+/// The mapping in a file.
+fn load_map<F: Files>(alloc: Global, files: &mut F, name: &FileName) -> Result<Vec<u32>, Stop>
+    ensures says { IsTrue (F.tells files.old) → MappingSays result (F.content files.old name.now) }
+    ensures loading { IfErr result IsOfFiles }
+    ensures cause { IfErr result (λ stop. HasCause stop (name.now ∷ []) (F.faults files.old) (F.faults files.new) (F.fault_at files.new)) }
+    ensures quiet { IsErrOf result Stop.FilesFault ⊎ (F.faults files.new ≡ F.faults files.old) }
+    ensures later { F.faults files.old ≤ F.faults files.new }
+    ensures same { SameFiles (F.content files.old) (F.content files.new) }
+    ensures tells { F.tells files.new ≡ F.tells files.old }
+{
+    let bytes = match load(alloc, files, name.as_str(), FILE_LIMIT) {
+        Ok(bytes) => bytes,
+        Err(LoadFault::Failed) => return Err(Stop::FilesFault),
+        Err(LoadFault::TooLong) => return Err(refused(TextFault::TooLong)),
+        Err(LoadFault::NoMemory) => return Err(Stop::NoMemory),
+    };
+    match read_mapping(alloc, &bytes) {
+        Ok(map) => Ok(map),
+        Err(MapFault::Line { line }) => Err(refused(TextFault::Line { line })),
+        Err(MapFault::NoMemory) => Err(Stop::NoMemory),
+    }
+}
+
+/// Tests the mapping in a file against the problem of two others, and writes where it embeds: the pattern, the target
+/// and the mapping are each loaded and read before the next is looked at.
+pub fn verify<F: Files, O: Sink>(
+    alloc: Global,
+    words: &VerifyWords,
+    files: &mut F,
+    out: &mut O,
+) -> Result<Tested, Stop>
+    ensures says { IsTrue (F.tells files.old) → VerifySays result words.now (F.content files.old words.now.pattern)
+        (F.content files.old words.now.target) (F.content files.old words.now.mapping)
+        (stream O.spot O.contents out.old out.new) }
+    ensures cause { IfErr result (λ stop. HasCause stop (words.now.pattern ∷ words.now.target ∷ words.now.mapping ∷ [])
+        (F.faults files.old) (F.faults files.new) (F.fault_at files.new)) }
+    ensures spares { IfErr result (λ stop. SparesOutput stop (O.faults out.old) (O.faults out.new)
+        (stream O.spot O.contents out.old out.new)) }
+    ensures bad { KeepsWhenBad result (stream O.spot O.contents out.old out.new) }
+    ensures quiet { IsErrOf result Stop.FilesFault ⊎ (F.faults files.new ≡ F.faults files.old) }
+    ensures quiet_output { IsErrOf result Stop.OutputFault ⊎ (O.faults out.new ≡ O.faults out.old) }
+    ensures later { F.faults files.old ≤ F.faults files.new }
+    ensures tells { F.tells files.new ≡ F.tells files.old }
+    ensures same { SameFiles (F.content files.old) (F.content files.new) }
+    ensures sink { IsSameSink O.spot O.rest O.faults out.old out.new }
+{
+    let q = load_problem(
+        alloc,
+        files,
+        &words.pattern,
+        &words.target,
+        words.format,
+        words.induced,
+    )?;
+    let map = load_map(alloc, files, &words.mapping)?;
+    if !q.is_embedding(&map) {
+        return Ok(Tested::NotAnEmbedding);
+    }
+    match out.put(b"embedding\n") {
+        Ok(()) => Ok(Tested::Embedding),
+        Err(_) => Err(Stop::OutputFault),
+    }
+}
