@@ -1,5 +1,5 @@
--- What single vertices and pairs of vertices are asked, as tests that compute. Edges with other directions or labels,
--- and other kinds of maps, change these tests and no form.
+-- What single vertices and pairs of vertices are asked, as tests that compute. Edges with directions or labels change
+-- these tests and no form.
 
 use Rattle.std.specs.Prelude.{◌≡◌, ℕ, ◌==◌, Bool, true, false, ◌&&◌, ◌||◌, not, is_some, IsTrue, ◌↔◌, Option, Some, None}
 use Rattle.graph_theory.specs.Graph.{Graph, label, edge}

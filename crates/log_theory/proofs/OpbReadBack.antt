@@ -105,9 +105,9 @@ Fault = ℕ × OpbCause
 abbrev Sum : Type 0
 Sum = List (ℕ × ℤ) × ℤ
 
-bound_read : (b : ℤ) → unsigned_abs b ≤ 2 ^ 125 → bound_words (word_of (signed_decimal b) ∷ Semicolon ∷ []) ≡ Ok ([], b)
-bound_read b f =
-    ap (λ (w : OpbWord). bound_words (w ∷ Semicolon ∷ [])) (word_of-bound b (omega arith))
+bound_read : (n : ℕ) (b : ℤ) → unsigned_abs b ≤ 2 ^ 125 → bound_words n (word_of (signed_decimal b) ∷ Semicolon ∷ []) ≡ Ok ([], b)
+bound_read n b f =
+    ap (λ (w : OpbWord). bound_words n (w ∷ Semicolon ∷ [])) (word_of-bound b (omega arith))
     ∙ ap (λ (r : Result ℕ OpbCause). let q : Result Sum OpbCause = r >>= λ _. Ok ([], b) in q) (within-narrow b f)
 
 variable_read : (n : ℕ) (t : ℕ × ℤ) (ws : List OpbWord) (s : Sum) → 1 ≤ t.0 → t.0 ≤ n → constraint_words n Later ws ≡ Ok s → constraint_words n (Due t.1) (Variable t.0 ∷ ws) ≡ Ok (t ∷ s.0, s.1)
@@ -130,13 +130,13 @@ end_words b = codes ">=" ∷ signed_decimal b ∷ codes ";" ∷ []
 
 -- The terms and the bound that were written are read.
 read_later : (n : ℕ) (ts : List (ℕ × ℤ)) (b : ℤ) → n < 2 ^ 32 → AreVariables n ts → size ts ≤ 2 ^ 125 → unsigned_abs b ≤ 2 ^ 125 → constraint_words n Later (map word_of (term_words ts ++ end_words b)) ≡ Ok (ts, b)
-read_later n [] b k v s f = bound_read b f
+read_later n [] b k v s f = bound_read n b f
 read_later n (t ∷ ts) b k v s f =
     ap (λ (w : OpbWord). constraint_words n Later (w ∷ word_of (120 ∷ decimal t.0) ∷ map word_of (term_words ts ++ end_words b))) (word_of-coefficient t.1 (omega arith))
     ∙ term_read n t (map word_of (term_words ts ++ end_words b)) (ts, b) k v.0 v.1 (omega arith) (read_later n ts b k v.2 (omega arith) f)
 
 read_first : (n : ℕ) (ts : List (ℕ × ℤ)) (b : ℤ) → n < 2 ^ 32 → AreVariables n ts → size ts ≤ 2 ^ 125 → unsigned_abs b ≤ 2 ^ 125 → constraint_words n First (map word_of (term_words ts ++ end_words b)) ≡ Ok (ts, b)
-read_first n [] b k v s f = bound_read b f
+read_first n [] b k v s f = bound_read n b f
 read_first n (t ∷ ts) b k v s f =
     ap (λ (w : OpbWord). constraint_words n First (w ∷ word_of (120 ∷ decimal t.0) ∷ map word_of (term_words ts ++ end_words b))) (word_of-coefficient t.1 (omega arith))
     ∙ term_read n t (map word_of (term_words ts ++ end_words b)) (ts, b) k v.0 v.1 (omega arith) (read_later n ts b k v.2 (omega arith) f)

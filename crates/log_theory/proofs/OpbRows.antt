@@ -31,6 +31,27 @@ at_the_limit : later_line 2 (opb_words (codes "+42535295865117307932921825928971
 unfolding sorted put
 at_the_limit = refl
 
+variable_first : later_line 2 (opb_words (codes "x1 >= 1 ;")) ≡ Err Malformed
+variable_first = refl
+
+no_variable_first : later_line 2 (opb_words (codes "x5 >= 1 ;")) ≡ Err NoSuchVariable
+no_variable_first = refl
+
+no_variable_last : later_line 2 (opb_words (codes "+1 x1 >= 1 ; x0")) ≡ Err NoSuchVariable
+no_variable_last = refl
+
+wide_for_a_variable : later_line 2 (opb_words (codes "+1 +42535295865117307932921825928971026433 x1 >= 1 ;")) ≡ Err Wide
+wide_for_a_variable = refl
+
+wide_after_the_bound : later_line 2 (opb_words (codes "+1 x1 >= 1 42535295865117307932921825928971026433 ;")) ≡ Err Wide
+wide_after_the_bound = refl
+
+wide_and_ended : later_line 2 (opb_words (codes "42535295865117307932921825928971026433; x1 >= 1 ;")) ≡ Err Wide
+wide_and_ended = refl
+
+equals_for_a_variable : later_line 2 (opb_words (codes "+1 = 1 ;")) ≡ Err Malformed
+equals_for_a_variable = refl
+
 lenient : later_line 2 (opb_words (codes "  x1")) ≡ Err Malformed
 lenient = refl
 

@@ -85,23 +85,38 @@ pub data Place : Type 0 where
 abbrev pub within : ℤ → Result ℕ OpbCause
 within c = unless (nat_le (unsigned_abs c) (2 ^ 125)) Wide
 
+-- The cause of a word that stands where its kind is not due: what is wrong with the word itself comes first.
+abbrev pub misplaced : ℕ → OpbWord → Result (List (ℕ × ℤ) × ℤ) OpbCause
+misplaced n (Variable v) = unless (nat_lt 0 v && nat_le v n) NoSuchVariable >>= λ _. Err Malformed
+misplaced n (Number c) = within c >>= λ _. Err Malformed
+misplaced n (Ended c) = within c >>= λ _. Err Malformed
+misplaced n _ = Err Malformed
+
+-- What follows the bound: `;` by itself, and nothing more.
+abbrev pub closing_words : ℕ → ℤ → List OpbWord → Result (List (ℕ × ℤ) × ℤ) OpbCause
+closing_words n b [] = Err Malformed
+closing_words n b (Semicolon ∷ []) = Ok ([], b)
+closing_words n b (Semicolon ∷ w ∷ ws) = misplaced n w
+closing_words n b (w ∷ ws) = misplaced n w
+
 -- What follows `>=`: the bound, and `;` at its end or by itself.
-abbrev pub bound_words : List OpbWord → Result (List (ℕ × ℤ) × ℤ) OpbCause
-bound_words (Number b ∷ Semicolon ∷ []) = within b >>= λ _. Ok ([], b)
-bound_words (Number b ∷ ws) = within b >>= λ _. Err Malformed
-bound_words (Ended b ∷ []) = within b >>= λ _. Ok ([], b)
-bound_words (Ended b ∷ ws) = within b >>= λ _. Err Malformed
-bound_words _ = Err Malformed
+abbrev pub bound_words : ℕ → List OpbWord → Result (List (ℕ × ℤ) × ℤ) OpbCause
+bound_words n [] = Err Malformed
+bound_words n (Number b ∷ ws) = within b >>= λ _. closing_words n b ws
+bound_words n (Ended b ∷ []) = within b >>= λ _. Ok ([], b)
+bound_words n (Ended b ∷ w ∷ ws) = within b >>= λ _. misplaced n w
+bound_words n (w ∷ ws) = misplaced n w
 
 -- The terms and the bound of a constraint over n variables, or the cause of its first faulty word.
 abbrev pub constraint_words : ℕ → Place → List OpbWord → Result (List (ℕ × ℤ) × ℤ) OpbCause
+constraint_words n place [] = Err Malformed
 constraint_words n (Due c) (Variable v ∷ ws) = unless (nat_lt 0 v && nat_le v n) NoSuchVariable >>= λ _. constraint_words n Later ws >>= λ s. Ok ((v, c) ∷ s.0, s.1)
-constraint_words n (Due c) ws = Err Malformed
-constraint_words n place (Relation ∷ ws) = bound_words ws
+constraint_words n (Due c) (w ∷ ws) = misplaced n w
+constraint_words n place (Relation ∷ ws) = bound_words n ws
 constraint_words n place (Equals ∷ ws) = Err Equality
 constraint_words n place (Number c ∷ ws) = within c >>= λ _. constraint_words n (Due c) ws
 constraint_words n Later (Variable v ∷ ws) = Err Product
-constraint_words n place ws = Err Malformed
+constraint_words n place (w ∷ ws) = misplaced n w
 
 -- A constraint's line: a word's own fault comes first, then a sum of absolute coefficients that is too wide.
 abbrev pub constraint_line : ℕ → List (List ℕ) → Result Form OpbCause

@@ -183,7 +183,8 @@ pub enum Step {
     Q,
 }
 
-/// Why a line is refused. Where several causes stand in one line, the first of this list is told.
+/// Why a line is refused. Where several causes stand in one line, the first of this list is told; within a `p` line operation by
+/// operation from the left, and at one operation `Zero` before `Stack` before `Wide`.
 #[derive(Clone, Copy, PartialEq, Eq, Debug)]
 pub enum Cause {
     EndsEarly,
