@@ -10,3 +10,4 @@ pub mod Undoing
 pub mod Cutting
 pub mod Sizes
 pub mod Fresh
+pub mod WordRuns

@@ -3,3 +3,4 @@ pub mod BitRows
 pub mod Removals
 pub mod Changes
 pub mod Inside
+pub mod Runs

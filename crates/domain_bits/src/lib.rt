@@ -11,10 +11,12 @@
 mod domains;
 mod kernels;
 mod trail;
+mod word_trail;
 
 pub use domains::{Domains, Mark};
 pub use kernels::{and_into, and_not_into, count_ones, or_into};
 pub use trail::{PairTrail, Run, Trail};
+pub use word_trail::WordTrail;
 
 #[cfg(test)]
 mod tests;

@@ -38,12 +38,30 @@ fn rows_of_several_words_are_filtered(rt: HostRuntime) -> Result<(), Fail> {
     Ok(())
 }
 
+#[test]
+fn a_trail_of_words_gives_back_what_it_took(rt: HostRuntime) -> Result<(), Fail> {
+    let mut domains: Domains<WordTrail> = Domains::with_trail(rt.alloc(), 2, 130)?;
+    domains.intersect(1, &[0xff, 0, 3]);
+    assert_eq!(rt; domains.size(1), 10);
+    let mark = domains.mark();
+    domains.intersect(1, &[0x101, 0, 2]);
+    assert_eq!(rt; domains.row(1), [1, 0, 2].as_slice());
+    let copy = domains.copy(rt.alloc())?;
+    domains.undo_to(mark);
+    assert_eq!(rt; domains.row(1), [0xff, 0, 3].as_slice());
+    assert_eq!(rt; copy.row(1), [1, 0, 2].as_slice());
+    assert_eq!(rt; copy.row(0), [u64::MAX, u64::MAX, 3].as_slice());
+    Ok(())
+}
+
 fn crosses_threads<T: Send + Sync>(_value: &T) {}
 
 #[test]
 fn domains_cross_threads(rt: HostRuntime) -> Result<(), Fail> {
     let domains = Domains::new(rt.alloc(), 1, 1)?;
     crosses_threads(&domains);
+    let words: Domains<WordTrail> = Domains::with_trail(rt.alloc(), 1, 1)?;
+    crosses_threads(&words);
     crosses_threads(&domains.mark());
     Ok(())
 }
