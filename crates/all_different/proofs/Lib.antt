@@ -6,4 +6,5 @@ pub mod Clearing
 pub mod Sums
 pub mod Meeting
 pub mod Scanning
+pub mod Looking
 pub mod Showing

@@ -1,5 +1,5 @@
 -- Looking at one prefix after another.
-use Rattle.std.proofs.Common.{◌≡◌, ℕ, ◌+◌, ◌*◌, ◌<◌, ◌≤◌, suc, Bool, true, false, ◌&&◌, ◌||◌, ltb, List, length, get_or, refl, sym, ap, ◌∙◌, subst, arith, inl, inr, ◌⊎◌}
+use Rattle.std.proofs.Common.{◌≡◌, ℕ, ◌+◌, ◌-◌, ◌*◌, ◌<◌, ◌≤◌, suc, Bool, true, false, ◌&&◌, ◌||◌, ltb, List, length, get_or, refl, sym, ap, ◌∙◌, subst, arith, inl, inr, ◌⊎◌}
 use Rattle.std.proofs.lemmas.Bool.{cases_lt, cases_eq, and_parts, lt-ltb, le-ltb, false≢true, false_from_ne_true}
 use Rattle.domain_bits.specs.Counting.{count}
 use Rattle.domain_bits.specs.BitRows.{has, words_for}
@@ -75,16 +75,16 @@ union_count d n row long bits =
     count_same (has row) (in_union d n) (64 * length row) (λ i l. bits i)
     ∙ count_bounds (in_union d n) (64 * length row) d.values (λ u e. omega (arith, union_below d n u e, long)) (union_below d n)
 
--- a prefix past those in order has more values than there are vertices
-pub beyond : (d : State) (order : List ℕ) (n : ℕ) → Ordered d order → length order < n → n ≤ d.vertices → d.vertices < union_size d n
-beyond d order n o past within = by (rank_onto (size_of d) d.vertices (d.values + 1) (length order) (λ q h. size_below d q) (omega arith))
+-- a prefix past those in order has more values than members
+pub beyond : (d : State) (order : List ℕ) (n : ℕ) → Ordered d order → length order < n → n ≤ d.vertices → n < union_size d n
+beyond d order n o past within = by (rank_onto (size_of d) d.vertices (d.values + 1) (n - 1) (λ q h. size_below d q) (omega arith))
   where
-    by : (q : ℕ) × (q < d.vertices) × (rank (size_of d) d.vertices q ≡ length order) → d.vertices < union_size d n
+    by : (q : ℕ) × (q < d.vertices) × (rank (size_of d) d.vertices q ≡ n - 1) → n < union_size d n
     by f =
         let q = f.0 in
-        let big = o.rest q f.1 (omega (arith, f.2)) in
-        let inside : in_prefix d n q ≡ true = rw (lt-ltb q d.vertices f.1) (lt-ltb (rank (size_of d) d.vertices q) n (omega (arith, f.2))) in
-        omega (arith, big, count_le (in_domain d q) (in_union d n) d.values d.values (omega arith) (λ t e. union_has d n q t f.1 inside e))
+        let big = o.rest q f.1 (omega (arith, f.2, past)) in
+        let inside : in_prefix d n q ≡ true = rw (lt-ltb q d.vertices f.1) (lt-ltb (rank (size_of d) d.vertices q) n (omega (arith, f.2, past))) in
+        omega (arith, f.2, past, big, count_le (in_domain d q) (in_union d n) d.values d.values (omega arith) (λ t e. union_has d n q t f.1 inside e))
 
 pub none_short : (d : State) (order : List ℕ) → Ordered d order → ((m : ℕ) → m ≤ length order → Short d m → ⊥) → (n : ℕ) → Short d n → ⊥
 none_short d order o upto n s = by (cases_lt (length order) n)

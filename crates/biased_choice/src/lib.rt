@@ -5,10 +5,10 @@
 //! the next word of the worker's stream, so that runs can be repeated. The bias is that of solution-biased search (Archibald, Dunlop,
 //! Hoffmann, McCreesh, Prosser and Trimble 2019), the generator xoshiro256++ (Blackman and Vigna 2021).
 
-ghost use Rattle.std.specs.Prelude.{◌≡◌, ℕ, ◌+◌, ◌-◌, ◌*◌, ◌^◌, ◌<◌, ◌≤◌, true, length, slice_index, cond};
+ghost use Rattle.std.specs.Prelude.{◌≡◌, ℕ, ◌+◌, ◌-◌, ◌*◌, ◌^◌, ◌<◌, ◌≤◌, true, false, length, slice_index};
 ghost use Rattle.domain_bits.specs.BitRows.{has};
 ghost use Rattle.domain_bits.specs.Counting.{count};
-ghost use Rattle.biased_choice.specs.Bias.{below, Bias, BiasLaws, top_degree, total_weight, weight, weight_of};
+ghost use Rattle.biased_choice.specs.Bias.{Bias, BiasLaws, top_degree, total_weight, weight};
 ghost use Rattle.biased_choice.specs.Streams.{jumps, seeded};
 ghost use Rattle.rand_xoshiro.specs.Xoshiro256.{plus_plus};
 
@@ -62,7 +62,7 @@ impl Chooser {
     }
 }
 
-/// The value that a word chooses among the members of the row. Cost: three steps for each bit of the row.
+/// The value that a word chooses among the members of the row. Cost: three steps for each member and for each word of the row.
 pub fn pick(row: &[u64], degrees: &[u16], word: u64) -> u16
     requires some { 0 < count (has row.now) (64 * length row.now) }
     requires short { length row.now ≤ 1024 }
@@ -72,41 +72,69 @@ pub fn pick(row: &[u64], degrees: &[u16], word: u64) -> u16
     let top = greatest_degree(row, degrees);
     let rest = word % all_weights(row, degrees, top);
     let mut sum = 0;
-    for v in 0..64 * row.len() {
-        let next = sum + weight_at(row, degrees, top, v);
+    let mut v = next_member(row, 0);
+    while v < 64 * row.len() {
+        let next = sum + weight_of_degree(top, degrees[v]);
         if rest < next {
             return v as u16;
         }
         sum = next;
+        v = next_member(row, v + 1);
     }
     unreachable!()
 }
 
-/// Whether `v` is a member of the row.
-fn is_member(row: &[u64], v: usize) -> bool
-    requires { v < 64 * length row.now }
-    ensures { result ≡ has row.now v }
+/// The first word that is not 0 from a place on, or the number of words.
+fn next_word(row: &[u64], from: usize) -> usize
+    requires { from ≤ length row.now }
+    ensures low { from ≤ result }
+    ensures high { result ≤ length row.now }
+    ensures zero { (k : ℕ) → from ≤ k → k < result → slice_index row.now k ≡ 0 }
+    ensures some { result < length row.now → 0 < slice_index row.now result }
 {
-    row[v / 64] >> (v % 64) & 1 == 1
+    for place in from..row.len() {
+        if row[place] != 0 {
+            return place;
+        }
+    }
+    row.len()
 }
 
-/// The degree of a member, or 0.
-fn degree_at(row: &[u64], degrees: &[u16], v: usize) -> u16
-    requires in_row { v < 64 * length row.now }
-    requires degrees { (u : ℕ) → has row.now u ≡ true → u < length degrees.now }
-    ensures { result ≡ cond (has row.now v) (slice_index degrees.now v) 0 }
+/// The least member from a value on, or the number of the row's bits where there is none. Cost: a step for each word on the way.
+fn next_member(row: &[u64], from: usize) -> usize
+    requires short { length row.now ≤ 1024 }
+    requires from { from ≤ 64 * length row.now }
+    ensures low { from ≤ result }
+    ensures high { result ≤ 64 * length row.now }
+    ensures none { (v : ℕ) → from ≤ v → v < result → has row.now v ≡ false }
+    ensures member { result < 64 * length row.now → has row.now result ≡ true }
 {
-    if is_member(row, v) { degrees[v] } else { 0 }
+    let place = from / 64;
+    if place == row.len() {
+        return from;
+    }
+    let rest = row[place] >> (from % 64);
+    if rest != 0 {
+        return from + rest.trailing_zeros() as usize;
+    }
+    let next = next_word(row, place + 1);
+    if next == row.len() {
+        return 64 * next;
+    }
+    64 * next + row[next].trailing_zeros() as usize
 }
 
+/// The greatest degree of a member. Cost: a step for each member and for each word.
 fn greatest_degree(row: &[u64], degrees: &[u16]) -> u16
     requires short { length row.now ≤ 1024 }
     requires degrees { (u : ℕ) → has row.now u ≡ true → u < length degrees.now }
     ensures { result ≡ top_degree row.now degrees.now }
 {
     let mut top: u16 = 0;
-    for v in 0..64 * row.len() {
-        top = top.max(degree_at(row, degrees, v));
+    let mut v = next_member(row, 0);
+    while v < 64 * row.len() {
+        top = top.max(degrees[v]);
+        v = next_member(row, v + 1);
     }
     top
 }
@@ -121,23 +149,7 @@ fn weight_of_degree(top: u16, degree: u16) -> u64
     if behind < 40 { 1 << (40 - behind) } else { 1 }
 }
 
-/// The weight of a member, or 0.
-fn weight_at(row: &[u64], degrees: &[u16], top: u16, v: usize) -> u64
-    requires in_row { v < 64 * length row.now }
-    requires degrees { (u : ℕ) → has row.now u ≡ true → u < length degrees.now }
-    requires top { top ≡ top_degree row.now degrees.now }
-    ensures exact { result ≡ cond (has row.now v) (weight_of row.now degrees.now v) 0 }
-    ensures small { result ≤ 2 ^ 40 }
-    ensures some { has row.now v ≡ true → 0 < result }
-{
-    if is_member(row, v) {
-        weight_of_degree(top, degrees[v])
-    } else {
-        0
-    }
-}
-
-/// The weights of all members.
+/// The weights of all members. Cost: a step for each member and for each word.
 fn all_weights(row: &[u64], degrees: &[u16], top: u16) -> u64
     requires some { 0 < count (has row.now) (64 * length row.now) }
     requires short { length row.now ≤ 1024 }
@@ -147,8 +159,10 @@ fn all_weights(row: &[u64], degrees: &[u16], top: u16) -> u64
     ensures some { 0 < result }
 {
     let mut sum = 0;
-    for v in 0..64 * row.len() {
-        sum += weight_at(row, degrees, top, v);
+    let mut v = next_member(row, 0);
+    while v < 64 * row.len() {
+        sum += weight_of_degree(top, degrees[v]);
+        v = next_member(row, v + 1);
     }
     sum
 }

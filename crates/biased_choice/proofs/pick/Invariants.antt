@@ -1,6 +1,15 @@
-use Rattle.std.proofs.Common.{◌≡◌, ◌≤◌}
+use Rattle.std.proofs.Common.{◌≡◌, ◌-◌, ◌*◌, ◌<◌, ◌≤◌, true, length}
+use Rattle.domain_bits.specs.BitRows.{has}
 use Rattle.biased_choice.specs.Bias.{below}
 use Rattle.biased_choice.proofs.pick.Given as goal
 
 abbrev pub invariant-loop-v : goal.invariant-loop-v
-invariant-loop-v l = record { sum : l.sum ≡ below l.row l.degrees l.v; low : l.sum ≤ l.rest }
+invariant-loop-v l = record {
+  sum : l.sum ≡ below l.row l.degrees l.v;
+  low : l.sum ≤ l.rest;
+  within : l.v ≤ 64 * length l.row;
+  member : l.v < 64 * length l.row → has l.row l.v ≡ true;
+}
+
+abbrev pub decreases-loop-v : goal.decreases-loop-v
+decreases-loop-v l = 64 * length l.row - l.v
