@@ -12,6 +12,7 @@ use Rattle.search_theory.proofs.Pairs.{first_value_of}
 use Rattle.search_theory.specs.Account.{Account, path, Honest}
 use Rattle.domain_bits.specs.Removals.{State, in_domain, full, undone}
 use Rattle.domain_bits.specs.Changes.{Keeps}
+use Rattle.all_different.specs.Prefixes.{Balanced}
 use Rattle.restart_search.specs.Propagation.{IsOf, Narrows, waits_at, HasTwo, NotesSize, Beginning, Rests, Ready, Propagates}
 use Rattle.restart_search.specs.Searching.{AtRest, Roots, Levels, Sound}
 use Rattle.restart_search.proofs.Levels.{undone_all}
@@ -123,8 +124,8 @@ pub inside_full : (q : Problem) (m : List ℕ) → Embeds q m → Inside q (in_d
 inside_full q m e = λ p p_in. let within : slice_index m p < size q.target = e.values p p_in in grind (arith, common_steps)
 
 -- so domains that lost none from full ones hold every embedding
-pub root_at_rest : (q : Problem) (d : State) → Narrows q (full (size q.pattern) (size q.target)) d → Quiet q (in_domain d) → AtRest q [] d
-root_at_rest q d n quiet = record { quiet = quiet; stands = λ m e h. n.keeps m e (inside_full q m e); pins = tt }
+pub root_at_rest : (q : Problem) (d : State) → Narrows q (full (size q.pattern) (size q.target)) d → Quiet q (in_domain d) → Balanced d → AtRest q [] d
+root_at_rest q d n quiet balanced = record { quiet = quiet; balanced = balanced; stands = λ m e h. n.keeps m e (inside_full q m e); pins = tt }
 
 -- and where none is within full ones, none exists
 pub none_at_all : (q : Problem) → NoneInside q (in_domain (full (size q.pattern) (size q.target))) → HasNone q
@@ -150,7 +151,7 @@ pub roots_of : (b : Bool) (q : Problem) (old mid new : State) (waiting : List Bo
     → Beginning q old mid waiting (size q.pattern) → Propagates b q mid new → Roots b q new
 roots_of true q old mid new waiting is b told = (
   is_of_narrowed q mid new told.0 b.is_of,
-  root_at_rest q new (narrows_more q (full (size q.pattern) (size q.target)) mid new (subst (λ (d : State). Narrows q d mid) is b.narrows) told.0) told.1,
+  root_at_rest q new (narrows_more q (full (size q.pattern) (size q.target)) mid new (subst (λ (d : State). Narrows q d mid) is b.narrows) told.0) told.1 told.2,
 )
 roots_of false q old mid new waiting is b told =
     none_at_all q (none_narrowed q (full (size q.pattern) (size q.target)) mid (subst (λ (d : State). Narrows q d mid) is b.narrows) told.1)

@@ -12,6 +12,7 @@ use Rattle.search_theory.specs.Account.{Account, path, deepened, Honest}
 use Rattle.search_theory.proofs.Refuted.{path_of_push}
 use Rattle.domain_bits.specs.Removals.{State, in_domain, undone}
 use Rattle.domain_bits.specs.Changes.{Keeps}
+use Rattle.all_different.specs.Prefixes.{Balanced}
 use Rattle.restart_search.specs.Propagation.{Narrows, waits_at, Rests, Ready}
 use Rattle.restart_search.specs.Searching.{AtRest, Levels, Based, Sound}
 use Rattle.restart_search.proofs.Waiting.{rests_on, flag_here}
@@ -71,9 +72,10 @@ pins_more q (x ∷ xs) D p t h p_in s = (h.0, h.1, pins_more q xs D p t h.2 p_in
 -- ---- at rest after the guess
 
 pub rest_guessed : (q : Problem) (above : List (ℕ × ℕ)) (old mid new : State) (p t : ℕ) (keeps : ℕ → Bool) → AtRest q above old → Keeps old mid p keeps
-    → Single (in_domain mid) p t → p < size q.pattern → Narrows q mid new → Quiet q (in_domain new) → AtRest q (above ++ (p, t) ∷ []) new
-rest_guessed q above old mid new p t keeps rest k s p_in n quiet = record {
+    → Single (in_domain mid) p t → p < size q.pattern → Narrows q mid new → Quiet q (in_domain new) → Balanced new → AtRest q (above ++ (p, t) ∷ []) new
+rest_guessed q above old mid new p t keeps rest k s p_in n quiet balanced = record {
   quiet = quiet;
+  balanced = balanced;
   stands = λ m e h. n.keeps m e (inside_assigned q above old mid p t keeps rest.stands k s m e h);
   pins = pins_more q above (in_domain new) p t
       (pins_kept q above (in_domain old) (in_domain new) (λ r u h. k.shrinks.less r u (n.less r u h)) quiet.some rest.pins) p_in

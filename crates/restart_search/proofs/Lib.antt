@@ -6,4 +6,5 @@ pub mod Guessing
 pub mod Closing
 pub mod Beginning
 pub mod Visits
+pub mod Pruning
 pub mod Steps

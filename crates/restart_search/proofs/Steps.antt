@@ -1,7 +1,7 @@
 -- One step of a search: the vertex of a level, its untried values, and the marks.
 
-use Rattle.std.proofs.Common.{◌≡◌, ℕ, suc, ◌+◌, ◌<◌, ◌≤◌, ◌&&◌, not, Bool, true, false, List, [], ◌∷◌, ◌++◌, length, Option, Some, None, IfSome, refl, sym, ap, ◌∙◌, subst, arith, append_assoc, ◌⊎◌, inl, inr}
-use Rattle.std.proofs.lemmas.Bool.{cases_eq}
+use Rattle.std.proofs.Common.{◌≡◌, ℕ, suc, ◌+◌, ◌*◌, ◌<◌, ◌≤◌, ◌&&◌, not, Bool, true, false, List, [], ◌∷◌, ◌++◌, length, Option, Some, None, IfSome, refl, sym, ap, ◌∙◌, subst, arith, append_assoc, ◌⊎◌, inl, inr}
+use Rattle.std.proofs.lemmas.Bool.{cases_eq, cases_lt}
 use Rattle.graph_theory.specs.Graph.{size}
 use Rattle.graph_theory.specs.Neighbours.{members}
 use Rattle.graph_theory.specs.Path.{NotOn}
@@ -11,6 +11,10 @@ use Rattle.search_theory.specs.Account.{Account, Step, Event, Deepen, Fail, Rest
 use Rattle.search_theory.specs.Bounds.{enough}
 use Rattle.domain_bits.specs.Changes as changes
 use Rattle.domain_bits.specs.BitRows.{has}
+use Rattle.domain_bits.specs.Counting.{count}
+use Rattle.domain_bits.proofs.Rows.{has_past}
+use Rattle.domain_bits.proofs.Sizes.{count_some}
+use Rattle.all_different.specs.Prefixes.{Balanced}
 use Rattle.domain_bits.specs.Removals.{State, in_domain}
 use Rattle.fail_account.proofs.Members.{off_members, members_off}
 use Rattle.restart_search.specs.Propagation.{Narrows}
@@ -65,6 +69,18 @@ all_untried us row n t here is t_in h off =
     let out : has row t ≡ false = members_off (has row) n t t_in (subst (λ (xs : List ℕ). NotAmong xs t) (sym is) off) in
     rw (h, out) refl
 
+-- a row with a value has a count
+pub row_counted : (row : List ℕ) (t : ℕ) → has row t ≡ true → 0 < count (has row) (64 * length row)
+row_counted row t here = by_place (cases_lt t (64 * length row))
+  where
+    clash : (b : Bool) → b ≡ false → b ≡ true → ⊥
+    clash true x y = cc
+    clash false x y = cc
+
+    by_place : (t < 64 * length row) ⊎ (64 * length row ≤ t) → 0 < count (has row) (64 * length row)
+    by_place (inl within) = count_some (has row) (64 * length row) t within here
+    by_place (inr past) = absurd (clash (has row t) (has_past row t past) here)
+
 -- ---- marks
 
 -- there is a mark for each level
@@ -89,11 +105,11 @@ based_narrowed q old mid new a marks root p t k keeps sound s n is honest =
     (n.front ∙ ap (λ (xs : List (ℕ × ℕ)). xs ++ n.rest) s.shrinks.front ∙ append_assoc old.removed s.shrinks.rest n.rest) is honest
 
 pub sound_guessed : (q : Problem) (old mid new : State) (a : Account) (marks : List ℕ) (root p t k : ℕ) (keeps : ℕ → Bool) → Sound q old a marks root
-    → changes.Keeps old mid p keeps → Single (in_domain mid) p t → Narrows q mid new → Quiet q (in_domain new) → p < size q.pattern → k ≡ length old.removed
+    → changes.Keeps old mid p keeps → Single (in_domain mid) p t → Narrows q mid new → Quiet q (in_domain new) → Balanced new → p < size q.pattern → k ≡ length old.removed
     → Honest q (deepened a p t) → Sound q new (deepened a p t) (marks ++ k ∷ []) root
-sound_guessed q old mid new a marks root p t k keeps sound s single n quiet p_in is honest = record {
+sound_guessed q old mid new a marks root p t k keeps sound s single n quiet balanced p_in is honest = record {
   based = based_narrowed q old mid new a marks root p t k keeps sound s n is honest;
-  here = subst (λ (ps : List (ℕ × ℕ)). AtRest q ps new) (sym (path_deepened a p t)) (rest_guessed q (path a) old mid new p t keeps sound.here s single p_in n quiet);
+  here = subst (λ (ps : List (ℕ × ℕ)). AtRest q ps new) (sym (path_deepened a p t)) (rest_guessed q (path a) old mid new p t keeps sound.here s single p_in n quiet balanced);
 }
 
 -- ---- where no value is left

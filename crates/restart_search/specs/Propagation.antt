@@ -5,12 +5,21 @@ use Rattle.graph_theory.specs.Graph.{size}
 use Rattle.graph_theory.specs.Embedding.{Problem}
 use Rattle.search_theory.specs.Consistency.{IsFirstValue, AreConsistent}
 use Rattle.search_theory.specs.Claims.{KeepsEmbeddings, NoneInside, Single, Settled, Quiet}
-use Rattle.domain_bits.specs.Removals.{State, in_domain}
+use Rattle.domain_bits.specs.Removals.{State, in_domain, size_of}
+use Rattle.all_different.specs.Memory.{Memory}
+use Rattle.all_different.specs.Prefixes.{Balanced}
+use Rattle.all_different.specs.declared.Pruned.{Pruned}
+use Rattle.all_different.specs.declared.Pruned.TheVariants as pruned
 
 -- The domains have a vertex for each pattern vertex and a value for each target vertex.
 pub record IsOf (q : Problem) (d : State) : Type 0 where
   pub vertices_is : d.vertices ≡ size q.pattern
   pub values_is : d.values ≡ size q.target
+
+-- The memory for counting is made for the domains of the problem.
+pub record IsFor (q : Problem) (memory : Memory) : Type 0 where
+  pub vertices_is : memory.vertices ≡ size q.pattern
+  pub values_is : memory.values ≡ size q.target
 
 -- Values were removed, and no embedding was lost.
 pub record Narrows (q : Problem) (old new : State) : Type 0 where
@@ -114,7 +123,38 @@ abbrev pub Visited : Bool → Problem → State → List Bool → State → List
 Visited true q old before new after = Narrows q old new × Ready q new after × (work new after < work old before)
 Visited false q old before new after = Narrows q old new × NoneInside q (in_domain old)
 
--- What propagation answers: domains at rest, or none that an embedding is within.
+-- What is left once no vertex waits: domains that are quiet as far as vertices and pairs of them tell, or none that an embedding is within.
+abbrev pub TakenUp : Bool → Problem → State → State → Type 0
+TakenUp true q old new = Narrows q old new × Quiet q (in_domain new)
+TakenUp false q old new = Narrows q old new × NoneInside q (in_domain old)
+
+-- Each vertex below n that does not wait has one value.
+abbrev pub UndecidedWait : State → List Bool → ℕ → Type 0
+UndecidedWait d waiting n = (p : ℕ) → p < n → waits_at waiting p ≡ false → size_of d p ≡ 1
+
+-- After a true answer p has one value and its flag is as it was, or more and its flag is lowered; after a false one it has none.
+abbrev pub NotesDecided : Bool → State → List Bool → List Bool → ℕ → Type 0
+NotesDecided true d before after p = ((size_of d p ≡ 1) × (after ≡ before)) ⊎ (HasTwo d p × (after ≡ slice_set before p false))
+NotesDecided false d before after p = (t : ℕ) → in_domain d p t ≡ true → ⊥
+
+-- After these steps at the vertices below n.
+pub record Noting (d : State) (before after : List Bool) (n : ℕ) : Type 0 where
+  pub long : length after ≡ length before
+  pub noted : (p : ℕ) → p < n → ((size_of d p ≡ 1) × (waits_at after p ≡ waits_at before p)) ⊎ HasTwo d p
+  pub rest : (p : ℕ) → n ≤ p → waits_at after p ≡ waits_at before p
+
+-- What these steps at all vertices leave; after a false answer one of them has no value.
+abbrev pub Notes : Bool → State → List Bool → List Bool → Type 0
+Notes true d before after = Noting d before after d.vertices
+Notes false d before after = (p : ℕ) × (p < d.vertices) × ((t : ℕ) → in_domain d p t ≡ true → ⊥)
+
+-- What pruning tells of a problem: its domains are balanced; or values left that no embedding needs, and each vertex waits or rests; or no embedding is within them.
+abbrev pub PrunesFor : Pruned → Problem → State → State → List Bool → Type 0
+PrunesFor pruned.Quiet q old new after = (new ≡ old) × Balanced new
+PrunesFor pruned.Hall q old new after = Narrows q old new × Ready q new after × (length old.removed < length new.removed)
+PrunesFor pruned.Fail q old new after = Narrows q old new × NoneInside q (in_domain old)
+
+-- What propagation answers: domains at rest, those of unions of them included, or none that an embedding is within.
 abbrev pub Propagates : Bool → Problem → State → State → Type 0
-Propagates true q old new = Narrows q old new × Quiet q (in_domain new)
+Propagates true q old new = Narrows q old new × Quiet q (in_domain new) × Balanced new
 Propagates false q old new = Narrows q old new × NoneInside q (in_domain old)

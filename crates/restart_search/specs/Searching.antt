@@ -7,6 +7,7 @@ use Rattle.search_theory.specs.Claims.{Single, Stands, Pins, Quiet}
 use Rattle.search_theory.specs.Bounds.{enough}
 use Rattle.search_theory.specs.Account.{Account, path, Honest, Spends}
 use Rattle.domain_bits.specs.Removals.{State, in_domain, undone}
+use Rattle.all_different.specs.Prefixes.{Balanced}
 use Rattle.restart_search.specs.Propagation.{IsOf}
 use Rattle.domain_bits.specs.BitRows.{words_for}
 use Rattle.restart_search.specs.declared.root.Rooted.{Rooted}
@@ -16,9 +17,11 @@ use Rattle.restart_search.specs.declared.worker.Decided.TheVariants as decided
 use Rattle.restart_search.specs.declared.search.Ended.{Ended}
 use Rattle.restart_search.specs.declared.search.Ended.TheVariants.{Found, Refuted, Spent, NoMemory}
 
--- The domains are at rest, hold each embedding that extends the path, and have each pair of the path as its vertex's domain.
+-- The domains are at rest, one by one, pair by pair and in their unions; they hold each embedding that extends the path, and have
+-- each pair of the path as its vertex's domain.
 pub record AtRest (q : Problem) (path : List (ℕ × ℕ)) (d : State) : Type 0 where
   pub quiet : Quiet q (in_domain d)
+  pub balanced : Balanced d
   pub stands : Stands q path (in_domain d)
   pub pins : Pins q path (in_domain d)
 
@@ -65,9 +68,9 @@ abbrev pub Roots : Bool → Problem → State → Type 0
 Roots true q d = IsOf q d × AtRest q [] d
 Roots false q d = HasNone q
 
--- What the root says: its domains are at rest and hold every embedding, or none exists.
+-- What the root says: its domains are at rest and hold every embedding, and its filters are of the same problem; or none exists.
 abbrev pub RootSays : {T : Type 0} → Rooted T → Problem → Type 0
-RootSays (ending.Quiet d) q = IsOf q d × AtRest q [] d
+RootSays (ending.Quiet d filters) q = IsOf q d × AtRest q [] d × (filters ≡ q)
 RootSays ending.Failed q = HasNone q
 RootSays ending.NoMemory q = Unit {0}
 
@@ -78,11 +81,12 @@ pub record Search : Type 0 where
   pub account : Account
 
 -- What holds of a worker between its calls.
-pub record Working (q rows_of : Problem) (d : State) (a : Account) (marks : List ℕ) (waiting : List Bool) (untried : List ℕ) (root capacity : ℕ) : Type 0 where
+pub record Working (q rows_of : Problem) (d : State) (a : Account) (marks : List ℕ) (waiting : List Bool) (untried : List ℕ) (choice root capacity : ℕ) : Type 0 where
   pub rows : rows_of ≡ q
   pub sound : Sound q d a marks root
   pub long : length waiting ≡ size q.pattern
   pub words : length untried ≡ words_for (size q.target)
+  pub degrees : choice ≡ size q.target
   pub room : size q.pattern ≤ capacity
 
 -- What the end of the search of one worker from the start says.

@@ -12,4 +12,5 @@ pub mod root;
 pub mod search;
 #[cfg(test)]
 mod tests;
+mod value_choice;
 pub mod worker;

@@ -1,18 +1,52 @@
 //! Propagation. A vertex whose domain has one value takes its consequences: this value, and what is not consistent with
 //! it, leaves the other domains. A vertex waits while its consequences are to be taken; the others are at rest. One row
-//! of consistent values for each pair of vertices makes this one AND of words for each other vertex (Ullmann 2010).
+//! of consistent values for each pair of vertices makes this one AND of words for each other vertex (Ullmann 2010). Once
+//! none waits, the values of domains are counted together, which may decide further vertices.
 
-ghost use Rattle.std.specs.Prelude.{◌≡◌, ℕ, [], ◌+◌, ◌*◌, ◌<◌, ◌≤◌, ◌⊎◌, Bool, true, false, length, IfSome, IfNone, IsSome};
+ghost use Rattle.std.specs.Prelude.{◌≡◌, ℕ, [], ◌+◌, ◌*◌, ◌<◌, ◌≤◌, ◌⊎◌, Bool, true, false, length, IfOk, IfSome, IfNone};
 ghost use Rattle.graph_theory.specs.Graph.{size};
 ghost use Rattle.domain_bits.specs.BitRows.{has, words_for};
 ghost use Rattle.domain_bits.specs.Changes.{Keeps};
 ghost use Rattle.domain_bits.specs.Removals.{in_domain};
-ghost use Rattle.search_theory.specs.Claims.{Single, First};
+ghost use Rattle.search_theory.specs.Claims.{Single, First, Quiet};
 ghost use Rattle.pair_rows.specs.Rows.{IsMade};
-ghost use Rattle.restart_search.specs.Propagation.{IsOf, waits_at, work, Ready, ReadyBut, NotesSize, Sweeps, Settles, Visited, Propagates, Shrinks};
+ghost use Rattle.restart_search.specs.Propagation.{IsOf, waits_at, work, IsFor, Ready, ReadyBut, NotesSize, Sweeps, Settles, Visited, TakenUp, UndecidedWait, NotesDecided, Notes, PrunesFor, Propagates};
 
+use all_different::{Pruned, Scratch, prune};
 use domain_bits::{Domains, Trail};
+use graph_rows::Problem;
 use pair_rows::PairRows;
+use std::alloc::{AllocError, Global};
+use std::marker::Model;
+
+/// What propagation works with, made once: the rows of consistent values, and memory for counting.
+#[derive(Drop)]
+pub struct Filters<'a> {
+    rows: PairRows<'a>,
+    scratch: Scratch,
+}
+
+impl<'a> Model for Filters<'a> {
+    ghost use Rattle.graph_theory.specs.Embedding.{Problem};
+    ghost use Rattle.restart_search.specs.Propagation.{IsFor};
+
+    ghost Value = { Problem };
+
+    ghost view = { λ f. f.rows.problem };
+
+    ghost invariant = { λ f. IsFor f.rows.problem f.scratch };
+}
+
+impl<'a> Filters<'a> {
+    /// No rows yet, and memory for them and for counting. Cost: that of `PairRows::new`.
+    pub fn new(alloc: Global, q: &'a Problem) -> Result<Filters<'a>, AllocError>
+        ensures { IfOk result (λ f. f ≡ q.entry.now) }
+    {
+        let rows = PairRows::new(alloc, q)?;
+        let scratch = Scratch::new(alloc, q.pattern().size(), q.target().size())?;
+        Ok(Filters { rows, scratch })
+    }
+}
 
 /// A vertex that waits, the least one. Cost: one step for each vertex below it.
 fn next_waiting(waiting: &[bool]) -> Option<usize>
@@ -144,14 +178,14 @@ fn visit<T: Trail>(rows: &mut PairRows, d: &mut Domains<T>, waiting: &mut [bool]
     }
 }
 
-/// Takes all consequences, or finds that no embedding is within the domains. Cost: for each vertex that is decided on
-/// the way, one row for each that is not, and the values that leave.
-pub fn propagate<T: Trail>(rows: &mut PairRows, d: &mut Domains<T>, waiting: &mut [bool]) -> bool
+/// Takes up all vertices that wait. Cost: for each vertex that is decided on the way, one row for each that is not, and
+/// the values that leave.
+fn take_up<T: Trail>(rows: &mut PairRows, d: &mut Domains<T>, waiting: &mut [bool]) -> bool
     requires is_of { IsOf rows.old.problem d.old }
     requires ready { Ready rows.old.problem d.old waiting.old }
     requires first { First rows.old.problem (in_domain d.old) }
     ensures problem { rows.new.problem ≡ rows.old.problem }
-    ensures propagated { Propagates result rows.old.problem d.old d.new }
+    ensures taken { TakenUp result rows.old.problem d.old d.new }
 {
     let _vertices = d.vertices();
     while let Some(p) = next_waiting(waiting) {
@@ -160,4 +194,114 @@ pub fn propagate<T: Trail>(rows: &mut PairRows, d: &mut Domains<T>, waiting: &mu
         }
     }
     true
+}
+
+/// Lowers all flags.
+pub(crate) fn lower(waiting: &mut [bool])
+    ensures { length waiting.new ≡ length waiting.old }
+{
+    waiting.fill(false);
+}
+
+/// Raises the flags of the vertices with more than one value, and lowers the others. Cost: one step for each vertex.
+fn raise_undecided<T: Trail>(d: &Domains<T>, waiting: &mut [bool])
+    requires long { length waiting.old ≡ d.now.vertices }
+    ensures { UndecidedWait d.now waiting.new d.now.vertices }
+{
+    for p in 0..d.vertices() {
+        waiting[usize::from(p)] = d.size(p) != 1;
+    }
+}
+
+/// Lowers the flag of `p` unless it has one value; false where it has none. Cost: one step.
+fn note_decided<T: Trail>(d: &Domains<T>, waiting: &mut [bool], p: u16) -> bool
+    requires p_in { p < d.now.vertices }
+    requires flags { p < length waiting.old }
+    ensures { NotesDecided result d.now waiting.old waiting.new p }
+{
+    let size = d.size(p);
+    if size == 0 {
+        return false;
+    }
+    if size != 1 {
+        waiting[usize::from(p)] = false;
+    }
+    true
+}
+
+/// Lowers the flags of all vertices that have more than one value; false where one has none. Cost: one step for each
+/// vertex.
+fn note_all_decided<T: Trail>(d: &Domains<T>, waiting: &mut [bool]) -> bool
+    requires long { length waiting.old ≡ d.now.vertices }
+    ensures { Notes result d.now waiting.old waiting.new }
+{
+    for p in 0..d.vertices() {
+        if !note_decided(d, waiting, p) {
+            return false;
+        }
+    }
+    true
+}
+
+/// Counts the values of the first domains together. Where values leave, the vertices that this decides wait: the flags
+/// are raised of those that are undecided before, and lowered of those that still are.
+fn prune_noting<T: Trail>(
+    d: &mut Domains<T>,
+    waiting: &mut [bool],
+    scratch: &mut Scratch,
+    problem: &Problem,
+) -> Pruned
+    requires is_of { IsOf problem.now d.old }
+    requires is_for { IsFor problem.now scratch.old }
+    requires quiet { Quiet problem.now (in_domain d.old) }
+    requires long { length waiting.old ≡ size problem.now.pattern }
+    ensures pruned { PrunesFor result problem.now d.old d.new waiting.new }
+    ensures is_for { IsFor problem.now scratch.new }
+    ensures bounded { length d.new.removed ≤ d.new.vertices * d.new.values }
+{
+    raise_undecided(d, waiting);
+    let answer = prune(d, scratch);
+    let _removed = d.mark();
+    match answer {
+        Pruned::Quiet => {
+            lower(waiting);
+            Pruned::Quiet
+        }
+        Pruned::Fail => Pruned::Fail,
+        Pruned::Hall => {
+            if note_all_decided(d, waiting) {
+                Pruned::Hall
+            } else {
+                Pruned::Fail
+            }
+        }
+    }
+}
+
+/// Takes all consequences, or finds that no embedding is within the domains. Cost: for each vertex that is decided on
+/// the way, one row for each that is not, and the values that leave; once for each set of domains found to take its
+/// values from the others, the cost of `prune`.
+pub fn propagate<T: Trail>(
+    q: &Problem,
+    filters: &mut Filters,
+    d: &mut Domains<T>,
+    waiting: &mut [bool],
+) -> bool
+    requires problem { filters.old ≡ q.now }
+    requires is_of { IsOf q.now d.old }
+    requires ready { Ready q.now d.old waiting.old }
+    requires first { First q.now (in_domain d.old) }
+    ensures problem { filters.new ≡ q.now }
+    ensures propagated { Propagates result q.now d.old d.new }
+{
+    loop {
+        if !take_up(&mut filters.rows, d, waiting) {
+            return false;
+        }
+        match prune_noting(d, waiting, &mut filters.scratch, q) {
+            Pruned::Quiet => return true,
+            Pruned::Fail => return false,
+            Pruned::Hall => (),
+        }
+    }
 }

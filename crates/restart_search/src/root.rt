@@ -8,19 +8,18 @@ ghost use Rattle.nds_filter.specs.Sequences.{sequences};
 ghost use Rattle.restart_search.specs.Propagation.{Begins};
 ghost use Rattle.restart_search.specs.Searching.{Roots, RootSays};
 
-use crate::propagation::{narrow, propagate};
+use crate::propagation::{Filters, narrow, propagate};
 use domain_bits::{Domains, Trail};
 use first_rows::fill_first;
 use graph_rows::Problem;
 use nds_filter::Sequences;
-use pair_rows::PairRows;
 use std::alloc::{AllocError, Global};
 
 /// What the root answers.
 #[derive(Drop)]
-pub enum Rooted<T: Trail> {
-    /// Domains at rest that hold every embedding.
-    Quiet(Domains<T>),
+pub enum Rooted<'a, T: Trail> {
+    /// Domains at rest that hold every embedding, and what propagation worked with, for a worker to go on with.
+    Quiet(Domains<T>, Filters<'a>),
     /// No embedding exists.
     Failed,
     /// Memory was refused.
@@ -57,25 +56,26 @@ fn settle_root<T: Trail>(
     q: &Problem,
     ps: &Sequences,
     ts: &Sequences,
-    rows: &mut PairRows,
+    filters: &mut Filters,
     d: &mut Domains<T>,
     waiting: &mut [bool],
     row: &mut [u64],
 ) -> bool
     requires pattern { ps.now ≡ sequences q.now.pattern }
     requires target { ts.now ≡ sequences q.now.target }
-    requires problem { rows.old.problem ≡ q.now }
+    requires problem { filters.old ≡ q.now }
     requires is_full { d.old ≡ full (size q.now.pattern) (size q.now.target) }
     requires long { length waiting.old ≡ size q.now.pattern }
     requires words { length row.old ≡ words_for (size q.now.target) }
-    ensures { Roots result q.now d.new }
+    ensures roots { Roots result q.now d.new }
+    ensures problem { filters.new ≡ q.now }
 {
-    begin(q, ps, ts, d, waiting, row) && propagate(rows, d, waiting)
+    begin(q, ps, ts, d, waiting, row) && propagate(q, filters, d, waiting)
 }
 
 /// The first domains and what follows from them. Cost: a test for each pair of vertices, and the propagation.
-pub fn root<T: Trail>(alloc: Global, q: &Problem) -> Rooted<T>
-    ensures { RootSays result q.now }
+pub fn root<'a, T: Trail>(alloc: Global, q: &'a Problem) -> Rooted<'a, T>
+    ensures { RootSays result q.entry.now }
 {
     match take_root::<T>(alloc, q) {
         Ok(answer) => answer,
@@ -84,8 +84,8 @@ pub fn root<T: Trail>(alloc: Global, q: &Problem) -> Rooted<T>
 }
 
 /// The same, where memory suffices.
-fn take_root<T: Trail>(alloc: Global, q: &Problem) -> Result<Rooted<T>, AllocError>
-    ensures { IfOk result (λ answer. RootSays answer q.now) }
+fn take_root<'a, T: Trail>(alloc: Global, q: &'a Problem) -> Result<Rooted<'a, T>, AllocError>
+    ensures { IfOk result (λ answer. RootSays answer q.entry.now) }
 {
     let vertices = q.pattern().size();
     let values = q.target().size();
@@ -94,9 +94,17 @@ fn take_root<T: Trail>(alloc: Global, q: &Problem) -> Result<Rooted<T>, AllocErr
     let mut row = vec![in alloc; 0u64; (usize::from(values) + 63) / 64]?;
     let ps = Sequences::new(alloc, q.pattern())?;
     let ts = Sequences::new(alloc, q.target())?;
-    let mut rows = PairRows::new(alloc, q)?;
-    if settle_root(q, &ps, &ts, &mut rows, &mut domains, &mut waiting, &mut row) {
-        Ok(Rooted::Quiet(domains))
+    let mut filters = Filters::new(alloc, q)?;
+    if settle_root(
+        q,
+        &ps,
+        &ts,
+        &mut filters,
+        &mut domains,
+        &mut waiting,
+        &mut row,
+    ) {
+        Ok(Rooted::Quiet(domains, filters))
     } else {
         Ok(Rooted::Failed)
     }

@@ -12,11 +12,11 @@ ghost use Rattle.search_theory.specs.Remaining.{remaining};
 ghost use Rattle.restart_search.specs.Propagation.{IsOf};
 ghost use Rattle.restart_search.specs.Searching.{AtRest, Based, Sound, Ends, FoundOf, IsBest};
 
-use crate::propagation::propagate;
+use crate::propagation::{Filters, lower, propagate};
+use crate::value_choice::ValueChoice;
 use domain_bits::{Domains, Mark, Trail, and_not_into};
 use fail_account::Account;
 use graph_rows::Problem;
-use pair_rows::PairRows;
 use std::alloc::Global;
 
 /// How a search ends.
@@ -119,18 +119,17 @@ fn fill_untried<T: Trail>(d: &Domains<T>, account: &Account, p: u16, row: &mut [
     and_not_into(row, refuted);
 }
 
-/// The least value of a row. Cost: the words up to it.
-fn least_value(row: &[u64]) -> Option<u16>
-    requires { length row.now ≤ 1024 }
-    ensures some { IfSome result (λ t. has row.now t ≡ true) }
-    ensures none { IfNone result ((t : ℕ) → has row.now t ≡ false) }
+/// Whether a row has a value. Cost: the words up to the first one that has.
+fn has_value(row: &[u64]) -> bool
+    ensures some { result ≡ true → (t : ℕ) × (has row.now t ≡ true) }
+    ensures none { result ≡ false → (t : ℕ) → has row.now t ≡ false }
 {
     for place in 0..row.len() {
         if row[place] != 0 {
-            return Some(64 * place as u16 + row[place].trailing_zeros() as u16);
+            return true;
         }
     }
-    None
+    false
 }
 
 /// Refutes the last guess, and takes back what followed from it. Cost: what had been removed since.
@@ -176,19 +175,10 @@ fn begin_again<T: Trail>(
     d.undo_to(root);
 }
 
-/// Lowers all flags.
-fn lower(waiting: &mut [bool])
-    ensures { length waiting.new ≡ length waiting.old }
-{
-    for p in 0..waiting.len() {
-        waiting[p] = false;
-    }
-}
-
 /// Guesses `t` for `p`, and takes the consequences; where no embedding is left, refutes the guess.
 fn guess<T: Trail>(
     q: &Problem,
-    rows: &mut PairRows,
+    filters: &mut Filters,
     d: &mut Domains<T>,
     account: &mut Account,
     marks: &mut Vec<Mark>,
@@ -197,7 +187,7 @@ fn guess<T: Trail>(
     p: u16,
     t: u16,
 )
-    requires problem { rows.old.problem ≡ q.now }
+    requires problem { filters.old ≡ q.now }
     requires sound { Sound q.now d.old account.old marks.old.items root }
     requires unspent { account.old.all < account.old.budget }
     requires before_cutoff { account.old.count < cutoff account.old.run }
@@ -205,7 +195,7 @@ fn guess<T: Trail>(
     requires here { in_domain d.old p t ≡ true }
     requires long { length waiting.old ≡ size q.now.pattern }
     requires room { size q.now.pattern ≤ vec_capacity marks.old }
-    ensures problem { rows.new.problem ≡ rows.old.problem }
+    ensures problem { filters.new ≡ q.now }
     ensures sound { Sound q.now d.new account.new marks.new.items root }
     ensures nearer { remaining account.new < remaining account.old }
     ensures budget { account.new.budget ≡ account.old.budget }
@@ -216,7 +206,7 @@ fn guess<T: Trail>(
     marks.push_reserved(mark);
     d.assign(p, t);
     waiting[usize::from(p)] = true;
-    if !propagate(rows, d, waiting) {
+    if !propagate(q, filters, d, waiting) {
         lower(waiting);
         close(q, d, account, marks, root);
     }
@@ -247,23 +237,26 @@ fn found<T: Trail>(alloc: Global, q: &Problem, d: &Domains<T>) -> Ended
 pub(crate) fn run<T: Trail>(
     alloc: Global,
     q: &Problem,
-    rows: &mut PairRows,
+    filters: &mut Filters,
     d: &mut Domains<T>,
     account: &mut Account,
     marks: &mut Vec<Mark>,
     waiting: &mut [bool],
     untried: &mut [u64],
+    choice: &mut ValueChoice,
     root: Mark,
 ) -> Ended
-    requires problem { rows.old.problem ≡ q.now }
+    requires problem { filters.old ≡ q.now }
     requires sound { Sound q.now d.old account.old marks.old.items root }
     requires long { length waiting.old ≡ size q.now.pattern }
     requires words { length untried.old ≡ words_for (size q.now.target) }
+    requires choice { choice.old ≡ size q.now.target }
     requires room { size q.now.pattern ≤ vec_capacity marks.old }
     ensures ends { Ends result q.now account.new }
     ensures budget { account.new.budget ≡ account.old.budget }
     ensures sound { Sound q.now d.new account.new marks.new.items root }
-    ensures problem { rows.new.problem ≡ q.now }
+    ensures problem { filters.new ≡ q.now }
+    ensures choice { choice.new ≡ size q.now.target }
     ensures room { size q.now.pattern ≤ vec_capacity marks.new }
 {
     loop {
@@ -271,13 +264,13 @@ pub(crate) fn run<T: Trail>(
             return found(alloc, q, d);
         };
         fill_untried(d, account, p, untried);
-        let Some(t) = least_value(untried) else {
+        if !has_value(untried) {
             if account.path().is_empty() {
                 return Ended::Refuted;
             }
             close(q, d, account, marks, root);
             continue;
-        };
+        }
         if account.spent() {
             return Ended::Spent;
         }
@@ -285,6 +278,7 @@ pub(crate) fn run<T: Trail>(
             begin_again(q, d, account, marks, root);
             continue;
         }
-        guess(q, rows, d, account, marks, waiting, root, p, t);
+        let t = choice.choose(untried);
+        guess(q, filters, d, account, marks, waiting, root, p, t);
     }
 }

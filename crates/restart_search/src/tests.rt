@@ -19,6 +19,8 @@ const TRIANGLE_AND_TAIL: &[u8] = b"4 1 1 3 0 2 3 2 1 3 2 1 2";
 
 const TWO_POINTS: &[u8] = b"2 0 0";
 
+const THREE_POINTS: &[u8] = b"3 0 0 0";
+
 /// How a search ended.
 #[derive(Clone, Copy, PartialEq, Eq)]
 enum End {
@@ -82,6 +84,7 @@ fn small_problems_are_decided(rt: HostRuntime) {
     assert!(rt; ending(alloc, TWO_POINTS, TRIANGLE, true, 100) == End::None);
     assert!(rt; ending(alloc, TRIANGLE, TRIANGLE, true, 0) == End::Spent(0));
     assert!(rt; ending(alloc, FOUR_CYCLE, PATH, false, 0) == End::None);
+    assert!(rt; ending(alloc, THREE_POINTS, TWO_POINTS, false, 0) == End::None);
     assert!(rt; ending(alloc, b"0", TRIANGLE, false, 0) == End::Yes);
 }
 

@@ -7,12 +7,13 @@ ghost use Rattle.search_theory.specs.Account.{fresh, path};
 ghost use Rattle.restart_search.specs.Propagation.{IsOf};
 ghost use Rattle.restart_search.specs.Searching.{AtRest, Ends, Decides};
 
+use crate::propagation::Filters;
 use crate::root::{Rooted, root};
 use crate::search::{Ended, run};
-use domain_bits::{Domains, Mark, PairTrail, Trail};
+use crate::value_choice::ValueChoice;
+use domain_bits::{Domains, Mark, Trail, WordTrail};
 use fail_account::Account;
 use graph_rows::Problem;
-use pair_rows::PairRows;
 use std::alloc::{AllocError, Global};
 use std::marker::Model;
 
@@ -20,12 +21,13 @@ use std::marker::Model;
 #[derive(Drop)]
 pub struct Worker<'a, T: Trail> {
     problem: &'a Problem,
-    rows: PairRows<'a>,
+    filters: Filters<'a>,
     domains: Domains<T>,
     account: Account,
     marks: Vec<Mark>,
     waiting: Vec<bool>,
     untried: Vec<u64>,
+    choice: ValueChoice,
     root: Mark,
 }
 
@@ -37,40 +39,43 @@ impl<'a, T: Trail> Model for Worker<'a, T> {
 
     ghost view = { λ w. record { problem = w.problem.now; domains = w.domains; account = w.account } };
 
-    ghost invariant = { λ w. Working w.problem.now w.rows.problem w.domains w.account w.marks.items w.waiting.items w.untried.items w.root (vec_capacity w.marks) };
+    ghost invariant = { λ w. Working w.problem.now w.filters w.domains w.account w.marks.items w.waiting.items w.untried.items w.choice w.root (vec_capacity w.marks) };
 }
 
 impl<'a, T: Trail> Worker<'a, T> {
-    /// A worker before its first guess. It reserves a mark for each pattern vertex. The seed counts for nothing yet.
+    /// A worker before its first guess. It reserves a mark for each pattern vertex; its choices of values begin at the seed.
     pub fn new(
         alloc: Global,
         q: &'a Problem,
         domains: Domains<T>,
+        filters: Filters<'a>,
         seed: u64,
         budget: u64,
     ) -> Result<Worker<'a, T>, AllocError>
         requires is_of { IsOf q.now domains }
         requires rest { AtRest q.now [] domains }
+        requires problem { filters ≡ q.now }
         requires budget { budget < 2 ^ 63 }
         ensures problem { IfOk result (λ w. w.problem ≡ q.entry.now) }
         ensures account { IfOk result (λ w. w.account ≡ fresh (size q.entry.now.pattern) (size q.entry.now.target) budget) }
     {
-        let rows = PairRows::new(alloc, q)?;
         let account = Account::new(alloc, q, budget)?;
         let vertices = usize::from(q.pattern().size());
         let marks = Vec::with_capacity(alloc, vertices)?;
         let waiting = vec![in alloc; false; vertices]?;
         let words = (usize::from(q.target().size()) + 63) / 64;
         let untried = vec![in alloc; 0u64; words]?;
+        let choice = ValueChoice::new(alloc, q, seed)?;
         let root = domains.mark();
         Ok(Worker {
             problem: q,
-            rows,
+            filters,
             domains,
             account,
             marks,
             waiting,
             untried,
+            choice,
             root,
         })
     }
@@ -85,12 +90,13 @@ impl<'a, T: Trail> Worker<'a, T> {
         run(
             alloc,
             self.problem,
-            &mut self.rows,
+            &mut self.filters,
             &mut self.domains,
             &mut self.account,
             &mut self.marks,
             &mut self.waiting,
             &mut self.untried,
+            &mut self.choice,
             self.root,
         )
     }
@@ -101,12 +107,13 @@ impl<'a, T: Trail> Worker<'a, T> {
     {
         let Worker {
             problem: _,
-            rows: _,
+            filters: _,
             domains: _,
             account,
             marks: _,
             waiting: _,
             untried: _,
+            choice: _,
             root: _,
         } = self;
         account
@@ -126,33 +133,35 @@ pub enum Decided {
     NoMemory,
 }
 
-/// Decides the problem by one worker within the budget of fails. The seed counts for nothing yet.
+/// Decides the problem by one worker within the budget of fails. The seed is where its choices of values begin: with the same
+/// seed a run is the same, and with another it may need more fails or fewer.
 pub fn decide(alloc: Global, q: &Problem, seed: u64, budget: u64) -> Decided
     requires { budget < 2 ^ 63 }
     ensures { Decides result q.now budget }
 {
-    let domains = match root(alloc, q) {
-        Rooted::Quiet(domains) => domains,
-        Rooted::Failed => return Decided::Refuted,
-        Rooted::NoMemory => return Decided::NoMemory,
-    };
-    search_from(alloc, q, domains, seed, budget)
+    match root(alloc, q) {
+        Rooted::Quiet(domains, filters) => search_from(alloc, q, domains, filters, seed, budget),
+        Rooted::Failed => Decided::Refuted,
+        Rooted::NoMemory => Decided::NoMemory,
+    }
 }
 
-/// Searches from the domains of the root.
-fn search_from(
+/// Searches from the domains of the root, with what it worked with.
+fn search_from<'a>(
     alloc: Global,
-    q: &Problem,
-    domains: Domains<PairTrail>,
+    q: &'a Problem,
+    domains: Domains<WordTrail>,
+    filters: Filters<'a>,
     seed: u64,
     budget: u64,
 ) -> Decided
     requires is_of { IsOf q.now domains }
     requires rest { AtRest q.now [] domains }
+    requires problem { filters ≡ q.now }
     requires budget { budget < 2 ^ 63 }
-    ensures { Decides result q.now budget }
+    ensures { Decides result q.entry.now budget }
 {
-    let mut worker = match Worker::new(alloc, q, domains, seed, budget) {
+    let mut worker = match Worker::new(alloc, q, domains, filters, seed, budget) {
         Ok(worker) => worker,
         Err(_) => return Decided::NoMemory,
     };

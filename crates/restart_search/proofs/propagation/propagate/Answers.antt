@@ -1,17 +1,26 @@
-use Rattle.std.proofs.Common.{false, subst}
+use Rattle.std.proofs.Common.{true, false, subst, ◌∙◌}
 use Rattle.graph_theory.specs.Embedding.{Problem}
-use Rattle.restart_search.specs.Propagation.{Visited}
+use Rattle.restart_search.specs.Propagation.{TakenUp}
 use Rattle.restart_search.proofs.Narrowing.{narrows_more, none_narrowed}
-use Rattle.restart_search.proofs.Waiting.{first_on, quiet_where_none_waits}
 use Rattle.restart_search.proofs.propagation.propagate.Goals as goal
 
-pub returns-then-not-visit-clause-propagated : goal.returns-then-not-visit-clause-propagated
-returns-then-not-visit-clause-propagated g c =
-    let v = subst (λ (q : Problem). Visited false q c.loop-p.d c.loop-p.waiting c.visit.new.d c.visit.new.waiting) c.loop-p.invariant.problem c.if-not-visit.ensures.visited in
-    (narrows_more _ _ _ _ c.loop-p.invariant.narrows v.0, none_narrowed _ _ _ c.loop-p.invariant.narrows v.1)
+pub returns-then-not-take_up-clause-propagated : goal.returns-then-not-take_up-clause-propagated
+returns-then-not-take_up-clause-propagated g c =
+    let taken = subst (λ (q : Problem). TakenUp false q c.loop-filters.d c.take_up.new.d) c.loop-filters.invariant.problem c.if-not-take_up.ensures.taken in
+    (narrows_more _ _ _ _ c.loop-filters.invariant.narrows taken.0, none_narrowed _ _ _ c.loop-filters.invariant.narrows taken.1)
 
-pub returns-clause-propagated : goal.returns-clause-propagated
-returns-clause-propagated g c = (
-  c.loop-p.invariant.narrows,
-  quiet_where_none_waits _ c.loop-p.d c.loop-p.waiting c.loop-p.invariant.ready (first_on _ c.args.d.now c.loop-p.d c.loop-p.invariant.narrows.less c.requires.first) c.in_default.ensures.none,
-)
+pub returns-in-Fail-clause-propagated : goal.returns-in-Fail-clause-propagated
+returns-in-Fail-clause-propagated g c =
+    let taken = subst (λ (q : Problem). TakenUp true q c.loop-filters.d c.take_up.new.d) c.loop-filters.invariant.problem c.if-not-take_up.ensures.taken in
+    let n = narrows_more _ _ _ _ c.loop-filters.invariant.narrows taken.0 in
+    (narrows_more _ _ _ _ n c.in-Fail.ensures.pruned.0, none_narrowed _ _ _ n c.in-Fail.ensures.pruned.1)
+
+pub loop-filters-preserved : goal.loop-filters-preserved
+loop-filters-preserved g c =
+    let taken = subst (λ (q : Problem). TakenUp true q c.loop-filters.d c.take_up.new.d) c.loop-filters.invariant.problem c.if-not-take_up.ensures.taken in
+    record {
+      problem = c.take_up.ensures.problem ∙ c.loop-filters.invariant.problem;
+      is_for = c.prune_noting.ensures.is_for;
+      narrows = narrows_more _ _ _ _ (narrows_more _ _ _ _ c.loop-filters.invariant.narrows taken.0) c.in-Hall.ensures.pruned.0;
+      ready = c.in-Hall.ensures.pruned.1;
+    }

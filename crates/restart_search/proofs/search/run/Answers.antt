@@ -1,4 +1,4 @@
-use Rattle.std.proofs.Common.{length, sym, ap, ◌∙◌, refl}
+use Rattle.std.proofs.Common.{ℕ, ◌<◌, length, sym, ap, ◌∙◌, refl, subst}
 use Rattle.std.proofs.lemmas.Bool.{eqb-true}
 use Rattle.restart_search.proofs.Closing.{dead_where_all_refuted, none_where_dead, may_guess, spends_where_due}
 use Rattle.restart_search.proofs.Steps.{none_left}
@@ -8,23 +8,30 @@ pub returns-then-is_empty-clause-ends : goal.returns-then-is_empty-clause-ends
 returns-then-is_empty-clause-ends g c =
     none_where_dead _ c.loop-p.account
     (dead_where_all_refuted _ c.loop-p.d c.loop-p.account _ _ c.in-Some.p c.loop-p.invariant.sound c.in-Some.ensures.some.0 c.in-Some.ensures.some.2
-    (none_left c.loop-p.d c.loop-p.account.refuted c.fill_untried.new.row c.in-Some.p c.fill_untried.ensures.all c.in_default-least_value.ensures.none))
+    (none_left c.loop-p.d c.loop-p.account.refuted c.fill_untried.new.row c.in-Some.p c.fill_untried.ensures.all (c.if-not-has_value.ensures.none refl)))
     (ap length (sym c.path.ensures.is) ∙ eqb-true (length c.path.result.now) 0 (sym (c.if-is_empty.ensures)))
 
 pub close-requires-clause-dead : goal.close-requires-clause-dead
 close-requires-clause-dead g c =
     dead_where_all_refuted _ c.loop-p.d c.loop-p.account _ _ c.in-Some.p c.loop-p.invariant.sound c.in-Some.ensures.some.0 c.in-Some.ensures.some.2
-    (none_left c.loop-p.d c.loop-p.account.refuted c.fill_untried.new.row c.in-Some.p c.fill_untried.ensures.all c.in_default-least_value.ensures.none)
+    (none_left c.loop-p.d c.loop-p.account.refuted c.fill_untried.new.row c.in-Some.p c.fill_untried.ensures.all (c.if-not-has_value.ensures.none refl))
 
 pub returns-then-spent-clause-ends : goal.returns-then-spent-clause-ends
-returns-then-spent-clause-ends g c = (
-  spends_where_due _ c.loop-p.account c.in-Some.p c.in-Some-least_value.t c.loop-p.invariant.sound.based.honest (c.if-spent.ensures.exactly.0 refl)
-      (may_guess _ c.loop-p.d c.loop-p.account _ _ c.in-Some.p c.in-Some-least_value.t c.loop-p.invariant.sound c.in-Some.ensures.some.0 c.in-Some.ensures.some.2 c.in-Some.ensures.some.1
-      (c.fill_untried.ensures.untried c.in-Some-least_value.t c.in-Some-least_value.ensures.some).0 (c.fill_untried.ensures.untried c.in-Some-least_value.t c.in-Some-least_value.ensures.some).1),
-  c.if-spent.ensures.not_enough refl,
-)
+returns-then-spent-clause-ends g c =
+    let some = c.if-not-has_value.ensures.some refl in
+    let untried = c.fill_untried.ensures.untried some.0 some.1 in (
+      spends_where_due _ c.loop-p.account c.in-Some.p some.0 c.loop-p.invariant.sound.based.honest (c.if-spent.ensures.exactly.0 refl)
+          (may_guess _ c.loop-p.d c.loop-p.account _ _ c.in-Some.p some.0 c.loop-p.invariant.sound c.in-Some.ensures.some.0 c.in-Some.ensures.some.2 c.in-Some.ensures.some.1 untried.0 untried.1),
+      c.if-spent.ensures.not_enough refl,
+    )
+
+pub choose-t-requires-clause-within : goal.choose-t-requires-clause-within
+choose-t-requires-clause-within g c t h =
+    subst (λ (n : ℕ). t < n) (sym c.loop-p.invariant.choice)
+    (c.loop-p.invariant.sound.here.quiet.first.values c.in-Some.p t c.in-Some.ensures.some.0 (c.fill_untried.ensures.untried t h).0)
 
 pub guess-requires-clause-may : goal.guess-requires-clause-may
 guess-requires-clause-may g c =
-    may_guess _ c.loop-p.d c.loop-p.account _ _ c.in-Some.p c.in-Some-least_value.t c.loop-p.invariant.sound c.in-Some.ensures.some.0 c.in-Some.ensures.some.2 c.in-Some.ensures.some.1
-    (c.fill_untried.ensures.untried c.in-Some-least_value.t c.in-Some-least_value.ensures.some).0 (c.fill_untried.ensures.untried c.in-Some-least_value.t c.in-Some-least_value.ensures.some).1
+    let t = c.choose-t.result in
+    let untried = c.fill_untried.ensures.untried t c.choose-t.ensures.member in
+    may_guess _ c.loop-p.d c.loop-p.account _ _ c.in-Some.p t c.loop-p.invariant.sound c.in-Some.ensures.some.0 c.in-Some.ensures.some.2 c.in-Some.ensures.some.1 untried.0 untried.1

@@ -6,9 +6,10 @@ use Rattle.restart_search.proofs.search.run.Given as goal
 
 abbrev pub invariant-loop-p : goal.invariant-loop-p
 invariant-loop-p g l = record {
-  problem : l.rows.problem ≡ l.q;
+  problem : l.filters ≡ l.q;
   sound : Sound l.q l.d l.account l.marks.items l.root;
   budget : l.account.budget ≡ l.fn.account.budget;
+  choice : l.choice ≡ size l.q.target;
   room : size l.q.pattern ≤ vec_capacity l.marks;
 }
 

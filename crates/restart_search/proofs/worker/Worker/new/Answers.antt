@@ -8,9 +8,10 @@ use Rattle.restart_search.proofs.worker.Worker.new.Goals as goal
 
 pub invariant_of-result : goal.invariant_of-result
 invariant_of-result g c = record {
-  rows = c.in_ok-rows.ensures;
+  rows = c.requires.problem;
   sound = sound_fresh _ _ c.in_ok-account.account _ _ c.in_ok-marks.ensures.items c.in_ok-account.ensures.honest (ap path c.in_ok-account.ensures.fresh) c.mark-root.ensures.length c.requires.is_of c.requires.rest;
   long = ap length (c.in_ok-waiting.ensures.items_if_clones_equal (search rules)) ∙ (length-replicate _ _ ∙ (c.from-vertices.ensures ∙ (c.size.ensures.size ∙ ap size c.pattern.ensures.pattern)));
   words = ap length (c.in_ok-untried.ensures.items_if_clones_equal (search rules)) ∙ (length-replicate _ _ ∙ ap words_for (c.from.ensures ∙ (c.size-2.ensures.size ∙ ap size c.target.ensures.target)));
+  degrees = c.in_ok-choice.ensures;
   room = omega (arith, c.in_ok-marks.ensures.capacity, c.from-vertices.ensures, c.size.ensures.size, ap size c.pattern.ensures.pattern);
 }
