@@ -1,4 +1,4 @@
-//! Worked problems and the text of each of their lines.
+//! Worked problems and the texts of their encodings.
 
 ghost use Rattle.std.specs.Prelude.{◌≡◌, ◌≤◌, IfSome};
 ghost use Rattle.graph_theory.specs.Graph.{size};
@@ -7,8 +7,8 @@ use crate::encoding::Encoding;
 use crate::pair_tests::{is_edge_pair, is_non_edge_pair};
 use graph_rows::{Graph, Problem};
 use lad_reader::{LadKind, read_lad};
-use pb_terms::Constraint;
-use std::alloc::{AllocError, Global};
+use outer_io::MemorySink;
+use std::alloc::Global;
 use std::test::Fail;
 
 const EDGE: &[u8] = b"2 1 1 1 0";
@@ -48,21 +48,8 @@ fn problem(
     Some(Problem::new(pattern, target, induced))
 }
 
-/// Puts a constraint's line at the end of the text, as it is written in OPB.
-fn push_line(text: &mut String, alloc: Global, constraint: &Constraint) -> Result<(), AllocError> {
-    for (variable, coefficient) in constraint.terms() {
-        let sign = if *coefficient < 0 { "-" } else { "+" };
-        let size = coefficient.unsigned_abs();
-        let term = format!(in alloc; "{sign}{size} x{variable} ")?;
-        text.push_str(&term)?;
-    }
-    let bound = constraint.bound();
-    let end = format!(in alloc; ">= {bound} ;\n")?;
-    text.push_str(&end)
-}
-
-/// The lines of the encoding of the problem of two texts, from the first on, after the number of variables.
-fn lines(
+/// The text of the encoding of the problem of two texts.
+fn text_of(
     alloc: Global,
     pattern: &[u8],
     target: &[u8],
@@ -71,16 +58,13 @@ fn lines(
 ) -> Result<String, Fail> {
     let q = problem(alloc, pattern, target, kind, induced).ok_or("no problem")?;
     let encoding = Encoding::new(alloc, &q)?;
-    let variables = encoding.variables();
-    let mut text = format!(in alloc; "{variables}\n")?;
-    for i in 0..encoding.len() {
-        let constraint = encoding.constraint(alloc, i + 1)?;
-        push_line(&mut text, alloc, &constraint)?;
-    }
-    Ok(text)
+    let mut sink = MemorySink::new(alloc, 4096, Vec::new(alloc))?;
+    encoding.write(alloc, &mut sink).ok().ok_or("no text")?;
+    let text = str::from_utf8(sink.bytes()).ok().ok_or("no text")?;
+    Ok(String::from_str(alloc, text)?)
 }
 
-const EDGE_INTO_EDGE: &str = "4
+const EDGE_INTO_EDGE: &str = "* #variable= 4 #constraint= 10
 +1 x1 +1 x2 >= 1 ;
 -1 x1 -1 x2 >= -1 ;
 +1 x3 +1 x4 >= 1 ;
@@ -93,7 +77,7 @@ const EDGE_INTO_EDGE: &str = "4
 +1 x1 -1 x4 >= 0 ;
 ";
 
-const THREE_INTO_TWO: &str = "6
+const THREE_INTO_TWO: &str = "* #variable= 6 #constraint= 8
 +1 x1 +1 x2 >= 1 ;
 -1 x1 -1 x2 >= -1 ;
 +1 x3 +1 x4 >= 1 ;
@@ -104,7 +88,7 @@ const THREE_INTO_TWO: &str = "6
 -1 x2 -1 x4 -1 x6 >= -1 ;
 ";
 
-const LOOP_INTO_TWO: &str = "2
+const LOOP_INTO_TWO: &str = "* #variable= 2 #constraint= 5
 +1 x1 +1 x2 >= 1 ;
 -1 x1 -1 x2 >= -1 ;
 -1 x1 >= -1 ;
@@ -112,7 +96,7 @@ const LOOP_INTO_TWO: &str = "2
 -1 x1 >= 0 ;
 ";
 
-const VERTEX_INTO_TWO: &str = "2
+const VERTEX_INTO_TWO: &str = "* #variable= 2 #constraint= 5
 +1 x1 +1 x2 >= 1 ;
 -1 x1 -1 x2 >= -1 ;
 -1 x1 >= -1 ;
@@ -120,7 +104,7 @@ const VERTEX_INTO_TWO: &str = "2
 -1 x2 >= 0 ;
 ";
 
-const TWO_INTO_EDGE: &str = "4
+const TWO_INTO_EDGE: &str = "* #variable= 4 #constraint= 10
 +1 x1 +1 x2 >= 1 ;
 -1 x1 -1 x2 >= -1 ;
 +1 x3 +1 x4 >= 1 ;
@@ -145,13 +129,19 @@ type Row = (
 
 const ROWS: [Row; 7] = [
     ("an edge into an edge", EDGE, EDGE, false, EDGE_INTO_EDGE),
-    ("nothing into nothing", b"0", b"0", false, "0\n"),
+    (
+        "nothing into nothing",
+        b"0",
+        b"0",
+        false,
+        "* #variable= 0 #constraint= 0\n",
+    ),
     (
         "a vertex into nothing",
         b"1 0",
         b"0",
         false,
-        "0\n>= 1 ;\n>= -1 ;\n",
+        "* #variable= 0 #constraint= 2\n>= 1 ;\n>= -1 ;\n",
     ),
     (
         "three vertices into two",
@@ -186,13 +176,13 @@ const ROWS: [Row; 7] = [
 #[test]
 fn makes_each_line(rt: HostRuntime) -> Result<(), Fail> {
     for (name, pattern, target, induced, text) in ROWS {
-        let made = lines(rt.alloc(), pattern, target, PLAIN, induced)?;
+        let made = text_of(rt.alloc(), pattern, target, PLAIN, induced)?;
         assert_eq!(rt; made.as_str(), text, "{name}");
     }
     Ok(())
 }
 
-const LABELLED_EDGE: &str = "4
+const LABELLED_EDGE: &str = "* #variable= 4 #constraint= 12
 +1 x1 +1 x2 >= 1 ;
 -1 x1 -1 x2 >= -1 ;
 +1 x3 +1 x4 >= 1 ;
@@ -210,7 +200,7 @@ const LABELLED_EDGE: &str = "4
 #[test]
 fn refuses_other_labels(rt: HostRuntime) -> Result<(), Fail> {
     let edge = b"2 1 1 1 2 1 0";
-    let made = lines(rt.alloc(), edge, edge, LadKind::VertexLabelledLad, false)?;
+    let made = text_of(rt.alloc(), edge, edge, LadKind::VertexLabelledLad, false)?;
     assert_eq!(rt; made.as_str(), LABELLED_EDGE);
     Ok(())
 }

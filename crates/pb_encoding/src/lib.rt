@@ -16,5 +16,6 @@ mod numbers;
 mod pair_tests;
 mod shared;
 mod terms;
+mod writer;
 
 pub use encoding::Encoding;

@@ -1,0 +1,11 @@
+pub mod CappedNumbers
+pub mod LineEnds
+pub mod LinePieces
+pub mod Putting
+pub mod WordEnds
+pub mod WordKinds
+pub mod LineKinds
+pub mod LineTerms
+pub mod CappedLines
+pub mod ConstraintLines
+pub mod LaterLines

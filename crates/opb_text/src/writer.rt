@@ -1,0 +1,113 @@
+//! The text of a model, put piece by piece.
+
+ghost use Rattle.std.specs.Prelude.{◌≡◌, ◌++◌};
+ghost use Rattle.std.specs.Fmt.{signed_decimal};
+ghost use Rattle.std.specs.List.{flat_map};
+ghost use Rattle.outer_io.specs.KnownText.{Wrote};
+ghost use Rattle.outer_io.specs.Sinks.{HasBlame};
+ghost use Rattle.log_theory.specs.Words.{line_text};
+ghost use Rattle.log_theory.specs.OpbText.{head_words, coefficient_word, form_words, opb_text};
+ghost use Rattle.opb_text.specs.Pieces.{term_text, end_text};
+
+use itoa::Buffer;
+use outer_io::{Failed, Sink, put_all};
+use pb_terms::Constraint;
+
+/// Puts the first line, for so many variables and constraints: five calls of `put`. It takes no memory.
+pub fn write_head<S: Sink>(variables: u32, count: u64, sink: &mut S) -> Result<(), Failed>
+    ensures text { Wrote (S.spot sink.old).steady (S.contents sink.old) (S.contents sink.new) result (line_text (head_words variables count)) }
+    ensures cause { HasBlame S.spot S.rest S.faults S.blamed sink.old sink.new result }
+{
+    let mut variable_digits = Buffer::new();
+    let mut count_digits = Buffer::new();
+    put_all(
+        &[
+            b"* #variable= ",
+            variable_digits.format(variables).as_bytes(),
+            b" #constraint= ",
+            count_digits.format(count).as_bytes(),
+            b"\n",
+        ],
+        sink,
+    )
+}
+
+/// The sign that stands in front of a coefficient's digits, where they have none of their own.
+fn sign_of(coefficient: i128) -> &'static [u8]
+    ensures { result.now ++ signed_decimal coefficient ≡ coefficient_word coefficient }
+{
+    if coefficient < 0 { b"" } else { b"+" }
+}
+
+/// Puts a term and a blank.
+fn write_term<S: Sink>(variable: u32, coefficient: i128, sink: &mut S) -> Result<(), Failed>
+    ensures text { Wrote (S.spot sink.old).steady (S.contents sink.old) (S.contents sink.new) result (term_text (variable, coefficient)) }
+    ensures cause { HasBlame S.spot S.rest S.faults S.blamed sink.old sink.new result }
+{
+    let mut digits = Buffer::new();
+    let mut variable_digits = Buffer::new();
+    put_all(
+        &[
+            sign_of(coefficient),
+            digits.format(coefficient).as_bytes(),
+            b" x",
+            variable_digits.format(variable).as_bytes(),
+            b" ",
+        ],
+        sink,
+    )
+}
+
+/// Puts the terms, each with a blank behind it.
+fn write_terms<S: Sink>(terms: &[(u32, i128)], sink: &mut S) -> Result<(), Failed>
+    ensures text { Wrote (S.spot sink.old).steady (S.contents sink.old) (S.contents sink.new) result (flat_map term_text terms.now) }
+    ensures cause { HasBlame S.spot S.rest S.faults S.blamed sink.old sink.new result }
+{
+    for &(variable, coefficient) in terms {
+        write_term(variable, coefficient, sink)?;
+    }
+    Ok(())
+}
+
+/// Puts what follows the terms.
+fn write_end<S: Sink>(bound: i128, sink: &mut S) -> Result<(), Failed>
+    ensures text { Wrote (S.spot sink.old).steady (S.contents sink.old) (S.contents sink.new) result (end_text bound) }
+    ensures cause { HasBlame S.spot S.rest S.faults S.blamed sink.old sink.new result }
+{
+    let mut digits = Buffer::new();
+    put_all(&[b">= ", digits.format(bound).as_bytes(), b" ;\n"], sink)
+}
+
+/// Puts the line of a constraint: five calls of `put` for each term and three for the bound. It takes no memory.
+pub fn write_line<S: Sink>(constraint: &Constraint, sink: &mut S) -> Result<(), Failed>
+    ensures text { Wrote (S.spot sink.old).steady (S.contents sink.old) (S.contents sink.new) result (line_text (form_words constraint.now)) }
+    ensures cause { HasBlame S.spot S.rest S.faults S.blamed sink.old sink.new result }
+{
+    write_terms(constraint.terms(), sink)?;
+    write_end(constraint.bound(), sink)
+}
+
+/// Puts the lines of some constraints.
+fn write_lines<S: Sink>(constraints: &[Constraint], sink: &mut S) -> Result<(), Failed>
+    ensures text { Wrote (S.spot sink.old).steady (S.contents sink.old) (S.contents sink.new) result (flat_map (λ f. line_text (form_words f)) constraints.now) }
+    ensures cause { HasBlame S.spot S.rest S.faults S.blamed sink.old sink.new result }
+{
+    for constraint in constraints {
+        write_line(constraint, sink)?;
+    }
+    Ok(())
+}
+
+/// Puts the text of a model of so many variables: the first line, then a line for each constraint. It takes no memory.
+pub fn write_opb<S: Sink>(
+    variables: u32,
+    constraints: &[Constraint],
+    sink: &mut S,
+) -> Result<(), Failed>
+    ensures text { Wrote (S.spot sink.old).steady (S.contents sink.old) (S.contents sink.new) result
+        (opb_text (record { variables = variables; constraints = constraints.now })) }
+    ensures cause { HasBlame S.spot S.rest S.faults S.blamed sink.old sink.new result }
+{
+    write_head(variables, constraints.len() as u64, sink)?;
+    write_lines(constraints, sink)
+}

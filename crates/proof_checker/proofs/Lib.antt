@@ -1,0 +1,6 @@
+pub mod Backwards
+pub mod SharedRows
+pub mod Propagation
+pub mod Claims
+pub mod Leading
+pub mod WholeLog

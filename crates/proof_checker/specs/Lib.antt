@@ -1,0 +1,6 @@
+pub mod Told
+pub mod Rows
+pub mod Reach
+pub mod Ones
+pub mod Turns
+pub mod Stages

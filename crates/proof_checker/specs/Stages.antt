@@ -1,0 +1,18 @@
+-- The stage that a checker's place stands for.
+use Rattle.std.specs.Prelude.{◌≡◌}
+use Rattle.log_theory.specs.Tables.{Table, empty_table}
+use Rattle.log_theory.specs.Verdicts.{Stage}
+use Rattle.log_theory.specs.Verdicts as verdicts
+use Rattle.proof_checker.specs.declared.checker.Place.{Place}
+use Rattle.proof_checker.specs.declared.checker.Place.TheVariants.{Opening, Counting, Proving}
+
+abbrev pub stage_of : Place → Table → Stage
+stage_of Opening t = verdicts.Opening
+stage_of Counting t = verdicts.Counting
+stage_of Proving t = verdicts.Proving t
+
+-- Before both head lines nothing is made.
+abbrev pub StandsWith : Place → Table → Type 0
+StandsWith Opening t = t ≡ empty_table
+StandsWith Counting t = t ≡ empty_table
+StandsWith Proving t = Unit {0}

@@ -1,0 +1,25 @@
+// The checker of proof logs. It reads a log line by line over the constraints of a model, and tells exactly the verdict of the
+// definition: the claim of the last line, or the first faulty line with its first cause. It shares no code with a search, names no
+// graph, and takes a log of any origin. The lines are those of a pseudo-Boolean proof log (Gocht, McCreesh, Nordström 2020): cutting
+// planes in reverse Polish notation, clauses by unit propagation along the references that they name, and shared rows. What the
+// layers above use is `check`; `Checker` takes one line at a time and needs no more of the log than that line.
+#![tactic(auto)]
+
+mod checker;
+mod clauses;
+mod fault;
+mod lines;
+mod ones;
+mod propagate;
+mod ranges;
+mod stack;
+mod table;
+mod whole_log;
+
+pub use checker::Checker;
+pub use fault::LineFault;
+pub use lines::Turn;
+pub use whole_log::check;
+
+#[cfg(test)]
+mod tests;

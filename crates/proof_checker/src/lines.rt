@@ -1,0 +1,119 @@
+// What each kind of line leads to, behind the first two lines of a log.
+
+ghost use Rattle.std.specs.Prelude.{◌≡◌, true};
+ghost use Rattle.proof_theory.specs.Forms.{Form};
+ghost use Rattle.log_theory.specs.declared.step.Step.TheVariants.{P, U};
+ghost use Rattle.log_theory.specs.Lookups.{variables_of};
+ghost use Rattle.log_theory.specs.Tables.{find, step_of};
+ghost use Rattle.log_theory.specs.Verdicts.{Stage, Proving, in_range, progress_of, refuted_by, step_variables};
+ghost use Rattle.proof_checker.specs.Told.{Leads};
+ghost use Rattle.proof_checker.specs.Turns.{Turns};
+
+use super::fault::LineFault;
+use super::ones::check_ones;
+use super::propagate::derive;
+use super::stack::evaluate;
+use super::table::Table;
+use log_theory::{Cause, Name, Op, Ref, Step, Verdict};
+use pb_terms::{Constraint, Literal, Literals};
+use std::alloc::Global;
+
+/// What a lawful line leads to: the next line, or the end of the log with its claim.
+#[derive(Clone, Copy, PartialEq, Eq, Debug)]
+pub enum Turn {
+    Goes,
+    Ends(Verdict),
+}
+
+/// A line that makes a constraint by operations.
+fn make_by_operations(
+    alloc: Global,
+    model: &[Constraint],
+    table: &mut Table,
+    name: Name,
+    ops: &[Op],
+) -> Result<(), LineFault>
+    ensures { Leads result (step_of model.now table.old (P name ops.now)) table.new }
+{
+    table.fresh_name(name)?;
+    let made = evaluate(alloc, model, table, ops)?;
+    table.push_made(name, made)?;
+    Ok(())
+}
+
+/// A line that makes a clause by unit propagation.
+fn make_by_propagation(
+    alloc: Global,
+    set: &mut Literals,
+    variables: u32,
+    model: &[Constraint],
+    table: &mut Table,
+    name: Name,
+    literals: &[Literal],
+    refs: &[Ref],
+) -> Result<(), LineFault>
+    requires { in_range variables (variables_of literals.now) ≡ true }
+    ensures { Leads result (step_of model.now table.old (U name literals.now refs.now)) table.new }
+{
+    table.fresh_name(name)?;
+    let made = derive(alloc, set, variables, model, table, literals, refs)?;
+    table.push_made(name, made)?;
+    Ok(())
+}
+
+/// The claim that a constraint is plainly false.
+fn refute_by(model: &[Constraint], table: &Table, at: Ref) -> Result<Turn, LineFault>
+    ensures { (stage : Stage) → Turns result (refuted_by (find model.now table.now at)) stage }
+{
+    let Some(named) = table.find(model, at) else {
+        return Err(LineFault::Cause(Cause::NoSuchName));
+    };
+    if !named.is_false() {
+        return Err(LineFault::Cause(Cause::NotFalse));
+    }
+    Ok(Turn::Ends(Verdict::Unsatisfiable))
+}
+
+/// What a line behind the first two leads to. Costs the terms that it touches.
+pub fn prove(
+    alloc: Global,
+    set: &mut Literals,
+    variables: u32,
+    model: &[Constraint],
+    table: &mut Table,
+    step: &Step,
+) -> Result<Turn, LineFault>
+    requires { in_range variables (step_variables step.now) ≡ true }
+    ensures { Turns result (progress_of model.now (Proving table.old) step.now) (Proving table.new) }
+{
+    match step {
+        Step::P { name, ops } => {
+            make_by_operations(alloc, model, table, *name, ops.as_slice())?;
+            Ok(Turn::Goes)
+        }
+        Step::U { name, lits, refs } => {
+            make_by_propagation(
+                alloc,
+                set,
+                variables,
+                model,
+                table,
+                *name,
+                lits.as_slice(),
+                refs.as_slice(),
+            )?;
+            Ok(Turn::Goes)
+        }
+        Step::N { row, name } => {
+            table.share(*row, *name)?;
+            Ok(Turn::Goes)
+        }
+        Step::E { at } => refute_by(model, table, *at),
+        Step::Y { ones } => {
+            check_ones(alloc, variables, model, ones.as_slice())?;
+            Ok(Turn::Ends(Verdict::Satisfiable))
+        }
+        Step::Q => Ok(Turn::Ends(Verdict::Undecided)),
+        Step::Head | Step::Model(_) => Err(LineFault::Cause(Cause::Form)),
+    }
+}

@@ -1,0 +1,193 @@
+// Unit propagation along the references of a line (Chai, Kuehlmann 2003, by slack): the negations of a clause's literals are set, and
+// each reference in its order gives a conflict or sets what it forces. What was set is listed, so that clearing costs no more than
+// setting did.
+
+ghost use Rattle.std.specs.Prelude.{◌≡◌, ◌<◌, ◌≤◌, ◌^◌, ◌↔◌, ℕ, ℤ, pos, cond, ◌==◌, unsigned_abs, List, Bool, Option, None, true, length, replicate, OnOk, MatchBool, MatchResult, is_some, Ok, Err, Some, ◌∷◌, IfOk, IfErr, []};
+ghost use Rattle.std.specs.Bool.{OnTrue};
+ghost use Rattle.proof_theory.specs.Forms.{Form, Rises, size};
+ghost use Rattle.proof_theory.specs.Slack.{setting, or_else, forced_by, forced_at, after, conflict, negations, refutes};
+ghost use Rattle.log_theory.specs.Lookups.{are_distinct, variables_of, find_all, makes};
+ghost use Rattle.log_theory.specs.declared.step.Step.TheVariants.{U};
+ghost use Rattle.log_theory.specs.Tables.{find};
+ghost use Rattle.log_theory.specs.Verdicts.{in_range};
+ghost use Rattle.proof_checker.specs.Told.{Told};
+ghost use Rattle.proof_checker.specs.Reach.{AllReach, Reaches, LiteralsReach, AllNamed, Follows, NegatesOne, forms_of};
+
+use super::clauses::clause;
+use super::fault::LineFault;
+use super::table::Table;
+use log_theory::{Cause, Name, Ref};
+use pb_terms::{Constraint, Literal, Literals};
+use std::alloc::{AllocError, Global};
+
+/// The value of a variable, if it is set.
+fn value_of(set: &Literals, variable: u32) -> Option<bool>
+    ensures { result ≡ setting set.now variable }
+{
+    match set.values().get(variable as usize) {
+        Some(&value) => value,
+        None => None,
+    }
+}
+
+/// Sets the literal of one term, if its variable is unset and its coefficient exceeds the slack.
+fn force_one(set: &mut Literals, variable: u32, coefficient: i128, slack: i128)
+    requires within { variable < length set.old }
+    requires narrow { unsigned_abs coefficient ≤ 2 ^ 125 }
+    ensures set { (v : ℕ) → setting set.new v ≡ or_else (setting set.old v) (cond (variable == v) (forced_by slack coefficient) None) }
+    ensures long { length set.new ≡ length set.old }
+{
+    if value_of(set, variable).is_none() && slack < coefficient.unsigned_abs() as i128 {
+        set.set(Literal {
+            variable,
+            negated: coefficient < 0,
+        });
+    }
+}
+
+/// Sets all that terms with this slack force. One pass.
+fn force(set: &mut Literals, terms: &[(u32, i128)], slack: i128)
+    requires rises { Rises 0 terms.now }
+    requires narrow { size terms.now ≤ 2 ^ 125 }
+    requires within { Reaches (length set.old) terms.now }
+    ensures set { (v : ℕ) → setting set.new v ≡ or_else (setting set.old v) (forced_at slack terms.now v) }
+    ensures long { length set.new ≡ length set.old }
+{
+    for &(variable, coefficient) in terms {
+        force_one(set, variable, coefficient, slack);
+    }
+}
+
+/// Whether a constraint is a conflict; else sets all that it forces. A pass or two over its terms.
+fn follow(set: &mut Literals, next: &Constraint) -> bool
+    requires { Reaches (length set.old) next.now.terms }
+    ensures follows { Follows result (setting set.old) next.now (setting set.new) }
+    ensures long { length set.new ≡ length set.old }
+{
+    let slack = next.slack(set);
+    if slack < 0 {
+        return true;
+    }
+    force(set, next.terms(), slack);
+    false
+}
+
+/// Whether the references lead to a conflict, each in its order.
+fn refute(set: &mut Literals, model: &[Constraint], table: &Table, refs: &[Ref]) -> bool
+    requires { AllReach (length set.old) (forms_of (find model.now table.now) refs.now) }
+    ensures { result ≡ refutes (setting set.old) (forms_of (find model.now table.now) refs.now) }
+{
+    for at in refs {
+        if let Some(next) = table.find(model, *at) {
+            if follow(set, next) {
+                return true;
+            }
+        }
+    }
+    false
+}
+
+/// The number after the last variable of terms that rise. Constant.
+fn reach(terms: &[(u32, i128)]) -> u64
+    requires { Rises 0 terms.now }
+    ensures reaches { Reaches result terms.now }
+    ensures small { result ≤ 2 ^ 32 }
+{
+    if terms.is_empty() {
+        return 0;
+    }
+    let (variable, _) = terms[terms.len() - 1];
+    u64::from(variable) + 1
+}
+
+/// A number above all variables of what the references name, or that one of them names nothing. Constant for each, but for the look-up.
+fn reach_of(model: &[Constraint], table: &Table, refs: &[Ref]) -> Result<u64, Cause>
+    ensures ok { IfOk result (λ n. AllNamed (find model.now table.now) n refs.now × (n ≤ 2 ^ 32)) }
+    ensures err { IfErr result (λ e. find_all (find model.now table.now) refs.now ≡ Err e) }
+{
+    let mut most: u64 = 0;
+    let mut i = refs.len();
+    while i > 0 {
+        i -= 1;
+        let Some(named) = table.find(model, refs[i]) else {
+            return Err(Cause::NoSuchName);
+        };
+        most = most.max(reach(named.terms()));
+    }
+    Ok(most)
+}
+
+/// Unsets every variable, with room for the variables up to `variables` and below `reach`. The room is made anew only where it is too
+/// small, so once for a model that keeps to its variables.
+fn clear(alloc: Global, set: &mut Literals, variables: u32, reach: u64) -> Result<(), AllocError>
+    requires { reach ≤ 2 ^ 32 }
+    ensures { OnOk result ((set.new ≡ replicate (length set.new) None) × (variables < length set.new) × (reach ≤ length set.new)) }
+{
+    let most = u64::from(variables).max(reach.saturating_sub(1)) as u32;
+    if (most as usize) < set.values().len() {
+        set.clear();
+    } else {
+        *set = Literals::new(alloc, most)?;
+    }
+    Ok(())
+}
+
+/// Makes a literal false, unless its variable is set.
+fn negate(set: &mut Literals, literal: Literal) -> bool
+    requires { literal.variable < length set.old }
+    ensures negates { NegatesOne result (setting set.old) literal (setting set.new) }
+    ensures long { length set.new ≡ length set.old }
+{
+    if value_of(set, literal.variable).is_some() {
+        return false;
+    }
+    set.set(Literal {
+        variable: literal.variable,
+        negated: !literal.negated,
+    });
+    true
+}
+
+/// Makes each literal false, unless a variable stands twice among them. Constant for each.
+fn negate_all(set: &mut Literals, literals: &[Literal]) -> bool
+    requires within { LiteralsReach (length set.old) literals.now }
+    requires fresh { (v : ℕ) → setting set.old v ≡ None }
+    ensures distinct { result ≡ are_distinct (variables_of literals.now) }
+    ensures set { OnTrue result ((v : ℕ) → setting set.new v ≡ negations literals.now v) }
+    ensures long { length set.new ≡ length set.old }
+{
+    let mut i = literals.len();
+    while i > 0 {
+        i -= 1;
+        if !negate(set, literals[i]) {
+            return false;
+        }
+    }
+    true
+}
+
+/// The clause of the literals, if the references refute its negation, or the first fault. Costs the literals, and the terms of the
+/// references up to the first conflict; the first such line of a log costs the model's variables besides.
+pub fn derive(
+    alloc: Global,
+    set: &mut Literals,
+    variables: u32,
+    model: &[Constraint],
+    table: &Table,
+    literals: &[Literal],
+    refs: &[Ref],
+) -> Result<Constraint, LineFault>
+    requires { in_range variables (variables_of literals.now) ≡ true }
+    ensures { (name : Name) → Told result (makes (find model.now table.now) (U name literals.now refs.now)) }
+{
+    let named = reach_of(model, table, refs);
+    clear(alloc, set, variables, named.unwrap_or(0))?;
+    if !negate_all(set, literals) {
+        return Err(LineFault::Cause(Cause::Twice));
+    }
+    named?;
+    if !refute(set, model, table, refs) {
+        return Err(LineFault::Cause(Cause::NoConflict));
+    }
+    Ok(clause(alloc, literals)?)
+}

@@ -1,0 +1,194 @@
+// The operations of a derivation in reverse Polish notation over a stack of constraints.
+
+ghost use Rattle.std.specs.Prelude.{◌≡◌, ◌∷◌, [], ℕ, List, IfOk, OnOk, OnErr, MatchOption, Result, Ok};
+ghost use Rattle.proof_theory.specs.Forms.{Form};
+ghost use Rattle.proof_theory.specs.Slack.{axiom_form, clause_form};
+ghost use Rattle.pb_terms.specs.Faults.{Gives};
+ghost use Rattle.log_theory.specs.Lookups.{Lookup, narrow, operate, only_one, makes};
+ghost use Rattle.log_theory.specs.declared.step.Step.TheVariants.{P};
+ghost use Rattle.log_theory.specs.declared.step.Op.TheVariants.{Push, Add, Times, Divide, Saturate};
+ghost use Rattle.log_theory.specs.Tables.{find};
+ghost use Rattle.proof_checker.specs.Told.{Leads, Told};
+
+use super::clauses::axiom;
+use super::fault::LineFault;
+use super::table::Table;
+use log_theory::{Cause, Name, Op, Ref};
+use pb_terms::{Constraint, PbFault};
+use std::alloc::{AllocError, Global};
+use std::marker::Model;
+
+/// A stack of constraints. Contracts see the list of them, the top one first.
+#[derive(Drop)]
+struct Stack {
+    items: Vec<Constraint>,
+}
+
+impl Model for Stack {
+    ghost use Rattle.std.specs.Prelude.{List, reverse};
+    ghost use Rattle.proof_theory.specs.Forms.{Form};
+
+    ghost Value = { List Form };
+
+    ghost view = { λ s. reverse s.items.items };
+}
+
+/// The answer of a rule as a line's.
+fn narrowed(made: Result<Constraint, PbFault>) -> Result<Constraint, LineFault>
+    ensures { (f : Form) → Gives made f → Told result (narrow f) }
+{
+    match made {
+        Ok(made) => Ok(made),
+        Err(PbFault::Wide) => Err(LineFault::Cause(Cause::Wide)),
+        Err(PbFault::NoMemory) => Err(LineFault::NoMemory),
+    }
+}
+
+impl Stack {
+    /// No constraint.
+    fn new(alloc: Global) -> Stack
+        ensures { result ≡ [] }
+    {
+        Stack {
+            items: Vec::new(alloc),
+        }
+    }
+
+    /// Puts one on top.
+    fn push(&mut self, top: Constraint) -> Result<(), AllocError>
+        ensures { OnOk result (self.new ≡ top ∷ self.old) }
+    {
+        self.items.push(top)?;
+        Ok(())
+    }
+
+    /// Takes the top one.
+    fn pop(&mut self) -> Option<Constraint>
+        ensures { MatchOption result (self.old ≡ []) (λ top. self.old ≡ top ∷ self.new) }
+    {
+        self.items.pop()
+    }
+
+    /// The sum of the upper two. One pass over their terms.
+    fn add(&mut self, alloc: Global) -> Result<(), LineFault>
+        ensures { (look : Lookup) → Leads result (operate look self.old Add) self.new }
+    {
+        let Some(upper) = self.pop() else {
+            return Err(LineFault::Cause(Cause::Stack));
+        };
+        let Some(lower) = self.pop() else {
+            return Err(LineFault::Cause(Cause::Stack));
+        };
+        self.push(narrowed(lower.add(alloc, &upper))?)?;
+        Ok(())
+    }
+
+    /// The top one times n. A few passes over its terms.
+    fn times(&mut self, alloc: Global, n: u64) -> Result<(), LineFault>
+        ensures { (look : Lookup) → Leads result (operate look self.old (Times n)) self.new }
+    {
+        if n == 0 {
+            return Err(LineFault::Cause(Cause::Zero));
+        }
+        let Some(top) = self.pop() else {
+            return Err(LineFault::Cause(Cause::Stack));
+        };
+        self.push(narrowed(top.times(alloc, n))?)?;
+        Ok(())
+    }
+
+    /// The top one divided by n. A few passes over its terms.
+    fn divide(&mut self, alloc: Global, n: u64) -> Result<(), LineFault>
+        ensures { (look : Lookup) → Leads result (operate look self.old (Divide n)) self.new }
+    {
+        if n == 0 {
+            return Err(LineFault::Cause(Cause::Zero));
+        }
+        let Some(top) = self.pop() else {
+            return Err(LineFault::Cause(Cause::Stack));
+        };
+        self.push(narrowed(top.divide(alloc, n))?)?;
+        Ok(())
+    }
+
+    /// The top one saturated. A few passes over its terms.
+    fn saturate(&mut self, alloc: Global) -> Result<(), LineFault>
+        ensures { (look : Lookup) → Leads result (operate look self.old Saturate) self.new }
+    {
+        let Some(top) = self.pop() else {
+            return Err(LineFault::Cause(Cause::Stack));
+        };
+        self.push(narrowed(top.saturate(alloc))?)?;
+        Ok(())
+    }
+
+    /// A copy of what a reference names.
+    fn push_named(
+        &mut self,
+        alloc: Global,
+        model: &[Constraint],
+        table: &Table,
+        at: Ref,
+    ) -> Result<(), LineFault>
+        ensures { Leads result (operate (find model.now table.now) self.old (Push at)) self.new }
+    {
+        let Some(named) = table.find(model, at) else {
+            return Err(LineFault::Cause(Cause::NoSuchName));
+        };
+        self.push(named.copy(alloc)?)?;
+        Ok(())
+    }
+
+    /// One operation.
+    fn operate(
+        &mut self,
+        alloc: Global,
+        model: &[Constraint],
+        table: &Table,
+        op: Op,
+    ) -> Result<(), LineFault>
+        ensures { Leads result (operate (find model.now table.now) self.old op) self.new }
+    {
+        match op {
+            Op::Push(at) => self.push_named(alloc, model, table, at),
+            Op::Axiom(literal) => {
+                self.push(axiom(alloc, literal)?)?;
+                Ok(())
+            }
+            Op::Add => self.add(alloc),
+            Op::Times(n) => self.times(alloc, n),
+            Op::Divide(n) => self.divide(alloc, n),
+            Op::Saturate => self.saturate(alloc),
+        }
+    }
+
+    /// The one constraint that is left.
+    fn only_one(&mut self) -> Result<Constraint, LineFault>
+        ensures { Told result (only_one self.old) }
+    {
+        let Some(top) = self.pop() else {
+            return Err(LineFault::Cause(Cause::Stack));
+        };
+        if self.pop().is_some() {
+            return Err(LineFault::Cause(Cause::Stack));
+        }
+        Ok(top)
+    }
+}
+
+/// The constraint that operations make, or the first fault, operation by operation. Each operation costs the terms that it touches;
+/// what a reference names is copied once.
+pub fn evaluate(
+    alloc: Global,
+    model: &[Constraint],
+    table: &Table,
+    ops: &[Op],
+) -> Result<Constraint, LineFault>
+    ensures { (name : Name) → Told result (makes (find model.now table.now) (P name ops.now)) }
+{
+    let mut stack = Stack::new(alloc);
+    for op in ops {
+        stack.operate(alloc, model, table, *op)?;
+    }
+    stack.only_one()
+}
