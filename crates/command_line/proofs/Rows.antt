@@ -6,8 +6,8 @@ use Rattle.clap.proofs.OnLiterals.{clap_on_literals}
 use Rattle.graph_theory.specs.Text.{words}
 use Rattle.graph_theory.specs.declared.lad_text.LadKind.TheVariants.{Lad, VertexLabelledLad}
 use Rattle.command_line.specs.CommandLine.{command}
-use Rattle.command_line.specs.Grammar.{grammar, solve_grammar, verify_grammar, with_graphs, with_kind, with_mapping, with_search}
-use Rattle.command_line.specs.declared.commands.Command.TheVariants.{Solve, Verify}
+use Rattle.command_line.specs.Grammar.{grammar, answering, solve_grammar, verify_grammar, encode_grammar, check_grammar, with_graphs, with_kind, with_mapping, with_search}
+use Rattle.command_line.specs.declared.commands.Command.TheVariants.{Solve, Verify, Encode, Check}
 
 -- the words of the line are no command
 abbrev is_refused : List ℕ → Bool
@@ -19,8 +19,9 @@ pub wrong_count : list_all is_refused (
     ∷ codes "subgraph verify p t" ∷ codes "subgraph verify p t m u" ∷ codes "subgraph solve p t --budget"
     ∷ codes "subgraph solve p t --budget 4 --budget 4" ∷ codes "subgraph solve p t --induced --induced"
     ∷ codes "subgraph verify p t m --format lad --format lad" ∷ codes "subgraph solve p t --format --induced"
-    ∷ codes "subgraph solve p t --induced=true" ∷ codes "solve p t" ∷ []) ≡ true
-unfolding command grammar solve_grammar verify_grammar with_graphs with_kind with_mapping with_search clap_on_literals
+    ∷ codes "subgraph solve p t --induced=true" ∷ codes "solve p t" ∷ codes "subgraph encode p" ∷ codes "subgraph encode p t u"
+    ∷ codes "subgraph encode p t --budget 4" ∷ codes "subgraph check e" ∷ codes "subgraph check e l m" ∷ codes "subgraph check e l --induced" ∷ []) ≡ true
+unfolding command grammar answering solve_grammar verify_grammar encode_grammar check_grammar with_graphs with_kind with_mapping with_search clap_on_literals
 wrong_count = refl
 
 -- words that the grammar does not have, abbreviations among them
@@ -28,10 +29,10 @@ pub unknown_words : list_all is_refused (
     codes "subgraph help" ∷ codes "subgraph --help" ∷ codes "subgraph -h" ∷ codes "subgraph solve -h" ∷ codes "subgraph solve p t --help"
     ∷ codes "subgraph --version" ∷ codes "subgraph -V" ∷ codes "subgraph sol p t" ∷ codes "subgraph SOLVE p t" ∷ codes "subgraph p t"
     ∷ codes "subgraph solve p t --bud 4" ∷ codes "subgraph solve p t --induce" ∷ codes "subgraph solve p t --threads 65"
-    ∷ codes "subgraph solve p t --seed 1" ∷ codes "subgraph solve p t --prove e" ∷ codes "subgraph verify p t m --budget 4"
-    ∷ codes "subgraph encode p t" ∷ codes "subgraph check e l" ∷ codes "subgraph demo 7" ∷ codes "subgraph --induced solve p t"
+    ∷ codes "subgraph verify p t m --seed 1" ∷ codes "subgraph solve p t --prove e" ∷ codes "subgraph verify p t m --budget 4"
+    ∷ codes "subgraph demo 7" ∷ codes "subgraph --induced solve p t"
     ∷ codes "subgraph -- solve p t" ∷ codes "subgraph solve -p t" ∷ codes "subgraph solve p -1" ∷ []) ≡ true
-unfolding command grammar solve_grammar verify_grammar with_graphs with_kind with_mapping with_search clap_on_literals
+unfolding command grammar answering solve_grammar verify_grammar encode_grammar check_grammar with_graphs with_kind with_mapping with_search clap_on_literals
 unknown_words = refl
 
 -- numbers out of range or form, and formats that are none
@@ -41,22 +42,26 @@ pub wrong_values : list_all is_refused (
     ∷ codes "subgraph solve p t --budget +4" ∷ codes "subgraph solve p t --budget -4" ∷ codes "subgraph solve p t --budget 4x"
     ∷ codes "subgraph solve p t --budget 1_000" ∷ codes "subgraph solve p t --budget 0x4" ∷ codes "subgraph solve p t --budget="
     ∷ codes "subgraph solve p t --budget=+4" ∷ codes "subgraph solve p t --format foo" ∷ codes "subgraph solve p t --format LAD"
+    ∷ codes "subgraph solve p t --seed 18446744073709551616" ∷ codes "subgraph solve p t --seed=" ∷ codes "subgraph solve p t --seed -1"
     ∷ codes "subgraph solve p t --format=" ∷ codes "subgraph verify p t m --format labelledlad" ∷ []) ≡ true
-unfolding command grammar solve_grammar verify_grammar with_graphs with_kind with_mapping with_search clap_on_literals
+unfolding command grammar answering solve_grammar verify_grammar encode_grammar check_grammar with_graphs with_kind with_mapping with_search clap_on_literals
 wrong_values = refl
 
 -- solves
 pub solves : map (λ (text : List ℕ). command (words text)) (
     codes "subgraph solve p t" ∷ codes "any solve same same --induced" ∷ codes "subgraph solve --budget 4 p --format vertexlabelledlad t"
-    ∷ codes "subgraph solve p t --budget=004" ∷ codes "subgraph solve --format=lad -- p --induced" ∷ codes "subgraph solve - solve" ∷ [])
-    ≡ Some (Solve (record { pattern = codes "p"; target = codes "t"; induced = false; format = Lad; budget = 9223372036854775807 }))
-    ∷ Some (Solve (record { pattern = codes "same"; target = codes "same"; induced = true; format = Lad; budget = 9223372036854775807 }))
-    ∷ Some (Solve (record { pattern = codes "p"; target = codes "t"; induced = false; format = VertexLabelledLad; budget = 4 }))
-    ∷ Some (Solve (record { pattern = codes "p"; target = codes "t"; induced = false; format = Lad; budget = 4 }))
-    ∷ Some (Solve (record { pattern = codes "p"; target = codes "--induced"; induced = false; format = Lad; budget = 9223372036854775807 }))
-    ∷ Some (Solve (record { pattern = codes "-"; target = codes "solve"; induced = false; format = Lad; budget = 9223372036854775807 }))
+    ∷ codes "subgraph solve p t --budget=004" ∷ codes "subgraph solve --format=lad -- p --induced" ∷ codes "subgraph solve - solve"
+    ∷ codes "subgraph solve p t --seed 18446744073709551615" ∷ codes "subgraph solve --budget 4 --seed=00 p t" ∷ [])
+    ≡ Some (Solve (record { pattern = codes "p"; target = codes "t"; induced = false; format = Lad; seed = 0; budget = 9223372036854775807 }))
+    ∷ Some (Solve (record { pattern = codes "same"; target = codes "same"; induced = true; format = Lad; seed = 0; budget = 9223372036854775807 }))
+    ∷ Some (Solve (record { pattern = codes "p"; target = codes "t"; induced = false; format = VertexLabelledLad; seed = 0; budget = 4 }))
+    ∷ Some (Solve (record { pattern = codes "p"; target = codes "t"; induced = false; format = Lad; seed = 0; budget = 4 }))
+    ∷ Some (Solve (record { pattern = codes "p"; target = codes "--induced"; induced = false; format = Lad; seed = 0; budget = 9223372036854775807 }))
+    ∷ Some (Solve (record { pattern = codes "-"; target = codes "solve"; induced = false; format = Lad; seed = 0; budget = 9223372036854775807 }))
+    ∷ Some (Solve (record { pattern = codes "p"; target = codes "t"; induced = false; format = Lad; seed = 18446744073709551615; budget = 9223372036854775807 }))
+    ∷ Some (Solve (record { pattern = codes "p"; target = codes "t"; induced = false; format = Lad; seed = 0; budget = 4 }))
     ∷ []
-unfolding command grammar solve_grammar verify_grammar with_graphs with_kind with_mapping with_search clap_on_literals
+unfolding command grammar answering solve_grammar verify_grammar encode_grammar check_grammar with_graphs with_kind with_mapping with_search clap_on_literals
 solves = refl
 
 -- verifies
@@ -65,14 +70,29 @@ pub verifies : map (λ (text : List ℕ). command (words text)) (
     ≡ Some (Verify (record { pattern = codes "p"; target = codes "t"; mapping = codes "m"; induced = false; format = Lad }))
     ∷ Some (Verify (record { pattern = codes "p"; target = codes "t"; mapping = codes "m"; induced = true; format = VertexLabelledLad }))
     ∷ []
-unfolding command grammar solve_grammar verify_grammar with_graphs with_kind with_mapping with_search clap_on_literals
+unfolding command grammar answering solve_grammar verify_grammar encode_grammar check_grammar with_graphs with_kind with_mapping with_search clap_on_literals
 verifies = refl
+
+-- encodes
+pub encodes : map (λ (text : List ℕ). command (words text)) (
+    codes "subgraph encode p t" ∷ codes "subgraph encode p --induced t --format vertexlabelledlad" ∷ [])
+    ≡ Some (Encode (record { pattern = codes "p"; target = codes "t"; induced = false; format = Lad }))
+    ∷ Some (Encode (record { pattern = codes "p"; target = codes "t"; induced = true; format = VertexLabelledLad }))
+    ∷ []
+unfolding command grammar answering solve_grammar verify_grammar encode_grammar check_grammar with_graphs with_kind with_mapping with_search clap_on_literals
+encodes = refl
+
+-- checks
+pub checks : map (λ (text : List ℕ). command (words text)) (codes "subgraph check e l" ∷ codes "subgraph check e e" ∷ [])
+    ≡ Some (Check (record { encoding = codes "e"; log = codes "l" })) ∷ Some (Check (record { encoding = codes "e"; log = codes "e" })) ∷ []
+unfolding command grammar answering solve_grammar verify_grammar encode_grammar check_grammar with_graphs with_kind with_mapping with_search clap_on_literals
+checks = refl
 
 -- an empty word is a name, and no words at all are no command
 pub empty_words : (command (codes "subgraph" ∷ codes "solve" ∷ [] ∷ codes "t" ∷ [])
-    ≡ Some (Solve (record { pattern = []; target = codes "t"; induced = false; format = Lad; budget = 9223372036854775807 })))
+    ≡ Some (Solve (record { pattern = []; target = codes "t"; induced = false; format = Lad; seed = 0; budget = 9223372036854775807 })))
     × (command [] ≡ None)
-unfolding command grammar solve_grammar verify_grammar with_graphs with_kind with_mapping with_search clap_on_literals
+unfolding command grammar answering solve_grammar verify_grammar encode_grammar check_grammar with_graphs with_kind with_mapping with_search clap_on_literals
 empty_words = (refl, refl)
 
 -- a name of 4,095 bytes is taken, and one of 4,096 is not
@@ -81,5 +101,5 @@ pub long_names : (is_some (command (codes "subgraph" ∷ codes "solve" ∷ repli
     × (command (codes "subgraph" ∷ codes "solve" ∷ replicate 4096 112 ∷ codes "t" ∷ []) ≡ None)
     × (command (codes "subgraph" ∷ codes "solve" ∷ codes "p" ∷ replicate 4096 116 ∷ []) ≡ None)
     × (command (codes "subgraph" ∷ codes "verify" ∷ codes "p" ∷ codes "t" ∷ replicate 4096 109 ∷ []) ≡ None)
-unfolding command grammar solve_grammar verify_grammar with_graphs with_kind with_mapping with_search clap_on_literals
+unfolding command grammar answering solve_grammar verify_grammar encode_grammar check_grammar with_graphs with_kind with_mapping with_search clap_on_literals
 long_names = (refl, refl, refl, refl, refl)

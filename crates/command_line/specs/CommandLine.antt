@@ -7,12 +7,14 @@ use Rattle.clap.specs.Words.{Row, Text, first_of, fault_of, subcommand_of}
 use Rattle.clap.specs.Walk.{is_empty}
 use Rattle.graph_theory.specs.declared.lad_text.LadKind.{LadKind}
 use Rattle.graph_theory.specs.declared.lad_text.LadKind.TheVariants.{Lad}
-use Rattle.command_line.specs.Words.{file_name, budget, format}
+use Rattle.command_line.specs.Words.{file_name, budget, seed, format}
 use Rattle.command_line.specs.Grammar.{grammar}
 use Rattle.command_line.specs.declared.commands.Command.{Command}
-use Rattle.command_line.specs.declared.commands.Command.TheVariants.{Solve, Verify}
+use Rattle.command_line.specs.declared.commands.Command.TheVariants.{Solve, Verify, Encode, Check}
 use Rattle.command_line.specs.declared.commands.SolveWords.{SolveWords}
 use Rattle.command_line.specs.declared.commands.VerifyWords.{VerifyWords}
+use Rattle.command_line.specs.declared.commands.EncodeWords.{EncodeWords}
+use Rattle.command_line.specs.declared.commands.CheckWords.{CheckWords}
 
 -- The name of a file that stands in the place of this name.
 abbrev pub name_at : Text → List Row → Option Text
@@ -35,11 +37,15 @@ format_at rows = or_default Lad format (first_of (codes "format") rows)
 abbrev pub budget_at : List Row → Option ℕ
 budget_at rows = or_default 9223372036854775807 budget (first_of (codes "budget") rows)
 
+-- The seed, 0 where none is named.
+abbrev pub seed_at : List Row → Option ℕ
+seed_at rows = or_default 0 seed (first_of (codes "seed") rows)
+
 -- A solve, where each of its words is good.
-abbrev pub solve_from : Option Text → Option Text → Bool → Option LadKind → Option ℕ → Option Command
-solve_from (Some p) (Some t) induced (Some f) (Some b) =
-    Some (Solve (record { pattern = p; target = t; induced = induced; format = f; budget = b }))
-solve_from _ _ _ _ _ = None
+abbrev pub solve_from : Option Text → Option Text → Bool → Option LadKind → Option ℕ → Option ℕ → Option Command
+solve_from (Some p) (Some t) induced (Some f) (Some s) (Some b) =
+    Some (Solve (record { pattern = p; target = t; induced = induced; format = f; seed = s; budget = b }))
+solve_from _ _ _ _ _ _ = None
 
 -- A verify, where each of its words is good.
 abbrev pub verify_from : Option Text → Option Text → Option Text → Bool → Option LadKind → Option Command
@@ -47,20 +53,39 @@ verify_from (Some p) (Some t) (Some m) induced (Some f) =
     Some (Verify (record { pattern = p; target = t; mapping = m; induced = induced; format = f }))
 verify_from _ _ _ _ _ = None
 
+-- An encode, where each of its words is good.
+abbrev pub encode_from : Option Text → Option Text → Bool → Option LadKind → Option Command
+encode_from (Some p) (Some t) induced (Some f) = Some (Encode (record { pattern = p; target = t; induced = induced; format = f }))
+encode_from _ _ _ _ = None
+
+-- A check, where both of its words are good.
+abbrev pub check_from : Option Text → Option Text → Option Command
+check_from (Some e) (Some l) = Some (Check (record { encoding = e; log = l }))
+check_from _ _ = None
+
 -- The solve that the words after `solve` are.
 abbrev pub solve_of : List Row → Option Command
 solve_of rows = solve_from (name_at (codes "pattern") rows) (name_at (codes "target") rows)
-    (flag_at (codes "induced") rows) (format_at rows) (budget_at rows)
+    (flag_at (codes "induced") rows) (format_at rows) (seed_at rows) (budget_at rows)
 
 -- The verify that the words after `verify` are.
 abbrev pub verify_of : List Row → Option Command
 verify_of rows = verify_from (name_at (codes "pattern") rows) (name_at (codes "target") rows)
     (name_at (codes "mapping") rows) (flag_at (codes "induced") rows) (format_at rows)
 
+-- The encode that the words after `encode` are.
+abbrev pub encode_of : List Row → Option Command
+encode_of rows = encode_from (name_at (codes "pattern") rows) (name_at (codes "target") rows) (flag_at (codes "induced") rows) (format_at rows)
+
+-- The check that the words after `check` are.
+abbrev pub check_of : List Row → Option Command
+check_of rows = check_from (name_at (codes "encoding") rows) (name_at (codes "log") rows)
+
 -- The command of this name, with what was found for it.
 abbrev pub named_command : Text → List Row → Option Command
 named_command name rows = if bytes_eq name (codes "solve") then solve_of rows
-    else (if bytes_eq name (codes "verify") then verify_of rows else None)
+    else (if bytes_eq name (codes "verify") then verify_of rows
+    else (if bytes_eq name (codes "encode") then encode_of rows else (if bytes_eq name (codes "check") then check_of rows else None)))
 
 -- The command that a parse entered, if it entered one.
 abbrev pub entered_command : Option (Text × List Row) → Option Command
@@ -83,7 +108,17 @@ pub record IsVerifyInRange (w : VerifyWords) : Type 0 where
   pub target : length w.target ≤ 4095
   pub mapping : length w.mapping ≤ 4095
 
+pub record IsEncodeInRange (w : EncodeWords) : Type 0 where
+  pub pattern : length w.pattern ≤ 4095
+  pub target : length w.target ≤ 4095
+
+pub record IsCheckInRange (w : CheckWords) : Type 0 where
+  pub encoding : length w.encoding ≤ 4095
+  pub log : length w.log ≤ 4095
+
 -- A command's names have at most 4,095 bytes, and its numbers are in their ranges.
 abbrev pub IsInRange : Command → Type 0
 IsInRange (Solve w) = IsSolveInRange w
 IsInRange (Verify w) = IsVerifyInRange w
+IsInRange (Encode w) = IsEncodeInRange w
+IsInRange (Check w) = IsCheckInRange w

@@ -29,11 +29,11 @@ with_kind a = with_rule (with_rule a (flag (codes "induced"))) (option (codes "f
 unfoldable pub with_mapping : App → App
 with_mapping a = with_rule a (positional (codes "mapping"))
 
--- What bounds the search.
+-- What steers the search and bounds it.
 unfoldable pub with_search : App → App
-with_search a = with_rule a (option (codes "budget"))
+with_search a = with_rule (with_rule a (option (codes "seed"))) (option (codes "budget"))
 
--- `solve P T [--induced] [--format F] [--budget N]`
+-- `solve P T [--induced] [--format F] [--seed N] [--budget N]`
 unfoldable pub solve_grammar : App
 solve_grammar = with_search (with_kind (with_graphs (new_app (codes "solve"))))
 
@@ -41,10 +41,22 @@ solve_grammar = with_search (with_kind (with_graphs (new_app (codes "solve"))))
 unfoldable pub verify_grammar : App
 verify_grammar = with_kind (with_mapping (with_graphs (new_app (codes "verify"))))
 
+-- `encode P T [--induced] [--format F]`
+unfoldable pub encode_grammar : App
+encode_grammar = with_kind (with_graphs (new_app (codes "encode")))
+
+-- `check ENC LOG`
+unfoldable pub check_grammar : App
+check_grammar = with_rule (with_rule (new_app (codes "check")) (positional (codes "encoding"))) (positional (codes "log"))
+
 -- A command without help flag, help command and version flag; its subcommands have none either.
 abbrev pub quiet : App → App
 quiet a = on_top (λ s. record s { disable_help_flag = true; disable_help_subcommand = true; disable_version_flag = true }) a
 
+-- The commands that answer questions of a pattern and a target.
+unfoldable pub answering : App
+answering = with_subcommand (with_subcommand (quiet (new_app (codes "subgraph"))) solve_grammar.top) verify_grammar.top
+
 -- All commands.
 unfoldable pub grammar : App
-grammar = with_subcommand (with_subcommand (quiet (new_app (codes "subgraph"))) solve_grammar.top) verify_grammar.top
+grammar = with_subcommand (with_subcommand answering encode_grammar.top) check_grammar.top

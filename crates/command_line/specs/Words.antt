@@ -20,6 +20,10 @@ number_within least most text =
 abbrev pub budget : List ℕ → Option ℕ
 budget = number_within 1 9223372036854775807
 
+-- A seed is a number from 0 to 2^64 - 1.
+abbrev pub seed : List ℕ → Option ℕ
+seed = number_within 0 18446744073709551615
+
 -- The format that a word names.
 abbrev pub format : List ℕ → Option LadKind
 format text = if bytes_eq text (codes "lad") then Some Lad

@@ -10,6 +10,10 @@ pub enum Command<'a> {
     Solve(SolveWords<'a>),
     /// Test whether a mapping is an embedding.
     Verify(VerifyWords<'a>),
+    /// Write the encoding of the problem.
+    Encode(EncodeWords<'a>),
+    /// Check a proof log over an encoding.
+    Check(CheckWords<'a>),
 }
 
 /// What the words of `solve` tell.
@@ -23,6 +27,8 @@ pub struct SolveWords<'a> {
     pub induced: bool,
     /// The format of both graphs.
     pub format: LadKind,
+    /// Where the choices of values begin, from 0 to 2^64 - 1.
+    pub seed: u64,
     /// How many fails may be spent, from 1 to 2^63 - 1.
     pub budget: u64,
 }
@@ -40,4 +46,26 @@ pub struct VerifyWords<'a> {
     pub induced: bool,
     /// The format of both graphs.
     pub format: LadKind,
+}
+
+/// What the words of `encode` tell.
+#[derive(Drop)]
+pub struct EncodeWords<'a> {
+    /// The file of the pattern.
+    pub pattern: FileName<'a>,
+    /// The file of the target; it may be the pattern's too.
+    pub target: FileName<'a>,
+    /// Whether non-edges are kept too.
+    pub induced: bool,
+    /// The format of both graphs.
+    pub format: LadKind,
+}
+
+/// What the words of `check` tell.
+#[derive(Drop)]
+pub struct CheckWords<'a> {
+    /// The file of the encoding.
+    pub encoding: FileName<'a>,
+    /// The file of the log; it may be the encoding's too.
+    pub log: FileName<'a>,
 }

@@ -70,16 +70,17 @@ fn add_mapping<'a>(alloc: Global, command: Command<'a>) -> Result<Command<'a>, A
     add(command, positional(alloc, "mapping"))
 }
 
-/// The command with what bounds the search.
+/// The command with what steers the search and bounds it.
 #[tactic(auto, unfolding(crate::specs::Grammar::with_search))]
 fn add_search<'a>(alloc: Global, command: Command<'a>) -> Result<Command<'a>, AllocError>
     ensures app { IfOk result (λ c. app_of c ≡ spec.with_search (app_of command.entry)) }
     ensures local { IfOk result (λ c. (fields_of c).has_globals ≡ (fields_of command.entry).has_globals) }
 {
-    add(command, option(alloc, "budget"))
+    let with_seed = add(command, option(alloc, "seed"))?;
+    add(with_seed, option(alloc, "budget"))
 }
 
-/// `solve P T [--induced] [--format F] [--budget N]`
+/// `solve P T [--induced] [--format F] [--seed N] [--budget N]`
 #[tactic(auto, unfolding(crate::specs::Grammar::solve_grammar))]
 fn solve_command<'a>(alloc: Global) -> Result<Command<'a>, AllocError>
     ensures app { IfOk result (λ c. app_of c ≡ spec.solve_grammar) }
@@ -101,6 +102,26 @@ fn verify_command<'a>(alloc: Global) -> Result<Command<'a>, AllocError>
     add_kind(alloc, with_mapping)
 }
 
+/// `encode P T [--induced] [--format F]`
+#[tactic(auto, unfolding(crate::specs::Grammar::encode_grammar))]
+fn encode_command<'a>(alloc: Global) -> Result<Command<'a>, AllocError>
+    ensures app { IfOk result (λ c. app_of c ≡ spec.encode_grammar) }
+    ensures local { IfOk result (λ c. (fields_of c).has_globals ≡ false) }
+{
+    let with_graphs = add_graphs(alloc, Command::new(alloc, "encode"))?;
+    add_kind(alloc, with_graphs)
+}
+
+/// `check ENC LOG`
+#[tactic(auto, unfolding(crate::specs::Grammar::check_grammar))]
+fn check_command<'a>(alloc: Global) -> Result<Command<'a>, AllocError>
+    ensures app { IfOk result (λ c. app_of c ≡ spec.check_grammar) }
+    ensures local { IfOk result (λ c. (fields_of c).has_globals ≡ false) }
+{
+    let with_encoding = add(Command::new(alloc, "check"), positional(alloc, "encoding"))?;
+    add(with_encoding, positional(alloc, "log"))
+}
+
 /// The command without help and version, which its subcommands take from it.
 fn quiet<'a>(command: Command<'a>) -> Command<'a>
     ensures { app_of result ≡ spec.quiet (app_of command.entry) }
@@ -119,13 +140,24 @@ fn enter<'a>(command: Command<'a>, entered: Command<'a>) -> Result<Command<'a>, 
     command.subcommand(entered)
 }
 
-/// All commands. It takes memory for each argument, and is to be built once a run.
-#[tactic(auto, unfolding(crate::specs::Grammar::grammar))]
-pub(crate) fn whole_grammar<'a>(alloc: Global) -> Result<Command<'a>, AllocError>
-    ensures { IfOk result (λ c. app_of c ≡ spec.grammar) }
+/// The commands that answer questions of a pattern and a target.
+#[tactic(auto, unfolding(crate::specs::Grammar::answering))]
+fn answering<'a>(alloc: Global) -> Result<Command<'a>, AllocError>
+    ensures { IfOk result (λ c. app_of c ≡ spec.answering) }
 {
     let solve = solve_command(alloc)?;
     let verify = verify_command(alloc)?;
     let with_solve = enter(quiet(Command::new(alloc, "subgraph")), solve)?;
     enter(with_solve, verify)
+}
+
+/// All commands. It takes memory for each argument, and is to be built once a run.
+#[tactic(auto, unfolding(crate::specs::Grammar::grammar))]
+pub(crate) fn whole_grammar<'a>(alloc: Global) -> Result<Command<'a>, AllocError>
+    ensures { IfOk result (λ c. app_of c ≡ spec.grammar) }
+{
+    let encode = encode_command(alloc)?;
+    let check = check_command(alloc)?;
+    let with_encode = enter(answering(alloc)?, encode)?;
+    enter(with_encode, check)
 }

@@ -1,6 +1,6 @@
 //! From words to a command: what `clap` finds among the words, and the project's own tests of it.
 
-ghost use Rattle.std.specs.Prelude.{◌≡◌, ◌≢◌, ◌≤◌, ◌<◌, ◌^◌, IfOk, IsErrOf, Some, None, [], false, map, codes, option_map, string_bytes};
+ghost use Rattle.std.specs.Prelude.{◌≡◌, ◌≢◌, ◌≤◌, ◌<◌, ◌^◌, IfOk, IfSome, IsErrOf, Some, None, [], false, map, codes, option_map, string_bytes};
 ghost use Rattle.std.specs.Char.{is_ascii_digit};
 ghost use Rattle.std.specs.List.{list_all};
 ghost use Rattle.clap.specs.Words.{fault_of, first_of, found_of, rows_of, subcommand_of, subcommand_rows_of};
@@ -12,13 +12,16 @@ ghost use Rattle.command_line.specs.Words as word;
 ghost use Rattle.command_line.specs.Grammar.{grammar};
 ghost use Rattle.command_line.specs.CommandLine as line;
 
-use crate::commands::{Command, SolveWords, VerifyWords};
+use crate::commands::{CheckWords, Command, EncodeWords, SolveWords, VerifyWords};
 use crate::file_name::FileName;
 use crate::grammar::whole_grammar;
 use clap::error::ErrorKind;
 use clap::{ArgMatches, Error};
 use graph_theory::lad_text::LadKind;
 use std::alloc::{AllocError, Global};
+
+/// The largest seed.
+const LARGEST_SEED: u64 = 18_446_744_073_709_551_615;
 
 /// The largest budget, which is the default too.
 const MOST_FAILS: u64 = 9_223_372_036_854_775_807;
@@ -53,7 +56,8 @@ fn is_all_digits(text: &str) -> bool
 /// The number that a word writes, where it is within its range.
 #[tactic(auto, using(crate::proofs::Numbers::each_digit))]
 fn number_of(text: &str, least: u64, most: u64) -> Option<u64>
-    ensures { result ≡ number_within least most text.now }
+    ensures value { result ≡ number_within least most text.now }
+    ensures range { IfSome result (λ n. (least ≤ n) × (n ≤ most)) }
 {
     if !is_all_digits(text) {
         return None;
@@ -118,9 +122,20 @@ fn format_at(matches: &ArgMatches) -> Option<LadKind>
     }
 }
 
+/// The seed.
+fn seed_at(matches: &ArgMatches) -> Option<u64>
+    ensures { result ≡ line.seed_at (rows_of (found_of matches.now)) }
+{
+    match word_at(matches, "seed") {
+        Some(text) => number_of(text, 0, LARGEST_SEED),
+        None => Some(0),
+    }
+}
+
 /// The budget.
 fn budget_at(matches: &ArgMatches) -> Option<u64>
-    ensures { result ≡ line.budget_at (rows_of (found_of matches.now)) }
+    ensures value { result ≡ line.budget_at (rows_of (found_of matches.now)) }
+    ensures range { IfSome result (λ n. (1 ≤ n) × (n < 2 ^ 63)) }
 {
     match word_at(matches, "budget") {
         Some(text) => number_of(text, 1, MOST_FAILS),
@@ -130,25 +145,29 @@ fn budget_at(matches: &ArgMatches) -> Option<u64>
 
 /// The solve that was found.
 fn solve_words<'a>(matches: &ArgMatches<'a>) -> Option<Command<'a>>
-    ensures { result ≡ line.solve_of (rows_of (found_of matches.now)) }
+    ensures words { result ≡ line.solve_of (rows_of (found_of matches.now)) }
+    ensures ranges { IfSome result line.IsInRange }
 {
     let pattern = name_at(matches, "pattern")?;
     let target = name_at(matches, "target")?;
     let induced = flag_at(matches, "induced");
     let format = format_at(matches)?;
+    let seed = seed_at(matches)?;
     let budget = budget_at(matches)?;
     Some(Command::Solve(SolveWords {
         pattern,
         target,
         induced,
         format,
+        seed,
         budget,
     }))
 }
 
 /// The verify that was found.
 fn verify_words<'a>(matches: &ArgMatches<'a>) -> Option<Command<'a>>
-    ensures { result ≡ line.verify_of (rows_of (found_of matches.now)) }
+    ensures words { result ≡ line.verify_of (rows_of (found_of matches.now)) }
+    ensures ranges { IfSome result line.IsInRange }
 {
     let pattern = name_at(matches, "pattern")?;
     let target = name_at(matches, "target")?;
@@ -164,14 +183,44 @@ fn verify_words<'a>(matches: &ArgMatches<'a>) -> Option<Command<'a>>
     }))
 }
 
+/// The encode that was found.
+fn encode_words<'a>(matches: &ArgMatches<'a>) -> Option<Command<'a>>
+    ensures { result ≡ line.encode_of (rows_of (found_of matches.now)) }
+{
+    let pattern = name_at(matches, "pattern")?;
+    let target = name_at(matches, "target")?;
+    let induced = flag_at(matches, "induced");
+    let format = format_at(matches)?;
+    Some(Command::Encode(EncodeWords {
+        pattern,
+        target,
+        induced,
+        format,
+    }))
+}
+
+/// The check that was found.
+fn check_words<'a>(matches: &ArgMatches<'a>) -> Option<Command<'a>>
+    ensures { result ≡ line.check_of (rows_of (found_of matches.now)) }
+{
+    let encoding = name_at(matches, "encoding")?;
+    let log = name_at(matches, "log")?;
+    Some(Command::Check(CheckWords { encoding, log }))
+}
+
 /// The command of this name, with what was found for it.
 fn named_command<'a>(name: &str, matches: &ArgMatches<'a>) -> Option<Command<'a>>
-    ensures { result ≡ line.named_command name.now (rows_of (found_of matches.now)) }
+    ensures words { result ≡ line.named_command name.now (rows_of (found_of matches.now)) }
+    ensures ranges { IfSome result line.IsInRange }
 {
     if name == "solve" {
         solve_words(matches)
     } else if name == "verify" {
         verify_words(matches)
+    } else if name == "encode" {
+        encode_words(matches)
+    } else if name == "check" {
+        check_words(matches)
     } else {
         None
     }
@@ -179,7 +228,8 @@ fn named_command<'a>(name: &str, matches: &ArgMatches<'a>) -> Option<Command<'a>
 
 /// The command that a parse entered.
 fn entered_command<'a>(matches: &ArgMatches<'a>) -> Option<Command<'a>>
-    ensures { result ≡ line.entered_command (subcommand_rows_of matches.now) }
+    ensures words { result ≡ line.entered_command (subcommand_rows_of matches.now) }
+    ensures ranges { IfSome result line.IsInRange }
 {
     match matches.subcommand() {
         Some((name, inner)) => named_command(name, inner),

@@ -17,11 +17,12 @@ fn words_of(alloc: Global, line: &str) -> Result<Vec<String>, AllocError> {
 fn told(alloc: Global, command: &Command) -> Result<String, AllocError> {
     match command {
         Command::Solve(words) => format!(in alloc;
-            "solve {} {} {} {:?} {}",
+            "solve {} {} {} {:?} {} {}",
             words.pattern.as_str(),
             words.target.as_str(),
             words.induced,
             words.format,
+            words.seed,
             words.budget
         ),
         Command::Verify(words) => format!(in alloc;
@@ -29,6 +30,18 @@ fn told(alloc: Global, command: &Command) -> Result<String, AllocError> {
             words.pattern.as_str(),
             words.target.as_str(),
             words.mapping.as_str(),
+            words.induced,
+            words.format
+        ),
+        Command::Check(words) => format!(in alloc;
+            "check {} {}",
+            words.encoding.as_str(),
+            words.log.as_str()
+        ),
+        Command::Encode(words) => format!(in alloc;
+            "encode {} {} {} {:?}",
+            words.pattern.as_str(),
+            words.target.as_str(),
             words.induced,
             words.format
         ),
@@ -45,36 +58,49 @@ fn answer(alloc: Global, line: &str) -> Result<String, AllocError> {
 }
 
 /// Lines, and what they come to.
-static ROWS: [(&str, &str); 16] = [
+static ROWS: [(&str, &str); 25] = [
     (
         "subgraph solve p t",
-        "solve p t false Lad 9223372036854775807",
+        "solve p t false Lad 0 9223372036854775807",
     ),
     (
         "subgraph solve p p --induced",
-        "solve p p true Lad 9223372036854775807",
+        "solve p p true Lad 0 9223372036854775807",
     ),
     (
         "subgraph solve --budget 4 p --format vertexlabelledlad t",
-        "solve p t false VertexLabelledLad 4",
+        "solve p t false VertexLabelledLad 0 4",
     ),
     (
         "subgraph solve p t --budget=09223372036854775807",
-        "solve p t false Lad 9223372036854775807",
+        "solve p t false Lad 0 9223372036854775807",
     ),
     (
         "subgraph solve -- --induced t",
-        "solve --induced t false Lad 9223372036854775807",
+        "solve --induced t false Lad 0 9223372036854775807",
     ),
     (
         "subgraph solve  t",
-        "solve  t false Lad 9223372036854775807",
+        "solve  t false Lad 0 9223372036854775807",
+    ),
+    (
+        "subgraph solve p t --seed 18446744073709551615 --budget 4",
+        "solve p t false Lad 18446744073709551615 4",
     ),
     ("subgraph verify p t m", "verify p t m false Lad"),
     (
         "subgraph verify --format lad p --induced t m",
         "verify p t m true Lad",
     ),
+    ("subgraph encode p t", "encode p t false Lad"),
+    (
+        "subgraph encode --format vertexlabelledlad p t --induced",
+        "encode p t true VertexLabelledLad",
+    ),
+    ("subgraph encode p t --budget 4", "NotACommand"),
+    ("subgraph check e l", "check e l"),
+    ("subgraph check e", "NotACommand"),
+    ("subgraph check e l --induced", "NotACommand"),
     ("", "NotACommand"),
     ("subgraph solve p", "NotACommand"),
     ("subgraph verify p t", "NotACommand"),
@@ -87,6 +113,11 @@ static ROWS: [(&str, &str); 16] = [
         "subgraph solve p t --budget 99999999999999999999",
         "NotACommand",
     ),
+    (
+        "subgraph solve p t --seed 18446744073709551616",
+        "NotACommand",
+    ),
+    ("subgraph verify p t m --seed 4", "NotACommand"),
     ("subgraph solve p t --format foo", "NotACommand"),
     ("subgraph --help", "NotACommand"),
 ];

@@ -16,9 +16,10 @@ fn run_failing(alloc: Global, line: &str, failing: Failing) -> Result<Ran, Alloc
 }
 
 /// Words, and the numbers of the first calls on files and on the output that a run no longer makes.
-static RUNS: [(&str, u64, u64); 2] = [
+static RUNS: [(&str, u64, u64); 3] = [
     ("subgraph solve p t", 7, 10),
     ("subgraph verify p t m", 10, 2),
+    ("subgraph encode p t", 7, 136),
 ];
 
 #[test]
@@ -95,6 +96,7 @@ fn a_fault_of_the_error_stream_changes_no_status(rt: HostRuntime) -> Result<(), 
         ("subgraph solve m t", 4),
         ("subgraph solve absent t", 5),
         ("subgraph verify p t t", 4),
+        ("subgraph encode m t", 4),
     ];
     for (line, status) in rows {
         for number in 1..=6 {

@@ -6,6 +6,10 @@
 #![tactic(auto)]
 
 #[cfg(test)]
+mod check_tests;
+#[cfg(test)]
+mod encode_tests;
+#[cfg(test)]
 mod fault_tests;
 #[cfg(test)]
 mod running;

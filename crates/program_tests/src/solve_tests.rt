@@ -8,7 +8,7 @@ use std::test::Fail;
 const PATH: &str = "3\n1 1\n2 0 2\n1 1\n";
 
 /// Words, pattern, target, status and output, where the answer is the only one.
-static ANSWERED: [(&str, &str, &str, u8, &str); 14] = [
+static ANSWERED: [(&str, &str, &str, u8, &str); 15] = [
     (
         "subgraph solve p t --format vertexlabelledlad",
         "2\n1 1 1\n2 1 0\n",
@@ -19,7 +19,7 @@ static ANSWERED: [(&str, &str, &str, u8, &str); 14] = [
     ("subgraph solve p t", "0\n", "0\n", 0, "yes\n"),
     ("subgraph solve p t", "1\n0\n", "0\n", 1, "none\n"),
     (
-        "subgraph solve p t",
+        "subgraph solve p t --budget 1",
         "3\n0\n0\n0\n",
         "2\n0\n0\n",
         1,
@@ -64,6 +64,13 @@ static ANSWERED: [(&str, &str, &str, u8, &str); 14] = [
     ),
     (
         "subgraph solve p t --budget 4",
+        TRIANGLE,
+        FOUR_CYCLE,
+        1,
+        "none\n",
+    ),
+    (
+        "subgraph solve p t --seed 18446744073709551615 --budget 128",
         TRIANGLE,
         FOUR_CYCLE,
         1,

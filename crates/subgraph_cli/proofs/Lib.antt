@@ -2,3 +2,5 @@ pub mod OneProblem
 pub mod Told
 pub mod SolveStatuses
 pub mod VerifyStatuses
+pub mod EncodeStatuses
+pub mod CheckStatuses

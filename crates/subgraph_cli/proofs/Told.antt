@@ -1,7 +1,7 @@
 -- What is told of an end says what the end says.
 
 use Rattle.std.specs.Prelude.{◌≡◌, ℕ, List, [], ◌∷◌, ◌++◌, Option, Some, Result, Ok, Err}
-use Rattle.std.proofs.Common.{ap, subst, ◌∙◌}
+use Rattle.std.proofs.Common.{ap, subst, sym, ◌∙◌}
 use Rattle.graph_theory.specs.Embedding.{Problem}
 use Rattle.search_theory.specs.Account.{Account}
 use Rattle.command_line.specs.declared.commands.SolveWords.{SolveWords}
@@ -11,14 +11,14 @@ use Rattle.restart_search.specs.declared.worker.Decided.{Decided}
 use Rattle.restart_search.specs.declared.worker.Decided.TheVariants as decided
 use Rattle.restart_search.specs.Searching.{Decides}
 use Rattle.subgraph_cli.specs.Deciding.{IsToldAs, TellingSays}
-use Rattle.subgraph_cli.specs.Outcomes.{Outcome}
-use Rattle.subgraph_cli.specs.Running.{StatusSays}
+use Rattle.subgraph_cli.specs.Outcomes.{Outcome, KeepsOutput}
+use Rattle.subgraph_cli.specs.Running.{writes_in_parts, StatusSays}
 use Rattle.subgraph_cli.specs.Streams.{Stream, IsAsBefore}
 use Rattle.subgraph_cli.specs.Questions.{Asks}
 use Rattle.subgraph_cli.specs.Stops.{IsOfFiles, SparesOutput}
 use Rattle.subgraph_cli.specs.Solving.{IsAnswer, SolveSays}
 use Rattle.subgraph_cli.specs.Verifying.{MappingSays, VerifySays}
-use Rattle.subgraph_cli.specs.declared.stop.Role.TheVariants.{Pattern, Target, Mapping}
+use Rattle.subgraph_cli.specs.declared.stop.Role.TheVariants.{Pattern, Target, Mapping, Encoding, Log}
 use Rattle.subgraph_cli.specs.declared.stop.Stop.{Stop}
 use Rattle.subgraph_cli.specs.declared.stop.Stop.TheVariants.{Refused, FilesFault, OutputFault, NoMemory}
 use Rattle.subgraph_cli.specs.declared.solve.Decision.{Decision}
@@ -32,6 +32,10 @@ one_command o c d e f = cc
 pub status_of_words : (words : Option Command) (c d : Command) (o : Outcome) (content : List ℕ → Option (List ℕ))
     → words ≡ Some c → words ≡ Some d → StatusSays c o content → StatusSays d o content
 status_of_words words c d o content e f says = subst (λ (k : Command). StatusSays k o content) (one_command words c d e f) says
+
+-- Whether the words' command writes in parts is known of the command that was given.
+pub kept_of_words : (words : Option Command) (c : Command) (o : Outcome) → words ≡ Some c → KeepsOutput (writes_in_parts (Some c)) o → KeepsOutput (writes_in_parts words) o
+kept_of_words words c o e kept = subst (λ (k : Option Command). KeepsOutput (writes_in_parts k) o) (sym e) kept
 
 -- A stop while loading leaves an output that nothing was put to.
 pub loading_spares : (s : Stop) (before after : ℕ) (out : Stream) → IsOfFiles s → IsAsBefore out → SparesOutput s before after out
@@ -89,3 +93,5 @@ mapping_stops NoMemory q w p t m out of_files says asks = tt
 mapping_stops (Refused Mapping fault) q w p t m out of_files says asks = record { problem = q; asks = asks; is = says.1 }
 mapping_stops (Refused Pattern fault) q w p t m out of_files says asks = let e : Pattern ≡ Mapping = says.0 in cc
 mapping_stops (Refused Target fault) q w p t m out of_files says asks = let e : Target ≡ Mapping = says.0 in cc
+mapping_stops (Refused Encoding fault) q w p t m out of_files says asks = let e : Encoding ≡ Mapping = says.0 in cc
+mapping_stops (Refused Log fault) q w p t m out of_files says asks = let e : Log ≡ Mapping = says.0 in cc

@@ -6,4 +6,6 @@ pub mod Questions
 pub mod Solving
 pub mod Deciding
 pub mod Verifying
+pub mod Encoded
+pub mod Checking
 pub mod Running

@@ -4,10 +4,14 @@ use Rattle.std.specs.Prelude.{ℕ, List, [], ◌∷◌, ◌++◌, codes}
 use Rattle.std.specs.Fmt.{decimal}
 use Rattle.graph_theory.specs.declared.lad_text.LadCause.{LadCause}
 use Rattle.graph_theory.specs.declared.lad_text.LadCause.TheVariants.{NotNumber, TooMany, EndsEarly, NoSuchVertex, WordsLeft}
+use Rattle.log_theory.specs.declared.opb.OpbCause.{OpbCause}
+use Rattle.log_theory.specs.declared.opb.OpbCause.TheVariants as opb
+use Rattle.log_theory.specs.declared.step.Cause.{Cause}
+use Rattle.log_theory.specs.declared.step.Cause.TheVariants as log
 use Rattle.subgraph_cli.specs.declared.stop.Role.{Role}
-use Rattle.subgraph_cli.specs.declared.stop.Role.TheVariants.{Pattern, Target, Mapping}
+use Rattle.subgraph_cli.specs.declared.stop.Role.TheVariants.{Pattern, Target, Mapping, Encoding, Log}
 use Rattle.subgraph_cli.specs.declared.stop.TextFault.{TextFault}
-use Rattle.subgraph_cli.specs.declared.stop.TextFault.TheVariants.{TooLong, Word, Line}
+use Rattle.subgraph_cli.specs.declared.stop.TextFault.TheVariants.{TooLong, Word, Line, Opb}
 use Rattle.subgraph_cli.specs.declared.stop.Stop.{Stop}
 use Rattle.subgraph_cli.specs.declared.stop.Stop.TheVariants.{Refused, FilesFault, OutputFault, NoMemory}
 
@@ -46,6 +50,8 @@ abbrev pub role_text : Role → List ℕ
 role_text Pattern = codes "pattern"
 role_text Target = codes "target"
 role_text Mapping = codes "mapping"
+role_text Encoding = codes "encoding"
+role_text Log = codes "log"
 
 -- What a cause is called.
 abbrev pub cause_text : LadCause → List ℕ
@@ -55,11 +61,42 @@ cause_text EndsEarly = codes "EndsEarly"
 cause_text NoSuchVertex = codes "NoSuchVertex"
 cause_text WordsLeft = codes "WordsLeft"
 
+-- What a cause of an encoding's line is called.
+abbrev pub opb_cause_text : OpbCause → List ℕ
+opb_cause_text opb.Header = codes "Header"
+opb_cause_text opb.Objective = codes "Objective"
+opb_cause_text opb.Equality = codes "Equality"
+opb_cause_text opb.Product = codes "Product"
+opb_cause_text opb.NoSuchVariable = codes "NoSuchVariable"
+opb_cause_text opb.Wide = codes "Wide"
+opb_cause_text opb.Form = codes "Form"
+opb_cause_text opb.Count = codes "Count"
+
+-- What a cause of a log's line is called.
+abbrev pub log_cause_text : Cause → List ℕ
+log_cause_text log.EndsEarly = codes "EndsEarly"
+log_cause_text log.Form = codes "Form"
+log_cause_text log.NameUsed = codes "NameUsed"
+log_cause_text log.Order = codes "Order"
+log_cause_text log.Twice = codes "Twice"
+log_cause_text log.NoSuchName = codes "NoSuchName"
+log_cause_text log.Stack = codes "Stack"
+log_cause_text log.Zero = codes "Zero"
+log_cause_text log.Wide = codes "Wide"
+log_cause_text log.NoConflict = codes "NoConflict"
+log_cause_text log.NotFalse = codes "NotFalse"
+log_cause_text log.NotSolution = codes "NotSolution"
+
+-- The line that tells of a log that is not accepted.
+abbrev pub log_text : ℕ → Cause → List ℕ
+log_text line cause = codes "log: line " ++ decimal line ++ codes ": " ++ log_cause_text cause ++ 10 ∷ []
+
 -- The line that tells of a refused text.
 abbrev pub refusal_text : Role → TextFault → List ℕ
 refusal_text role TooLong = role_text role ++ codes ": too long" ++ 10 ∷ []
 refusal_text role (Word w cause) = role_text role ++ codes ": word " ++ decimal w ++ codes ": " ++ cause_text cause ++ 10 ∷ []
 refusal_text role (Line n) = role_text role ++ codes ": line " ++ decimal n ++ codes ": Form" ++ 10 ∷ []
+refusal_text role (Opb n cause) = role_text role ++ codes ": line " ++ decimal n ++ codes ": " ++ opb_cause_text cause ++ 10 ∷ []
 
 -- The line on the error stream for each way to stop.
 abbrev pub stop_text : Stop → List ℕ

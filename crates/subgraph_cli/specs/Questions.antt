@@ -10,9 +10,9 @@ use Rattle.graph_files.specs.GraphFile.{IsGraphFile, IsRefusedFor}
 use Rattle.subgraph_cli.specs.declared.stop.Stop.{Stop}
 use Rattle.subgraph_cli.specs.declared.stop.Stop.TheVariants.{Refused, FilesFault, OutputFault, NoMemory}
 use Rattle.subgraph_cli.specs.declared.stop.Role.{Role}
-use Rattle.subgraph_cli.specs.declared.stop.Role.TheVariants.{Pattern, Target, Mapping}
+use Rattle.subgraph_cli.specs.declared.stop.Role.TheVariants.{Pattern, Target, Mapping, Encoding, Log}
 use Rattle.subgraph_cli.specs.declared.stop.TextFault.{TextFault}
-use Rattle.subgraph_cli.specs.declared.stop.TextFault.TheVariants.{TooLong, Word, Line}
+use Rattle.subgraph_cli.specs.declared.stop.TextFault.TheVariants.{TooLong, Word, Line, Opb}
 
 -- The content of a file is the text of this graph.
 pub record HoldsGraph (content : Option (List ℕ)) (kind : LadKind) (most : ℕ) (g : Graph) : Type 0 where
@@ -25,6 +25,7 @@ abbrev pub IsNoGraph : List ℕ → LadKind → ℕ → TextFault → Type 0
 IsNoGraph bytes kind most TooLong = IsRefusedFor bytes kind most graph.TooLong
 IsNoGraph bytes kind most (Word w cause) = IsRefusedFor bytes kind most (graph.Word w cause)
 IsNoGraph bytes kind most (Line n) = ⊥
+IsNoGraph bytes kind most (Opb n cause) = ⊥
 
 -- The content of a file is no graph's text, for this fault.
 pub record HoldsNoGraph (content : Option (List ℕ)) (kind : LadKind) (most : ℕ) (fault : TextFault) : Type 0 where
@@ -49,6 +50,8 @@ abbrev pub IsFirstRefused : Option (List ℕ) → Option (List ℕ) → LadKind 
 IsFirstRefused pattern target kind Pattern fault = HoldsNoGraph pattern kind 1024 fault
 IsFirstRefused pattern target kind Target fault = LacksTarget pattern target kind fault
 IsFirstRefused pattern target kind Mapping fault = ⊥
+IsFirstRefused pattern target kind Encoding fault = ⊥
+IsFirstRefused pattern target kind Log fault = ⊥
 
 -- What loading the two files answers: their problem, or why it stopped.
 abbrev pub AskSays : Result Problem Stop → Option (List ℕ) → Option (List ℕ) → LadKind → Bool → Type 0

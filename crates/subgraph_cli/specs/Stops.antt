@@ -39,6 +39,13 @@ SparesOutput FilesFault before after out = IsAsBefore out
 SparesOutput (Refused role fault) before after out = IsAsBefore out
 SparesOutput NoMemory before after out = IsAsBefore out
 
+-- The same of a command that writes its answer part by part: what was written before memory was refused stays.
+abbrev pub SparesInParts : Stop → ℕ → ℕ → Stream → Type 0
+SparesInParts OutputFault before after out = Rose before after
+SparesInParts FilesFault before after out = IsAsBefore out
+SparesInParts (Refused role fault) before after out = IsAsBefore out
+SparesInParts NoMemory before after out = Unit {0}
+
 -- The error stream is given a line where the command stopped, and else nothing.
 abbrev pub TellsStop : {T : Type 0} → Result T Stop → Stream → Type 0
 TellsStop (Ok answer) err = IsAsBefore err

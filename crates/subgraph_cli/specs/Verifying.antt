@@ -11,9 +11,9 @@ use Rattle.subgraph_cli.specs.Outcomes.{Outcome}
 use Rattle.subgraph_cli.specs.Solving.{IsOrStops}
 use Rattle.subgraph_cli.specs.Questions.{Asks, IsFirstRefused}
 use Rattle.subgraph_cli.specs.declared.stop.Role.{Role}
-use Rattle.subgraph_cli.specs.declared.stop.Role.TheVariants.{Pattern, Target, Mapping}
+use Rattle.subgraph_cli.specs.declared.stop.Role.TheVariants.{Pattern, Target, Mapping, Encoding, Log}
 use Rattle.subgraph_cli.specs.declared.stop.TextFault.{TextFault}
-use Rattle.subgraph_cli.specs.declared.stop.TextFault.TheVariants.{TooLong, Word, Line}
+use Rattle.subgraph_cli.specs.declared.stop.TextFault.TheVariants.{TooLong, Word, Line, Opb}
 use Rattle.subgraph_cli.specs.declared.stop.Stop.{Stop}
 use Rattle.subgraph_cli.specs.declared.stop.Stop.TheVariants.{Refused, FilesFault, OutputFault, NoMemory}
 use Rattle.subgraph_cli.specs.declared.verify.Tested.{Tested}
@@ -31,6 +31,7 @@ abbrev pub IsNoMapping : List ℕ → TextFault → Type 0
 IsNoMapping bytes TooLong = 67108864 < length bytes
 IsNoMapping bytes (Word w cause) = ⊥
 IsNoMapping bytes (Line n) = (length bytes ≤ 67108864) × FaultyLine bytes n
+IsNoMapping bytes (Opb n cause) = ⊥
 
 -- The content of a file is no mapping's text, for this fault.
 pub record HoldsNoMapping (content : Option (List ℕ)) (fault : TextFault) : Type 0 where
@@ -54,6 +55,8 @@ abbrev pub IsFirstOfThree : VerifyWords → Option (List ℕ) → Option (List �
 IsFirstOfThree w pattern target mapping Pattern fault = IsFirstRefused pattern target w.format Pattern fault
 IsFirstOfThree w pattern target mapping Target fault = IsFirstRefused pattern target w.format Target fault
 IsFirstOfThree w pattern target mapping Mapping fault = AsksNone w pattern target mapping fault
+IsFirstOfThree w pattern target mapping Encoding fault = ⊥
+IsFirstOfThree w pattern target mapping Log fault = ⊥
 
 -- The mapping that the third file holds is an embedding for the problem of the first two.
 pub record IsGood (w : VerifyWords) (pattern target mapping : Option (List ℕ)) : Type 0 where

@@ -1,22 +1,28 @@
 //! The whole program, over any files and sinks.
 
-ghost use Rattle.std.specs.Prelude.{◌≡◌, ◌≤◌, ◌<◌, ◌^◌, ◌∷◌, [], ◌⊎◌, List, None, Some, IsTrue, map, string_bytes};
+ghost use Rattle.std.specs.Prelude.{◌≡◌, ◌≤◌, ◌<◌, ◌^◌, ◌∷◌, [], ◌⊎◌, true, false, List, None, Some, IsTrue, map, string_bytes};
 ghost use Rattle.outer_io.specs.NamedFiles.{SameFiles};
 ghost use Rattle.search_theory.specs.Account.{Account as TheAccount};
 ghost use Rattle.command_line.specs.CommandLine as line;
 ghost use Rattle.command_line.specs.declared.commands.Command.{Command as TheCommand};
 ghost use Rattle.subgraph_cli.specs.Outcomes.{outcome, TellsStatus, KeepsOutput};
-ghost use Rattle.subgraph_cli.specs.Running.{files_of, StatusSays, IsStatusOf};
+ghost use Rattle.subgraph_cli.specs.Running.{files_of, writes_in_parts, StatusSays, IsStatusOf};
 ghost use Rattle.subgraph_cli.specs.Solving.{SolveStatus};
 ghost use Rattle.subgraph_cli.specs.Verifying.{VerifyStatus};
+ghost use Rattle.subgraph_cli.specs.Encoded.{EncodeStatus};
+ghost use Rattle.subgraph_cli.specs.Checking.{CheckStatus};
 ghost use Rattle.subgraph_cli.specs.Stops.{TellsFault};
 ghost use Rattle.subgraph_cli.specs.Streams.{stream, IsSameSink};
 
+use crate::check::check;
+use crate::encode::encode;
 use crate::solve::solve;
 use crate::stop::Stop;
-use crate::telling::{end_solve, end_verify, tell_no_command, tell_stop};
+use crate::telling::{end_check, end_encode, end_solve, end_verify, tell_no_command, tell_stop};
 use crate::verify::verify;
-use command_line::{Command, Refusal, SolveWords, VerifyWords, command_of};
+use command_line::{
+    CheckWords, Command, EncodeWords, Refusal, SolveWords, VerifyWords, command_of,
+};
 use fail_account::account::Account;
 use graph_theory::lad_text::text_laws;
 use graph_theory::mapping_text::mapping_laws;
@@ -29,14 +35,14 @@ use std::alloc::Global;
 ///
 /// | status | what it means |
 /// |---|---|
-/// | 0 | `solve` wrote `yes` and an embedding; `verify` wrote `embedding` |
+/// | 0 | `solve` wrote `yes` and an embedding; `verify` wrote `embedding`; `encode` wrote the encoding; `check` wrote what the log claims |
 /// | 1 | `solve` wrote `none`: no embedding exists |
 /// | 2 | `solve` wrote `unknown`: the budget is spent |
 /// | 3 | the words are no command |
 /// | 4 | a text is refused |
 /// | 5 | a call on the files or the output failed |
 /// | 6 | memory was refused |
-/// | 7 | the mapping is no embedding |
+/// | 7 | the mapping is no embedding; the log is not accepted |
 pub fn run<R, F: Files, O: Sink, E: Sink>(
     _rt: &R,
     alloc: Global,
@@ -64,8 +70,8 @@ pub fn run<R, F: Files, O: Sink, E: Sink>(
 
     ensures told { TellsStatus (outcome result spent.new.items (stream O.spot O.contents out.old out.new)
         (stream E.spot E.contents err.old err.new)) }
-    ensures kept { KeepsOutput (outcome result spent.new.items (stream O.spot O.contents out.old out.new)
-        (stream E.spot E.contents err.old err.new)) }
+    ensures kept { KeepsOutput (writes_in_parts (line.command (map string_bytes words.now))) (outcome result
+        spent.new.items (stream O.spot O.contents out.old out.new) (stream E.spot E.contents err.old err.new)) }
 
     ensures quiet { (result ≡ 5) ⊎ ((F.faults files.new ≡ F.faults files.old) × (O.faults out.new ≡ O.faults out.old)) }
     ensures tells { F.tells files.new ≡ F.tells files.old }
@@ -77,6 +83,8 @@ pub fn run<R, F: Files, O: Sink, E: Sink>(
     match command_of(alloc, words) {
         Ok(Command::Solve(asked)) => run_solve(alloc, &asked, files, out, err, spent),
         Ok(Command::Verify(asked)) => run_verify(alloc, &asked, files, out, err),
+        Ok(Command::Encode(asked)) => run_encode(alloc, &asked, files, out, err),
+        Ok(Command::Check(asked)) => run_check(alloc, &asked, files, out, err),
         Err(Refusal::NotACommand) => tell_no_command(err),
         Err(Refusal::NoMemory) => tell_stop(Stop::NoMemory, err),
     }
@@ -102,7 +110,7 @@ fn run_solve<F: Files, O: Sink, E: Sink>(
         (stream E.spot E.contents err.old err.new) }
     ensures told { TellsStatus (outcome result spent.new.items (stream O.spot O.contents out.old out.new)
         (stream E.spot E.contents err.old err.new)) }
-    ensures kept { KeepsOutput (outcome result spent.new.items (stream O.spot O.contents out.old out.new)
+    ensures kept { KeepsOutput false (outcome result spent.new.items (stream O.spot O.contents out.old out.new)
         (stream E.spot E.contents err.old err.new)) }
     ensures quiet { (result ≡ 5) ⊎ ((F.faults files.new ≡ F.faults files.old) × (O.faults out.new ≡ O.faults out.old)) }
     ensures tells { F.tells files.new ≡ F.tells files.old }
@@ -134,7 +142,7 @@ fn run_verify<F: Files, O: Sink, E: Sink>(
         (stream E.spot E.contents err.old err.new) }
     ensures told { (accounts : List TheAccount) → TellsStatus (outcome result accounts
         (stream O.spot O.contents out.old out.new) (stream E.spot E.contents err.old err.new)) }
-    ensures kept { (accounts : List TheAccount) → KeepsOutput (outcome result accounts
+    ensures kept { (accounts : List TheAccount) → KeepsOutput false (outcome result accounts
         (stream O.spot O.contents out.old out.new) (stream E.spot E.contents err.old err.new)) }
     ensures quiet { (result ≡ 5) ⊎ ((F.faults files.new ≡ F.faults files.old) × (O.faults out.new ≡ O.faults out.old)) }
     ensures tells { F.tells files.new ≡ F.tells files.old }
@@ -147,4 +155,65 @@ fn run_verify<F: Files, O: Sink, E: Sink>(
     mapping_laws();
     let ended = verify(alloc, asked, files, out);
     end_verify(ended, err)
+}
+
+/// Encodes, and tells where that stopped.
+fn run_encode<F: Files, O: Sink, E: Sink>(
+    alloc: Global,
+    asked: &EncodeWords,
+    files: &mut F,
+    out: &mut O,
+    err: &mut E,
+) -> u8
+    ensures says { (accounts : List TheAccount) → IsTrue (F.tells files.old) → EncodeStatus (outcome result accounts
+        (stream O.spot O.contents out.old out.new) (stream E.spot E.contents err.old err.new))
+        asked.now (F.content files.old asked.now.pattern) (F.content files.old asked.now.target) }
+    ensures statuses { IsStatusOf (TheCommand.Encode asked.now) result }
+    ensures fault { result ≡ 5 → TellsFault (files_of (TheCommand.Encode asked.now)) (F.faults files.old) (F.faults files.new)
+        (F.fault_at files.new) (O.faults out.old) (O.faults out.new) (stream O.spot O.contents out.old out.new)
+        (stream E.spot E.contents err.old err.new) }
+    ensures told { (accounts : List TheAccount) → TellsStatus (outcome result accounts
+        (stream O.spot O.contents out.old out.new) (stream E.spot E.contents err.old err.new)) }
+    ensures kept { (accounts : List TheAccount) → KeepsOutput true (outcome result accounts
+        (stream O.spot O.contents out.old out.new) (stream E.spot E.contents err.old err.new)) }
+    ensures quiet { (result ≡ 5) ⊎ ((F.faults files.new ≡ F.faults files.old) × (O.faults out.new ≡ O.faults out.old)) }
+    ensures tells { F.tells files.new ≡ F.tells files.old }
+    ensures same { SameFiles (F.content files.old) (F.content files.new) }
+    ensures later { F.faults files.old ≤ F.faults files.new }
+    ensures output { IsSameSink O.spot O.rest O.faults out.old out.new }
+    ensures error { IsSameSink E.spot E.rest E.faults err.old err.new }
+{
+    text_laws();
+    let ended = encode(alloc, asked, files, out);
+    end_encode(ended, err)
+}
+
+/// Checks, and tells where that stopped.
+fn run_check<F: Files, O: Sink, E: Sink>(
+    alloc: Global,
+    asked: &CheckWords,
+    files: &mut F,
+    out: &mut O,
+    err: &mut E,
+) -> u8
+    ensures says { (accounts : List TheAccount) → IsTrue (F.tells files.old) → CheckStatus (outcome result accounts
+        (stream O.spot O.contents out.old out.new) (stream E.spot E.contents err.old err.new))
+        (F.content files.old asked.now.encoding) (F.content files.old asked.now.log) }
+    ensures statuses { IsStatusOf (TheCommand.Check asked.now) result }
+    ensures fault { result ≡ 5 → TellsFault (files_of (TheCommand.Check asked.now)) (F.faults files.old) (F.faults files.new)
+        (F.fault_at files.new) (O.faults out.old) (O.faults out.new) (stream O.spot O.contents out.old out.new)
+        (stream E.spot E.contents err.old err.new) }
+    ensures told { (accounts : List TheAccount) → TellsStatus (outcome result accounts
+        (stream O.spot O.contents out.old out.new) (stream E.spot E.contents err.old err.new)) }
+    ensures kept { (accounts : List TheAccount) → KeepsOutput false (outcome result accounts
+        (stream O.spot O.contents out.old out.new) (stream E.spot E.contents err.old err.new)) }
+    ensures quiet { (result ≡ 5) ⊎ ((F.faults files.new ≡ F.faults files.old) × (O.faults out.new ≡ O.faults out.old)) }
+    ensures tells { F.tells files.new ≡ F.tells files.old }
+    ensures same { SameFiles (F.content files.old) (F.content files.new) }
+    ensures later { F.faults files.old ≤ F.faults files.new }
+    ensures output { IsSameSink O.spot O.rest O.faults out.old out.new }
+    ensures error { IsSameSink E.spot E.rest E.faults err.old err.new }
+{
+    let ended = check(alloc, asked, files, out);
+    end_check(ended, err)
 }

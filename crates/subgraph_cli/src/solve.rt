@@ -84,7 +84,7 @@ pub fn solve<F: Files, O: Sink>(
         words.format,
         words.induced,
     )?;
-    let decided = decide(alloc, &q, 0, words.budget);
+    let decided = decide(alloc, &q, words.seed, words.budget);
     tell(decided, out, spent)
 }
 

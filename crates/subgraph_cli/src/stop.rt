@@ -2,6 +2,7 @@
 
 use graph_files::GraphFault;
 use graph_theory::lad_text::LadCause;
+use opb_text::OpbCause;
 
 /// What a file is to the command.
 #[derive(Clone, Copy, PartialEq, Eq, Debug)]
@@ -12,6 +13,10 @@ pub enum Role {
     Target,
     /// The mapping to be tested.
     Mapping,
+    /// The encoding that a log is checked over.
+    Encoding,
+    /// The log to be checked.
+    Log,
 }
 
 /// Why a text is refused.
@@ -23,6 +28,8 @@ pub enum TextFault {
     Word { word: u64, cause: LadCause },
     /// The first faulty line of a mapping's text, from 1.
     Line { line: u64 },
+    /// The first faulty line of an encoding's text, from 1, and its cause.
+    Opb { line: u64, cause: OpbCause },
 }
 
 /// Why a command stopped.

@@ -3,17 +3,22 @@
 ghost use Rattle.std.specs.Prelude.{◌≡◌};
 ghost use Rattle.outer_io.specs.KnownText.{Wrote};
 ghost use Rattle.outer_io.specs.Sinks.{HasBlame};
-ghost use Rattle.subgraph_cli.specs.Lines.{role_text, cause_text, refusal_text, stop_text, stop_status, no_command_text};
+ghost use Rattle.subgraph_cli.specs.Lines.{role_text, cause_text, opb_cause_text, log_cause_text, log_text, refusal_text, stop_text, stop_status, no_command_text};
 ghost use Rattle.subgraph_cli.specs.Solving.{solve_status};
 ghost use Rattle.subgraph_cli.specs.Verifying.{verify_status, TellsTested};
+ghost use Rattle.subgraph_cli.specs.Encoded.{encode_status};
+ghost use Rattle.subgraph_cli.specs.Checking.{check_status, TellsChecked};
 ghost use Rattle.subgraph_cli.specs.Stops.{TellsStop};
 ghost use Rattle.subgraph_cli.specs.Streams.{stream, IsSameSink, Tells};
 
+use crate::check::Checked;
 use crate::solve::Decision;
 use crate::stop::{Role, Stop, TextFault};
 use crate::verify::Tested;
 use graph_theory::lad_text::LadCause;
 use itoa::Buffer;
+use log_theory::Cause;
+use opb_text::OpbCause;
 use outer_io::fault::Failed;
 use outer_io::put::put_all;
 use outer_io::sink::Sink;
@@ -26,6 +31,8 @@ fn role_name(role: Role) -> &'static [u8]
         Role::Pattern => b"pattern",
         Role::Target => b"target",
         Role::Mapping => b"mapping",
+        Role::Encoding => b"encoding",
+        Role::Log => b"log",
     }
 }
 
@@ -40,6 +47,55 @@ fn cause_name(cause: LadCause) -> &'static [u8]
         LadCause::NoSuchVertex => b"NoSuchVertex",
         LadCause::WordsLeft => b"WordsLeft",
     }
+}
+
+/// What a cause of an encoding's line is called.
+fn opb_cause_name(cause: OpbCause) -> &'static [u8]
+    ensures { result.now ≡ opb_cause_text cause }
+{
+    match cause {
+        OpbCause::Header => b"Header",
+        OpbCause::Objective => b"Objective",
+        OpbCause::Equality => b"Equality",
+        OpbCause::Product => b"Product",
+        OpbCause::NoSuchVariable => b"NoSuchVariable",
+        OpbCause::Wide => b"Wide",
+        OpbCause::Form => b"Form",
+        OpbCause::Count => b"Count",
+    }
+}
+
+/// What a cause of a log's line is called.
+fn log_cause_name(cause: Cause) -> &'static [u8]
+    ensures { result.now ≡ log_cause_text cause }
+{
+    match cause {
+        Cause::EndsEarly => b"EndsEarly",
+        Cause::Form => b"Form",
+        Cause::NameUsed => b"NameUsed",
+        Cause::Order => b"Order",
+        Cause::Twice => b"Twice",
+        Cause::NoSuchName => b"NoSuchName",
+        Cause::Stack => b"Stack",
+        Cause::Zero => b"Zero",
+        Cause::Wide => b"Wide",
+        Cause::NoConflict => b"NoConflict",
+        Cause::NotFalse => b"NotFalse",
+        Cause::NotSolution => b"NotSolution",
+    }
+}
+
+/// Puts the line of a log that is not accepted.
+fn put_log<E: Sink>(line: u64, cause: Cause, err: &mut E) -> Result<(), Failed>
+    ensures text { Wrote (E.spot err.old).steady (E.contents err.old) (E.contents err.new) result (log_text line cause) }
+    ensures cause { HasBlame E.spot E.rest E.faults E.blamed err.old err.new result }
+{
+    let mut digits = Buffer::new();
+    let number = digits.format(line).as_bytes();
+    put_all(
+        &[b"log: line ", number, b": ", log_cause_name(cause), b"\n"],
+        err,
+    )
 }
 
 /// Puts the line of a refused text.
@@ -61,6 +117,13 @@ fn put_refusal<E: Sink>(role: Role, fault: TextFault, err: &mut E) -> Result<(),
         TextFault::Line { line } => {
             let number = digits.format(line).as_bytes();
             put_all(&[who, b": line ", number, b": Form", b"\n"], err)
+        }
+        TextFault::Opb { line, cause } => {
+            let number = digits.format(line).as_bytes();
+            put_all(
+                &[who, b": line ", number, b": ", opb_cause_name(cause), b"\n"],
+                err,
+            )
         }
     }
 }
@@ -133,6 +196,34 @@ pub fn end_verify<E: Sink>(ended: Result<Tested, Stop>, err: &mut E) -> u8
         Ok(Tested::Embedding) => 0,
         Ok(Tested::NotAnEmbedding) => {
             let _ = err.put(b"mapping: not an embedding\n");
+            7
+        }
+        Err(stop) => tell_stop(stop, err),
+    }
+}
+
+/// The status of an encode; where it stopped the error stream is told.
+pub fn end_encode<E: Sink>(ended: Result<(), Stop>, err: &mut E) -> u8
+    ensures status { result ≡ encode_status ended }
+    ensures line { TellsStop ended (stream E.spot E.contents err.old err.new) }
+    ensures sink { IsSameSink E.spot E.rest E.faults err.old err.new }
+{
+    match ended {
+        Ok(()) => 0,
+        Err(stop) => tell_stop(stop, err),
+    }
+}
+
+/// The status of a check; where the log is not accepted, and where it stopped, the error stream is told.
+pub fn end_check<E: Sink>(ended: Result<Checked, Stop>, err: &mut E) -> u8
+    ensures status { result ≡ check_status ended }
+    ensures line { TellsChecked ended (stream E.spot E.contents err.old err.new) }
+    ensures sink { IsSameSink E.spot E.rest E.faults err.old err.new }
+{
+    match ended {
+        Ok(Checked::Accepted { .. }) => 0,
+        Ok(Checked::NotAccepted { line, cause }) => {
+            let _ = put_log(line, cause, err);
             7
         }
         Err(stop) => tell_stop(stop, err),

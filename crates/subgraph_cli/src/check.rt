@@ -1,0 +1,167 @@
+//! The command `check`. It knows nothing of graphs: a model, a log, and the verdict of one over the other.
+
+ghost use Rattle.std.specs.Prelude.{◌≡◌, ◌≤◌, ◌∷◌, ◌⊎◌, [], IsTrue, IfErr, IsErrOf};
+ghost use Rattle.outer_io.specs.NamedFiles.{SameFiles};
+ghost use Rattle.subgraph_cli.specs.Checking.{CheckSays, ModelSays, LogSays, VerdictSays, ToldSays, KeepsWhenRefused, claim_text};
+ghost use Rattle.subgraph_cli.specs.Stops.{HasCause, IsOfFiles, SparesOutput};
+ghost use Rattle.subgraph_cli.specs.Streams.{stream, IsSameSink};
+
+use crate::stop::{Role, Stop, TextFault};
+use command_line::{CheckWords, FileName};
+use log_theory::{Cause, Verdict};
+use opb_text::{Model, OpbFault, read_opb};
+use outer_io::fault::LoadFault;
+use outer_io::files::Files;
+use outer_io::reading::load;
+use outer_io::sink::Sink;
+use std::alloc::Global;
+
+/// How many bytes an encoding and a log have at most.
+const PROOF_LIMIT: u64 = 1_099_511_627_776;
+
+/// What the last line of an accepted log claims.
+#[derive(Clone, Copy, PartialEq, Eq, Debug)]
+pub enum Claim {
+    /// No 0/1 list satisfies the model.
+    Unsatisfiable,
+    /// One does.
+    Satisfiable,
+    /// Nothing.
+    Undecided,
+}
+
+/// What a check tells.
+#[derive(Clone, Copy, PartialEq, Eq, Debug)]
+pub enum Checked {
+    /// The log is accepted with this claim.
+    Accepted { claim: Claim },
+    /// The log is refused at its first faulty line, from 1, for its first cause.
+    NotAccepted { line: u64, cause: Cause },
+}
+
+/// A text of a role is refused.
+fn refused(role: Role, fault: TextFault) -> Stop
+    ensures { result ≡ Stop.Refused role fault }
+{
+    Stop::Refused { role, fault }
+}
+
+/// The model in a file.
+fn load_model<F: Files>(alloc: Global, files: &mut F, name: &FileName) -> Result<Model, Stop>
+    ensures says { IsTrue (F.tells files.old) → ModelSays result (F.content files.old name.now) }
+    ensures loading { IfErr result IsOfFiles }
+    ensures cause { IfErr result (λ stop. HasCause stop (name.now ∷ []) (F.faults files.old) (F.faults files.new) (F.fault_at files.new)) }
+    ensures quiet { IsErrOf result Stop.FilesFault ⊎ (F.faults files.new ≡ F.faults files.old) }
+    ensures later { F.faults files.old ≤ F.faults files.new }
+    ensures same { SameFiles (F.content files.old) (F.content files.new) }
+    ensures tells { F.tells files.new ≡ F.tells files.old }
+{
+    let bytes = match load(alloc, files, name.as_str(), PROOF_LIMIT) {
+        Ok(bytes) => bytes,
+        Err(LoadFault::Failed) => return Err(Stop::FilesFault),
+        Err(LoadFault::TooLong) => return Err(refused(Role::Encoding, TextFault::TooLong)),
+        Err(LoadFault::NoMemory) => return Err(Stop::NoMemory),
+    };
+    match read_opb(alloc, &bytes) {
+        Ok(model) => Ok(model),
+        Err(OpbFault::Line { line, cause }) => {
+            Err(refused(Role::Encoding, TextFault::Opb { line, cause }))
+        }
+        Err(OpbFault::NoMemory) => Err(Stop::NoMemory),
+    }
+}
+
+/// The bytes of a log.
+fn load_log<F: Files>(alloc: Global, files: &mut F, name: &FileName) -> Result<Vec<u8>, Stop>
+    ensures says { IsTrue (F.tells files.old) → LogSays result (F.content files.old name.now) }
+    ensures loading { IfErr result IsOfFiles }
+    ensures cause { IfErr result (λ stop. HasCause stop (name.now ∷ []) (F.faults files.old) (F.faults files.new) (F.fault_at files.new)) }
+    ensures quiet { IsErrOf result Stop.FilesFault ⊎ (F.faults files.new ≡ F.faults files.old) }
+    ensures later { F.faults files.old ≤ F.faults files.new }
+    ensures same { SameFiles (F.content files.old) (F.content files.new) }
+    ensures tells { F.tells files.new ≡ F.tells files.old }
+{
+    match load(alloc, files, name.as_str(), PROOF_LIMIT) {
+        Ok(bytes) => Ok(bytes),
+        Err(LoadFault::Failed) => Err(Stop::FilesFault),
+        Err(LoadFault::TooLong) => Err(refused(Role::Log, TextFault::TooLong)),
+        Err(LoadFault::NoMemory) => Err(Stop::NoMemory),
+    }
+}
+
+/// What a log shows over a model.
+fn judge(alloc: Global, model: &Model, log: &[u8]) -> Result<Checked, Stop>
+    ensures { VerdictSays result model.now log.now }
+{
+    match proof_checker::check(alloc, model, log) {
+        Verdict::Unsatisfiable => Ok(Checked::Accepted {
+            claim: Claim::Unsatisfiable,
+        }),
+        Verdict::Satisfiable => Ok(Checked::Accepted {
+            claim: Claim::Satisfiable,
+        }),
+        Verdict::Undecided => Ok(Checked::Accepted {
+            claim: Claim::Undecided,
+        }),
+        Verdict::Refused { line, cause } => Ok(Checked::NotAccepted { line, cause }),
+        Verdict::NoMemory => Err(Stop::NoMemory),
+    }
+}
+
+/// The line of a claim.
+fn claim_line(claim: Claim) -> &'static [u8]
+    ensures { result.now ≡ claim_text claim }
+{
+    match claim {
+        Claim::Unsatisfiable => b"accepted unsatisfiable\n",
+        Claim::Satisfiable => b"accepted satisfiable\n",
+        Claim::Undecided => b"accepted undecided\n",
+    }
+}
+
+/// Writes what an accepted log claims.
+fn tell_claim<O: Sink>(checked: Checked, out: &mut O) -> Result<(), Stop>
+    ensures says { ToldSays result checked (stream O.spot O.contents out.old out.new) }
+    ensures spares { IfErr result (λ stop. SparesOutput stop (O.faults out.old) (O.faults out.new)
+        (stream O.spot O.contents out.old out.new)) }
+    ensures quiet { IsErrOf result Stop.OutputFault ⊎ (O.faults out.new ≡ O.faults out.old) }
+    ensures sink { IsSameSink O.spot O.rest O.faults out.old out.new }
+{
+    match checked {
+        Checked::NotAccepted { .. } => Ok(()),
+        Checked::Accepted { claim } => match out.put(claim_line(claim)) {
+            Ok(()) => Ok(()),
+            Err(_) => Err(Stop::OutputFault),
+        },
+    }
+}
+
+/// Checks the log in a file over the model in another, and writes what it claims where it is accepted: the encoding is
+/// loaded and read before the log is looked at. The memory taken is that of both files, of the model and of what the
+/// log's lines make.
+pub fn check<F: Files, O: Sink>(
+    alloc: Global,
+    words: &CheckWords,
+    files: &mut F,
+    out: &mut O,
+) -> Result<Checked, Stop>
+    ensures says { IsTrue (F.tells files.old) → CheckSays result (F.content files.old words.now.encoding)
+        (F.content files.old words.now.log) (stream O.spot O.contents out.old out.new) }
+    ensures cause { IfErr result (λ stop. HasCause stop (words.now.encoding ∷ words.now.log ∷ [])
+        (F.faults files.old) (F.faults files.new) (F.fault_at files.new)) }
+    ensures spares { IfErr result (λ stop. SparesOutput stop (O.faults out.old) (O.faults out.new)
+        (stream O.spot O.contents out.old out.new)) }
+    ensures refused { KeepsWhenRefused result (stream O.spot O.contents out.old out.new) }
+    ensures quiet { IsErrOf result Stop.FilesFault ⊎ (F.faults files.new ≡ F.faults files.old) }
+    ensures quiet_output { IsErrOf result Stop.OutputFault ⊎ (O.faults out.new ≡ O.faults out.old) }
+    ensures later { F.faults files.old ≤ F.faults files.new }
+    ensures tells { F.tells files.new ≡ F.tells files.old }
+    ensures same { SameFiles (F.content files.old) (F.content files.new) }
+    ensures sink { IsSameSink O.spot O.rest O.faults out.old out.new }
+{
+    let model = load_model(alloc, files, &words.encoding)?;
+    let log = load_log(alloc, files, &words.log)?;
+    let checked = judge(alloc, &model, &log)?;
+    tell_claim(checked, out)?;
+    Ok(checked)
+}

@@ -1,0 +1,67 @@
+//! The command `encode`.
+
+ghost use Rattle.std.specs.Prelude.{◌≡◌, ◌≤◌, ◌∷◌, ◌⊎◌, [], IsTrue, IfErr, IsErrOf};
+ghost use Rattle.outer_io.specs.NamedFiles.{SameFiles};
+ghost use Rattle.subgraph_cli.specs.Encoded.{EncodeSays, WritingSays};
+ghost use Rattle.subgraph_cli.specs.Stops.{HasCause, SparesInParts};
+ghost use Rattle.subgraph_cli.specs.Streams.{stream, IsSameSink};
+
+use crate::question::load_problem;
+use crate::stop::Stop;
+use command_line::EncodeWords;
+use graph_rows::problem::Problem;
+use outer_io::fault::PutFault;
+use outer_io::files::Files;
+use outer_io::sink::Sink;
+use pb_encoding::Encoding;
+use std::alloc::Global;
+
+/// Writes the encoding of a problem, a line at a time.
+fn write_encoding<O: Sink>(alloc: Global, q: &Problem, out: &mut O) -> Result<(), Stop>
+    ensures says { WritingSays result q.now (stream O.spot O.contents out.old out.new) }
+    ensures spares { IfErr result (λ stop. SparesInParts stop (O.faults out.old) (O.faults out.new)
+        (stream O.spot O.contents out.old out.new)) }
+    ensures quiet { IsErrOf result Stop.OutputFault ⊎ (O.faults out.new ≡ O.faults out.old) }
+    ensures sink { IsSameSink O.spot O.rest O.faults out.old out.new }
+{
+    let Ok(encoding) = Encoding::new(alloc, q) else {
+        return Err(Stop::NoMemory);
+    };
+    match encoding.write(alloc, out) {
+        Ok(()) => Ok(()),
+        Err(PutFault::Failed) => Err(Stop::OutputFault),
+        Err(PutFault::NoMemory) => Err(Stop::NoMemory),
+    }
+}
+
+/// Writes the encoding of the problem of the files: both are loaded and read, and then the text is written, so that the
+/// memory taken is that of the graphs and one constraint.
+pub fn encode<F: Files, O: Sink>(
+    alloc: Global,
+    words: &EncodeWords,
+    files: &mut F,
+    out: &mut O,
+) -> Result<(), Stop>
+    ensures says { IsTrue (F.tells files.old) → EncodeSays result words.now (F.content files.old words.now.pattern)
+        (F.content files.old words.now.target) (stream O.spot O.contents out.old out.new) }
+    ensures cause { IfErr result (λ stop. HasCause stop (words.now.pattern ∷ words.now.target ∷ [])
+        (F.faults files.old) (F.faults files.new) (F.fault_at files.new)) }
+    ensures spares { IfErr result (λ stop. SparesInParts stop (O.faults out.old) (O.faults out.new)
+        (stream O.spot O.contents out.old out.new)) }
+    ensures quiet { IsErrOf result Stop.FilesFault ⊎ (F.faults files.new ≡ F.faults files.old) }
+    ensures quiet_output { IsErrOf result Stop.OutputFault ⊎ (O.faults out.new ≡ O.faults out.old) }
+    ensures later { F.faults files.old ≤ F.faults files.new }
+    ensures tells { F.tells files.new ≡ F.tells files.old }
+    ensures same { SameFiles (F.content files.old) (F.content files.new) }
+    ensures sink { IsSameSink O.spot O.rest O.faults out.old out.new }
+{
+    let q = load_problem(
+        alloc,
+        files,
+        &words.pattern,
+        &words.target,
+        words.format,
+        words.induced,
+    )?;
+    write_encoding(alloc, &q, out)
+}
