@@ -1,7 +1,7 @@
 -- What a filtered part of the rows leaves of the domains, in the words of the code.
 use Rattle.std.proofs.Common.{◌≡◌, ℕ, ◌+◌, ◌*◌, ◌-◌, ◌<◌, ◌≤◌, Bool, true, false, ◌&&◌, not, ◌==◌, eqb, ◌⊎◌, inl, inr, zero, suc, ◌/◌, ◌%◌, ◌^◌, List, [], ◌∷◌, ◌++◌, length, take, drop, get_or, set, refl, sym, ap, ◌∙◌, subst, arith}
 use Rattle.std.proofs.lemmas.List.{take_at, append-nil, get_or-set_same, get_or-set_other}
-use Rattle.std.proofs.lemmas.Bool.{and_parts, eqb-true, eq-eqb, ne_eqb, cases_eq}
+use Rattle.std.proofs.lemmas.Bool.{and_parts, eqb-true, eq-eqb, ne_eqb, le-ltb, cases_eq, cases_lt}
 use borrow.Rule.Slice.PartMut.{put_mid}
 use Rattle.domain_bits.specs.Counting.{count, members}
 use Rattle.std.specs.Int.RustNames.{bit_xor}
@@ -9,12 +9,13 @@ use Rattle.domain_bits.specs.BitRows.{has, is_set}
 use Rattle.domain_bits.proofs.Counts.{members_same, members_none, length-members}
 use Rattle.domain_bits.proofs.Runs.{one_shifted}
 use Rattle.domain_bits.proofs.WordBits.{xor_same, xor_other}
-use Rattle.domain_bits.specs.Removals.{State, in_domain, at_vertex, filtered}
+use Rattle.domain_bits.specs.Removals.{State, in_domain, size_of, at_vertex, filtered}
 use Rattle.domain_bits.specs.Changes.{Keeps, Single}
 use Rattle.domain_bits.specs.Inside.{Kept}
 use Rattle.domain_bits.proofs.Filtering.{leaves}
-use Rattle.domain_bits.proofs.Rows.{length-put_mid}
-use Rattle.domain_bits.proofs.Keeping.{state, length_start, cut_room, cut_enough, cut_after, cut_kept, filtered_keeps}
+use Rattle.domain_bits.proofs.Rows.{has_past, length-put_mid}
+use Rattle.domain_bits.proofs.Keeping.{state, length_start, start_bits, values_fit, cut_room, cut_enough, cut_after, cut_kept, filtered_keeps}
+use Rattle.domain_bits.proofs.Sizes.{row_size}
 
 -- the part that the code cuts out
 pub part_is : (p a w : ℕ) (rows xs : List ℕ) → a ≡ p → xs ≡ rows → take (a * w + w - a * w) (drop (a * w) xs) ≡ take w (drop (p * w) rows)
@@ -47,11 +48,29 @@ pub part_length : (v n words : ℕ) (removed : List (ℕ × ℕ)) (rows sizes st
     → Kept (state v n removed) words rows sizes cap → p < v → start ≡ take words (drop (p * words) rows) → length start ≡ words
 part_length v n words removed rows sizes start cap p k h e = ap length e ∙ length_start v n words removed rows sizes cap p k h
 
+-- a row that was filtered is what is left of the domain
+row_left : (v n words : ℕ) (removed removed' : List (ℕ × ℕ)) (rows sizes row' : List ℕ) (cap p : ℕ) (keeps : ℕ → Bool)
+    → Kept (state v n removed) words rows sizes cap → p < v → length row' ≡ words
+    → ((t : ℕ) → t < 64 * words → has row' t ≡ (has (take words (drop (p * words) rows)) t && keeps t))
+    → Keeps (state v n removed) (state v n removed') p keeps
+    → (t : ℕ) → has row' t ≡ in_domain (state v n removed') p t
+row_left v n words removed removed' rows sizes row' cap p keeps k h long bits those t = by (cases_lt t (64 * words))
+  where
+    by : (t < 64 * words) ⊎ (64 * words ≤ t) → has row' t ≡ in_domain (state v n removed') p t
+    by (inl l) = bits t l ∙ rw (start_bits v n words removed rows sizes cap p k h t) (sym (those.kept t))
+    by (inr l) =
+        let past : n ≤ t = omega (arith, (values_fit v n words removed rows sizes cap k).0) in
+        has_past row' t (omega (arith, long)) ∙ rw (le-ltb t n past) refl
+
 -- what is left after a cut
 pub record Cut (v n words : ℕ) (removed removed' : List (ℕ × ℕ)) (rows sizes row' : List ℕ) (cap p gone : ℕ) (keeps : ℕ → Bool) : Type 0 where
   pub kept : Kept (state v n removed') words (put_mid (p * words) words rows row') (set sizes p (get_or sizes p 0 - gone)) cap
   pub after : state v n removed' ≡ filtered (state v n removed) p keeps
   pub keeps-those : Keeps (state v n removed) (state v n removed') p keeps
+  pub row : (t : ℕ) → has row' t ≡ in_domain (state v n removed') p t
+  pub wide : length row' ≡ words
+  pub size : size_of (state v n removed') p ≡ get_or sizes p 0 - gone
+  pub left : count (has row') (64 * length row') ≡ get_or sizes p 0 - gone
 
 pub cut_all : (v n words : ℕ) (removed removed' : List (ℕ × ℕ)) (rows sizes start row' : List ℕ) (cap cap' p gone : ℕ) (keeps : ℕ → Bool)
     → Kept (state v n removed) words rows sizes cap → p < v → start ≡ take words (drop (p * words) rows) → length row' ≡ length start
@@ -67,12 +86,23 @@ cut_all v n words removed removed' rows sizes start row' cap cap' p gone keeps k
     let counted' = subst (λ s. gone ≡ count (leaves s keeps) (64 * length s)) e counted in
     let trail' = subst (λ s. removed' ≡ removed ++ at_vertex p (members (leaves s keeps) (64 * length s))) e trail in
     let after = cut_after v n words removed removed' rows sizes cap p keeps k h trail' in
-    let kept = cut_kept v n words removed rows sizes row' cap p gone keeps k h long' bits' counted' in
+    let sizes' = set sizes p (get_or sizes p 0 - gone) in
+    let rows' = put_mid (p * words) words rows row' in
+    let kept : Kept (state v n removed') words rows' sizes' cap = subst (λ d. Kept d words rows' sizes' cap) (sym after)
+    (cut_kept v n words removed rows sizes row' cap p gone keeps k h long' bits' counted') in
+    let those : Keeps (state v n removed) (state v n removed') p keeps = subst (λ d. Keeps (state v n removed) d p keeps) (sym after) (filtered_keeps (state v n removed) p keeps) in
+    let row = row_left v n words removed removed' rows sizes row' cap p keeps k h long'
+    (λ t l. bits' t (rw (length_start v n words removed rows sizes cap p k h) l)) those in
+    let size : size_of (state v n removed') p ≡ get_or sizes p 0 - gone =
+    sym (kept.counts p h) ∙ get_or-set_same sizes p (get_or sizes p 0 - gone) 0 (omega (arith, k.sized)) in
     record {
-      kept = subst (λ c. Kept (state v n removed') words (put_mid (p * words) words rows row') (set sizes p (get_or sizes p 0 - gone)) c) (sym room)
-          (subst (λ d. Kept d words (put_mid (p * words) words rows row') (set sizes p (get_or sizes p 0 - gone)) cap) (sym after) kept);
+      kept = subst (λ c. Kept (state v n removed') words rows' sizes' c) (sym room) kept;
       after = after;
-      keeps-those = subst (λ d. Keeps (state v n removed) d p keeps) (sym after) (filtered_keeps (state v n removed) p keeps);
+      keeps-those = those;
+      row = row;
+      wide = long';
+      size = size;
+      left = row_size (state v n removed') p row' (long' ∙ k.words_are) row ∙ size;
     }
 
 -- a domain of which one value is kept is that value

@@ -6,7 +6,7 @@ use Rattle.std.proofs.lemmas.Bool.{lt-ltb, cases_lt}
 use native.Mathlib.Nat.{suc-mul, mul-le-mul_right}
 use Rattle.domain_bits.specs.Counting.{count}
 use Rattle.domain_bits.specs.BitRows.{has, words_for}
-use Rattle.domain_bits.specs.Removals.{in_domain}
+use Rattle.domain_bits.specs.Removals.{in_domain, size_of}
 use Rattle.domain_bits.specs.Inside.{Kept}
 use Rattle.domain_bits.proofs.Keeping.{state}
 use Rattle.domain_bits.proofs.Rows.{has_same}
@@ -18,6 +18,10 @@ sum-replicate (suc v) n = omega (arith, sum_by-cons (λ x. x) n (replicate v n),
 count_all : (f : ℕ → Bool) (n : ℕ) → ((i : ℕ) → i < n → f i ≡ true) → count f n ≡ n
 count_all f zero all = refl
 count_all f (suc n) all = rw (all n (omega arith)) (omega (arith, count_all f n (λ i l. all i (omega arith))))
+
+-- a full domain has all values
+pub full_size : (v n p : ℕ) → size_of (state v n []) p ≡ n
+full_size v n p = count_all (in_domain (state v n []) p) n (λ i l. rw (lt-ltb i n l) refl)
 
 whole : (b : Bool) → b ≡ (b && true)
 whole true = refl
@@ -31,7 +35,7 @@ kept_full v n words rows cap words-are short long bits room = record {
   long = long;
   sized = length-replicate v n;
   bits = λ p t hp ht. bits p t hp ht ∙ whole (ltb t n);
-  counts = λ p hp. get_or-replicate v p n 0 hp ∙ sym (count_all (in_domain (state v n []) p) n (λ i l. rw (lt-ltb i n l) refl));
+  counts = λ p hp. get_or-replicate v p n 0 hp ∙ sym (full_size v n p);
   once = λ p t. omega arith;
   range = λ k d l. absurd (omega arith);
   all = omega (arith, sum-replicate v n);

@@ -11,3 +11,4 @@ pub mod Cutting
 pub mod Sizes
 pub mod Fresh
 pub mod WordRuns
+pub mod Noting

@@ -89,8 +89,5 @@ row_size d p row long bits =
     count_same (has row) (in_domain d p) (64 * length row) (λ i l. bits i)
     ∙ count_bounds (in_domain d p) (64 * length row) d.values (λ u e. omega (arith, in_below d p u e, long)) (in_below d p)
 
-pub row_single : (d : State) (p t : ℕ) (row : List ℕ) → ((u : ℕ) → has row u ≡ in_domain d p u) → size_of d p ≡ 1 → has row t ≡ true → Single d p t
-row_single d p t row bits one here = size_single d p t one (sym (bits t) ∙ here)
-
 pub not_single : (d : State) (p : ℕ) → (size_of d p ≡ 1 → ⊥) → (t : ℕ) → Single d p t → ⊥
 not_single d p more t s = more (single_size d p t s)

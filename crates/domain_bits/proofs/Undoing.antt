@@ -57,12 +57,20 @@ pub run_removed : (v n p place word : ℕ) (removed : List (ℕ × ℕ)) → sta
     ≡ without_all (state v n removed) p (members (in_word place word) (64 * place + 64))
 run_removed v n p place word removed = ap (λ us. state v n (removed ++ at_vertex p us)) (word_values_members place word)
 
+-- another vertex's domain was the same before a run was removed
+pub in_domain-before : (v n p place word : ℕ) (now later : List (ℕ × ℕ)) (q t : ℕ) → now ≡ later ++ at_vertex p (word_values place word) → (q ≡ p → ⊥)
+    → in_domain (state v n later) q t ≡ in_domain (state v n now) q t
+in_domain-before v n p place word now later q t e ne =
+    sym (ap (λ xs. in_domain (state v n xs) q t) e ∙ ap (λ d. in_domain d q t) (run_removed v n p place word later)
+    ∙ in_domain-without_other (state v n later) (in_word place word) (64 * place + 64) p q t ne)
+
 -- what is known of a run at the end of the trail
 pub record Last (v n words p place word : ℕ) (removed : List (ℕ × ℕ)) (sizes : List ℕ) : Type 0 where
   pub vertex : p < v
   pub place-in : place < words
   pub values : (u : ℕ) → in_word place word u ≡ true → in_domain (state v n removed) p u ≡ true
   pub size : size_of (state v n removed) p ≡ get_or sizes p 0 + ones word
+  pub first : in_domain (state v n removed) p (64 * place + trailing_zeros w64 word) ≡ true
 
 pub last_run_is : (v n words : ℕ) (removed : List (ℕ × ℕ)) (rows sizes : List ℕ) (cap p place word : ℕ)
     → Kept (state v n (removed ++ at_vertex p (word_values place word))) words rows sizes cap → 0 < word → word < 2 ^ 64
@@ -74,6 +82,7 @@ last_run_is v n words removed rows sizes cap p place word k some small = record 
   size = size_of-without (state v n removed) f m p (in_word_below place word) inside
       ∙ rw (sym (length-members f m) ∙ ap length (sym (word_values_members place word)) ∙ length-word_values place word small)
       (omega (arith, sym (k.counts p lowest.vertex) ∙ refl, ap (λ d. size_of d p) (run_removed v n p place word removed)));
+  first = inside (64 * place + trailing_zeros w64 word) lowest-in;
 }
   where
     f : ℕ → Bool
@@ -104,8 +113,11 @@ last_run_is v n words removed rows sizes cap p place word k some small = record 
     low : (trailing_zeros w64 word < 64) × (is_set word (trailing_zeros w64 word) ≡ true)
     low = let h = bit_at-trailing_zeros w64 word some small in (h.0, rw h.1 refl)
 
+    lowest-in : in_word place word (64 * place + trailing_zeros w64 word) ≡ true
+    lowest-in = sym (in_word_at place word (trailing_zeros w64 word) low.0) ∙ low.1
+
     lowest : InRange v n (p, 64 * place + trailing_zeros w64 word)
-    lowest = ranged (64 * place + trailing_zeros w64 word) (sym (in_word_at place word (trailing_zeros w64 word) low.0) ∙ low.1)
+    lowest = ranged (64 * place + trailing_zeros w64 word) lowest-in
 
 joined : (d e f : Bool) → e ≡ (d && not f) → (f ≡ true → d ≡ true) → (e || f) ≡ d
 joined d e true h back = rw (back refl) (by e)
@@ -128,7 +140,7 @@ back_kept v n words removed rows sizes cap p place word k some small =
     (set rows (p * words + place) (bit_or (get_or rows (p * words + place) 0) word)) sizes cap p (get_or sizes p 0 + ones word) k last.vertex
     (length-set rows (p * words + place) _)
     own others
-    (λ q t ne. sym (ap (λ d. in_domain d q t) (run_removed v n p place word removed) ∙ in_domain-without_other (state v n removed) (in_word place word) (64 * place + 64) p q t ne))
+    (λ q t ne. in_domain-before v n p place word (removed ++ at_vertex p (word_values place word)) removed q t refl ne)
     (sym last.size)
     (λ q t. omega (arith, k.once q t, times-append removed (at_vertex p (word_values place word)) q t))
     (λ i d l. let h : i < length (removed ++ at_vertex p (word_values place word)) = omega (arith, length-append removed (at_vertex p (word_values place word))) in

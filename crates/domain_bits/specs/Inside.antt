@@ -1,5 +1,5 @@
 -- How rows, sizes and trail hold the domains.
-use Rattle.std.specs.Prelude.{◌≡◌, ℕ, ◌+◌, ◌*◌, ◌<◌, ◌≤◌, List, All, length, drop, sum, slice_index}
+use Rattle.std.specs.Prelude.{◌≡◌, ℕ, true, ◌+◌, ◌*◌, ◌<◌, ◌≤◌, List, All, length, drop, sum, slice_index}
 use Rattle.domain_bits.specs.BitRows.{has, words_for}
 use Rattle.domain_bits.specs.Removals.{State, times, in_domain, size_of}
 
@@ -20,3 +20,13 @@ pub record Kept (d : State) (words : ℕ) (rows sizes : List ℕ) (capacity : �
   pub range : All (InRange d.vertices d.values) d.removed
   pub all : sum sizes + length d.removed ≡ d.vertices * d.values
   pub room : d.vertices * d.values ≤ capacity
+
+-- the value noted for each vertex is in its domain, where that has one value only
+pub record Noted (d : State) (singles : List ℕ) : Type 0 where
+  pub long : length singles ≡ d.vertices
+  pub single : (p : ℕ) → p < d.vertices → size_of d p ≡ 1 → in_domain d p (slice_index singles p) ≡ true
+
+-- rows, sizes and noted values are as the trail says
+pub record Held (d : State) (words : ℕ) (rows sizes singles : List ℕ) (capacity : ℕ) : Type 0 where
+  pub kept : Kept d words rows sizes capacity
+  pub noted : Noted d singles

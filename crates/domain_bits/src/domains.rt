@@ -6,7 +6,7 @@
 
 ghost use Rattle.std.specs.Prelude.{◌≡◌, ℕ, ◌+◌, ◌-◌, ◌*◌, ◌/◌, ◌^◌, ◌<◌, ◌≤◌, ◌==◌, ◌&&◌, ◌↔◌, ◌++◌, ◌∷◌, [], not, true, List, length, IfOk, IfSome, IfNone, IsTrue, IsSome, nat_lt, drop, if◌then◌else◌, bit_and, bit_or, count_ones, slice_index, slice_set};
 ghost use Rattle.std.specs.Bool.{OnTrue};
-ghost use Rattle.std.specs.Int.{bit_not, w64};
+ghost use Rattle.std.specs.Int.{bit_not, trailing_zeros, w64};
 ghost use Rattle.domain_bits.specs.BitRows.{has, is_set, word_values, words_for};
 ghost use Rattle.domain_bits.specs.Changes.{Grows, IsEmptyDomain, Keeps, Single};
 ghost use Rattle.domain_bits.specs.Counting.{count, members};
@@ -32,7 +32,8 @@ impl Model for Mark {
 
 /// A domain for each vertex. All domains are full at first.
 ///
-/// Row `p` is the words from `p * words` on of `rows`; `sizes[p]` is how many bits it has set.
+/// Row `p` is the words from `p * words` on of `rows`; `sizes[p]` is how many bits it has set. Where that is one bit, `singles[p]`
+/// is its value, so that nobody has to look for it; elsewhere `singles[p]` may be anything.
 #[derive(Drop)]
 pub struct Domains<T: Trail = PairTrail> {
     vertices: u16,
@@ -40,19 +41,20 @@ pub struct Domains<T: Trail = PairTrail> {
     words: usize,
     rows: Vec<u64>,
     sizes: Vec<u16>,
+    singles: Vec<u16>,
     trail: T,
 }
 
 impl<T: Trail> Model for Domains<T> {
     ghost use Rattle.std.specs.Prelude.{◌≡◌, ℕ};
-    ghost use Rattle.domain_bits.specs.Inside.{Kept};
+    ghost use Rattle.domain_bits.specs.Inside.{Held};
     ghost use Rattle.domain_bits.specs.Removals.{State};
 
     ghost Value = { State };
 
     ghost view = { λ d. record { vertices = d.vertices; values = d.values; removed = T.removed d.trail } };
 
-    ghost invariant = { λ d. Kept (record { vertices = d.vertices; values = d.values; removed = T.removed d.trail }) d.words d.rows.items d.sizes.items (T.capacity d.trail) };
+    ghost invariant = { λ d. Held (record { vertices = d.vertices; values = d.values; removed = T.removed d.trail }) d.words d.rows.items d.sizes.items d.singles.items (T.capacity d.trail) };
 }
 
 impl Domains {
@@ -83,6 +85,7 @@ impl<T: Trail> Domains<T> {
         let words = (usize::from(values) + 63) / 64;
         let rows = full_rows(alloc, usize::from(vertices), usize::from(values), words)?;
         let sizes = vec![in alloc; values; usize::from(vertices)]?;
+        let singles = vec![in alloc; 0; usize::from(vertices)]?;
         let trail = T::with_room(alloc, usize::from(vertices) * usize::from(values))?;
         Ok(Domains {
             vertices,
@@ -90,6 +93,7 @@ impl<T: Trail> Domains<T> {
             words,
             rows,
             sizes,
+            singles,
             trail,
         })
     }
@@ -102,6 +106,7 @@ impl<T: Trail> Domains<T> {
     {
         let rows = Vec::from_slice(alloc, &self.rows)?;
         let sizes = Vec::from_slice(alloc, &self.sizes)?;
+        let singles = Vec::from_slice(alloc, &self.singles)?;
         let trail = self.trail.copy(alloc, usize::from(self.vertices) * usize::from(self.values))?;
         Ok(Domains {
             vertices: self.vertices,
@@ -109,6 +114,7 @@ impl<T: Trail> Domains<T> {
             words: self.words,
             rows,
             sizes,
+            singles,
             trail,
         })
     }
@@ -157,7 +163,7 @@ impl<T: Trail> Domains<T> {
         &self.rows[at..at + self.words]
     }
 
-    /// The value of the domain of `p`, where it has one value only. Cost: one step for each word of a row where it has, else one step.
+    /// The value of the domain of `p`, where it has one value only. Cost: one step.
     pub fn only(&self, p: u16) -> Option<u16>
         requires { p < self.now.vertices }
         ensures one { IsSome result ↔ (size_of self.now p ≡ 1) }
@@ -167,7 +173,7 @@ impl<T: Trail> Domains<T> {
         if self.size(p) != 1 {
             return None;
         }
-        Some(first_value(self.row(p)))
+        Some(self.singles[usize::from(p)])
     }
 
     /// The present mark. Cost: one step.
@@ -180,7 +186,8 @@ impl<T: Trail> Domains<T> {
         }
     }
 
-    /// Takes `t` from the domain of `p`, if it is there, and says whether it was. Cost: one step.
+    /// Takes `t` from the domain of `p`, if it is there, and says whether it was. Cost: one step, and where one value is left one for
+    /// each word of the row.
     pub fn remove(&mut self, p: u16, t: u16) -> bool
         requires p_in { p < self.old.vertices }
         requires t_in { t < self.old.values }
@@ -197,7 +204,13 @@ impl<T: Trail> Domains<T> {
         let at = usize::from(p) * self.words;
         let domain = &mut self.rows[at..at + self.words];
         take_value(p, domain, t, &mut self.trail);
-        lower(&mut self.sizes, usize::from(p), 1);
+        lower_noting(
+            &mut self.sizes,
+            &mut self.singles,
+            usize::from(p),
+            1,
+            domain,
+        );
         true
     }
 
@@ -215,6 +228,7 @@ impl<T: Trail> Domains<T> {
         let domain = &mut self.rows[at..at + self.words];
         let gone = filter_value(p, domain, t, &mut self.trail);
         lower(&mut self.sizes, usize::from(p), gone);
+        note(&mut self.singles, usize::from(p), t);
     }
 
     /// Takes from the domain of `p` all values that are not in the row. Cost: one step for each word of the row and for each value removed.
@@ -229,7 +243,13 @@ impl<T: Trail> Domains<T> {
         let at = usize::from(p) * self.words;
         let domain = &mut self.rows[at..at + self.words];
         let gone = filter_row(p, domain, row, &mut self.trail);
-        lower(&mut self.sizes, usize::from(p), gone);
+        lower_noting(
+            &mut self.sizes,
+            &mut self.singles,
+            usize::from(p),
+            gone,
+            domain,
+        );
     }
 
     /// Gives back all values that were removed since the mark. Cost: at most one step for each of them.
@@ -241,7 +261,13 @@ impl<T: Trail> Domains<T> {
         ensures values { self.new.values ≡ self.old.values }
     {
         while let Some(run) = self.trail.pop(mark.length) {
-            restore(&mut self.rows, &mut self.sizes, self.words, run);
+            restore(
+                &mut self.rows,
+                &mut self.sizes,
+                &mut self.singles,
+                self.words,
+                run,
+            );
         }
     }
 }
@@ -309,16 +335,67 @@ fn lower(sizes: &mut [u16], at: usize, by: u32)
     sizes[at] -= by as u16;
 }
 
-/// Gives back a run of values. Cost: one step.
-fn restore(rows: &mut [u64], sizes: &mut [u16], words: usize, run: Run)
+/// Notes the value of a domain.
+fn note(singles: &mut [u16], at: usize, t: u16)
+    requires { at < length singles.old }
+    ensures { singles.new ≡ slice_set singles.old at t }
+{
+    singles[at] = t;
+}
+
+/// Takes so many from one size, and notes the value that is left in the row where it is the only one. Cost: one step, and where
+/// values left all but one, one for each word of the row.
+fn lower_noting(sizes: &mut [u16], singles: &mut [u16], at: usize, by: u32, row: &[u64])
+    requires inside { at < length sizes.old }
+    requires noted { at < length singles.old }
+    requires enough { by ≤ slice_index sizes.old at }
+    requires short { length row.now ≤ 1024 }
+    requires left { count (has row.now) (64 * length row.now) ≡ slice_index sizes.old at - by }
+    requires unchanged { by ≡ 0 → slice_index sizes.old at ≡ 1 → has row.now (slice_index singles.old at) ≡ true }
+    ensures sizes { sizes.new ≡ slice_set sizes.old at (slice_index sizes.old at - by) }
+    ensures others { singles.new ≡ slice_set singles.old at (slice_index singles.new at) }
+    ensures single { slice_index sizes.old at - by ≡ 1 → has row.now (slice_index singles.new at) ≡ true }
+{
+    lower(sizes, at, by);
+    if by == 0 || sizes[at] != 1 {
+        return;
+    }
+    note(singles, at, first_value(row));
+}
+
+/// Gives back a run of values, and notes the value where a domain has it alone now. Cost: one step.
+fn restore(rows: &mut [u64], sizes: &mut [u16], singles: &mut [u16], words: usize, run: Run)
     requires row_in { run.vertex * words + run.place < length rows.old }
     requires vertex_in { run.vertex < length sizes.old }
+    requires noted { run.vertex < length singles.old }
+    requires place_in { run.place < 1024 }
+    requires some { 0 < run.word }
     requires fits { slice_index sizes.old run.vertex + count_ones run.word < 2 ^ 16 }
     ensures rows { rows.new ≡ slice_set rows.old (run.vertex * words + run.place) (bit_or (slice_index rows.old (run.vertex * words + run.place)) run.word) }
     ensures sizes { sizes.new ≡ slice_set sizes.old run.vertex (slice_index sizes.old run.vertex + count_ones run.word) }
+    ensures others { singles.new ≡ slice_set singles.old run.vertex (slice_index singles.new run.vertex) }
+    ensures single { slice_index sizes.new run.vertex ≡ 1 → slice_index singles.new run.vertex ≡ 64 * run.place + trailing_zeros w64 run.word }
 {
     rows[usize::from(run.vertex) * words + usize::from(run.place)] |= run.word;
     sizes[usize::from(run.vertex)] += run.word.count_ones() as u16;
+    note_restored(sizes, singles, run);
+}
+
+/// Notes the value of a run that was given back to a domain, where it is now the only one. Cost: one step.
+fn note_restored(sizes: &[u16], singles: &mut [u16], run: Run)
+    requires vertex_in { run.vertex < length sizes.now }
+    requires noted { run.vertex < length singles.old }
+    requires place_in { run.place < 1024 }
+    requires some { 0 < run.word }
+    ensures others { singles.new ≡ slice_set singles.old run.vertex (slice_index singles.new run.vertex) }
+    ensures single { slice_index sizes.now run.vertex ≡ 1 → slice_index singles.new run.vertex ≡ 64 * run.place + trailing_zeros w64 run.word }
+{
+    let at = usize::from(run.vertex);
+    if sizes[at] != 1 {
+        return;
+    }
+    let bit = run.word.trailing_zeros() as u16;
+    note(singles, at, 64 * run.place + bit);
 }
 
 /// Filters a row by another one.

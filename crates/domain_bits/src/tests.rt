@@ -54,6 +54,45 @@ fn a_trail_of_words_gives_back_what_it_took(rt: HostRuntime) -> Result<(), Fail>
     Ok(())
 }
 
+#[test]
+fn the_only_value_left_is_known(rt: HostRuntime) -> Result<(), Fail> {
+    let mut domains: Domains<WordTrail> = Domains::with_trail(rt.alloc(), 2, 130)?;
+    domains.intersect(1, &[8, 0, 1]);
+    assert_eq!(rt; domains.only(1), None);
+    assert!(rt; domains.remove(1, 3));
+    assert_eq!(rt; domains.only(1), Some(128));
+    Ok(())
+}
+
+#[test]
+fn a_value_given_back_is_known(rt: HostRuntime) -> Result<(), Fail> {
+    let mut domains: Domains<WordTrail> = Domains::with_trail(rt.alloc(), 2, 130)?;
+    domains.intersect(1, &[0, 0, 2]);
+    let mark = domains.mark();
+    domains.intersect(1, &[1, 0, 0]);
+    assert_eq!(rt; domains.only(1), None);
+    domains.undo_to(mark);
+    assert_eq!(rt; domains.only(1), Some(129));
+    Ok(())
+}
+
+#[test]
+fn the_value_left_stays_known(rt: HostRuntime) -> Result<(), Fail> {
+    let mut domains = Domains::new(rt.alloc(), 2, 130)?;
+    domains.intersect(0, &[8, 0, 0]);
+    assert_eq!(rt; domains.only(0), Some(3));
+    domains.intersect(0, &[8, 1, 0]);
+    assert_eq!(rt; domains.only(0), Some(3));
+    assert!(rt; domains.has(1, 129));
+    domains.assign(1, 129);
+    let copy = domains.copy(rt.alloc())?;
+    assert_eq!(rt; copy.only(0), Some(3));
+    assert_eq!(rt; copy.only(1), Some(129));
+    let lone = Domains::new(rt.alloc(), 1, 1)?;
+    assert_eq!(rt; lone.only(0), Some(0));
+    Ok(())
+}
+
 fn crosses_threads<T: Send + Sync>(_value: &T) {}
 
 #[test]

@@ -8,8 +8,8 @@ is-size : (g : _) (c : goal.After-row_known-1 g) → c.index.result.now ≡ size
 is-size g c =
     let f = c.self.inside in
     let in-range : c.args.p < f.vertices = rw (← c.self.view_is) at c.requires in
-    let read = get_or_read f.sizes.items c.from.result c.index.result.now (omega (arith, c.from.ensures, in-range, c.self.invariant.sized)) c.index.ensures 0 in
-    rw (← c.self.view_is) (read ∙ rw c.from.ensures (c.self.invariant.counts c.args.p in-range))
+    let read = get_or_read f.sizes.items c.from.result c.index.result.now (omega (arith, c.from.ensures, in-range, c.self.invariant.kept.sized)) c.index.ensures 0 in
+    rw (← c.self.view_is) (read ∙ rw c.from.ensures (c.self.invariant.kept.counts c.args.p in-range))
 
 pub returns-clause-empty : goal.returns-clause-empty
 returns-clause-empty g c =
