@@ -1,3 +1,6 @@
 pub mod Writing
 pub mod Shared
 pub mod Filled
+pub mod WordsAt
+pub mod Walking
+pub mod Counting

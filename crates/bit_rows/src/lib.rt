@@ -1,13 +1,20 @@
-//! Single bits of rows of words, and the count of what two rows share.
+//! Rows of words by their members: single bits, the walk from member to member, and counts of the values.
 //!
-//! A row of words is a set of numbers: value v is bit v % 64 of word v / 64. The layers above fill rows value by value
-//! and count intersections; whole rows are combined by the kernels of `domain_bits`. (Sets of values as words: J. R.
-//! Ullmann, "Bit-vector algorithms for binary constraint satisfaction and subgraph isomorphism", 2010.)
+//! A row of words is a set of numbers: value v is bit v % 64 of word v / 64. The layers above fill rows value by value,
+//! walk over the members of one, and keep of one what a count allows; whole rows are combined by the kernels of
+//! `domain_bits`. (Sets of values as words: J. R. Ullmann, "Bit-vector algorithms for binary constraint satisfaction and
+//! subgraph isomorphism", 2010.)
 #![tactic(auto)]
 
-ghost use Rattle.std.specs.Prelude.{◌≡◌, ℕ, ◌*◌, ◌^◌, ◌<◌, ◌≤◌, ◌==◌, ◌&&◌, ◌||◌, false, length};
-ghost use Rattle.domain_bits.specs.BitRows.{has};
+ghost use Rattle.std.specs.Prelude.{◌≡◌, ℕ, ◌+◌, ◌*◌, ◌^◌, ◌<◌, ◌≤◌, ◌==◌, ◌&&◌, ◌||◌, not, nat_lt, false, length};
+ghost use Rattle.domain_bits.specs.BitRows.{has, is_set};
 ghost use Rattle.graph_theory.specs.Neighbours.{count};
+
+mod counts;
+mod members;
+
+pub use counts::{count_members, keep_counted};
+pub use members::next_member;
 
 /// Whether the value is in the set that the row holds. Cost: one word.
 pub fn has_bit(row: &[u64], value: usize) -> bool
@@ -23,6 +30,37 @@ pub fn set_bit(row: &mut [u64], value: usize)
     ensures { (v : ℕ) → has row.new v ≡ (has row.old v || value == v) }
 {
     row[value / 64] |= 1 << (value % 64);
+}
+
+/// Takes the value out of the set that the row holds. Cost: one word.
+pub fn unset_bit(row: &mut [u64], value: usize)
+    requires { value < 64 * length row.old }
+    ensures { (v : ℕ) → has row.new v ≡ (has row.old v && not (value == v)) }
+{
+    row[value / 64] &= !(1 << (value % 64));
+}
+
+/// Makes the row the set of all values less than `below`. Cost: one step for each word.
+pub fn fill_below(row: &mut [u64], below: usize)
+    requires { below ≤ 64 * length row.old }
+    ensures { (v : ℕ) → has row.new v ≡ nat_lt v below }
+{
+    for place in 0..row.len() {
+        row[place] = word_below(place, below);
+    }
+}
+
+/// The word at a place of the row of all values less than `below`.
+fn word_below(place: usize, below: usize) -> u64
+    ensures { (b : ℕ) → b < 64 → is_set result b ≡ nat_lt (64 * place + b) below }
+{
+    if place < below / 64 {
+        u64::MAX
+    } else if place == below / 64 {
+        (1 << (below % 64)) - 1
+    } else {
+        0
+    }
 }
 
 /// Takes all values out of the set that the row holds. Cost: one step for each word.

@@ -60,7 +60,7 @@ shared_by_rows g xs ys a b a_in b_in ne x_is y_is =
 pub less_two : (both rest x y : ℕ) → both ≡ rest + y + x → (x ≤ both) × (y ≤ both - x) × (both - x - y ≡ rest)
 less_two both rest x y is = (omega arith, omega arith, omega arith)
 
-from_bool-one_if : (b : Bool) → from_bool b ≡ one_if b
+pub from_bool-one_if : (b : Bool) → from_bool b ≡ one_if b
 from_bool-one_if true = refl
 from_bool-one_if false = refl
 

@@ -1,2 +1,3 @@
 pub mod ByRows
 pub mod Filling
+pub mod Walked

@@ -2,19 +2,21 @@
 //!
 //! An embedding sends the common neighbours of two pattern vertices to common neighbours of their images, one to one, so
 //! a pair of images with fewer of them lies in no embedding (C. McCreesh, P. Prosser, "A parallel, backjumping subgraph
-//! isomorphism algorithm using supplemental graphs", 2015). Nothing is kept beside the graph: a count is made by the
-//! bits of two rows of neighbours, and the layers above keep what they need of it.
+//! isomorphism algorithm using supplemental graphs", 2015). Nothing is kept beside the graph, and the layers above keep
+//! what they need of the counts. One count is made by the bits of two rows of neighbours; those of a vertex with all
+//! others by a walk over its neighbours and theirs where that is fewer steps, as in sparse graphs, else by the rows.
 #![tactic(auto)]
 
-ghost use Rattle.std.specs.Prelude.{◌≡◌, ℕ, ◌*◌, ◌<◌, ◌==◌, ◌&&◌, not, nat_lt, length, slice_index, IfOk};
+ghost use Rattle.std.specs.Prelude.{◌≡◌, ℕ, ◌+◌, ◌*◌, ◌<◌, ◌==◌, ◌&&◌, not, nat_lt, length, slice_index, IfOk};
 ghost use Rattle.graph_theory.specs.Graph.{size as size_of};
-ghost use Rattle.graph_theory.specs.Neighbours.{common};
+ghost use Rattle.graph_theory.specs.Neighbours.{common, is_neighbour};
+ghost use Rattle.std.specs.Int.{from_bool};
 ghost use Rattle.graph_rows.specs.BitRow.{has, words_for};
 ghost use Rattle.common_neighbour.specs.Sharing.{shares, TooFewAreDead};
 
 mod threads;
 
-use bit_rows::{clear, count_both, has_bit, set_bit};
+use bit_rows::{clear, count_both, count_members, has_bit, next_member, set_bit};
 use graph_rows::Graph;
 use std::alloc::{AllocError, Global};
 use std::marker::Model;
@@ -52,18 +54,18 @@ impl<'a> Counts<'a> {
     }
 
     /// Writes the number of neighbours that each other vertex shares with `t`; what stands at `t` itself is left. Cost: one step
-    /// for each word of the graph.
+    /// for each word of the rows of `t` and of its neighbours, and for each neighbour of one of these, where this is less than one step for
+    /// each word of the graph; else that.
     pub fn fill_counts(&self, t: u16, counts: &mut [u16])
         requires t_in { t < size_of self.now }
         requires long { length counts.old ≡ size_of self.now }
         ensures exact { (u : ℕ) → u < size_of self.now → (t ≡ u → ⊥) → slice_index counts.new u ≡ common self.now t u }
         ensures itself { slice_index counts.new t ≡ slice_index counts.old t }
     {
-        let graph = self.graph;
-        for u in 0..graph.size() {
-            if u != t {
-                counts[usize::from(u)] = shared(graph, t, u);
-            }
+        if is_short_walk(self.graph, t) {
+            fill_by_walk(self.graph, t, counts);
+        } else {
+            fill_by_rows(self.graph, t, counts);
         }
     }
 
@@ -87,6 +89,92 @@ impl<'a> Counts<'a> {
 pub fn too_few_are_dead()
     ensures { TooFewAreDead }
 {}
+
+/// Whether the neighbours of t's neighbours are fewer than the words of the graph. Cost: one step for each neighbour of `t` and
+/// for each word of a row.
+fn is_short_walk(graph: &Graph, t: u16) -> bool
+    requires t_in { t < size_of graph.now }
+{
+    let size = usize::from(graph.size());
+    let near = graph.row(t);
+    let mut steps = 0;
+    let mut c = next_member(near, 0);
+    while c < 64 * near.len() {
+        steps += usize::from(graph.degree(c as u16));
+        c = next_member(near, c + 1);
+    }
+    steps < size * near.len()
+}
+
+/// Writes the counts of the other vertices one by one. Cost: one step for each word of the graph.
+fn fill_by_rows(graph: &Graph, t: u16, counts: &mut [u16])
+    requires t_in { t < size_of graph.now }
+    requires long { length counts.old ≡ size_of graph.now }
+    ensures exact { (u : ℕ) → u < size_of graph.now → (t ≡ u → ⊥) → slice_index counts.new u ≡ common graph.now t u }
+    ensures itself { slice_index counts.new t ≡ slice_index counts.old t }
+{
+    for u in 0..graph.size() {
+        if u != t {
+            counts[usize::from(u)] = shared(graph, t, u);
+        }
+    }
+}
+
+/// Writes the counts of the other vertices by a walk over the neighbours of t's neighbours. Cost: one step for each of them, and for each
+/// word of the rows of `t` and of its neighbours.
+fn fill_by_walk(graph: &Graph, t: u16, counts: &mut [u16])
+    requires t_in { t < size_of graph.now }
+    requires long { length counts.old ≡ size_of graph.now }
+    ensures exact { (u : ℕ) → u < size_of graph.now → (t ≡ u → ⊥) → slice_index counts.new u ≡ common graph.now t u }
+    ensures itself { slice_index counts.new t ≡ slice_index counts.old t }
+{
+    let itself = counts[usize::from(t)];
+    zero(counts);
+    walk(graph, t, counts);
+    counts[usize::from(t)] = itself;
+}
+
+/// Sets all counts to 0.
+fn zero(counts: &mut [u16])
+    ensures { (v : ℕ) → slice_index counts.new v ≡ 0 }
+{
+    for count in counts.iter_mut() {
+        *count = 0;
+    }
+}
+
+/// Counts each vertex, from 0 on, once for each neighbour that it shares with `t`.
+fn walk(graph: &Graph, t: u16, counts: &mut [u16])
+    requires t_in { t < size_of graph.now }
+    requires long { length counts.old ≡ size_of graph.now }
+    requires zero { (v : ℕ) → slice_index counts.old v ≡ 0 }
+    ensures { (u : ℕ) → u < size_of graph.now → slice_index counts.new u ≡ common graph.now t u }
+{
+    graph.neighbours_are_mutual();
+    let _size = graph.size();
+    let near = graph.row(t);
+    let mut c = next_member(near, 0);
+    while c < 64 * near.len() {
+        count_neighbours(graph, t, c as u16, counts);
+        c = next_member(near, c + 1);
+    }
+}
+
+/// Counts the neighbours of `c` once more, unless it is `t`. Cost: one step for each of them, and for each word of a row.
+fn count_neighbours(graph: &Graph, t: u16, c: u16, counts: &mut [u16])
+    requires c_in { c < size_of graph.now }
+    requires long { length counts.old ≡ size_of graph.now }
+    requires room { (v : ℕ) → slice_index counts.old v < 65535 }
+    ensures { (u : ℕ) → slice_index counts.new u ≡ slice_index counts.old u + from_bool (not (t == c) && is_neighbour graph.now c u) }
+{
+    if c == t {
+        return;
+    }
+    let _size = graph.size();
+    let itself = counts[usize::from(c)];
+    count_members(graph.row(c), counts);
+    counts[usize::from(c)] = itself;
+}
 
 /// Whether `u` is another vertex than `t` and shares at least `c` neighbours with it.
 fn is_near(graph: &Graph, t: u16, c: u16, u: u16) -> bool

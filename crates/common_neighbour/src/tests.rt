@@ -11,6 +11,12 @@ const TRIANGLE: &[u8] = b"3 2 1 2 2 0 2 2 0 1";
 
 const CYCLE: &[u8] = b"4 2 1 3 2 0 2 2 1 3 2 0 2";
 
+/// Vertices 0 and 1 and 2 with an edge between each two, vertex 3 with an edge to 0 and 1, and loops at 0 and 1.
+const LOOPS: &[u8] = b"4 4 0 1 2 3 4 0 1 2 3 2 0 1 2 0 1";
+
+/// A path of vertices 0, 1 and 2 with a loop at 1, and a vertex without edges.
+const PATH: &[u8] = b"4 1 1 3 0 1 2 1 1 0";
+
 /// The graph of a text of at most 64 vertices.
 fn graph(alloc: Global, text: &[u8]) -> Option<Graph>
     ensures { IfSome result (λ g. size g ≤ 64) }
@@ -75,6 +81,8 @@ fn counts_are_those_of_the_graph(rt: HostRuntime) -> Result<(), Fail> {
     assert_eq!(rt; counted(rt.alloc(), TRIANGLE, 2, 0), Some(1));
     assert_eq!(rt; counted(rt.alloc(), b"2 2 0 1 2 0 1", 0, 1), Some(0));
     assert_eq!(rt; all_counts(rt.alloc(), CYCLE, 1), Some([0, 9, 0, 2]));
+    assert_eq!(rt; all_counts(rt.alloc(), LOOPS, 1), Some([2, 9, 1, 1]));
+    assert_eq!(rt; all_counts(rt.alloc(), PATH, 0), Some([9, 0, 1, 0]));
     Ok(())
 }
 

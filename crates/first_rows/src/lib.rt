@@ -6,8 +6,9 @@
 //! S. Zampelli, Y. Deville, C. Solnon, 2010.)
 #![tactic(auto)]
 
-ghost use Rattle.std.specs.Prelude.{◌≡◌, ℕ, ◌<◌, ◌↔◌, true, length, IsTrue};
-ghost use Rattle.graph_theory.specs.Graph.{size};
+ghost use Rattle.std.specs.Prelude.{◌≡◌, ℕ, ◌<◌, ◌↔◌, true, length, IsTrue, Option};
+ghost use Rattle.graph_theory.specs.Graph.{size, edge};
+ghost use Rattle.graph_theory.specs.Embedding.{Allowed, Matches};
 ghost use Rattle.graph_theory.specs.Neighbours.{sequence, IsKeptBy};
 ghost use Rattle.graph_rows.specs.BitRow.{has, words_for};
 ghost use Rattle.nds_filter.specs.Sequences.{sequences};
@@ -44,7 +45,28 @@ pub fn is_first(q: &Problem, ps: &Sequences, ts: &Sequences, p: u16, t: u16) -> 
     requires target { ts.now ≡ sequences q.now.target }
     ensures { IsTrue result ↔ IsFirstValue q.now p t }
 {
-    q.allowed(p, t) && degree_filter::keeps(q, p, t) && keeps_sequence(q, ps, ts, p, t)
+    degree_filter::keeps(q, p, t) && is_allowed(q, p, t) && keeps_sequence(q, ps, ts, p, t)
+}
+
+/// Whether label and loop let `p` go to `t`. The loop of `t` is looked at only where it matters, since it lies in a row of its own.
+fn is_allowed(q: &Problem, p: u16, t: u16) -> bool
+    requires p_in { p < size q.now.pattern }
+    requires t_in { t < size q.now.target }
+    ensures { IsTrue result ↔ Allowed q.now p t }
+{
+    if takes_any_loop(q, p) {
+        q.target().label(t) == q.pattern().label(p)
+    } else {
+        q.allowed(p, t)
+    }
+}
+
+/// Whether `p` may go to a vertex with a loop and to one without: it has none itself, and the copy is not to be an induced one.
+fn takes_any_loop(q: &Problem, p: u16) -> bool
+    requires p_in { p < size q.now.pattern }
+    ensures { IsTrue result → (e : Option ℕ) → Matches q.now.induced (edge q.now.pattern p p) e }
+{
+    !q.induced() && !q.pattern().has_edge(p, p)
 }
 
 /// Whether the sequence of `t` keeps that of `p`.

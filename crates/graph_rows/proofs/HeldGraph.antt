@@ -2,18 +2,16 @@
 
 use Rattle.std.proofs.Common.{◌≡◌, ℕ, ◌*◌, ◌<◌, ◌≤◌, Bool, true, false, not, eqb, ◌&&◌, List, length, map, get_or, take, drop, Option, None, is_some, refl, sym, ap, ◌∙◌, zero-add, arith, inl, inr, ◌⊎◌}
 use Rattle.std.specs.List.{range_with_len}
-use Rattle.std.proofs.lemmas.Bool.{cases_lt}
+use Rattle.std.proofs.lemmas.Bool.{cases_lt, cases_eq, eq-eqb, ne_eqb, false≢true}
 use Rattle.std.proofs.lemmas.List.FromFn.{get_or-map-range_with_len, length-map-range_with_len, fill_by_all}
 use Rattle.std.proofs.lemmas.List.{length-take, get_or_read}
 use Rattle.std.proofs.lemmas.Option.{slice_get_past}
 use Rattle.graph_theory.specs.Graph.{Graph, size, edge, row_edge, entry_edge, tabulate}
 use Rattle.graph_theory.specs.Neighbours.{degree, is_neighbour}
 use Rattle.graph_theory.proofs.Counts.{count-same}
-use Rattle.graph_theory.specs.Neighbours.{degree, is_neighbour}
-use Rattle.graph_theory.proofs.Counts.{count-same}
 use Rattle.graph_theory.proofs.Tables.{slice_get-tabulate}
 use Rattle.graph_rows.specs.BitRow.{has}
-use Rattle.graph_rows.specs.Held.{marked, marks_other, edge_of_mark, graph_held, AreMarks}
+use Rattle.graph_rows.specs.Held.{marked, marks_other, edge_of_mark, graph_held, AreMarks, AreMutual}
 use Rattle.graph_rows.proofs.Bits.{has_past}
 use Rattle.graph_rows.proofs.Places.{has-row}
 use Rattle.graph_rows.proofs.Marking.{room_in_row}
@@ -86,3 +84,56 @@ pub row_read : (labels words degrees ws : List ℕ) (width len : ℕ) (g : Graph
     → a < size g → from ≡ a * width → ws ≡ words → len ≡ width → (b : ℕ) → has (take len (drop from ws)) b ≡ is_some (edge g a b)
 row_read labels words degrees ws width len g a from is marks a_in at same long b =
     rw (same, long) (row_is labels words degrees width g a from is marks a_in at b)
+
+-- which are all vertices
+pub row_within : (labels words degrees ws : List ℕ) (width len : ℕ) (g : Graph) (a from : ℕ) → graph_held labels words width ≡ g → AreMarks (length labels) width words degrees
+    → a < size g → from ≡ a * width → ws ≡ words → len ≡ width → (b : ℕ) → has (take len (drop from ws)) b ≡ true → b < size g
+row_within labels words degrees ws width len g a from is marks a_in at same long b h = by (cases_lt b (length labels))
+  where
+    sizes : length labels ≡ size g
+    sizes = ap size is
+
+    inside : a < length labels
+    inside = rw sizes a_in
+
+    by : (b < length labels) ⊎ (length labels ≤ b) → b < size g
+    by (inl b_in) = rw (← sizes) b_in
+    by (inr past) = absurd (false≢true (sym
+        (row_read labels words degrees ws width len g a from is marks a_in at same long b
+        ∙ ap is_some (ap (λ (h : Graph). edge h a b) (sym is) ∙ edge-held_past labels words width a b inside past)) ∙ h))
+
+-- no edge leads from a place past the last vertex
+pub edge-held_from_past : (labels words : List ℕ) (width a b : ℕ) → length labels ≤ a → edge (graph_held labels words width) a b ≡ None
+edge-held_from_past labels words width a b past =
+    let row : ℕ → List (Option ℕ) = λ (c : ℕ). tabulate (length labels) (λ (d : ℕ). edge_of_mark (marked words width c d)) in
+    ap (λ (r : Option (List (Option ℕ))). row_edge r b)
+    (slice_get_past (tabulate (length labels) row) a (rw (length-map-range_with_len row 0 (length labels)) past))
+
+-- where marks are mutual, edges lead both ways
+pub edges_mutual : (labels words : List ℕ) (width : ℕ) → AreMutual (length labels) width words
+    → (a b : ℕ) → is_some (edge (graph_held labels words width) a b) ≡ is_some (edge (graph_held labels words width) b a)
+edges_mutual labels words width turns a b = by (cases_lt a (length labels)) (cases_lt b (length labels))
+  where
+    by : (a < length labels) ⊎ (length labels ≤ a) → (b < length labels) ⊎ (length labels ≤ b)
+        → is_some (edge (graph_held labels words width) a b) ≡ is_some (edge (graph_held labels words width) b a)
+    by (inl a_in) (inl b_in) =
+        ap is_some (edge-held labels words width a b a_in b_in ∙ ap edge_of_mark (turns.each a b a_in b_in) ∙ sym (edge-held labels words width b a b_in a_in))
+    by (inl a_in) (inr past) = ap is_some (edge-held_past labels words width a b a_in past ∙ sym (edge-held_from_past labels words width b a past))
+    by (inr past) (inl b_in) = ap is_some (edge-held_from_past labels words width a b past ∙ sym (edge-held_past labels words width b a b_in past))
+    by (inr past) (inr out) = ap is_some (edge-held_from_past labels words width a b past ∙ sym (edge-held_from_past labels words width b a out))
+
+eqb-turned : (a b : ℕ) → eqb a b ≡ eqb b a
+eqb-turned a b = by (cases_eq a b)
+  where
+    by : (a ≡ b) ⊎ (a ≡ b → ⊥) → eqb a b ≡ eqb b a
+    by (inl e) = eq-eqb a b e ∙ sym (eq-eqb b a (sym e))
+    by (inr ne) = ne_eqb a b ne ∙ sym (ne_eqb b a (λ e. ne (sym e)))
+
+-- and so vertices are neighbours both ways
+pub mutual_in : (labels words : List ℕ) (width : ℕ) (g : Graph) → graph_held labels words width ≡ g → AreMutual (length labels) width words
+    → (a b : ℕ) → is_neighbour g a b ≡ is_neighbour g b a
+mutual_in labels words width g is turns a b =
+    ap (λ (h : Graph). is_neighbour h a b) (sym is)
+    ∙ ap (λ (t : Bool). not t && is_some (edge (graph_held labels words width) a b)) (eqb-turned a b)
+    ∙ ap (λ (t : Bool). not (eqb b a) && t) (edges_mutual labels words width turns a b)
+    ∙ ap (λ (h : Graph). is_neighbour h b a) is

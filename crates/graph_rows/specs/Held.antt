@@ -33,6 +33,10 @@ pub record AreMarks (n width : ℕ) (words degrees : List ℕ) : Type 0 where
   pub padded : (a b : ℕ) → a < n → n ≤ b → b < 64 * width → marked words width a b ≡ false
   pub counted : (a : ℕ) → a < n → slice_index degrees a ≡ count (marks_other words width a) n
 
+-- Of n vertices, b is marked in the row of a where a is marked in the row of b.
+pub record AreMutual (n width : ℕ) (words : List ℕ) : Type 0 where
+  pub each : (a b : ℕ) → a < n → b < n → marked words width a b ≡ marked words width b a
+
 -- Whether b stands in a list.
 abbrev pub stands_in : List ℕ → ℕ → Bool
 stands_in [] b = false

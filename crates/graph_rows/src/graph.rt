@@ -1,8 +1,8 @@
 //! Graphs as bit rows: an edge is one bit, and a vertex's neighbours are one row of words. (Ullmann 2010.)
 
-ghost use Rattle.std.specs.Prelude.{◌≡◌, ℕ, ◌+◌, ◌*◌, ◌^◌, ◌<◌, ◌≤◌, ◌==◌, ◌&&◌, ◌||◌, ◌↔◌, not, false, length, is_some, IsTrue, IfOk, slice_index};
+ghost use Rattle.std.specs.Prelude.{◌≡◌, ℕ, ◌+◌, ◌*◌, ◌^◌, ◌<◌, ◌≤◌, ◌==◌, ◌&&◌, ◌||◌, ◌↔◌, not, true, false, length, is_some, IsTrue, IfOk, slice_index};
 ghost use Rattle.graph_theory.specs.Graph.{size as size_of, label as label_of, edge as edge_of, graph_of};
-ghost use Rattle.graph_theory.specs.Neighbours.{degree as degree_of};
+ghost use Rattle.graph_theory.specs.Neighbours.{degree as degree_of, is_neighbour};
 ghost use Rattle.lad_reader.specs.Parts.{vertices_of, AreBelow, AllBelow};
 ghost use Rattle.graph_rows.specs.BitRow.{has, words_for};
 ghost use Rattle.graph_rows.specs.Held.{marked, AreMarks, AddsMark, AddsListed, either_said};
@@ -23,13 +23,13 @@ pub struct Graph {
 impl Model for Graph {
     ghost use Rattle.graph_theory.specs.Graph.{Graph as TheGraph};
     ghost use Rattle.std.specs.Prelude.{length};
-    ghost use Rattle.graph_rows.specs.Held.{graph_held, AreMarks};
+    ghost use Rattle.graph_rows.specs.Held.{graph_held, AreMarks, AreMutual};
 
     ghost Value = { TheGraph };
 
     ghost view = { λ g. graph_held g.labels.items g.words.items g.width };
 
-    ghost invariant = { λ g. AreMarks (length g.labels.items) g.width g.words.items g.degrees.items };
+    ghost invariant = { λ g. AreMarks (length g.labels.items) g.width g.words.items g.degrees.items × AreMutual (length g.labels.items) g.width g.words.items };
 }
 
 impl Graph {
@@ -106,9 +106,17 @@ impl Graph {
         requires { a < size_of self.now }
         ensures long { length result.now ≡ words_for (size_of self.now) }
         ensures neighbours { (b : ℕ) → has result.now b ≡ is_some (edge_of self.now a b) }
+        ensures within { (b : ℕ) → has result.now b ≡ true → b < size_of self.now }
     {
         let from = usize::from(a) * self.width;
         &self.words[from..from + self.width]
+    }
+
+    /// Each vertex is a neighbour of its neighbours. It changes nothing; the fact is what it is called for.
+    pub fn neighbours_are_mutual(&self)
+        ensures { (a b : ℕ) → is_neighbour self.now a b ≡ is_neighbour self.now b a }
+    {
+        let _width = self.width;
     }
 
     /// Whether the other graph has the same labels and edges. Cost: the words of the rows.

@@ -1,2 +1,3 @@
 pub mod CountedLists
+pub mod Walked
 pub mod Answering

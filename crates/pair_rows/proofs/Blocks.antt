@@ -5,7 +5,7 @@ use Rattle.std.specs.Prelude.{slice_get, slice_index_or}
 use Rattle.std.proofs.lemmas.Bool.{cases_eq, cases_order, eqb-true, eq-eqb}
 use Rattle.std.proofs.lemmas.List.{get_or-set_same, get_or-set_other, length-set, get_or_read, take-append-le}
 use Rattle.std.proofs.lemmas.List.FromFn.{get_or-map-range_with_len}
-use Rattle.std.proofs.lemmas.Option.{slice_get_within}
+use Rattle.std.proofs.lemmas.Option.{slice_get_within, get_or_from_slice_get}
 use Rattle.std.proofs.Math.Seq.{take-length}
 use native.Mathlib.Nat.{mul-le-mul_right}
 use Rattle.graph_rows.specs.BitRow.{has, words_for}
@@ -79,6 +79,21 @@ row_read q vertices width kinds places block_of owners counts pool counted held 
     let s_in : s < length block_of = omega (arith, held.block_of_are) in
     let block_at : block ≡ get_or block_of t 0 = get_or_read block_of s block s_in block_is 0 ∙ ap (λ n. get_or block_of n 0) s_is in
     rw (place_at, block_at, len_is, words_is) (row_given q vertices width kinds places block_of owners counts pool counted held rows is p r t p_in r_in apart t_in made)
+
+-- the kind of a pair, where the parts are read one by one
+pub kind_read : (q : Problem) (vertices width : ℕ) (kinds : List PairKind) (places block_of owners counts pool : List ℕ) (counted : Graph)
+    → Held q vertices width kinds places block_of owners counts pool counted → (problem : Problem) → q ≡ problem
+    → (p r : ℕ) → p < size problem.pattern → r < size problem.pattern → (p ≡ r → ⊥)
+    → (i j place : ℕ) (kind : PairKind) → i ≡ p → j ≡ r → place ≡ get_or places (i * vertices + j) place → kind ≡ get_or kinds place kind → kind ≡ kind_of problem p r
+kind_read q vertices width kinds places block_of owners counts pool counted held problem same p r p_in r_in apart i j place kind i_is j_is place_is kind_is =
+    let p_below : p < size q.pattern = subst (λ (x : Problem). p < size x.pattern) (sym same) p_in in
+    let r_below : r < size q.pattern = subst (λ (x : Problem). r < size x.pattern) (sym same) r_in in
+    let number : i * vertices + j ≡ p * size q.pattern + r = rw (i_is, j_is, held.vertices_are) refl in
+    let pair : p * size q.pattern + r < size q.pattern * size q.pattern = place_within (size q.pattern) (size q.pattern) p r p_below r_below in
+    let inside : i * vertices + j < length places = omega (arith, number, pair, held.classed.long) in
+    let place_at : place ≡ get_or places (p * size q.pattern + r) 0 = get_or_read places (i * vertices + j) place inside place_is 0 ∙ ap (λ n. get_or places n 0) number in
+    let stands : slice_get kinds place ≡ Some (kind_of q p r) = rw place_at (held.classed.each p r r_below pair apart) in
+    kind_is ∙ get_or_from_slice_get kinds place (kind_of q p r) kind stands ∙ ap (λ (x : Problem). kind_of x p r) same
 
 -- a block is within the words
 pub block_within : (blocks kinds width block : ℕ) → block < blocks → (block * kinds + kinds) * width ≤ blocks * kinds * width

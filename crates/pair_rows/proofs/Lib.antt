@@ -1,3 +1,4 @@
 pub mod Rowing
 pub mod Classes
 pub mod Blocks
+pub mod ByWords

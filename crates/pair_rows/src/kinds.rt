@@ -1,14 +1,15 @@
 //! Kinds of pairs of pattern vertices: two pairs of one kind have the same consistent values.
 
-ghost use Rattle.std.specs.Prelude.{◌≡◌, ℕ, ◌+◌, ◌*◌, ◌^◌, ◌<◌, ◌≤◌, ◌↔◌, IsTrue, IfOk, IfSome, Some, drop, length, slice_index, slice_get};
-ghost use Rattle.graph_theory.specs.Graph.{size};
+ghost use Rattle.std.specs.Prelude.{◌≡◌, ℕ, ◌+◌, ◌*◌, ◌^◌, ◌<◌, ◌≤◌, ◌↔◌, ◌&&◌, ◌||◌, not, true, false, is_some, IsTrue, IfOk, IfSome, Some, drop, length, slice_index, slice_get};
+ghost use Rattle.graph_theory.specs.Graph.{size, edge};
 ghost use Rattle.graph_theory.specs.Neighbours.{common};
 ghost use Rattle.graph_theory.specs.Embedding.{Matches};
-ghost use Rattle.graph_rows.specs.BitRow.{words_for};
+ghost use Rattle.graph_rows.specs.BitRow.{has, words_for};
 ghost use Rattle.pair_rows.specs.Kinds.{kind_of, Joins, RowIs, HasRow, AreKinds, KindsStay, WordsStay};
 
-use bit_rows::{clear, set_bit};
+use bit_rows::{clear, fill_below, keep_counted, next_member, set_bit, unset_bit};
 use common_neighbour::Counts;
+use domain_bits::and_not_into;
 use graph_rows::Problem;
 use std::alloc::{AllocError, Global};
 
@@ -124,8 +125,8 @@ fn find_kind(kinds: &[PairKind], kind: PairKind) -> Option<u32>
     None
 }
 
-/// Makes the rows of all kinds at `t`, one after another from row `first` on; the other rows stay. Cost: one step for each
-/// kind and target vertex.
+/// Makes the rows of all kinds at `t`, one after another from row `first` on; the other rows stay. Cost: for each kind one step for
+/// each word of a row, and one for each neighbour of `t` where the kind has an edge; else, where it shares neighbours, one for each count.
 pub(crate) fn fill_block(
     q: &Problem,
     kinds: &[PairKind],
@@ -150,7 +151,7 @@ pub(crate) fn fill_block(
     }
 }
 
-/// Makes the row of a kind at `t`. Cost: one step for each target vertex.
+/// Makes the row of a kind at `t`.
 fn fill_row(q: &Problem, kind: &PairKind, t: u16, counts: &[u16], row: &mut [u64])
     requires t_in { t < size q.now.target }
     requires counts_long { length counts.now ≡ size q.now.target }
@@ -158,11 +159,76 @@ fn fill_row(q: &Problem, kind: &PairKind, t: u16, counts: &[u16], row: &mut [u64
     requires long { length row.old ≡ words_for (size q.now.target) }
     ensures { RowIs q.now kind.now t row.new }
 {
+    if has_edge(kind) {
+        fill_near(q, kind, t, counts, row);
+    } else {
+        fill_apart(q, kind, t, counts, row);
+    }
+}
+
+/// Whether a pair of the kind has an edge, in one direction or the other.
+fn has_edge(kind: &PairKind) -> bool
+    ensures { result ≡ (is_some kind.now.out || is_some kind.now.back) }
+{
+    kind.out.is_some() || kind.back.is_some()
+}
+
+/// Whether a pair of the kind is asked nothing but distinct images.
+pub(crate) fn asks_nothing(q: &Problem, kind: &PairKind) -> bool
+    ensures { IsTrue result → (t u : ℕ) → (t ≡ u → ⊥) → Joins q.now kind.now t u }
+{
+    !q.induced() && !has_edge(kind) && kind.shared == 0
+}
+
+/// Makes the row of a kind with an edge: its values are among the neighbours of `t`, of which each is tested. Cost: one step for each
+/// neighbour and for each word of a row.
+fn fill_near(q: &Problem, kind: &PairKind, t: u16, counts: &[u16], row: &mut [u64])
+    requires edge { (is_some kind.now.out || is_some kind.now.back) ≡ true }
+    requires t_in { t < size q.now.target }
+    requires counts_long { length counts.now ≡ size q.now.target }
+    requires counted { (u : ℕ) → u < size q.now.target → (t ≡ u → ⊥) → slice_index counts.now u ≡ common q.now.target t u }
+    requires long { length row.old ≡ words_for (size q.now.target) }
+    ensures { RowIs q.now kind.now t row.new }
+{
+    let target = q.target();
+    target.neighbours_are_mutual();
+    let near = target.row(t);
     clear(row);
-    for u in 0..q.target().size() {
-        if joins(q, kind, t, u, counts[usize::from(u)]) {
-            set_bit(row, usize::from(u));
+    let mut u = next_member(near, 0);
+    while u < 64 * near.len() {
+        if joins(q, kind, t, u as u16, counts[u]) {
+            set_bit(row, u);
         }
+        u = next_member(near, u + 1);
+    }
+}
+
+/// Makes the row of a kind without edges, by whole words. Cost: three steps for each word, and one for each count where the kind
+/// shares neighbours.
+fn fill_apart(q: &Problem, kind: &PairKind, t: u16, counts: &[u16], row: &mut [u64])
+    requires none { (is_some kind.now.out || is_some kind.now.back) ≡ false }
+    requires t_in { t < size q.now.target }
+    requires counts_long { length counts.now ≡ size q.now.target }
+    requires counted { (u : ℕ) → u < size q.now.target → (t ≡ u → ⊥) → slice_index counts.now u ≡ common q.now.target t u }
+    requires long { length row.old ≡ words_for (size q.now.target) }
+    ensures { RowIs q.now kind.now t row.new }
+{
+    let target = q.target();
+    target.neighbours_are_mutual();
+    fill_below(row, usize::from(target.size()));
+    take_neighbours(q, t, row);
+    keep_counted(row, counts, kind.shared);
+    unset_bit(row, usize::from(t));
+}
+
+/// In the induced kind takes out of the row the vertices to which an edge leads from `t`. Cost: one step for each word.
+fn take_neighbours(q: &Problem, t: u16, row: &mut [u64])
+    requires t_in { t < size q.now.target }
+    requires long { length row.old ≡ words_for (size q.now.target) }
+    ensures { (u : ℕ) → has row.new u ≡ (has row.old u && not (q.now.induced && is_some (edge q.now.target t u))) }
+{
+    if q.induced() {
+        and_not_into(row, q.target().row(t));
     }
 }
 

@@ -1,13 +1,13 @@
 //! Rows of consistent values, made at a target vertex when it is first needed.
 
-ghost use Rattle.std.specs.Prelude.{◌≡◌, ℕ, ◌<◌, ◌≤◌, ◌==◌, true, length, IfOk, slice_index};
+ghost use Rattle.std.specs.Prelude.{◌≡◌, ℕ, ◌<◌, ◌≤◌, ◌==◌, true, length, IsTrue, IfOk, slice_index};
 ghost use Rattle.graph_theory.specs.Graph.{size};
 ghost use Rattle.graph_rows.specs.BitRow.{has, words_for};
 ghost use Rattle.search_theory.specs.Consistency.{AreConsistent};
 ghost use Rattle.pair_rows.specs.Rows.{IsMade};
 ghost use Rattle.pair_rows.specs.Held.{owns};
 
-use crate::kinds::{PairKind, classify, fill_block};
+use crate::kinds::{PairKind, asks_nothing, classify, fill_block};
 use common_neighbour::Counts;
 use graph_rows::Problem;
 use std::alloc::{AllocError, Global};
@@ -80,8 +80,9 @@ impl<'a> PairRows<'a> {
     }
 
     /// Makes the rows at `t`, unless they are made. They take the next free block; where there is none they take the last, and
-    /// the vertex that had it has its rows no longer. It takes no memory. Cost where they are made already: two steps;
-    /// else one step for each word of the target and for each kind and target vertex.
+    /// the vertex that had it has its rows no longer. It takes no memory. Cost where they are made already: two steps; else the counts
+    /// of `t`, and for each kind one step for each word of a row, with one for each neighbour of `t` where the kind has an edge, or for each
+    /// target vertex where it has none and shares neighbours.
     pub fn make(&mut self, t: u16)
         requires t_in { t < size self.old.problem.target }
         ensures problem { self.new.problem ≡ self.old.problem }
@@ -122,6 +123,18 @@ impl<'a> PairRows<'a> {
         let block = self.block_of[usize::from(t)] as usize;
         let from = (block * self.kinds.len() + place) * self.width;
         &self.pool[from..from + self.width]
+    }
+
+    /// Whether `p` and `r` are asked nothing but distinct images, so that no row is needed: the copy is not to be an induced one, no edge
+    /// leads from one to the other in either direction, and they share no neighbour. Cost: two steps.
+    pub fn is_free(&self, p: u16, r: u16) -> bool
+        requires p_in { p < size self.now.problem.pattern }
+        requires r_in { r < size self.now.problem.pattern }
+        requires apart { p ≡ r → ⊥ }
+        ensures { IsTrue result → (t u : ℕ) → (t ≡ u → ⊥) → AreConsistent self.now.problem p t r u }
+    {
+        let pair = usize::from(p) * self.vertices + usize::from(r);
+        asks_nothing(self.problem, &self.kinds[self.places[pair] as usize])
     }
 }
 

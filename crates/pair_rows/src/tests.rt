@@ -70,3 +70,25 @@ fn rows_hold_what_goes_together(rt: HostRuntime) -> Result<(), Fail> {
     assert_eq!(rt; row(rt.alloc(), PATH, CYCLE, false, 1, 2, 3), Some(0b0101));
     Ok(())
 }
+
+/// Whether `p` and `r` are asked nothing but distinct images.
+fn free(alloc: Global, pattern: &[u8], induced: bool, p: u16, r: u16) -> Option<bool> {
+    let q = Problem::new(graph(alloc, pattern)?, graph(alloc, CYCLE)?, induced);
+    let Ok(rows) = PairRows::new(alloc, &q) else {
+        return None;
+    };
+    let patterns = q.pattern().size();
+    if p >= patterns || r >= patterns || p == r {
+        return None;
+    }
+    Some(rows.is_free(p, r))
+}
+
+#[test]
+fn pairs_apart_are_free(rt: HostRuntime) -> Result<(), Fail> {
+    assert_eq!(rt; free(rt.alloc(), APART, false, 0, 1), Some(true));
+    assert_eq!(rt; free(rt.alloc(), APART, true, 0, 1), Some(false));
+    assert_eq!(rt; free(rt.alloc(), EDGE, false, 1, 0), Some(false));
+    assert_eq!(rt; free(rt.alloc(), PATH, false, 0, 2), Some(false));
+    Ok(())
+}

@@ -1,6 +1,6 @@
 use Rattle.std.proofs.Common.{◌≡◌, ℕ, ◌<◌, get_or}
 use Rattle.graph_theory.specs.Neighbours.{common}
-use Rattle.common_neighbour.proofs.Counts.fill_counts.Given as goal
+use Rattle.common_neighbour.proofs.fill_by_rows.Given as goal
 
 abbrev pub invariant-loop-u : goal.invariant-loop-u
 invariant-loop-u l = record {
