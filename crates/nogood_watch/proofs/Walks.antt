@@ -1,0 +1,355 @@
+-- A walk, visit by visit.
+use Rattle.std.proofs.Common.{◌≡◌, ℕ, ◌+◌, ◌-◌, ◌*◌, ◌/◌, ◌%◌, ◌<◌, ◌≤◌, Bool, true, false, cond, eqb, ltb, List, [], ◌++◌, length, get_or, refl, sym, ap, ◌∙◌, subst, arith, inl, inr, ◌⊎◌, length-append}
+use Rattle.std.proofs.lemmas.Bool.{cases_eq, eq-eqb, ne_eqb, eqb-true, ltb-true, ltb-false}
+use Rattle.std.proofs.lemmas.List.{get_or_append_left, get_or-append_right}
+use Rattle.std.proofs.lemmas.Nat.{div-mul-add, mod-mul-add}
+use Rattle.domain_bits.specs.Counting.{count}
+use Rattle.domain_bits.specs.Removals as removals
+use Rattle.domain_bits.proofs.Sizes.{count_some}
+use Rattle.nogood_watch.specs.Lists.{no_watch, Chained, renamed}
+use Rattle.nogood_watch.specs.declared.watched.WatchAnswer.{WatchAnswer}
+use Rattle.nogood_watch.specs.declared.watched.WatchAnswer.TheVariants.{Quiet, Forced, Fail}
+use Rattle.nogood_watch.specs.Nogoods.{State, Nogood, literal, partner, nogood, nogood_of, AreLiterals, AreWatches}
+use Rattle.nogood_watch.specs.Watching.{IsAssigned, IsGuarded, Follows, Answers, forced_at}
+use Rattle.nogood_watch.specs.Inside.{cell, home_of}
+use Rattle.nogood_watch.specs.Walking.{Homes, Visited, Ready, Walking, Walked, Tells, to_visit}
+use Rattle.nogood_watch.proofs.Chains.{first_home, no_home, chained_same}
+use Rattle.nogood_watch.proofs.Waiting.{count_less, half_count, visit_count}
+use Rattle.nogood_watch.proofs.Visits.{partner_twice, partner_in, half_in, pair_is}
+use Rattle.nogood_watch.proofs.Readiness.{cell_below, watch_in}
+
+-- ---- one visit more
+
+-- what is guarded stays so
+guarded_more : (d : removals.State) (nogoods : List Nogood) (w w' : List (ℕ × ℕ)) (forced more : List (ℕ × ℕ × ℕ)) (l : ℕ × ℕ) (x : ℕ) → literal w' x ≡ literal w x → literal w' (partner x) ≡ literal w (partner x)
+    → IsGuarded d nogoods w forced l x → IsGuarded d nogoods w' (forced ++ more) l x
+guarded_more d nogoods w w' forced more l x e f (inl free) = inl (record { this = rw e free.this; other = rw f free.other })
+guarded_more d nogoods w w' forced more l x e f (inr (inl h)) = inr (inl (record {
+  this = e ∙ h.this;
+  place = h.place;
+  within = rw length-append (omega (arith, h.within));
+  other = get_or_append_left forced more (0, 0, 0) h.place h.within ∙ h.other ∙ ap (λ (k : ℕ × ℕ). (k.0, k.1, (nogood_of nogoods x).name)) (sym f);
+}))
+guarded_more d nogoods w w' forced more l x e f (inr (inr h)) = inr (inr (record { this = e ∙ h.this; other = rw f h.other }))
+
+-- the other watch is at another vertex
+other_literal : (nogoods : List Nogood) (w : List (ℕ × ℕ)) (x : ℕ) (l : ℕ × ℕ) → AreWatches nogoods w → x < length w → literal w x ≡ l → literal w (partner x) ≡ l → ⊥
+other_literal nogoods w x l a h e f = a.apart x h (ap (λ (k : ℕ × ℕ). k.0) (e ∙ sym f))
+
+pub walking_more : (d : removals.State) (nogoods : List Nogood) (start : List (ℕ × ℕ)) (l : ℕ × ℕ) (w w' : List (ℕ × ℕ)) (heads heads' next next' : List ℕ) (forced forced' : List (ℕ × ℕ × ℕ)) (x : ℕ)
+    → ((i : ℕ) → i < length nogoods → AreLiterals d.vertices d.values (nogood nogoods i).literals) → AreWatches nogoods start
+    → (a : Walking d nogoods start l w heads next forced) → x < length w → a.home x ≡ d.vertices * d.values
+    → Visited d nogoods w w' forced forced' x
+    → ((home : ℕ → ℕ) → Chained home heads next → home x ≡ d.vertices * d.values → home (partner x) ≡ cell d.values (literal w (partner x)) → Homes d.values home w' heads' next' x)
+    → length heads' ≡ length heads → length next' ≡ length next → Walking d nogoods start l w' heads' next' forced' × (to_visit heads' next' < to_visit heads next)
+walking_more d nogoods start l w w' heads heads' next next' forced forced' x are st a x-in at-hand v homes hl nl = (
+  record {
+    heads_long = hl ∙ a.heads_long;
+    next_long = nl ∙ a.next_long ∙ sym v.long;
+    start_long = a.start_long ∙ sym v.long;
+    watches_are = v.watches_are;
+    home = h.to;
+    chained = h.chained;
+    waits = λ z z-in e. waits z (rw v.long at z-in) e (cases_eq z x) (cases_eq z (partner x));
+    rests = λ z z-in n. rests z (rw v.long at z-in) n (cases_eq z x) (cases_eq z (partner x));
+    done = λ z z-in s n. done z (rw v.long at z-in) s n (cases_eq z x) (cases_eq z (partner x));
+    others = λ z z-in n m. others z (rw v.long at z-in) n m (cases_eq z x) (cases_eq z (partner x));
+    follows = λ k k-in. rw v.forces.after (follows k (rw v.forces.after at k-in) (cut (length forced) k));
+    room = room;
+  },
+  omega (
+    arith,
+    less,
+    visit_count a.home heads next (d.vertices * d.values) a.chained a.heads_long,
+    subst (λ n. to_visit heads' next' ≡ count (λ z. eqb (h.to z) (d.vertices * d.values)) n) nl (visit_count h.to heads' next' (d.vertices * d.values) h.chained (hl ∙ a.heads_long)),
+  ),
+)
+  where
+    y-in : partner x < length w
+    y-in = partner_in x (length w) (length nogoods) a.watches_are.two x-in
+
+    own : literal w x ≡ l
+    own = (a.waits x x-in at-hand).0
+
+    first : literal start x ≡ l
+    first = (a.waits x x-in at-hand).1
+
+    x-start : x < length start
+    x-start = omega (arith, x-in, a.start_long)
+
+    y-rests : a.home (partner x) ≡ d.vertices * d.values → ⊥
+    y-rests e = other_literal nogoods w x l a.watches_are x-in own (a.waits (partner x) y-in e).0
+
+    h : Homes d.values a.home w' heads' next' x
+    h = homes a.home a.chained at-hand (a.rests (partner x) y-in y-rests)
+
+    x-in' : x < length w'
+    x-in' = omega (arith, x-in, v.long)
+
+    y-in' : partner x < length w'
+    y-in' = omega (arith, y-in, v.long)
+
+    x-away : h.to x ≡ d.vertices * d.values → ⊥
+    x-away e =
+        let r = watch_in d.vertices d.values nogoods w' x are v.watches_are x-in' in
+        omega (arith, cell_below d.vertices d.values (literal w' x) r.0 r.1, sym h.this ∙ e)
+
+    y-away : h.to (partner x) ≡ d.vertices * d.values → ⊥
+    y-away e =
+        let r = watch_in d.vertices d.values nogoods w' (partner x) are v.watches_are y-in' in
+        omega (arith, cell_below d.vertices d.values (literal w' (partner x)) r.0 r.1, sym h.other ∙ e)
+
+    cut : (n k : ℕ) → (k < n) ⊎ (n ≤ k)
+    cut n k = by (ltb k n) refl
+      where
+        by : (b : Bool) → ltb k n ≡ b → (k < n) ⊎ (n ≤ k)
+        by true e = inl (ltb-true k n e)
+        by false e = inr (ltb-false k n e)
+
+    waits : (z : ℕ) → z < length w → h.to z ≡ d.vertices * d.values → (z ≡ x) ⊎ (z ≡ x → ⊥) → (z ≡ partner x) ⊎ (z ≡ partner x → ⊥) → (literal w' z ≡ l) × (literal start z ≡ l)
+    waits z z-in e (inl f) _ = absurd (x-away (ap h.to (sym f) ∙ e))
+    waits z z-in e (inr n) (inl f) = absurd (y-away (ap h.to (sym f) ∙ e))
+    waits z z-in e (inr n) (inr m) = let old = a.waits z z-in (sym (h.rest z n m) ∙ e) in (v.others z n m ∙ old.0, old.1)
+
+    rests : (z : ℕ) → z < length w → (h.to z ≡ d.vertices * d.values → ⊥) → (z ≡ x) ⊎ (z ≡ x → ⊥) → (z ≡ partner x) ⊎ (z ≡ partner x → ⊥) → h.to z ≡ cell d.values (literal w' z)
+    rests z z-in n (inl f) _ = ap h.to f ∙ h.this ∙ ap (λ k. cell d.values (literal w' k)) (sym f)
+    rests z z-in n (inr _) (inl f) = ap h.to f ∙ h.other ∙ ap (λ k. cell d.values (literal w' k)) (sym f)
+    rests z z-in n (inr i) (inr j) = h.rest z i j ∙ a.rests z z-in (λ e. n (h.rest z i j ∙ e)) ∙ ap (cell d.values) (sym (v.others z i j))
+
+    partner-not : (z : ℕ) → (z ≡ x → ⊥) → partner z ≡ partner x → ⊥
+    partner-not z n e = n (sym (partner_twice z) ∙ ap partner e ∙ partner_twice x)
+
+    partner-not-x : (z : ℕ) → (z ≡ partner x → ⊥) → partner z ≡ x → ⊥
+    partner-not-x z n e = n (sym (partner_twice z) ∙ ap partner e)
+
+    done : (z : ℕ) → z < length w → literal start z ≡ l → (h.to z ≡ d.vertices * d.values → ⊥) → (z ≡ x) ⊎ (z ≡ x → ⊥) → (z ≡ partner x) ⊎ (z ≡ partner x → ⊥) → IsGuarded d nogoods w' forced' l z
+    done z z-in s n (inl f) _ = rw f (subst (λ (k : ℕ × ℕ). IsGuarded d nogoods w' forced' k x) own v.guarded)
+    done z z-in s n (inr _) (inl f) = absurd (other_literal nogoods start x l st x-start first (ap (literal start) (sym f) ∙ s))
+    done z z-in s n (inr i) (inr j) =
+        rw v.forces.after (guarded_more d nogoods w w' forced v.forces.more l z (v.others z i j) (v.others (partner z) (partner-not-x z j) (partner-not z i))
+        (a.done z z-in s (λ e. n (h.rest z i j ∙ e))))
+
+    others : (z : ℕ) → z < length w → (literal start z ≡ l → ⊥) → (literal start (partner z) ≡ l → ⊥) → (z ≡ x) ⊎ (z ≡ x → ⊥) → (z ≡ partner x) ⊎ (z ≡ partner x → ⊥) → literal w' z ≡ literal start z
+    others z z-in n m (inl f) _ = absurd (n (ap (literal start) f ∙ first))
+    others z z-in n m (inr _) (inl f) = absurd (m (ap (literal start) (ap partner f ∙ partner_twice x) ∙ first))
+    others z z-in n m (inr i) (inr j) = v.others z i j ∙ a.others z z-in n m
+
+    follows : (k : ℕ) → k < length (forced ++ v.forces.more) → (k < length forced) ⊎ (length forced ≤ k)
+        → (f : Follows d nogoods start w' l (forced_at (forced ++ v.forces.more) k)) × (h.to f.watch ≡ d.vertices * d.values → ⊥)
+    follows k k-in (inl less) =
+        let old = a.follows k less in
+        let f = old.0 in
+        let i : f.watch ≡ x → ⊥ = λ e. old.1 (ap a.home e ∙ at-hand) in
+        let j : f.watch ≡ partner x → ⊥ = λ e. other_literal nogoods w x l a.watches_are x-in own (ap (literal w) (sym e) ∙ f.is) in
+        rw (get_or_append_left forced v.forces.more (0, 0, 0) k less) (
+          record {
+            watch = f.watch;
+            within = f.within;
+            was = f.was;
+            is = v.others f.watch i j ∙ f.is;
+            other = v.others (partner f.watch) (partner-not-x f.watch j) (partner-not f.watch i) ∙ f.other;
+            name = f.name;
+            here = f.here;
+            rest = f.rest;
+          },
+          λ e. old.1 (sym (h.rest f.watch i j) ∙ e),
+        )
+    follows k k-in (inr more) =
+        let at : k - length forced < length v.forces.more = omega (arith, rw length-append at k-in) in
+        let new = v.forces.follows (k - length forced) at in
+        let f = new.0 in
+        rw (get_or-append_right forced v.forces.more (length forced) k (0, 0, 0) refl more) (
+          record {
+            watch = f.watch;
+            within = omega (arith, f.within, a.start_long);
+            was = ap (literal start) new.1 ∙ first;
+            is = f.is ∙ own;
+            other = f.other;
+            name = f.name;
+            here = f.here;
+            rest = f.rest;
+          },
+          λ e. x-away (ap h.to (sym new.1) ∙ e),
+        )
+
+    still : (i : ℕ) → eqb (h.to i) (d.vertices * d.values) ≡ true → eqb (a.home i) (d.vertices * d.values) ≡ true
+    still i e = by (cases_eq i x) (cases_eq i (partner x))
+      where
+        to : h.to i ≡ d.vertices * d.values
+        to = eqb-true (h.to i) (d.vertices * d.values) e
+
+        by : (i ≡ x) ⊎ (i ≡ x → ⊥) → (i ≡ partner x) ⊎ (i ≡ partner x → ⊥) → eqb (a.home i) (d.vertices * d.values) ≡ true
+        by (inl f) _ = absurd (x-away (ap h.to (sym f) ∙ to))
+        by (inr n) (inl f) = absurd (y-away (ap h.to (sym f) ∙ to))
+        by (inr n) (inr m) = eq-eqb (a.home i) (d.vertices * d.values) (sym (h.rest i n m) ∙ to)
+
+    less : count (λ z. eqb (h.to z) (d.vertices * d.values)) (length next) + 1 ≤ count (λ z. eqb (a.home z) (d.vertices * d.values)) (length next)
+    less = count_less (λ z. eqb (a.home z) (d.vertices * d.values)) (λ z. eqb (h.to z) (d.vertices * d.values)) (length next) x (omega (arith, x-in, a.next_long))
+        (eq-eqb (a.home x) (d.vertices * d.values) at-hand) (ne_eqb (h.to x) (d.vertices * d.values) x-away) still
+
+    room : length forced' + count (λ z. eqb (h.to z) (d.vertices * d.values)) (length next') ≤ length nogoods
+    room =
+        let long : length forced' ≡ length forced + length v.forces.more = ap length v.forces.after ∙ length-append forced v.forces.more in
+        rw nl (omega (arith, less, long, v.forces.few, a.room))
+
+-- ---- the beginning
+
+cell_same : (values : ℕ) (a b : ℕ × ℕ) → a.1 < values → b.1 < values → cell values a ≡ cell values b → a ≡ b
+cell_same values a b ha hb e = pair_is a b
+    (sym (div-mul-add a.0 values a.1 ha) ∙ ap (λ k. k / values) e ∙ div-mul-add b.0 values b.1 hb)
+    (sym (mod-mul-add a.0 values a.1 ha) ∙ ap (λ k. k % values) e ∙ mod-mul-add b.0 values b.1 hb)
+
+pub walking_first : (d : removals.State) (nogoods : List Nogood) (w : List (ℕ × ℕ)) (l : ℕ × ℕ) (heads heads' next : List ℕ) (v at hand : ℕ)
+    → ((i : ℕ) → i < length nogoods → AreLiterals d.vertices d.values (nogood nogoods i).literals) → AreWatches nogoods w
+    → length heads ≡ d.vertices * d.values + 1 → length next ≡ length w → Chained (home_of d.values w) heads next
+    → l.1 < d.values → at ≡ cell v l → v ≡ d.values → hand ≡ length heads - 1
+    → ((home : ℕ → ℕ) (k : List ℕ) → Chained home heads k → Chained (renamed home at hand) heads' k) → length heads' ≡ length heads
+    → Walking d nogoods w l w heads' next []
+walking_first d nogoods w l heads heads' next v at hand are watches heads-long next-long c l-in at-is v-is hand-is taken long = record {
+  heads_long = long ∙ heads-long;
+  next_long = next-long;
+  start_long = refl;
+  watches_are = watches;
+  home = renamed (home_of d.values w) at hand;
+  chained = taken (home_of d.values w) next c;
+  waits = λ z z-in e. waits z z-in e (cases_eq (cell d.values (literal w z)) at);
+  rests = λ z z-in n. rests z z-in n (cases_eq (cell d.values (literal w z)) at);
+  done = λ z z-in s n. absurd (n (ap (λ k. cond k hand (cell d.values (literal w z))) (eq-eqb (cell d.values (literal w z)) at (ap (cell d.values) s ∙ sym at-cell)) ∙ hand-at));
+  others = λ z z-in n m. refl;
+  follows = λ k h. absurd (omega arith);
+  room = subst (λ n. 0 + count (λ z. eqb (renamed (home_of d.values w) at hand z) (d.vertices * d.values)) n ≤ length nogoods) (sym (next-long ∙ watches.two)) (omega (arith, half_count (λ z. eqb (renamed (home_of d.values w) at hand z) (d.vertices * d.values)) (length nogoods) not-both));
+}
+  where
+    hand-at : hand ≡ d.vertices * d.values
+    hand-at = omega arith
+
+    at-cell : at ≡ cell d.values l
+    at-cell = at-is ∙ ap (λ k. cell k l) v-is
+
+    waits : (z : ℕ) → z < length w → renamed (home_of d.values w) at hand z ≡ d.vertices * d.values
+        → (cell d.values (literal w z) ≡ at) ⊎ (cell d.values (literal w z) ≡ at → ⊥) → (literal w z ≡ l) × (literal w z ≡ l)
+    waits z z-in e (inl f) =
+        let r = watch_in d.vertices d.values nogoods w z are watches z-in in
+        let same = cell_same d.values (literal w z) l r.1 l-in (f ∙ at-cell) in
+        (same, same)
+    waits z z-in e (inr n) =
+        let r = watch_in d.vertices d.values nogoods w z are watches z-in in
+        let e' : cell d.values (literal w z) ≡ d.vertices * d.values = sym (ap (λ k. cond k hand (cell d.values (literal w z))) (ne_eqb (cell d.values (literal w z)) at n)) ∙ e in
+        absurd (omega (arith, cell_below d.vertices d.values (literal w z) r.0 r.1, e'))
+
+    not-both : (z : ℕ) → z < 2 * length nogoods → eqb (renamed (home_of d.values w) at hand z) (d.vertices * d.values) ≡ true
+        → eqb (renamed (home_of d.values w) at hand (partner z)) (d.vertices * d.values) ≡ true → ⊥
+    not-both z h e f =
+        let z-in : z < length w = omega (arith, h, watches.two) in
+        let y-in = partner_in z (length w) (length nogoods) watches.two z-in in
+        let this = waits z z-in (eqb-true (renamed (home_of d.values w) at hand z) (d.vertices * d.values) e) (cases_eq (cell d.values (literal w z)) at) in
+        let other = waits (partner z) y-in (eqb-true (renamed (home_of d.values w) at hand (partner z)) (d.vertices * d.values) f) (cases_eq (cell d.values (literal w (partner z))) at) in
+        other_literal nogoods w z l watches z-in this.0 other.0
+
+    rests : (z : ℕ) → z < length w → (renamed (home_of d.values w) at hand z ≡ d.vertices * d.values → ⊥)
+        → (cell d.values (literal w z) ≡ at) ⊎ (cell d.values (literal w z) ≡ at → ⊥) → renamed (home_of d.values w) at hand z ≡ cell d.values (literal w z)
+    rests z z-in n (inl f) = absurd (n (ap (λ k. cond k hand (cell d.values (literal w z))) (eq-eqb (cell d.values (literal w z)) at f) ∙ hand-at))
+    rests z z-in n (inr m) = ap (λ k. cond k hand (cell d.values (literal w z))) (ne_eqb (cell d.values (literal w z)) at m)
+
+-- ---- on the way
+
+-- the first watch in hand may be visited
+pub walking_ready : (d : removals.State) (nogoods : List Nogood) (start : List (ℕ × ℕ)) (l : ℕ × ℕ) (w : List (ℕ × ℕ)) (heads next : List ℕ) (forced : List (ℕ × ℕ × ℕ)) (hand : ℕ)
+    → ((i : ℕ) → i < length nogoods → AreLiterals d.vertices d.values (nogood nogoods i).literals) → IsAssigned d l
+    → Walking d nogoods start l w heads next forced → hand ≡ d.vertices * d.values → (get_or heads hand 0 ≡ no_watch → ⊥)
+    → Ready d nogoods w heads next (get_or heads hand 0)
+walking_ready d nogoods start l w heads next forced hand are assigned a h some = record {
+  heads_long = a.heads_long;
+  next_long = a.next_long;
+  literals_are = are;
+  watches_are = a.watches_are;
+  home = a.home;
+  chained = a.chained;
+  x_in = x-in;
+  at_hand = at-hand;
+  at_cell = a.rests (partner (get_or heads hand 0)) y-in (λ e. other_literal nogoods w (get_or heads hand 0) l a.watches_are x-in own (a.waits (partner (get_or heads hand 0)) y-in e).0);
+  assigned = subst (IsAssigned d) (sym own) assigned;
+}
+  where
+    first : (get_or heads hand 0 < length next) × (a.home (get_or heads hand 0) ≡ hand)
+    first = first_home a.home heads next hand a.chained (omega (arith, a.heads_long)) some
+
+    x-in : get_or heads hand 0 < length w
+    x-in = omega (arith, first.0, a.next_long)
+
+    at-hand : a.home (get_or heads hand 0) ≡ d.vertices * d.values
+    at-hand = first.1 ∙ h
+
+    y-in : partner (get_or heads hand 0) < length w
+    y-in = partner_in (get_or heads hand 0) (length w) (length nogoods) a.watches_are.two x-in
+
+    own : literal w (get_or heads hand 0) ≡ l
+    own = (a.waits (get_or heads hand 0) x-in at-hand).0
+
+pub walking_room : (d : removals.State) (nogoods : List Nogood) (start : List (ℕ × ℕ)) (l : ℕ × ℕ) (w : List (ℕ × ℕ)) (heads next : List ℕ) (forced : List (ℕ × ℕ × ℕ)) (hand : ℕ)
+    → Walking d nogoods start l w heads next forced → hand ≡ d.vertices * d.values → (get_or heads hand 0 ≡ no_watch → ⊥) → length forced < length nogoods
+walking_room d nogoods start l w heads next forced hand a h some =
+    let first = first_home a.home heads next hand a.chained (omega (arith, a.heads_long)) some in
+    omega (arith, a.room, count_some (λ z. eqb (a.home z) (d.vertices * d.values)) (length next) (get_or heads hand 0) first.0 (eq-eqb (a.home (get_or heads hand 0)) (d.vertices * d.values) (first.1 ∙ h)))
+
+-- the visit of the first watch in hand
+pub walking_next : (d : removals.State) (nogoods : List Nogood) (start : List (ℕ × ℕ)) (l : ℕ × ℕ) (w w' : List (ℕ × ℕ)) (heads heads' next next' : List ℕ) (forced forced' : List (ℕ × ℕ × ℕ)) (hand : ℕ)
+    → ((i : ℕ) → i < length nogoods → AreLiterals d.vertices d.values (nogood nogoods i).literals) → AreWatches nogoods start
+    → Walking d nogoods start l w heads next forced → hand ≡ d.vertices * d.values → (get_or heads hand 0 ≡ no_watch → ⊥)
+    → Visited d nogoods w w' forced forced' (get_or heads hand 0)
+    → ((home : ℕ → ℕ) → Chained home heads next → home (get_or heads hand 0) ≡ d.vertices * d.values → home (partner (get_or heads hand 0)) ≡ cell d.values (literal w (partner (get_or heads hand 0)))
+    → Homes d.values home w' heads' next' (get_or heads hand 0))
+    → length heads' ≡ length heads → length next' ≡ length next → Walking d nogoods start l w' heads' next' forced' × (to_visit heads' next' < to_visit heads next)
+walking_next d nogoods start l w w' heads heads' next next' forced forced' hand are st a h some v homes hl nl =
+    let first = first_home a.home heads next hand a.chained (omega (arith, a.heads_long)) some in
+    walking_more d nogoods start l w w' heads heads' next next' forced forced' (get_or heads hand 0) are st a (omega (arith, first.0, a.next_long)) (first.1 ∙ h) v homes hl nl
+
+-- ---- the end
+
+-- nobody is in hand any more
+ended : (d : removals.State) (nogoods : List Nogood) (start : List (ℕ × ℕ)) (l : ℕ × ℕ) (w : List (ℕ × ℕ)) (heads next : List ℕ) (forced : List (ℕ × ℕ × ℕ))
+    → (a : Walking d nogoods start l w heads next forced) → get_or heads (d.vertices * d.values) 0 ≡ no_watch → (x : ℕ) → x < length w → a.home x ≡ d.vertices * d.values → ⊥
+ended d nogoods start l w heads next forced a none x x-in = no_home a.home heads next (d.vertices * d.values) x a.chained (omega (arith, a.heads_long)) none (omega (arith, x-in, a.next_long))
+
+pub walking_chained : (d : removals.State) (nogoods : List Nogood) (start : List (ℕ × ℕ)) (l : ℕ × ℕ) (w : List (ℕ × ℕ)) (heads next : List ℕ) (forced : List (ℕ × ℕ × ℕ))
+    → Walking d nogoods start l w heads next forced → get_or heads (d.vertices * d.values) 0 ≡ no_watch → Chained (home_of d.values w) heads next
+walking_chained d nogoods start l w heads next forced a none =
+    chained_same a.home (home_of d.values w) heads next a.chained
+    (λ y h. sym (a.rests y (omega (arith, h, a.next_long)) (ended d nogoods start l w heads next forced a none y (omega (arith, h, a.next_long)))))
+
+pub walking_done : (d : removals.State) (nogoods : List Nogood) (start : List (ℕ × ℕ)) (l : ℕ × ℕ) (w : List (ℕ × ℕ)) (heads next : List ℕ) (forced : List (ℕ × ℕ × ℕ))
+    → Walking d nogoods start l w heads next forced → get_or heads (d.vertices * d.values) 0 ≡ no_watch → Walked d nogoods start w l forced
+walking_done d nogoods start l w heads next forced a none = record {
+  guarded = λ x h e. a.done x (omega (arith, h, a.start_long)) e (ended d nogoods start l w heads next forced a none x (omega (arith, h, a.start_long)));
+  others = λ x h n m. a.others x (omega (arith, h, a.start_long)) n m;
+  follows = λ k h. (a.follows k h).0;
+}
+
+-- ---- what is forced
+
+-- a forced pair is a vertex and a value
+pub forced_in : (d : removals.State) (nogoods : List Nogood) (old new : List (ℕ × ℕ)) (l : ℕ × ℕ) (e : ℕ × ℕ × ℕ) → ((i : ℕ) → i < length nogoods → AreLiterals d.vertices d.values (nogood nogoods i).literals)
+    → AreWatches nogoods old → AreWatches nogoods new → Follows d nogoods old new l e → (e.0 < d.vertices) × (e.1 < d.values)
+forced_in d nogoods old new l e are a b f =
+    let y-in = partner_in f.watch (length new) (length nogoods) b.two (omega (arith, f.within, a.two, b.two)) in
+    let r = watch_in d.vertices d.values nogoods new (partner f.watch) are b y-in in
+    (subst (λ (k : ℕ × ℕ). k.0 < d.vertices) f.other r.0, subst (λ (k : ℕ × ℕ). k.1 < d.values) f.other r.1)
+
+-- the answers say so of the nogoods
+pub answers_are : (r : WatchAnswer) (d : removals.State) (s : State) (old new : List (ℕ × ℕ)) (l : ℕ × ℕ) → AreWatches s.nogoods old
+    → ((k : ℕ) → k < length s.forced → Follows d s.nogoods old new l (forced_at s.forced k)) → Tells r d s.forced → Answers r d s
+answers_are Quiet d s old new l a follows t = t
+answers_are Forced d s old new l a follows t = t
+answers_are (Fail name) d s old new l a follows t =
+    let f = follows t.0 t.1 in
+    record {
+      place = f.watch / 2;
+      within = half_in f.watch (length old) (length s.nogoods) a.two f.within;
+      named = f.name ∙ t.2;
+      all = λ j h. pick j (f.rest j h) t.3;
+    }
+  where
+    pick : (j : ℕ) → (literal (nogood_of s.nogoods (follows t.0 t.1).watch).literals j ≡ ((forced_at s.forced t.0).0, (forced_at s.forced t.0).1)) ⊎ IsAssigned d (literal (nogood_of s.nogoods (follows t.0 t.1).watch).literals j)
+        → IsAssigned d ((forced_at s.forced t.0).0, (forced_at s.forced t.0).1) → IsAssigned d (literal (nogood_of s.nogoods (follows t.0 t.1).watch).literals j)
+    pick j (inl e) here = subst (IsAssigned d) (sym e) here
+    pick j (inr h) here = h

@@ -1,0 +1,5 @@
+pub mod Lists
+pub mod Nogoods
+pub mod Watching
+pub mod Inside
+pub mod Walking

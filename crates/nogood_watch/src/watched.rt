@@ -1,0 +1,229 @@
+//! The nogoods that are kept, with their watches.
+
+ghost use Rattle.std.specs.Prelude.{◌≡◌, ℕ, ◌+◌, ◌*◌, ◌<◌, ◌≤◌, [], ◌∷◌, ◌++◌, length, IfOk, OnOk, OnErr, vec_capacity};
+ghost use Rattle.domain_bits.specs.Changes.{Single};
+ghost use Rattle.nogood_watch.specs.Inside.{cell};
+ghost use Rattle.nogood_watch.specs.Lists.{Chained, moved, no_watch};
+ghost use Rattle.nogood_watch.specs.Nogoods.{added, empty, AreLiterals, AreWatches};
+ghost use Rattle.nogood_watch.specs.Watching.{AllFollow, Answers, GuardsAll, KeepsOthers};
+
+use crate::lists::{END, link};
+use crate::walk::{answer_of, cell_of, walk};
+use domain_bits::{Domains, Trail};
+use std::alloc::{AllocError, Global};
+use std::marker::Model;
+
+/// What a call of `on_assign` found.
+#[derive(Clone, Copy, PartialEq, Eq, Debug)]
+pub enum WatchAnswer {
+    /// Nothing is forced.
+    Quiet,
+    /// Some pairs are forced.
+    Forced,
+    /// All literals of the nogood of this name are assigned.
+    Fail(u32),
+}
+
+/// Where the literals of a nogood stand, and its name.
+#[derive(Drop)]
+pub(crate) struct Entry {
+    pub(crate) start: usize,
+    pub(crate) end: usize,
+    pub(crate) name: u32,
+}
+
+/// Nogoods with their watches.
+///
+/// The literals of all nogoods stand one after the other. Watches 2 i and 2 i + 1 are those of nogood i. There is a list of watches for
+/// each literal, at `vertex * values + value` of `heads`, and after these one of the watches that a walk has yet to visit.
+#[derive(Drop)]
+pub struct Watched {
+    vertices: u16,
+    values: u16,
+    literals: Vec<(u16, u16)>,
+    entries: Vec<Entry>,
+    watches: Vec<(u16, u16)>,
+    heads: Vec<u32>,
+    next: Vec<u32>,
+    units: Vec<(u16, u16, u32)>,
+    forced: Vec<(u16, u16, u32)>,
+}
+
+impl Model for Watched {
+    ghost use Rattle.std.specs.Prelude.{vec_capacity};
+    ghost use Rattle.nogood_watch.specs.Nogoods.{State};
+    ghost use Rattle.nogood_watch.specs.Inside.{Kept, nogoods_of};
+
+    ghost Value = { State };
+
+    ghost view = { λ s. record { vertices = s.vertices; values = s.values; nogoods = nogoods_of s.literals.items s.entries.items; watches = s.watches.items; units = s.units.items; forced = s.forced.items } };
+
+    ghost invariant = { λ s. Kept s.vertices s.values s.literals.items s.entries.items s.watches.items s.heads.items s.next.items (vec_capacity s.forced) };
+}
+
+impl Watched {
+    /// No nogoods, for domains of these sizes. Cost: one step and four bytes for each vertex and value.
+    pub fn new(alloc: Global, vertices: u16, values: u16) -> Result<Watched, AllocError>
+        ensures { IfOk result (λ s. s ≡ empty vertices values) }
+    {
+        let lists = usize::from(vertices) * usize::from(values) + 1;
+        let heads = vec![in alloc; END; lists]?;
+        Ok(Watched {
+            vertices,
+            values,
+            literals: Vec::new(alloc),
+            entries: Vec::new(alloc),
+            watches: Vec::new(alloc),
+            heads,
+            next: Vec::new(alloc),
+            units: Vec::new(alloc),
+            forced: Vec::new(alloc),
+        })
+    }
+
+    /// Keeps a nogood more. One literal is a unit; of more the first two are watched. Cost: one step for each literal, and on average for
+    /// each nogood, since all parts grow by doubling.
+    pub fn add(&mut self, literals: &[(u16, u16)], name: u32) -> Result<(), AllocError>
+        requires some { 0 < length literals.now }
+        requires are { AreLiterals self.old.vertices self.old.values literals.now }
+        ensures ok { OnOk result (self.new ≡ added self.old literals.now name) }
+        ensures err { OnErr result (self.new ≡ self.old) }
+        ensures watches { AreWatches self.new.nogoods self.new.watches }
+    {
+        if literals.len() == 1 {
+            self.units.push((literals[0].0, literals[0].1, name))?;
+            return Ok(());
+        }
+        make_room(
+            &mut self.entries,
+            &mut self.watches,
+            &mut self.next,
+            &mut self.forced,
+        )?;
+        let start = self.literals.len();
+        self.literals.extend_from_slice(literals)?;
+        self.entries.push_reserved(Entry {
+            start,
+            end: start + literals.len(),
+            name,
+        });
+        put_watch(
+            self.values,
+            &mut self.watches,
+            &mut self.heads,
+            &mut self.next,
+            literals[0],
+        );
+        put_watch(
+            self.values,
+            &mut self.watches,
+            &mut self.heads,
+            &mut self.next,
+            literals[1],
+        );
+        Ok(())
+    }
+
+    /// Looks at the nogoods that are watched at `p` and `t`, once `t` is all of the domain of `p`. Each of them is then watched at two
+    /// literals that are not assigned, or still at `p` and `t`, and then its other watch has left its domain or is forced. Where a forced
+    /// pair is assigned itself, the answer is `Fail` with the nogood's name.
+    ///
+    /// Cost: for each such nogood at most two looks at each of its literals, and one step for each watch that stands in a list before its
+    /// other watch, where this one is assigned too. Nothing is allocated.
+    pub fn on_assign<T: Trail>(&mut self, d: &Domains<T>, p: u16, t: u16) -> WatchAnswer
+        requires vertices { d.now.vertices ≡ self.old.vertices }
+        requires values { d.now.values ≡ self.old.values }
+        requires p_in { p < self.old.vertices }
+        requires assigned { Single d.now p t }
+        ensures guarded { GuardsAll d.now self.old self.new (p, t) }
+        ensures others { KeepsOthers self.old self.new (p, t) }
+        ensures forced { AllFollow d.now self.old self.new (p, t) }
+        ensures answer { Answers result d.now self.new }
+        ensures watches { AreWatches self.new.nogoods self.new.watches }
+        ensures nogoods { self.new.nogoods ≡ self.old.nogoods }
+        ensures units { self.new.units ≡ self.old.units }
+        ensures new_vertices { self.new.vertices ≡ self.old.vertices }
+        ensures new_values { self.new.values ≡ self.old.values }
+    {
+        self.forced.clear();
+        walk(
+            d,
+            &self.literals,
+            &self.entries,
+            &mut self.watches,
+            &mut self.heads,
+            &mut self.next,
+            &mut self.forced,
+            (p, t),
+        );
+        answer_of(d, &self.forced)
+    }
+
+    /// What the last `on_assign` forced: a vertex, a value to take from its domain, and the name of a nogood all of whose other literals
+    /// are assigned. Nothing before the first.
+    pub fn forced(&self) -> &[(u16, u16, u32)]
+        ensures { result.now ≡ self.now.forced }
+    {
+        &self.forced
+    }
+
+    /// The nogoods of one literal: its vertex, its value and the nogood's name, in the order of adding.
+    pub fn units(&self) -> &[(u16, u16, u32)]
+        ensures { result.now ≡ self.now.units }
+    {
+        &self.units
+    }
+}
+
+/// Makes the room for a nogood more, or answers want of memory, also where the numbers of watches are used up.
+fn make_room(
+    entries: &mut Vec<Entry>,
+    watches: &mut Vec<(u16, u16)>,
+    next: &mut Vec<u32>,
+    forced: &mut Vec<(u16, u16, u32)>,
+) -> Result<(), AllocError>
+    ensures entries { entries.new.items ≡ entries.old.items }
+    ensures watches { watches.new.items ≡ watches.old.items }
+    ensures next { next.new.items ≡ next.old.items }
+    ensures forced { forced.new.items ≡ forced.old.items }
+    ensures kept_room { vec_capacity forced.old ≤ vec_capacity forced.new }
+    ensures few { OnOk result (length next.old.items + 2 ≤ no_watch) }
+    ensures entries_room { OnOk result (length entries.old.items + 1 ≤ vec_capacity entries.new) }
+    ensures watches_room { OnOk result (length watches.old.items + 2 ≤ vec_capacity watches.new) }
+    ensures next_room { OnOk result (length next.old.items + 2 ≤ vec_capacity next.new) }
+    ensures forced_room { OnOk result (length entries.old.items + 1 ≤ vec_capacity forced.new) }
+{
+    if next.len() > END as usize - 2 {
+        return Err(AllocError);
+    }
+    let nogoods = entries.len();
+    entries.reserve(1)?;
+    watches.reserve(2)?;
+    next.reserve(2)?;
+    forced.reserve((nogoods + 1).saturating_sub(forced.len()))
+}
+
+/// Puts a watch more in front of the list of its literal. Cost: one step.
+fn put_watch(
+    values: u16,
+    watches: &mut Vec<(u16, u16)>,
+    heads: &mut [u32],
+    next: &mut Vec<u32>,
+    literal: (u16, u16),
+)
+    requires few { length next.old.items + 1 ≤ no_watch }
+    requires in_range { cell values literal < length heads.old }
+    requires watches_room { length watches.old.items < vec_capacity watches.old }
+    requires next_room { length next.old.items < vec_capacity next.old }
+    ensures watches { watches.new.items ≡ watches.old.items ++ literal ∷ [] }
+    ensures chained { (home : ℕ → ℕ) → Chained home heads.old next.old.items → Chained (moved home (length next.old.items) (cell values literal)) heads.new next.new.items }
+    ensures next_long { length next.new.items ≡ length next.old.items + 1 }
+    ensures heads_long { length heads.new ≡ length heads.old }
+    ensures watches_capacity { vec_capacity watches.new ≡ vec_capacity watches.old }
+    ensures next_capacity { vec_capacity next.new ≡ vec_capacity next.old }
+{
+    let x = next.len() as u32;
+    watches.push_reserved(literal);
+    next.push_reserved(END);
+    link(heads, next, cell_of(values, literal), x);
+}
