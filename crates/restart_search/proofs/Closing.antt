@@ -1,17 +1,20 @@
 -- A guess taken back, a new run, and how a search ends.
 
-use Rattle.std.proofs.Common.{◌≡◌, ℕ, ◌<◌, ◌≤◌, true, List, [], ◌∷◌, ◌++◌, length, Option, Some, None, refl, sym, ap, ◌∙◌, subst, arith}
+use Rattle.std.proofs.Common.{◌≡◌, ℕ, ◌<◌, ◌≤◌, true, List, [], ◌∷◌, ◌++◌, length, Option, Some, None, refl, sym, ap, ◌∙◌, subst, arith, length-append}
 use Rattle.std.proofs.lemmas.List.{length-take-le}
 use Rattle.graph_theory.specs.Graph.{size}
 use Rattle.graph_theory.specs.Embedding.{Problem, HasNone}
 use Rattle.graph_theory.specs.Path.{Dead, NotOn}
 use Rattle.graph_theory.proofs.DeadPaths.{empty_is_dead}
 use Rattle.search_theory.specs.Account.{Account, Step, path, path_of, restarted, FailsTo, Honest, IsAt, NotAmong, AllDead, LawfulLevel, MayGuess, Spends}
+use Rattle.search_theory.specs.Claims.{NoneInside, Quiet}
 use Rattle.search_theory.proofs.Domains.{all_refuted_is_dead, domain_values_fit}
 use Rattle.search_theory.proofs.Refuted.{path_of_push}
 use Rattle.domain_bits.specs.Removals.{State, in_domain, undone}
+use Rattle.all_different.specs.Prefixes.{Balanced}
+use Rattle.restart_search.specs.Propagation.{Narrows}
 use Rattle.restart_search.specs.Searching.{AtRest, Levels, Based, Sound}
-use Rattle.restart_search.proofs.Levels.{low_within, undone_further, levels_pop, levels_pop_rest}
+use Rattle.restart_search.proofs.Levels.{low_within, undone_further, undone_later, levels_pop, levels_pop_rest}
 
 -- ---- taking a guess back
 
@@ -67,6 +70,29 @@ sound_restarted q d a marks root sound honest =
         here = sound.based.root_rest;
       },
     )
+
+-- what was propagated from the root's domains is undone to them
+pub undone_again : (q : Problem) (d e : State) (root : ℕ) → root ≤ length d.removed → Narrows q (undone d root) e → (root ≤ length e.removed) × (undone e root ≡ undone d root)
+undone_again q d e root low n =
+    let long : root ≤ length (undone d root).removed = omega (arith, length-take-le root d.removed low) in (
+      omega (arith, long, ap length n.front, length-append (undone d root).removed n.rest),
+      undone_later (undone d root) e n.rest root n.vertices_same n.values_same n.front long ∙ undone_further d root root (omega arith),
+    )
+
+pub sound_undone_again : (q : Problem) (d e : State) (a : Account) (marks : List ℕ) (root : ℕ) → Sound q d a marks root → Honest q (restarted a) → Narrows q (undone d root) e
+    → (root ≤ length e.removed) × Sound q (undone e root) (restarted a) [] root
+sound_undone_again q d e a marks root sound honest n =
+    let first = sound_restarted q d a marks root sound honest in
+    let again = undone_again q d e root first.0 n in
+    (again.0, subst (λ (s : State). Sound q s (restarted a) [] root) (sym again.1) first.1)
+
+-- domains at rest that held every embedding still do after a propagation
+pub rest_again : (q : Problem) (old new : State) → AtRest q [] old → Narrows q old new → Quiet q (in_domain new) → Balanced new → AtRest q [] new
+rest_again q old new rest n quiet balanced = record { quiet = quiet; balanced = balanced; stands = λ m e h. n.keeps m e (rest.stands m e h); pins = tt }
+
+-- and where none is within them, none exists
+pub none_again : (q : Problem) (d : State) → AtRest q [] d → NoneInside q (in_domain d) → HasNone q
+none_again q d rest none = λ m e. none m e (rest.stands m e tt)
 
 -- ---- endings
 

@@ -8,3 +8,5 @@ pub mod Beginning
 pub mod Visits
 pub mod Pruning
 pub mod Steps
+pub mod Forcing
+pub mod Refuting

@@ -5,7 +5,7 @@ use Rattle.std.proofs.lemmas.Bool.{cases_eq}
 use Rattle.std.proofs.lemmas.List.{length-set}
 use Rattle.graph_theory.specs.Graph.{size}
 use Rattle.graph_theory.specs.Embedding.{Problem, Embeds}
-use Rattle.search_theory.specs.Claims.{Inside, NoneInside, Quiet}
+use Rattle.search_theory.specs.Claims.{Inside, NoneInside, Quiet, Single}
 use Rattle.domain_bits.specs.Removals.{State, in_domain, size_of}
 use Rattle.domain_bits.proofs.Sizes.{some_counted, size_single, not_single}
 use Rattle.all_different.specs.Choices.{Chooses, LosesNoChoice}
@@ -53,6 +53,17 @@ pub two_by_size : (d : State) (p : ℕ) → (size_of d p ≡ 0 → ⊥) → (siz
 two_by_size d p some more =
     let found = some_counted (in_domain d p) d.values (omega (arith, some)) in
     record { value = found.0; here = found.2; not_single = λ t s. not_single d p more t (record { here = s.here; only = s.only }) }
+
+-- a domain of one value has that one only
+pub one_by_size : (d : State) (p : ℕ) → size_of d p ≡ 1 → (v : ℕ) × Single (in_domain d) p v
+one_by_size d p one =
+    let found = some_counted (in_domain d p) d.values (omega (arith, one)) in
+    let s = size_single d p found.0 one found.2 in
+    (found.0, record { here = s.here; only = s.only })
+
+-- and one of another number of values has not
+pub not_one_by_size : (d : State) (p : ℕ) → (size_of d p ≡ 1 → ⊥) → (t : ℕ) → Single (in_domain d) p t → ⊥
+not_one_by_size d p more t s = not_single d p more t (record { here = s.here; only = s.only })
 
 -- ---- one vertex after another
 

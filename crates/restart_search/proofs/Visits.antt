@@ -1,15 +1,15 @@
 -- The steps of propagation, put together: one domain, all domains, one vertex that waited.
 
-use Rattle.std.proofs.Common.{◌≡◌, ℕ, zero, suc, ◌*◌, ◌<◌, ◌≤◌, Bool, true, false, List, length, slice_set, refl, sym, ◌∙◌, subst, arith, ◌⊎◌, inl, inr}
+use Rattle.std.proofs.Common.{◌≡◌, ℕ, zero, suc, ◌*◌, ◌<◌, ◌≤◌, ◌==◌, not, Bool, true, false, List, length, slice_set, refl, sym, ◌∙◌, subst, arith, ◌⊎◌, inl, inr}
+use Rattle.std.proofs.lemmas.Bool.{eq-eqb, ne_eqb}
 use Rattle.graph_theory.specs.Graph.{size}
 use Rattle.graph_theory.specs.Embedding.{Problem}
 use Rattle.search_theory.specs.Consistency.{AreConsistent}
 use Rattle.search_theory.specs.Claims.{Single}
 use Rattle.domain_bits.specs.Counting.{count}
-use Rattle.domain_bits.specs.BitRows.{has}
 use Rattle.domain_bits.specs.Removals.{State, in_domain, size_of}
 use Rattle.domain_bits.specs.Changes as changes
-use Rattle.restart_search.specs.Propagation.{Narrows, waits_at, work, HasTwo, Rests, Ready, ReadyBut, NotesSize, Swept, Sweeps, Settling, Settles, Visited}
+use Rattle.restart_search.specs.Propagation.{Narrows, waits_at, work, HasTwo, Shrinks, Rests, Ready, ReadyBut, NotesSize, NotesTaken, Swept, Sweeps, Settling, Settles, Visited}
 use Rattle.restart_search.proofs.Narrowing.{narrows_none, narrows_more, narrows_keeps, none_narrowed, none_in_empty}
 use Rattle.restart_search.proofs.Waiting.{shrinks_none, ready_but_on, ready_with, ready_but_lowered, rests_with_two, count_lowered, swept_by_rest}
 use Rattle.restart_search.proofs.Sweeping.{narrow_shrinks, images_pass, kept_swept, rests_settled}
@@ -70,24 +70,57 @@ sweeps_own q d waiting p t r same bounded = record {
   shrinks = λ _. shrinks_none q d waiting bounded;
 }
 
+-- nothing has changed
+pub shrinks_same : (q : Problem) (old new : State) (before after : List Bool) → new ≡ old → after ≡ before → length new.removed ≤ new.vertices * new.values
+    → Shrinks q old before new after
+shrinks_same q old new before after same flags bounded =
+    subst (λ (d : State). Shrinks q old before d after) (sym same)
+    (subst (λ (ws : List Bool). Shrinks q old before old ws) (sym flags) (shrinks_none q old before (subst (λ (d : State). length d.removed ≤ d.vertices * d.values) same bounded)))
+
 -- a domain of which the consistent values are kept
-pub sweeps_narrowed : (answer : Bool) (q : Problem) (old new : State) (before after : List Bool) (p t r : ℕ) (row : List ℕ) → p < size q.pattern → r < size q.pattern → (p ≡ r → ⊥)
-    → r < length before → Single (in_domain old) p t → changes.Keeps old new r (has row) → NotesSize answer new before after r → length new.removed ≤ new.vertices * new.values
-    → ((u : ℕ) → has row u ≡ true → AreConsistent q p t r u) → ((u : ℕ) → AreConsistent q p t r u → u < size q.target → has row u ≡ true)
+pub sweeps_narrowed : (answer : Bool) (q : Problem) (old new : State) (before after : List Bool) (p t r : ℕ) (keeps : ℕ → Bool) → p < size q.pattern → r < size q.pattern → (p ≡ r → ⊥)
+    → r < length before → Single (in_domain old) p t → changes.Keeps old new r keeps → NotesSize answer new before after r → length new.removed ≤ new.vertices * new.values
+    → ((u : ℕ) → keeps u ≡ true → AreConsistent q p t r u) → ((u : ℕ) → AreConsistent q p t r u → u < size q.target → keeps u ≡ true)
     → (waits_at before r ≡ true) ⊎ ((u : ℕ) → Single (in_domain old) r u → ⊥) → Sweeps answer q old before new after p t r
-sweeps_narrowed answer q old new before after p t r row p_in r_in other flag s k notes bounded right complete undecided = record {
+sweeps_narrowed answer q old new before after p t r keeps p_in r_in other flag s k notes bounded right complete undecided = record {
   narrows = narrows;
   swept = by_answer answer notes;
   own = λ v. k.shrinks.others p v other;
-  shrinks = λ is. narrow_shrinks q old new before after r (has row) k narrows flag bounded (subst (λ (b : Bool). NotesSize b new before after r) is notes) undecided;
+  shrinks = λ is. narrow_shrinks q old new before after r keeps k narrows flag bounded (subst (λ (b : Bool). NotesSize b new before after r) is notes) undecided;
 }
   where
     narrows : Narrows q old new
-    narrows = narrows_keeps q old new r (has row) k (images_pass q old p t r (has row) p_in r_in other s complete)
+    narrows = narrows_keeps q old new r keeps k (images_pass q old p t r keeps p_in r_in other s complete)
 
     by_answer : (b : Bool) → NotesSize b new before after r → Swept b q new p t r
-    by_answer true n = kept_swept q old new p t r (has row) k right
+    by_answer true n = kept_swept q old new p t r keeps k right
     by_answer false n = n.0
+
+-- a domain from which t was taken, where p and r are asked nothing but distinct images
+pub sweeps_taken : (answer : Bool) (q : Problem) (old new : State) (before after : List Bool) (p t r : ℕ) → p < size q.pattern → r < size q.pattern → (p ≡ r → ⊥)
+    → r < length before → Single (in_domain old) p t → changes.Keeps old new r (λ v. not (v == t)) → NotesTaken answer old before new after r t
+    → length new.removed ≤ new.vertices * new.values → ((x u : ℕ) → (x ≡ u → ⊥) → AreConsistent q p x r u)
+    → (waits_at before r ≡ true) ⊎ ((u : ℕ) → Single (in_domain old) r u → ⊥) → Sweeps answer q old before new after p t r
+sweeps_taken answer q old new before after p t r p_in r_in other flag s k taken bounded free undecided = by_taken taken
+  where
+    right : (u : ℕ) → not (u == t) ≡ true → AreConsistent q p t r u
+    right u passes = free t u (λ same. not_both (u == t) (passed (u == t) passes) (eq-eqb u t (sym same)))
+      where
+        passed : (b : Bool) → not b ≡ true → b ≡ false
+        passed true h = cc
+        passed false h = refl
+
+    complete : (u : ℕ) → AreConsistent q p t r u → u < size q.target → not (u == t) ≡ true
+    complete u c u_in = rw (ne_eqb u t (λ same. c.pair.apart (sym same))) refl
+
+    by_taken : NotesTaken answer old before new after r t → Sweeps answer q old before new after p t r
+    by_taken (inr (here, notes)) = sweeps_narrowed answer q old new before after p t r (λ v. not (v == t)) p_in r_in other flag s k notes bounded right complete undecided
+    by_taken (inl (told, same, flags)) = record {
+      narrows = narrows_keeps q old new r (λ v. not (v == t)) k (images_pass q old p t r (λ v. not (v == t)) p_in r_in other s complete);
+      swept = subst (λ (b : Bool). Swept b q new p t r) (sym told) (kept_swept q old new p t r (λ v. not (v == t)) k right);
+      own = λ v. k.shrinks.others p v other;
+      shrinks = λ _. shrinks_same q old new before after same flags bounded;
+    }
 
 -- ---- all domains
 

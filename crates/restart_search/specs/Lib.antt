@@ -1,2 +1,3 @@
 pub mod Propagation
 pub mod Searching
+pub mod Learning

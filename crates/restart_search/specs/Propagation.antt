@@ -82,6 +82,10 @@ abbrev pub NotesSize : Bool → State → List Bool → List Bool → ℕ → Ty
 NotesSize true new before after r = ((v : ℕ) × Single (in_domain new) r v × (after ≡ slice_set before r true)) ⊎ (HasTwo new r × (after ≡ before))
 NotesSize false new before after r = ((v : ℕ) → in_domain new r v ≡ true → ⊥) × (after ≡ before)
 
+-- Nothing has changed; or t was in the domain of r, and the size that it has left is noted.
+abbrev pub NotesTaken : Bool → State → List Bool → State → List Bool → ℕ → ℕ → Type 0
+NotesTaken answer old before new after r t = ((answer ≡ true) × (new ≡ old) × (after ≡ before)) ⊎ ((in_domain old r t ≡ true) × NotesSize answer new before after r)
+
 -- After a true answer the values of r are consistent with p at t; after a false one r has no value.
 abbrev pub Swept : Bool → Problem → State → ℕ → ℕ → ℕ → Type 0
 Swept true q new p t r = (u : ℕ) → (p ≡ r → ⊥) → in_domain new r u ≡ true → AreConsistent q p t r u

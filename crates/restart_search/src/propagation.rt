@@ -1,40 +1,47 @@
 //! Propagation. A vertex whose domain has one value takes its consequences: this value, and what is not consistent with
 //! it, leaves the other domains. A vertex waits while its consequences are to be taken; the others are at rest. One row
-//! of consistent values for each pair of vertices makes this one AND of words for each other vertex (Ullmann 2010). Once
-//! none waits, the values of domains are counted together, which may decide further vertices.
+//! of consistent values for each pair of vertices makes this one AND of words for each other vertex (Ullmann 2010); a
+//! pair that is asked nothing but distinct images, as nearly all are in a large sparse pattern, needs no row. Once none
+//! waits, the values of domains are counted together, which may decide further vertices.
 
-ghost use Rattle.std.specs.Prelude.{◌≡◌, ℕ, [], ◌+◌, ◌*◌, ◌<◌, ◌≤◌, ◌⊎◌, Bool, true, false, length, IfOk, IfSome, IfNone};
+ghost use Rattle.std.specs.Prelude.{◌≡◌, ℕ, [], ◌+◌, ◌*◌, ◌<◌, ◌≤◌, ◌==◌, ◌⊎◌, Bool, true, false, not, length, IfOk, IfSome, IfNone};
 ghost use Rattle.graph_theory.specs.Graph.{size};
 ghost use Rattle.domain_bits.specs.BitRows.{has, words_for};
 ghost use Rattle.domain_bits.specs.Changes.{Keeps};
 ghost use Rattle.domain_bits.specs.Removals.{in_domain};
+ghost use Rattle.search_theory.specs.Account.{Honest};
 ghost use Rattle.search_theory.specs.Claims.{Single, First, Quiet};
 ghost use Rattle.pair_rows.specs.Rows.{IsMade};
-ghost use Rattle.restart_search.specs.Propagation.{IsOf, waits_at, work, IsFor, Ready, ReadyBut, NotesSize, Sweeps, Settles, Visited, TakenUp, UndecidedWait, NotesDecided, Notes, PrunesFor, Propagates};
+ghost use Rattle.restart_search.specs.Learning.{AreKept, DecidedWait, Forces};
+ghost use Rattle.restart_search.specs.Propagation.{IsOf, waits_at, work, IsFor, Ready, ReadyBut, NotesSize, NotesTaken, Sweeps, Settles, Visited, TakenUp, UndecidedWait, NotesDecided, Notes, PrunesFor, Propagates};
 
+use crate::nogoods::Nogoods;
 use all_different::{Pruned, Scratch, prune};
 use domain_bits::{Domains, Trail};
+use fail_account::Account;
 use graph_rows::Problem;
 use pair_rows::PairRows;
 use std::alloc::{AllocError, Global};
 use std::marker::Model;
 
-/// What propagation works with, made once: the rows of consistent values, and memory for counting.
+/// What propagation works with, made once: the rows of consistent values, and memory for counting; from the first restart on also
+/// the nogoods of the runs before.
 #[derive(Drop)]
 pub struct Filters<'a> {
     rows: PairRows<'a>,
     scratch: Scratch,
+    nogoods: Option<Nogoods>,
 }
 
 impl<'a> Model for Filters<'a> {
     ghost use Rattle.graph_theory.specs.Embedding.{Problem};
-    ghost use Rattle.restart_search.specs.Propagation.{IsFor};
+    ghost use Rattle.restart_search.specs.Learning.{Works};
 
     ghost Value = { Problem };
 
     ghost view = { λ f. f.rows.problem };
 
-    ghost invariant = { λ f. IsFor f.rows.problem f.scratch };
+    ghost invariant = { λ f. Works f.rows.problem f.scratch f.nogoods };
 }
 
 impl<'a> Filters<'a> {
@@ -44,7 +51,54 @@ impl<'a> Filters<'a> {
     {
         let rows = PairRows::new(alloc, q)?;
         let scratch = Scratch::new(alloc, q.pattern().size(), q.target().size())?;
-        Ok(Filters { rows, scratch })
+        Ok(Filters {
+            rows,
+            scratch,
+            nogoods: None,
+        })
+    }
+
+    /// Keeps what the position of the account has refuted. Where memory is refused, what was added so far stays. Cost: that of
+    /// `Nogoods::learn`, and the first time that of `Nogoods::new`.
+    pub fn learn(&mut self, alloc: Global, q: &Problem, account: &Account) -> Result<(), AllocError>
+        requires problem { self.old ≡ q.now }
+        requires honest { Honest q.now account.now }
+        ensures { self.new ≡ q.now }
+    {
+        learn_into(alloc, q, account, &mut self.nogoods)
+    }
+
+    /// Takes the nogoods of one pair out of the domains; false where a domain becomes empty. Cost: one step for each.
+    fn take_units<T: Trail>(&self, d: &mut Domains<T>, waiting: &mut [bool]) -> bool
+        requires is_of { IsOf self.now d.old }
+        requires long { length waiting.old ≡ size self.now.pattern }
+        requires bounded { length d.old.removed ≤ d.old.vertices * d.old.values }
+        ensures { Forces result self.now d.old waiting.old d.new waiting.new }
+    {
+        match &self.nogoods {
+            None => true,
+            Some(nogoods) => nogoods.take_units(&self.rows, d, waiting),
+        }
+    }
+}
+
+/// Keeps what the position of the account has refuted, where nogoods are kept; where none are yet, they are from now on.
+fn learn_into(
+    alloc: Global,
+    q: &Problem,
+    account: &Account,
+    nogoods: &mut Option<Nogoods>,
+) -> Result<(), AllocError>
+    requires honest { Honest q.now account.now }
+    requires kept { AreKept q.now nogoods.old }
+    ensures { AreKept q.now nogoods.new }
+{
+    if nogoods.is_none() {
+        *nogoods = Some(Nogoods::new(alloc, q)?);
+    }
+    match nogoods {
+        None => Ok(()),
+        Some(table) => table.learn(q, account),
     }
 }
 
@@ -77,20 +131,69 @@ pub(crate) fn narrow<T: Trail>(
     ensures bounded { length d.new.removed ≤ d.new.vertices * d.new.values }
 {
     d.intersect(r, row);
-    match d.only(r) {
-        Some(_) => {
-            let _removed = d.mark();
-            waiting[usize::from(r)] = true;
-            true
-        }
-        None => {
-            let _removed = d.mark();
-            if d.size(r) == 0 {
-                return false;
-            }
-            true
-        }
+    let _removed = d.mark();
+    note_size(d, waiting, r)
+}
+
+/// Notes how many values `r` has: with one only it waits, and with none the answer is false. Cost: one step.
+pub(crate) fn note_size<T: Trail>(d: &Domains<T>, waiting: &mut [bool], r: u16) -> bool
+    requires r_in { r < d.now.vertices }
+    requires flags { r < length waiting.old }
+    ensures { NotesSize result d.now waiting.old waiting.new r }
+{
+    let size = d.size(r);
+    if size == 0 {
+        return false;
     }
+    if size == 1 {
+        waiting[usize::from(r)] = true;
+    }
+    true
+}
+
+/// Takes `u` from the domain of `r`. Where one value is left, `r` waits; where none is, the answer is false. Cost: one step.
+pub(crate) fn take_value<T: Trail>(d: &mut Domains<T>, waiting: &mut [bool], r: u16, u: u16) -> bool
+    requires r_in { r < d.old.vertices }
+    requires u_in { u < d.old.values }
+    requires flags { r < length waiting.old }
+    requires bounded { length d.old.removed ≤ d.old.vertices * d.old.values }
+    ensures keeps { Keeps d.old d.new r (λ v. not (v == u)) }
+    ensures taken { NotesTaken result d.old waiting.old d.new waiting.new r u }
+    ensures bounded { length d.new.removed ≤ d.new.vertices * d.new.values }
+{
+    if !d.remove(r, u) {
+        return true;
+    }
+    let _removed = d.mark();
+    note_size(d, waiting, r)
+}
+
+/// Takes from the domain of `r` what is not consistent with `p` at `t`. Where the two are asked nothing but distinct
+/// images, this is `t` alone, and no row is read. Cost: a few steps there, and else a row and the values that leave.
+fn keep_consistent<T: Trail>(
+    rows: &PairRows,
+    d: &mut Domains<T>,
+    waiting: &mut [bool],
+    p: u16,
+    t: u16,
+    r: u16,
+) -> bool
+    requires is_of { IsOf rows.now.problem d.old }
+    requires long { length waiting.old ≡ size rows.now.problem.pattern }
+    requires p_in { p < size rows.now.problem.pattern }
+    requires t_in { t < size rows.now.problem.target }
+    requires r_in { r < size rows.now.problem.pattern }
+    requires apart { p ≡ r → ⊥ }
+    requires made { IsMade rows.now t }
+    requires single { Single (in_domain d.old) p t }
+    requires undecided { (waits_at waiting.old r ≡ true) ⊎ ((v : ℕ) → Single (in_domain d.old) r v → ⊥) }
+    requires bounded { length d.old.removed ≤ d.old.vertices * d.old.values }
+    ensures { Sweeps result rows.now.problem d.old waiting.old d.new waiting.new p t r }
+{
+    if rows.is_free(p, r) {
+        return take_value(d, waiting, r, t);
+    }
+    narrow(d, waiting, rows.row(p, r, t), r)
 }
 
 /// Takes from the domain of `r` what is not consistent with `p` at `t`. A vertex that is decided and does not wait has
@@ -117,16 +220,16 @@ fn settle_at<T: Trail>(
         return true;
     }
     if waiting[usize::from(r)] {
-        return narrow(d, waiting, rows.row(p, r, t), r);
+        return keep_consistent(rows, d, waiting, p, t, r);
     }
-    match d.only(r) {
-        Some(_) => true,
-        None => narrow(d, waiting, rows.row(p, r, t), r),
+    if d.size(r) == 1 {
+        return true;
     }
+    keep_consistent(rows, d, waiting, p, t, r)
 }
 
 /// Takes from each other domain what is not consistent with `p` at `t`, up to the first domain that becomes empty.
-/// Cost: one step for each vertex, and a row for each that is not decided.
+/// Cost: one step for each vertex, and a row for each that is not decided and is asked more than a distinct image.
 fn settle<T: Trail>(
     rows: &PairRows,
     d: &mut Domains<T>,
@@ -151,14 +254,46 @@ fn settle<T: Trail>(
     true
 }
 
+/// Looks at the nogoods that have `p` at `t`, if any are kept, and takes out what they force; false where no embedding is left.
+fn force<T: Trail>(
+    rows: &PairRows,
+    nogoods: &mut Option<Nogoods>,
+    d: &mut Domains<T>,
+    waiting: &mut [bool],
+    p: u16,
+    t: u16,
+) -> bool
+    requires kept { AreKept rows.now.problem nogoods.old }
+    requires is_of { IsOf rows.now.problem d.old }
+    requires long { length waiting.old ≡ size rows.now.problem.pattern }
+    requires p_in { p < size rows.now.problem.pattern }
+    requires single { Single (in_domain d.old) p t }
+    requires bounded { length d.old.removed ≤ d.old.vertices * d.old.values }
+    ensures kept { AreKept rows.now.problem nogoods.new }
+    ensures forces { Forces result rows.now.problem d.old waiting.old d.new waiting.new }
+{
+    match nogoods {
+        None => true,
+        Some(table) => table.force(rows, d, waiting, p, t),
+    }
+}
+
 /// Takes up a vertex that waits.
-fn visit<T: Trail>(rows: &mut PairRows, d: &mut Domains<T>, waiting: &mut [bool], p: u16) -> bool
+fn visit<T: Trail>(
+    rows: &mut PairRows,
+    nogoods: &mut Option<Nogoods>,
+    d: &mut Domains<T>,
+    waiting: &mut [bool],
+    p: u16,
+) -> bool
     requires is_of { IsOf rows.old.problem d.old }
+    requires kept { AreKept rows.old.problem nogoods.old }
     requires ready { Ready rows.old.problem d.old waiting.old }
     requires first { First rows.old.problem (in_domain d.old) }
     requires p_in { p < size rows.old.problem.pattern }
     requires waits { waits_at waiting.old p ≡ true }
     ensures problem { rows.new.problem ≡ rows.old.problem }
+    ensures kept { AreKept rows.old.problem nogoods.new }
     ensures visited { Visited result rows.old.problem d.old waiting.old d.new waiting.new }
 {
     waiting[usize::from(p)] = false;
@@ -166,7 +301,7 @@ fn visit<T: Trail>(rows: &mut PairRows, d: &mut Domains<T>, waiting: &mut [bool]
         Some(t) => {
             let _removed = d.mark();
             rows.make(t);
-            settle(rows, d, waiting, p, t)
+            settle(rows, d, waiting, p, t) && force(rows, nogoods, d, waiting, p, t)
         }
         None => {
             let _removed = d.mark();
@@ -178,18 +313,25 @@ fn visit<T: Trail>(rows: &mut PairRows, d: &mut Domains<T>, waiting: &mut [bool]
     }
 }
 
-/// Takes up all vertices that wait. Cost: for each vertex that is decided on the way, one row for each that is not, and
-/// the values that leave.
-fn take_up<T: Trail>(rows: &mut PairRows, d: &mut Domains<T>, waiting: &mut [bool]) -> bool
+/// Takes up all vertices that wait. Cost: for each vertex that is decided on the way, one row for each that is not, a look at the
+/// nogoods that have its value, and the values that leave.
+fn take_up<T: Trail>(
+    rows: &mut PairRows,
+    nogoods: &mut Option<Nogoods>,
+    d: &mut Domains<T>,
+    waiting: &mut [bool],
+) -> bool
     requires is_of { IsOf rows.old.problem d.old }
+    requires kept { AreKept rows.old.problem nogoods.old }
     requires ready { Ready rows.old.problem d.old waiting.old }
     requires first { First rows.old.problem (in_domain d.old) }
     ensures problem { rows.new.problem ≡ rows.old.problem }
+    ensures kept { AreKept rows.old.problem nogoods.new }
     ensures taken { TakenUp result rows.old.problem d.old d.new }
 {
     let _vertices = d.vertices();
     while let Some(p) = next_waiting(waiting) {
-        if !visit(rows, d, waiting, p as u16) {
+        if !visit(rows, nogoods, d, waiting, p as u16) {
             return false;
         }
     }
@@ -210,6 +352,16 @@ fn raise_undecided<T: Trail>(d: &Domains<T>, waiting: &mut [bool])
 {
     for p in 0..d.vertices() {
         waiting[usize::from(p)] = d.size(p) != 1;
+    }
+}
+
+/// Raises the flags of the vertices with one value only, and lowers the others. Cost: one step for each vertex.
+fn raise_decided<T: Trail>(d: &Domains<T>, waiting: &mut [bool])
+    requires long { length waiting.old ≡ d.now.vertices }
+    ensures { DecidedWait d.now waiting.new d.now.vertices }
+{
+    for p in 0..d.vertices() {
+        waiting[usize::from(p)] = d.size(p) == 1;
     }
 }
 
@@ -295,7 +447,7 @@ pub fn propagate<T: Trail>(
     ensures propagated { Propagates result q.now d.old d.new }
 {
     loop {
-        if !take_up(&mut filters.rows, d, waiting) {
+        if !take_up(&mut filters.rows, &mut filters.nogoods, d, waiting) {
             return false;
         }
         match prune_noting(d, waiting, &mut filters.scratch, q) {
@@ -304,4 +456,24 @@ pub fn propagate<T: Trail>(
             Pruned::Hall => (),
         }
     }
+}
+
+/// Takes the nogoods of one pair out of domains at rest, and all consequences of them and of the other nogoods, for which each vertex
+/// that is decided is looked at again; or finds that no embedding is within the domains. Cost: that of `propagate`.
+pub(crate) fn propagate_again<T: Trail>(
+    q: &Problem,
+    filters: &mut Filters,
+    d: &mut Domains<T>,
+    waiting: &mut [bool],
+) -> bool
+    requires problem { filters.old ≡ q.now }
+    requires is_of { IsOf q.now d.old }
+    requires long { length waiting.old ≡ size q.now.pattern }
+    requires quiet { Quiet q.now (in_domain d.old) }
+    ensures problem { filters.new ≡ q.now }
+    ensures propagated { Propagates result q.now d.old d.new }
+{
+    raise_decided(d, waiting);
+    let _removed = d.mark();
+    filters.take_units(d, waiting) && propagate(q, filters, d, waiting)
 }

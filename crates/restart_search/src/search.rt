@@ -12,7 +12,7 @@ ghost use Rattle.search_theory.specs.Remaining.{remaining};
 ghost use Rattle.restart_search.specs.Propagation.{IsOf};
 ghost use Rattle.restart_search.specs.Searching.{AtRest, Based, Sound, Ends, FoundOf, IsBest};
 
-use crate::propagation::{Filters, lower, propagate};
+use crate::propagation::{Filters, lower, propagate, propagate_again};
 use crate::value_choice::ValueChoice;
 use domain_bits::{Domains, Mark, Trail, and_not_into};
 use fail_account::Account;
@@ -52,10 +52,10 @@ fn better<T: Trail>(q: &Problem, d: &Domains<T>, p: u16, best: Option<u16>) -> O
     requires so_far { IsBest d.now best p }
     ensures { IsBest d.now result (p + 1) }
 {
-    match d.only(p) {
-        Some(_) => best,
-        None => Some(first_of(q, d, p, best)),
+    if d.size(p) == 1 {
+        return best;
     }
+    Some(first_of(q, d, p, best))
 }
 
 /// Which of `p` and the best vertex so far comes first; `p` where there is none.
@@ -155,24 +155,44 @@ fn close<T: Trail>(
     }
 }
 
-/// Begins the next run. Cost: what had been removed since the root.
+/// Begins the next run: what the position has refuted is kept, and taken up at the root together with what earlier runs left. Where
+/// that leaves no embedding, or memory is refused, the search ends so. Cost: what had been removed since the root, that of
+/// `Filters::learn`, and the propagation.
 fn begin_again<T: Trail>(
+    alloc: Global,
     q: &Problem,
+    filters: &mut Filters,
     d: &mut Domains<T>,
     account: &mut Account,
     marks: &mut Vec<Mark>,
-    root: Mark,
-)
-    requires sound { Sound q.now d.old account.old marks.old.items root }
+    waiting: &mut [bool],
+    root: &mut Mark,
+) -> Option<Ended>
+    requires problem { filters.old ≡ q.now }
+    requires sound { Sound q.now d.old account.old marks.old.items root.old }
     requires due { account.old.count ≡ cutoff account.old.run }
-    ensures sound { Sound q.now d.new account.new marks.new.items root }
-    ensures nearer { remaining account.new < remaining account.old }
+    requires long { length waiting.old ≡ size q.now.pattern }
+    ensures problem { filters.new ≡ q.now }
+    ensures sound { Sound q.now d.new account.new marks.new.items root.new }
+    ensures nearer { IfNone result (remaining account.new < remaining account.old) }
+    ensures ends { IfSome result (λ ended. Ends ended q.now account.new) }
     ensures budget { account.new.budget ≡ account.old.budget }
     ensures room { vec_capacity marks.old ≤ vec_capacity marks.new }
 {
+    if filters.learn(alloc, q, account).is_err() {
+        return Some(Ended::NoMemory);
+    }
+    let start = *root;
     account.restart(q);
     marks.clear();
-    d.undo_to(root);
+    d.undo_to(start);
+    if !propagate_again(q, filters, d, waiting) {
+        lower(waiting);
+        d.undo_to(start);
+        return Some(Ended::Refuted);
+    }
+    *root = d.mark();
+    None
 }
 
 /// Guesses `t` for `p`, and takes the consequences; where no embedding is left, refutes the guess.
@@ -244,17 +264,17 @@ pub(crate) fn run<T: Trail>(
     waiting: &mut [bool],
     untried: &mut [u64],
     choice: &mut ValueChoice,
-    root: Mark,
+    root: &mut Mark,
 ) -> Ended
     requires problem { filters.old ≡ q.now }
-    requires sound { Sound q.now d.old account.old marks.old.items root }
+    requires sound { Sound q.now d.old account.old marks.old.items root.old }
     requires long { length waiting.old ≡ size q.now.pattern }
     requires words { length untried.old ≡ words_for (size q.now.target) }
     requires choice { choice.old ≡ size q.now.target }
     requires room { size q.now.pattern ≤ vec_capacity marks.old }
     ensures ends { Ends result q.now account.new }
     ensures budget { account.new.budget ≡ account.old.budget }
-    ensures sound { Sound q.now d.new account.new marks.new.items root }
+    ensures sound { Sound q.now d.new account.new marks.new.items root.new }
     ensures problem { filters.new ≡ q.now }
     ensures choice { choice.new ≡ size q.now.target }
     ensures room { size q.now.pattern ≤ vec_capacity marks.new }
@@ -268,17 +288,19 @@ pub(crate) fn run<T: Trail>(
             if account.path().is_empty() {
                 return Ended::Refuted;
             }
-            close(q, d, account, marks, root);
+            close(q, d, account, marks, *root);
             continue;
         }
         if account.spent() {
             return Ended::Spent;
         }
         if account.at_cutoff() {
-            begin_again(q, d, account, marks, root);
+            if let Some(ended) = begin_again(alloc, q, filters, d, account, marks, waiting, root) {
+                return ended;
+            }
             continue;
         }
         let t = choice.choose(untried);
-        guess(q, filters, d, account, marks, waiting, root, p, t);
+        guess(q, filters, d, account, marks, waiting, *root, p, t);
     }
 }

@@ -21,6 +21,13 @@ const TWO_POINTS: &[u8] = b"2 0 0";
 
 const THREE_POINTS: &[u8] = b"3 0 0 0";
 
+/// Five vertices, each beside each other.
+const FIVE_CLIQUE: &[u8] = b"5 4 1 2 3 4 4 0 2 3 4 4 0 1 3 4 4 0 1 2 4 4 0 1 2 3";
+
+/// Eight vertices, each beside each other but those of its pair, so that no five are beside each other.
+const FOUR_PAIRS: &[u8] =
+    b"8 6 2 3 4 5 6 7 6 2 3 4 5 6 7 6 0 1 4 5 6 7 6 0 1 4 5 6 7 6 0 1 2 3 6 7 6 0 1 2 3 6 7 6 0 1 2 3 4 5 6 0 1 2 3 4 5";
+
 /// How a search ended.
 #[derive(Clone, Copy, PartialEq, Eq)]
 enum End {
@@ -95,4 +102,11 @@ fn a_budget_is_spent_where_a_guess_is_due(rt: HostRuntime) {
         assert!(rt; ending(alloc, TRIANGLE, FOUR_CYCLE, false, budget) == End::Spent(budget));
     }
     assert!(rt; ending(alloc, TRIANGLE, FOUR_CYCLE, false, 4) == End::None);
+}
+
+#[test]
+fn a_search_goes_on_over_restarts(rt: HostRuntime) {
+    let alloc = rt.alloc();
+    assert!(rt; ending(alloc, FIVE_CLIQUE, FOUR_PAIRS, false, 200) == End::Spent(200));
+    assert!(rt; ending(alloc, FIVE_CLIQUE, FOUR_PAIRS, false, 100000) == End::None);
 }

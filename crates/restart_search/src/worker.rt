@@ -97,7 +97,7 @@ impl<'a, T: Trail> Worker<'a, T> {
             &mut self.waiting,
             &mut self.untried,
             &mut self.choice,
-            self.root,
+            &mut self.root,
         )
     }
 

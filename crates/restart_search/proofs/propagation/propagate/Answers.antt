@@ -1,5 +1,6 @@
 use Rattle.std.proofs.Common.{true, false, subst, ◌∙◌}
 use Rattle.graph_theory.specs.Embedding.{Problem}
+use Rattle.restart_search.specs.Learning.{AreKept}
 use Rattle.restart_search.specs.Propagation.{TakenUp}
 use Rattle.restart_search.proofs.Narrowing.{narrows_more, none_narrowed}
 use Rattle.restart_search.proofs.propagation.propagate.Goals as goal
@@ -21,6 +22,7 @@ loop-filters-preserved g c =
     record {
       problem = c.take_up.ensures.problem ∙ c.loop-filters.invariant.problem;
       is_for = c.prune_noting.ensures.is_for;
+      kept = subst (λ (q : Problem). AreKept q c.take_up.new.nogoods) c.loop-filters.invariant.problem c.take_up.ensures.kept;
       narrows = narrows_more _ _ _ _ (narrows_more _ _ _ _ c.loop-filters.invariant.narrows taken.0) c.in-Hall.ensures.pruned.0;
       ready = c.in-Hall.ensures.pruned.1;
     }

@@ -1,0 +1,23 @@
+use Rattle.std.proofs.Common.{ℕ, ◌<◌, ◌≤◌, Option, IfSome, length, take, sym, ap, ◌∙◌, subst, arith}
+use Rattle.std.proofs.lemmas.List.{length-take-le}
+use Rattle.graph_theory.specs.Path.{NotOn}
+use Rattle.search_theory.specs.Account.{path}
+use Rattle.restart_search.proofs.Refuting.{level_is, refuted_nogood}
+use Rattle.restart_search.proofs.nogoods.Nogoods.learn.Goals as goal
+
+pub slice_bounds-learn_level-end : goal.slice_bounds-learn_level-end
+slice_bounds-learn_level-end c =
+    let level = level_is c.args.q.now c.args.account.now c.loop-i.i c.in-Some.p c.requires.honest c.path-path.ensures.vertices c.path-path.ensures.in_range
+    (subst (λ (v : Option ℕ). IfSome v (λ r. (r < c.args.account.now.pattern) × NotOn (path c.args.account.now) r)) c.vertex-vertex.ensures.is c.vertex-vertex.ensures.off_path)
+    (sym c.level-vertex.ensures.vertex ∙ c.in-Some.is) in
+    let le : c.from.result ≤ length c.path-path.result.now = omega (arith, level.0, c.from.ensures, ap length c.path-path.ensures.is) in
+    sym (length-take-le c.from.result c.path-path.result.now le)
+
+pub learn_level-requires-clause-refuted : goal.learn_level-requires-clause-refuted
+learn_level-requires-clause-refuted c t here =
+    let level = level_is c.args.q.now c.args.account.now c.loop-i.i c.in-Some.p c.requires.honest c.path-path.ensures.vertices c.path-path.ensures.in_range
+    (subst (λ (v : Option ℕ). IfSome v (λ r. (r < c.args.account.now.pattern) × NotOn (path c.args.account.now) r)) c.vertex-vertex.ensures.is c.vertex-vertex.ensures.off_path)
+    (sym c.level-vertex.ensures.vertex ∙ c.in-Some.is) in
+    rw (c.from.ensures, c.path-path.ensures.is)
+    (refuted_nogood c.args.q.now (take c.loop-i.i (path c.args.account.now)) c.in-Some.p t c.args.account.now.target _ c.level-vertex.result.1.now level.1 c.level-vertex.ensures.refuted
+    c.requires.honest.target_is c.level-vertex.ensures.others here)

@@ -1,0 +1,13 @@
+use Rattle.std.proofs.Common.{arith}
+use Rattle.restart_search.proofs.Visits.{sweeps_narrowed, sweeps_taken}
+use Rattle.restart_search.proofs.propagation.keep_consistent.Goals as goal
+
+pub returns-then-is_free : goal.returns-then-is_free
+returns-then-is_free g c =
+    sweeps_taken _ _ _ _ _ _ _ _ _ c.requires.p_in c.requires.r_in c.requires.apart (omega (arith, c.requires.long, c.requires.r_in)) c.requires.single
+    c.take_value.ensures.keeps c.take_value.ensures.taken c.take_value.ensures.bounded (c.is_free.ensures c.if-is_free.true) c.requires.undecided
+
+pub returns : goal.returns
+returns g c =
+    sweeps_narrowed _ _ _ _ _ _ _ _ _ _ c.requires.p_in c.requires.r_in c.requires.apart (omega (arith, c.requires.long, c.requires.r_in)) c.requires.single
+    c.narrow.ensures.keeps c.narrow.ensures.notes c.narrow.ensures.bounded c.row.ensures.right c.row.ensures.complete c.requires.undecided
