@@ -1,3 +1,4 @@
+pub mod Appending
 pub mod CappedNumbers
 pub mod LineEnds
 pub mod LinePieces

@@ -25,4 +25,4 @@ pub use fault::OpbFault;
 pub use log_theory::OpbCause;
 pub use model::Model;
 pub use reader::read_opb;
-pub use writer::{write_head, write_line, write_opb};
+pub use writer::{append_line, write_head, write_line, write_opb};

@@ -1,6 +1,6 @@
 //! The text of a model, put piece by piece.
 
-ghost use Rattle.std.specs.Prelude.{◌≡◌, ◌++◌};
+ghost use Rattle.std.specs.Prelude.{◌≡◌, ◌++◌, OnOk};
 ghost use Rattle.std.specs.Fmt.{signed_decimal};
 ghost use Rattle.std.specs.List.{flat_map};
 ghost use Rattle.outer_io.specs.KnownText.{Wrote};
@@ -12,6 +12,7 @@ ghost use Rattle.opb_text.specs.Pieces.{term_text, end_text};
 use itoa::Buffer;
 use outer_io::{Failed, Sink, put_all};
 use pb_terms::Constraint;
+use std::alloc::AllocError;
 
 /// Puts the first line, for so many variables and constraints: five calls of `put`. It takes no memory.
 pub fn write_head<S: Sink>(variables: u32, count: u64, sink: &mut S) -> Result<(), Failed>
@@ -96,6 +97,48 @@ fn write_lines<S: Sink>(constraints: &[Constraint], sink: &mut S) -> Result<(), 
         write_line(constraint, sink)?;
     }
     Ok(())
+}
+
+/// Appends a term and a blank to a text.
+fn append_term(variable: u32, coefficient: i128, text: &mut Vec<u8>) -> Result<(), AllocError>
+    ensures { OnOk result (text.new.items ≡ text.old.items ++ term_text (variable, coefficient)) }
+{
+    let mut digits = Buffer::new();
+    let mut variable_digits = Buffer::new();
+    text.extend_from_slice(sign_of(coefficient))?;
+    text.extend_from_slice(digits.format(coefficient).as_bytes())?;
+    text.extend_from_slice(b" x")?;
+    text.extend_from_slice(variable_digits.format(variable).as_bytes())?;
+    text.extend_from_slice(b" ")
+}
+
+/// Appends the terms, each with a blank behind it.
+fn append_terms(terms: &[(u32, i128)], text: &mut Vec<u8>) -> Result<(), AllocError>
+    ensures { OnOk result (text.new.items ≡ text.old.items ++ flat_map term_text terms.now) }
+{
+    for &(variable, coefficient) in terms {
+        append_term(variable, coefficient, text)?;
+    }
+    Ok(())
+}
+
+/// Appends what follows the terms.
+fn append_end(bound: i128, text: &mut Vec<u8>) -> Result<(), AllocError>
+    ensures { OnOk result (text.new.items ≡ text.old.items ++ end_text bound) }
+{
+    let mut digits = Buffer::new();
+    text.extend_from_slice(b">= ")?;
+    text.extend_from_slice(digits.format(bound).as_bytes())?;
+    text.extend_from_slice(b" ;\n")
+}
+
+/// Appends the line of a constraint to a text, the line that `write_line` puts, for a caller that puts many lines at once.
+/// Cost: that of its bytes, and of the text's growth. Where memory is refused a part of the line may stand in the text.
+pub fn append_line(constraint: &Constraint, text: &mut Vec<u8>) -> Result<(), AllocError>
+    ensures { OnOk result (text.new.items ≡ text.old.items ++ line_text (form_words constraint.now)) }
+{
+    append_terms(constraint.terms(), text)?;
+    append_end(constraint.bound(), text)
 }
 
 /// Puts the text of a model of so many variables: the first line, then a line for each constraint. It takes no memory.

@@ -6,3 +6,4 @@ pub mod Bounds
 pub mod LineNumbers
 pub mod TermLists
 pub mod WrittenModel
+pub mod Gathered

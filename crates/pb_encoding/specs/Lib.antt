@@ -2,3 +2,4 @@ pub mod Numbers
 pub mod Lines
 pub mod Model
 pub mod Writing
+pub mod Gathering

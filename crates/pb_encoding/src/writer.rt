@@ -1,30 +1,51 @@
-//! The text of an encoding.
+//! The text of an encoding, gathered line by line and put in large pieces.
 
-ghost use Rattle.std.specs.Prelude.{◌≡◌, ◌≤◌, ◌-◌, length, slice_get, Some};
+ghost use Rattle.std.specs.Prelude.{◌≡◌, ◌≤◌, ◌-◌, ◌++◌, length, slice_get, Some, OnOk};
 ghost use Rattle.proof_theory.specs.Forms.{Form};
 ghost use Rattle.outer_io.specs.KnownText.{Wrote};
+ghost use Rattle.outer_io.specs.Sinks.{HasBlame};
 ghost use Rattle.log_theory.specs.Words.{line_text};
 ghost use Rattle.log_theory.specs.OpbText.{form_words};
 ghost use Rattle.encoding_theory.specs.Encoding.{encoding as encoding_of};
 ghost use Rattle.pb_encoding.specs.Writing.{encoding_text, forms_text, HasPutCause};
+ghost use Rattle.pb_encoding.specs.Gathering.{PutsFront};
 
 use crate::encoding::Encoding;
-use opb_text::{write_head, write_line};
-use outer_io::{PutFault, Sink};
-use std::alloc::Global;
+use opb_text::{append_line, write_head};
+use outer_io::{Failed, PutFault, Sink};
+use std::alloc::{AllocError, Global};
+
+/// How many bytes are gathered before they are put.
+const PIECE: usize = 65_536;
+
+/// Puts what the buffer holds where that is a whole piece, and empties it.
+fn put_piece<S: Sink>(buffer: &mut Vec<u8>, sink: &mut S) -> Result<(), Failed>
+    ensures text { PutsFront result (S.spot sink.old).steady (S.contents sink.old) (S.contents sink.new) buffer.old.items buffer.new.items }
+    ensures cause { HasBlame S.spot S.rest S.faults S.blamed sink.old sink.new result }
+{
+    if buffer.len() < PIECE {
+        return Ok(());
+    }
+    sink.put(buffer.as_slice())?;
+    buffer.clear();
+    Ok(())
+}
 
 impl<'a> Encoding<'a> {
-    /// Puts the line of one constraint, counted from 1.
-    fn write_constraint<S: Sink>(&self, alloc: Global, i: u64, sink: &mut S) -> Result<(), PutFault>
+    /// Appends the line of one constraint, counted from 1, to the buffer.
+    fn append_constraint(
+        &self,
+        alloc: Global,
+        i: u64,
+        buffer: &mut Vec<u8>,
+    ) -> Result<(), AllocError>
         requires first { 1 ≤ i }
         requires last { i ≤ length (encoding_of self.now) }
-        ensures text { (f : Form) → slice_get (encoding_of self.now) (i - 1) ≡ Some f
-            → Wrote (S.spot sink.old).steady (S.contents sink.old) (S.contents sink.new) result (line_text (form_words f)) }
-        ensures cause { HasPutCause S.spot S.rest S.faults S.blamed sink.old sink.new result }
+        ensures { (f : Form) → slice_get (encoding_of self.now) (i - 1) ≡ Some f
+            → OnOk result (buffer.new.items ≡ buffer.old.items ++ line_text (form_words f)) }
     {
         let constraint = self.constraint(alloc, i)?;
-        write_line(&constraint, sink)?;
-        Ok(())
+        append_line(&constraint, buffer)
     }
 
     /// Puts the lines of all constraints.
@@ -32,16 +53,20 @@ impl<'a> Encoding<'a> {
         ensures text { Wrote (S.spot sink.old).steady (S.contents sink.old) (S.contents sink.new) result (forms_text (encoding_of self.now)) }
         ensures cause { HasPutCause S.spot S.rest S.faults S.blamed sink.old sink.new result }
     {
+        let mut buffer = Vec::new(alloc);
         for i in 0..self.len() {
-            self.write_constraint(alloc, i + 1, sink)?;
+            self.append_constraint(alloc, i + 1, &mut buffer)?;
+            put_piece(&mut buffer, sink)?;
         }
+        sink.put(buffer.as_slice())?;
         Ok(())
     }
 
-    /// Puts the whole encoding as OPB text, a line at a time, with the memory of one constraint.
+    /// Puts the whole encoding as OPB text. The lines are gathered in one buffer, which is put when it holds 65,536 bytes
+    /// and at the end, so that the calls of `put` are few and the memory is that of a piece and one line.
     ///
-    /// Cost: that of making each constraint once, with some calls of `put` for each term. Where memory is refused the lines
-    /// before were put.
+    /// Cost: that of making each constraint once, and of the text's bytes. Where memory is refused a front part of the
+    /// text was put.
     pub fn write<S: Sink>(&self, alloc: Global, sink: &mut S) -> Result<(), PutFault>
         ensures text { Wrote (S.spot sink.old).steady (S.contents sink.old) (S.contents sink.new) result (encoding_text self.now) }
         ensures cause { HasPutCause S.spot S.rest S.faults S.blamed sink.old sink.new result }
