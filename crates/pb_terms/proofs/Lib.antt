@@ -4,3 +4,4 @@ pub mod Sizes
 pub mod Mapping
 pub mod Trails
 pub mod Ruled
+pub mod Forcing

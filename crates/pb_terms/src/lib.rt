@@ -17,6 +17,7 @@ pub use constraint::Constraint;
 pub use fault::PbFault;
 pub use literals::Literals;
 pub use proof_theory::Literal;
+pub use slack::forcing_law;
 
 #[cfg(test)]
 mod tests;

@@ -3,6 +3,7 @@
 ghost use Rattle.std.specs.Prelude.{◌≡◌, ◌↔◌, IsTrue, ◌<ℤ◌, ℕ, ◌≤◌, ◌^◌, cond, pos, zero, unsigned_abs};
 ghost use Rattle.proof_theory.specs.Forms.{assignment, size, value};
 ghost use Rattle.proof_theory.specs.Slack.{setting, open_at, open_sum};
+ghost use Rattle.pb_terms.specs.Forcing.{ForcesWhatIsSetAfter};
 
 /// The value of a variable, if it is set.
 pub fn value_of(values: &[Option<bool>], variable: u32) -> Option<bool>
@@ -83,3 +84,8 @@ pub fn is_forced(value: Option<bool>, slack: i128, coefficient: i128) -> bool
 {
     value.is_none() && slack < coefficient.unsigned_abs() as i128
 }
+
+/// What a constraint forces is what its propagation sets.
+pub fn forcing_law()
+    ensures { ForcesWhatIsSetAfter }
+{}
