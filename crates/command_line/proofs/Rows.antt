@@ -6,8 +6,8 @@ use Rattle.clap.proofs.OnLiterals.{clap_on_literals}
 use Rattle.graph_theory.specs.Text.{words}
 use Rattle.graph_theory.specs.declared.lad_text.LadKind.TheVariants.{Lad, VertexLabelledLad}
 use Rattle.command_line.specs.CommandLine.{command}
-use Rattle.command_line.specs.Grammar.{grammar, answering, solve_grammar, verify_grammar, encode_grammar, check_grammar, with_graphs, with_kind, with_mapping, with_search}
-use Rattle.command_line.specs.declared.commands.Command.TheVariants.{Solve, Verify, Encode, Check}
+use Rattle.command_line.specs.Grammar.{grammar, answering, solve_grammar, verify_grammar, encode_grammar, check_grammar, reading, demo_grammar, with_graphs, with_kind, with_mapping, with_search}
+use Rattle.command_line.specs.declared.commands.Command.TheVariants.{Solve, Verify, Encode, Check, Demo}
 
 -- the words of the line are no command
 abbrev is_refused : List ℕ → Bool
@@ -20,8 +20,9 @@ pub wrong_count : list_all is_refused (
     ∷ codes "subgraph solve p t --budget 4 --budget 4" ∷ codes "subgraph solve p t --induced --induced"
     ∷ codes "subgraph verify p t m --format lad --format lad" ∷ codes "subgraph solve p t --format --induced"
     ∷ codes "subgraph solve p t --induced=true" ∷ codes "solve p t" ∷ codes "subgraph encode p" ∷ codes "subgraph encode p t u"
-    ∷ codes "subgraph encode p t --budget 4" ∷ codes "subgraph check e" ∷ codes "subgraph check e l m" ∷ codes "subgraph check e l --induced" ∷ []) ≡ true
-unfolding command grammar answering solve_grammar verify_grammar encode_grammar check_grammar with_graphs with_kind with_mapping with_search clap_on_literals
+    ∷ codes "subgraph encode p t --budget 4" ∷ codes "subgraph check e" ∷ codes "subgraph check e l m" ∷ codes "subgraph check e l --induced"
+    ∷ codes "subgraph demo" ∷ codes "subgraph demo 7 8" ∷ codes "subgraph demo 7 --seed 8" ∷ codes "subgraph demo 7 --induced" ∷ []) ≡ true
+unfolding command grammar answering solve_grammar verify_grammar encode_grammar check_grammar reading demo_grammar with_graphs with_kind with_mapping with_search clap_on_literals
 wrong_count = refl
 
 -- words that the grammar does not have, abbreviations among them
@@ -30,9 +31,9 @@ pub unknown_words : list_all is_refused (
     ∷ codes "subgraph --version" ∷ codes "subgraph -V" ∷ codes "subgraph sol p t" ∷ codes "subgraph SOLVE p t" ∷ codes "subgraph p t"
     ∷ codes "subgraph solve p t --bud 4" ∷ codes "subgraph solve p t --induce" ∷ codes "subgraph solve p t --threads 65"
     ∷ codes "subgraph verify p t m --seed 1" ∷ codes "subgraph solve p t --prove e" ∷ codes "subgraph verify p t m --budget 4"
-    ∷ codes "subgraph demo 7" ∷ codes "subgraph --induced solve p t"
+    ∷ codes "subgraph demo 7 --threads 4" ∷ codes "subgraph --induced solve p t"
     ∷ codes "subgraph -- solve p t" ∷ codes "subgraph solve -p t" ∷ codes "subgraph solve p -1" ∷ []) ≡ true
-unfolding command grammar answering solve_grammar verify_grammar encode_grammar check_grammar with_graphs with_kind with_mapping with_search clap_on_literals
+unfolding command grammar answering solve_grammar verify_grammar encode_grammar check_grammar reading demo_grammar with_graphs with_kind with_mapping with_search clap_on_literals
 unknown_words = refl
 
 -- numbers out of range or form, and formats that are none
@@ -43,8 +44,10 @@ pub wrong_values : list_all is_refused (
     ∷ codes "subgraph solve p t --budget 1_000" ∷ codes "subgraph solve p t --budget 0x4" ∷ codes "subgraph solve p t --budget="
     ∷ codes "subgraph solve p t --budget=+4" ∷ codes "subgraph solve p t --format foo" ∷ codes "subgraph solve p t --format LAD"
     ∷ codes "subgraph solve p t --seed 18446744073709551616" ∷ codes "subgraph solve p t --seed=" ∷ codes "subgraph solve p t --seed -1"
-    ∷ codes "subgraph solve p t --format=" ∷ codes "subgraph verify p t m --format labelledlad" ∷ []) ≡ true
-unfolding command grammar answering solve_grammar verify_grammar encode_grammar check_grammar with_graphs with_kind with_mapping with_search clap_on_literals
+    ∷ codes "subgraph solve p t --format=" ∷ codes "subgraph verify p t m --format labelledlad"
+    ∷ codes "subgraph demo +7" ∷ codes "subgraph demo -7" ∷ codes "subgraph demo 7x" ∷ codes "subgraph demo 18446744073709551616"
+    ∷ codes "subgraph demo 7 --budget 0" ∷ codes "subgraph demo 7 --budget 9223372036854775808" ∷ []) ≡ true
+unfolding command grammar answering solve_grammar verify_grammar encode_grammar check_grammar reading demo_grammar with_graphs with_kind with_mapping with_search clap_on_literals
 wrong_values = refl
 
 -- solves
@@ -61,7 +64,7 @@ pub solves : map (λ (text : List ℕ). command (words text)) (
     ∷ Some (Solve (record { pattern = codes "p"; target = codes "t"; induced = false; format = Lad; seed = 18446744073709551615; budget = 9223372036854775807 }))
     ∷ Some (Solve (record { pattern = codes "p"; target = codes "t"; induced = false; format = Lad; seed = 0; budget = 4 }))
     ∷ []
-unfolding command grammar answering solve_grammar verify_grammar encode_grammar check_grammar with_graphs with_kind with_mapping with_search clap_on_literals
+unfolding command grammar answering solve_grammar verify_grammar encode_grammar check_grammar reading demo_grammar with_graphs with_kind with_mapping with_search clap_on_literals
 solves = refl
 
 -- verifies
@@ -70,7 +73,7 @@ pub verifies : map (λ (text : List ℕ). command (words text)) (
     ≡ Some (Verify (record { pattern = codes "p"; target = codes "t"; mapping = codes "m"; induced = false; format = Lad }))
     ∷ Some (Verify (record { pattern = codes "p"; target = codes "t"; mapping = codes "m"; induced = true; format = VertexLabelledLad }))
     ∷ []
-unfolding command grammar answering solve_grammar verify_grammar encode_grammar check_grammar with_graphs with_kind with_mapping with_search clap_on_literals
+unfolding command grammar answering solve_grammar verify_grammar encode_grammar check_grammar reading demo_grammar with_graphs with_kind with_mapping with_search clap_on_literals
 verifies = refl
 
 -- encodes
@@ -79,20 +82,27 @@ pub encodes : map (λ (text : List ℕ). command (words text)) (
     ≡ Some (Encode (record { pattern = codes "p"; target = codes "t"; induced = false; format = Lad }))
     ∷ Some (Encode (record { pattern = codes "p"; target = codes "t"; induced = true; format = VertexLabelledLad }))
     ∷ []
-unfolding command grammar answering solve_grammar verify_grammar encode_grammar check_grammar with_graphs with_kind with_mapping with_search clap_on_literals
+unfolding command grammar answering solve_grammar verify_grammar encode_grammar check_grammar reading demo_grammar with_graphs with_kind with_mapping with_search clap_on_literals
 encodes = refl
 
 -- checks
 pub checks : map (λ (text : List ℕ). command (words text)) (codes "subgraph check e l" ∷ codes "subgraph check e e" ∷ [])
     ≡ Some (Check (record { encoding = codes "e"; log = codes "l" })) ∷ Some (Check (record { encoding = codes "e"; log = codes "e" })) ∷ []
-unfolding command grammar answering solve_grammar verify_grammar encode_grammar check_grammar with_graphs with_kind with_mapping with_search clap_on_literals
+unfolding command grammar answering solve_grammar verify_grammar encode_grammar check_grammar reading demo_grammar with_graphs with_kind with_mapping with_search clap_on_literals
 checks = refl
+
+-- demos
+pub demos : map (λ (text : List ℕ). command (words text)) (codes "subgraph demo 7" ∷ codes "subgraph demo --budget 4 18446744073709551615" ∷ codes "subgraph demo 007 --budget=1" ∷ [])
+    ≡ Some (Demo (record { seed = 7; budget = 9223372036854775807 })) ∷ Some (Demo (record { seed = 18446744073709551615; budget = 4 }))
+    ∷ Some (Demo (record { seed = 7; budget = 1 })) ∷ []
+unfolding command grammar answering solve_grammar verify_grammar encode_grammar check_grammar reading demo_grammar with_graphs with_kind with_mapping with_search clap_on_literals
+demos = refl
 
 -- an empty word is a name, and no words at all are no command
 pub empty_words : (command (codes "subgraph" ∷ codes "solve" ∷ [] ∷ codes "t" ∷ [])
     ≡ Some (Solve (record { pattern = []; target = codes "t"; induced = false; format = Lad; seed = 0; budget = 9223372036854775807 })))
     × (command [] ≡ None)
-unfolding command grammar answering solve_grammar verify_grammar encode_grammar check_grammar with_graphs with_kind with_mapping with_search clap_on_literals
+unfolding command grammar answering solve_grammar verify_grammar encode_grammar check_grammar reading demo_grammar with_graphs with_kind with_mapping with_search clap_on_literals
 empty_words = (refl, refl)
 
 -- a name of 4,095 bytes is taken, and one of 4,096 is not
@@ -101,5 +111,5 @@ pub long_names : (is_some (command (codes "subgraph" ∷ codes "solve" ∷ repli
     × (command (codes "subgraph" ∷ codes "solve" ∷ replicate 4096 112 ∷ codes "t" ∷ []) ≡ None)
     × (command (codes "subgraph" ∷ codes "solve" ∷ codes "p" ∷ replicate 4096 116 ∷ []) ≡ None)
     × (command (codes "subgraph" ∷ codes "verify" ∷ codes "p" ∷ codes "t" ∷ replicate 4096 109 ∷ []) ≡ None)
-unfolding command grammar answering solve_grammar verify_grammar encode_grammar check_grammar with_graphs with_kind with_mapping with_search clap_on_literals
+unfolding command grammar answering solve_grammar verify_grammar encode_grammar check_grammar reading demo_grammar with_graphs with_kind with_mapping with_search clap_on_literals
 long_names = (refl, refl, refl, refl, refl)

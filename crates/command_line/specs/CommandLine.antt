@@ -10,11 +10,12 @@ use Rattle.graph_theory.specs.declared.lad_text.LadKind.TheVariants.{Lad}
 use Rattle.command_line.specs.Words.{file_name, budget, seed, format}
 use Rattle.command_line.specs.Grammar.{grammar}
 use Rattle.command_line.specs.declared.commands.Command.{Command}
-use Rattle.command_line.specs.declared.commands.Command.TheVariants.{Solve, Verify, Encode, Check}
+use Rattle.command_line.specs.declared.commands.Command.TheVariants.{Solve, Verify, Encode, Check, Demo}
 use Rattle.command_line.specs.declared.commands.SolveWords.{SolveWords}
 use Rattle.command_line.specs.declared.commands.VerifyWords.{VerifyWords}
 use Rattle.command_line.specs.declared.commands.EncodeWords.{EncodeWords}
 use Rattle.command_line.specs.declared.commands.CheckWords.{CheckWords}
+use Rattle.command_line.specs.declared.commands.DemoWords.{DemoWords}
 
 -- The name of a file that stands in the place of this name.
 abbrev pub name_at : Text → List Row → Option Text
@@ -63,6 +64,11 @@ abbrev pub check_from : Option Text → Option Text → Option Command
 check_from (Some e) (Some l) = Some (Check (record { encoding = e; log = l }))
 check_from _ _ = None
 
+-- A demo, where both of its numbers are good.
+abbrev pub demo_from : Option ℕ → Option ℕ → Option Command
+demo_from (Some s) (Some b) = Some (Demo (record { seed = s; budget = b }))
+demo_from _ _ = None
+
 -- The solve that the words after `solve` are.
 abbrev pub solve_of : List Row → Option Command
 solve_of rows = solve_from (name_at (codes "pattern") rows) (name_at (codes "target") rows)
@@ -81,11 +87,16 @@ encode_of rows = encode_from (name_at (codes "pattern") rows) (name_at (codes "t
 abbrev pub check_of : List Row → Option Command
 check_of rows = check_from (name_at (codes "encoding") rows) (name_at (codes "log") rows)
 
+-- The demo that the words after `demo` are; its seed is the first of them.
+abbrev pub demo_of : List Row → Option Command
+demo_of rows = demo_from (option_and_then seed (first_of (codes "seed") rows)) (budget_at rows)
+
 -- The command of this name, with what was found for it.
 abbrev pub named_command : Text → List Row → Option Command
 named_command name rows = if bytes_eq name (codes "solve") then solve_of rows
     else (if bytes_eq name (codes "verify") then verify_of rows
-    else (if bytes_eq name (codes "encode") then encode_of rows else (if bytes_eq name (codes "check") then check_of rows else None)))
+    else (if bytes_eq name (codes "encode") then encode_of rows else (if bytes_eq name (codes "check") then check_of rows
+    else (if bytes_eq name (codes "demo") then demo_of rows else None))))
 
 -- The command that a parse entered, if it entered one.
 abbrev pub entered_command : Option (Text × List Row) → Option Command
@@ -116,9 +127,14 @@ pub record IsCheckInRange (w : CheckWords) : Type 0 where
   pub encoding : length w.encoding ≤ 4095
   pub log : length w.log ≤ 4095
 
+pub record IsDemoInRange (w : DemoWords) : Type 0 where
+  pub least : 1 ≤ w.budget
+  pub most : w.budget < 2 ^ 63
+
 -- A command's names have at most 4,095 bytes, and its numbers are in their ranges.
 abbrev pub IsInRange : Command → Type 0
 IsInRange (Solve w) = IsSolveInRange w
 IsInRange (Verify w) = IsVerifyInRange w
 IsInRange (Encode w) = IsEncodeInRange w
 IsInRange (Check w) = IsCheckInRange w
+IsInRange (Demo w) = IsDemoInRange w

@@ -49,6 +49,10 @@ encode_grammar = with_kind (with_graphs (new_app (codes "encode")))
 unfoldable pub check_grammar : App
 check_grammar = with_rule (with_rule (new_app (codes "check")) (positional (codes "encoding"))) (positional (codes "log"))
 
+-- `demo K [--budget N]`
+unfoldable pub demo_grammar : App
+demo_grammar = with_rule (with_rule (new_app (codes "demo")) (positional (codes "seed"))) (option (codes "budget"))
+
 -- A command without help flag, help command and version flag; its subcommands have none either.
 abbrev pub quiet : App → App
 quiet a = on_top (λ s. record s { disable_help_flag = true; disable_help_subcommand = true; disable_version_flag = true }) a
@@ -57,6 +61,10 @@ quiet a = on_top (λ s. record s { disable_help_flag = true; disable_help_subcom
 unfoldable pub answering : App
 answering = with_subcommand (with_subcommand (quiet (new_app (codes "subgraph"))) solve_grammar.top) verify_grammar.top
 
+-- The commands that read files.
+unfoldable pub reading : App
+reading = with_subcommand (with_subcommand answering encode_grammar.top) check_grammar.top
+
 -- All commands.
 unfoldable pub grammar : App
-grammar = with_subcommand (with_subcommand answering encode_grammar.top) check_grammar.top
+grammar = with_subcommand reading demo_grammar.top

@@ -14,6 +14,8 @@ pub enum Command<'a> {
     Encode(EncodeWords<'a>),
     /// Check a proof log over an encoding.
     Check(CheckWords<'a>),
+    /// Decide two problems that are made from a seed.
+    Demo(DemoWords),
 }
 
 /// What the words of `solve` tell.
@@ -68,4 +70,13 @@ pub struct CheckWords<'a> {
     pub encoding: FileName<'a>,
     /// The file of the log; it may be the encoding's too.
     pub log: FileName<'a>,
+}
+
+/// What the words of `demo` tell.
+#[derive(Drop)]
+pub struct DemoWords {
+    /// The seed of both problems and of the choices of values, from 0 to 2^64 - 1.
+    pub seed: u64,
+    /// How many fails may be spent on each, from 1 to 2^63 - 1.
+    pub budget: u64,
 }

@@ -122,6 +122,16 @@ fn check_command<'a>(alloc: Global) -> Result<Command<'a>, AllocError>
     add(with_encoding, positional(alloc, "log"))
 }
 
+/// `demo K [--budget N]`
+#[tactic(auto, unfolding(crate::specs::Grammar::demo_grammar))]
+fn demo_command<'a>(alloc: Global) -> Result<Command<'a>, AllocError>
+    ensures app { IfOk result (λ c. app_of c ≡ spec.demo_grammar) }
+    ensures local { IfOk result (λ c. (fields_of c).has_globals ≡ false) }
+{
+    let with_seed = add(Command::new(alloc, "demo"), positional(alloc, "seed"))?;
+    add(with_seed, option(alloc, "budget"))
+}
+
 /// The command without help and version, which its subcommands take from it.
 fn quiet<'a>(command: Command<'a>) -> Command<'a>
     ensures { app_of result ≡ spec.quiet (app_of command.entry) }
@@ -151,13 +161,22 @@ fn answering<'a>(alloc: Global) -> Result<Command<'a>, AllocError>
     enter(with_solve, verify)
 }
 
-/// All commands. It takes memory for each argument, and is to be built once a run.
-#[tactic(auto, unfolding(crate::specs::Grammar::grammar))]
-pub(crate) fn whole_grammar<'a>(alloc: Global) -> Result<Command<'a>, AllocError>
-    ensures { IfOk result (λ c. app_of c ≡ spec.grammar) }
+/// The commands that read files.
+#[tactic(auto, unfolding(crate::specs::Grammar::reading))]
+fn reading<'a>(alloc: Global) -> Result<Command<'a>, AllocError>
+    ensures { IfOk result (λ c. app_of c ≡ spec.reading) }
 {
     let encode = encode_command(alloc)?;
     let check = check_command(alloc)?;
     let with_encode = enter(answering(alloc)?, encode)?;
     enter(with_encode, check)
+}
+
+/// All commands. It takes memory for each argument, and is to be built once a run.
+#[tactic(auto, unfolding(crate::specs::Grammar::grammar))]
+pub(crate) fn whole_grammar<'a>(alloc: Global) -> Result<Command<'a>, AllocError>
+    ensures { IfOk result (λ c. app_of c ≡ spec.grammar) }
+{
+    let demo = demo_command(alloc)?;
+    enter(reading(alloc)?, demo)
 }

@@ -1,6 +1,6 @@
 //! From words to a command: what `clap` finds among the words, and the project's own tests of it.
 
-ghost use Rattle.std.specs.Prelude.{◌≡◌, ◌≢◌, ◌≤◌, ◌<◌, ◌^◌, IfOk, IfSome, IsErrOf, Some, None, [], false, map, codes, option_map, string_bytes};
+ghost use Rattle.std.specs.Prelude.{◌≡◌, ◌≢◌, ◌≤◌, ◌<◌, ◌^◌, IfOk, IfSome, IsErrOf, Some, None, [], false, map, codes, option_map, option_and_then, string_bytes};
 ghost use Rattle.std.specs.Char.{is_ascii_digit};
 ghost use Rattle.std.specs.List.{list_all};
 ghost use Rattle.clap.specs.Words.{fault_of, first_of, found_of, rows_of, subcommand_of, subcommand_rows_of};
@@ -12,7 +12,7 @@ ghost use Rattle.command_line.specs.Words as word;
 ghost use Rattle.command_line.specs.Grammar.{grammar};
 ghost use Rattle.command_line.specs.CommandLine as line;
 
-use crate::commands::{CheckWords, Command, EncodeWords, SolveWords, VerifyWords};
+use crate::commands::{CheckWords, Command, DemoWords, EncodeWords, SolveWords, VerifyWords};
 use crate::file_name::FileName;
 use crate::grammar::whole_grammar;
 use clap::error::ErrorKind;
@@ -132,6 +132,16 @@ fn seed_at(matches: &ArgMatches) -> Option<u64>
     }
 }
 
+/// The seed that stands in its place.
+fn given_seed(matches: &ArgMatches) -> Option<u64>
+    ensures { result ≡ option_and_then word.seed (first_of (codes "seed") (rows_of (found_of matches.now))) }
+{
+    match word_at(matches, "seed") {
+        Some(text) => number_of(text, 0, LARGEST_SEED),
+        None => None,
+    }
+}
+
 /// The budget.
 fn budget_at(matches: &ArgMatches) -> Option<u64>
     ensures value { result ≡ line.budget_at (rows_of (found_of matches.now)) }
@@ -208,6 +218,16 @@ fn check_words<'a>(matches: &ArgMatches<'a>) -> Option<Command<'a>>
     Some(Command::Check(CheckWords { encoding, log }))
 }
 
+/// The demo that was found.
+fn demo_words<'a>(matches: &ArgMatches<'a>) -> Option<Command<'a>>
+    ensures words { result ≡ line.demo_of (rows_of (found_of matches.now)) }
+    ensures ranges { IfSome result line.IsInRange }
+{
+    let seed = given_seed(matches)?;
+    let budget = budget_at(matches)?;
+    Some(Command::Demo(DemoWords { seed, budget }))
+}
+
 /// The command of this name, with what was found for it.
 fn named_command<'a>(name: &str, matches: &ArgMatches<'a>) -> Option<Command<'a>>
     ensures words { result ≡ line.named_command name.now (rows_of (found_of matches.now)) }
@@ -221,6 +241,8 @@ fn named_command<'a>(name: &str, matches: &ArgMatches<'a>) -> Option<Command<'a>
         encode_words(matches)
     } else if name == "check" {
         check_words(matches)
+    } else if name == "demo" {
+        demo_words(matches)
     } else {
         None
     }

@@ -38,6 +38,7 @@ fn told(alloc: Global, command: &Command) -> Result<String, AllocError> {
             words.encoding.as_str(),
             words.log.as_str()
         ),
+        Command::Demo(words) => format!(in alloc; "demo {} {}", words.seed, words.budget),
         Command::Encode(words) => format!(in alloc;
             "encode {} {} {} {:?}",
             words.pattern.as_str(),
@@ -58,7 +59,7 @@ fn answer(alloc: Global, line: &str) -> Result<String, AllocError> {
 }
 
 /// Lines, and what they come to.
-static ROWS: [(&str, &str); 25] = [
+static ROWS: [(&str, &str); 29] = [
     (
         "subgraph solve p t",
         "solve p t false Lad 0 9223372036854775807",
@@ -101,6 +102,10 @@ static ROWS: [(&str, &str); 25] = [
     ("subgraph check e l", "check e l"),
     ("subgraph check e", "NotACommand"),
     ("subgraph check e l --induced", "NotACommand"),
+    ("subgraph demo 7", "demo 7 9223372036854775807"),
+    ("subgraph demo 7 --budget 4", "demo 7 4"),
+    ("subgraph demo", "NotACommand"),
+    ("subgraph demo +7", "NotACommand"),
     ("", "NotACommand"),
     ("subgraph solve p", "NotACommand"),
     ("subgraph verify p t", "NotACommand"),

@@ -19,7 +19,7 @@ fn run_failing(alloc: Global, line: &str, failing: Failing) -> Result<Ran, Alloc
 static RUNS: [(&str, u64, u64); 3] = [
     ("subgraph solve p t", 7, 10),
     ("subgraph verify p t m", 10, 2),
-    ("subgraph encode p t", 7, 136),
+    ("subgraph encode p t", 7, 7),
 ];
 
 #[test]

@@ -8,6 +8,8 @@
 #[cfg(test)]
 mod check_tests;
 #[cfg(test)]
+mod demo_tests;
+#[cfg(test)]
 mod encode_tests;
 #[cfg(test)]
 mod fault_tests;

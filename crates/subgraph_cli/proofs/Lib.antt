@@ -4,3 +4,5 @@ pub mod SolveStatuses
 pub mod VerifyStatuses
 pub mod EncodeStatuses
 pub mod CheckStatuses
+pub mod DemoStatuses
+pub mod Complete

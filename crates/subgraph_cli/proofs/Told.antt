@@ -25,7 +25,7 @@ use Rattle.subgraph_cli.specs.declared.solve.Decision.{Decision}
 use Rattle.subgraph_cli.specs.declared.solve.Decision.TheVariants.{Yes, Nothing, Unknown}
 
 -- Words are one command.
-one_command : (o : Option Command) (c d : Command) → o ≡ Some c → o ≡ Some d → c ≡ d
+pub one_command : (o : Option Command) (c d : Command) → o ≡ Some c → o ≡ Some d → c ≡ d
 one_command o c d e f = cc
 
 -- What a status says of the words' command it says of each that they are.

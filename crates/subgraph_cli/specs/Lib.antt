@@ -8,4 +8,6 @@ pub mod Deciding
 pub mod Verifying
 pub mod Encoded
 pub mod Checking
+pub mod Demonstrating
 pub mod Running
+pub mod Completeness

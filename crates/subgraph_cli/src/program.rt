@@ -1,6 +1,7 @@
 //! The whole program, over any files and sinks.
 
 ghost use Rattle.std.specs.Prelude.{◌≡◌, ◌≤◌, ◌<◌, ◌^◌, ◌∷◌, [], ◌⊎◌, true, false, List, None, Some, IsTrue, map, string_bytes};
+ghost use Rattle.outer_io.specs.Faults.{Rose};
 ghost use Rattle.outer_io.specs.NamedFiles.{SameFiles};
 ghost use Rattle.search_theory.specs.Account.{Account as TheAccount};
 ghost use Rattle.command_line.specs.CommandLine as line;
@@ -11,17 +12,23 @@ ghost use Rattle.subgraph_cli.specs.Solving.{SolveStatus};
 ghost use Rattle.subgraph_cli.specs.Verifying.{VerifyStatus};
 ghost use Rattle.subgraph_cli.specs.Encoded.{EncodeStatus};
 ghost use Rattle.subgraph_cli.specs.Checking.{CheckStatus};
+ghost use Rattle.subgraph_cli.specs.Demonstrating.{DemoStatus};
+ghost use Rattle.subgraph_cli.specs.Lines.{output_fault_text};
 ghost use Rattle.subgraph_cli.specs.Stops.{TellsFault};
-ghost use Rattle.subgraph_cli.specs.Streams.{stream, IsSameSink};
+ghost use Rattle.subgraph_cli.specs.Completeness.{HasNoFault, IsComplete};
+ghost use Rattle.subgraph_cli.specs.Streams.{stream, IsSameSink, Tells};
 
 use crate::check::check;
+use crate::demo::demo;
 use crate::encode::encode;
 use crate::solve::solve;
 use crate::stop::Stop;
-use crate::telling::{end_check, end_encode, end_solve, end_verify, tell_no_command, tell_stop};
+use crate::telling::{
+    end_check, end_demo, end_encode, end_solve, end_verify, tell_no_command, tell_stop,
+};
 use crate::verify::verify;
 use command_line::{
-    CheckWords, Command, EncodeWords, Refusal, SolveWords, VerifyWords, command_of,
+    CheckWords, Command, DemoWords, EncodeWords, Refusal, SolveWords, VerifyWords, command_of,
 };
 use fail_account::account::Account;
 use graph_theory::lad_text::text_laws;
@@ -35,9 +42,9 @@ use std::alloc::Global;
 ///
 /// | status | what it means |
 /// |---|---|
-/// | 0 | `solve` wrote `yes` and an embedding; `verify` wrote `embedding`; `encode` wrote the encoding; `check` wrote what the log claims |
+/// | 0 | `solve` wrote `yes` and an embedding; `verify` wrote `embedding`; `encode` wrote the encoding; `check` wrote what the log claims; `demo` wrote that both problems are decided |
 /// | 1 | `solve` wrote `none`: no embedding exists |
-/// | 2 | `solve` wrote `unknown`: the budget is spent |
+/// | 2 | `solve` wrote `unknown`: the budget is spent; `demo` wrote `unknown` of one of its problems or both |
 /// | 3 | the words are no command |
 /// | 4 | a text is refused |
 /// | 5 | a call on the files or the output failed |
@@ -68,6 +75,11 @@ pub fn run<R, F: Files, O: Sink, E: Sink>(
         (O.faults out.old) (O.faults out.new) (stream O.spot O.contents out.old out.new)
         (stream E.spot E.contents err.old err.new) }
 
+    // Without a fault the run ends as the files ask for, or memory was refused.
+    ensures complete { (c : TheCommand) → line.command (map string_bytes words.now) ≡ Some c → IsTrue (F.tells files.old)
+        → HasNoFault (F.faults files.old) (F.faults files.new) (O.faults out.old) (O.faults out.new)
+        → IsComplete c result (F.content files.old) }
+
     ensures told { TellsStatus (outcome result spent.new.items (stream O.spot O.contents out.old out.new)
         (stream E.spot E.contents err.old err.new)) }
     ensures kept { KeepsOutput (writes_in_parts (line.command (map string_bytes words.now))) (outcome result
@@ -85,6 +97,7 @@ pub fn run<R, F: Files, O: Sink, E: Sink>(
         Ok(Command::Verify(asked)) => run_verify(alloc, &asked, files, out, err),
         Ok(Command::Encode(asked)) => run_encode(alloc, &asked, files, out, err),
         Ok(Command::Check(asked)) => run_check(alloc, &asked, files, out, err),
+        Ok(Command::Demo(asked)) => run_demo(alloc, &asked, out, err, spent),
         Err(Refusal::NotACommand) => tell_no_command(err),
         Err(Refusal::NoMemory) => tell_stop(Stop::NoMemory, err),
     }
@@ -216,4 +229,31 @@ fn run_check<F: Files, O: Sink, E: Sink>(
 {
     let ended = check(alloc, asked, files, out);
     end_check(ended, err)
+}
+
+/// Decides the two problems of a seed, and tells where that stopped.
+fn run_demo<O: Sink, E: Sink>(
+    alloc: Global,
+    asked: &DemoWords,
+    out: &mut O,
+    err: &mut E,
+    spent: &mut Vec<Account>,
+) -> u8
+    requires budget { asked.now.budget < 2 ^ 63 }
+    requires empty { spent.old.items ≡ [] }
+    ensures says { DemoStatus (outcome result spent.new.items
+        (stream O.spot O.contents out.old out.new) (stream E.spot E.contents err.old err.new)) asked.now }
+    ensures statuses { IsStatusOf (TheCommand.Demo asked.now) result }
+    ensures fault { result ≡ 5 → Rose (O.faults out.old) (O.faults out.new)
+        × Tells (stream E.spot E.contents err.old err.new) output_fault_text }
+    ensures told { TellsStatus (outcome result spent.new.items (stream O.spot O.contents out.old out.new)
+        (stream E.spot E.contents err.old err.new)) }
+    ensures kept { KeepsOutput false (outcome result spent.new.items (stream O.spot O.contents out.old out.new)
+        (stream E.spot E.contents err.old err.new)) }
+    ensures quiet { (result ≡ 5) ⊎ (O.faults out.new ≡ O.faults out.old) }
+    ensures output { IsSameSink O.spot O.rest O.faults out.old out.new }
+    ensures error { IsSameSink E.spot E.rest E.faults err.old err.new }
+{
+    let ended = demo(alloc, asked, out, spent);
+    end_demo(ended, err)
 }

@@ -7,11 +7,13 @@ ghost use Rattle.subgraph_cli.specs.Lines.{role_text, cause_text, opb_cause_text
 ghost use Rattle.subgraph_cli.specs.Solving.{solve_status};
 ghost use Rattle.subgraph_cli.specs.Verifying.{verify_status, TellsTested};
 ghost use Rattle.subgraph_cli.specs.Encoded.{encode_status};
+ghost use Rattle.subgraph_cli.specs.Demonstrating.{demo_status, shown_status};
 ghost use Rattle.subgraph_cli.specs.Checking.{check_status, TellsChecked};
 ghost use Rattle.subgraph_cli.specs.Stops.{TellsStop};
 ghost use Rattle.subgraph_cli.specs.Streams.{stream, IsSameSink, Tells};
 
 use crate::check::Checked;
+use crate::demo::Shown;
 use crate::solve::Decision;
 use crate::stop::{Role, Stop, TextFault};
 use crate::verify::Tested;
@@ -211,6 +213,28 @@ pub fn end_encode<E: Sink>(ended: Result<(), Stop>, err: &mut E) -> u8
     match ended {
         Ok(()) => 0,
         Err(stop) => tell_stop(stop, err),
+    }
+}
+
+/// The status of a demo; where it stopped the error stream is told.
+pub fn end_demo<E: Sink>(ended: Result<Shown, Stop>, err: &mut E) -> u8
+    ensures status { result ≡ demo_status ended }
+    ensures line { TellsStop ended (stream E.spot E.contents err.old err.new) }
+    ensures sink { IsSameSink E.spot E.rest E.faults err.old err.new }
+{
+    match ended {
+        Ok(shown) => status_of_shown(shown),
+        Err(stop) => tell_stop(stop, err),
+    }
+}
+
+/// The status of a demo that has answered.
+fn status_of_shown(shown: Shown) -> u8
+    ensures { result ≡ shown_status shown.planted shown.cycle }
+{
+    match (shown.planted, shown.cycle) {
+        (true, true) => 0,
+        (true, false) | (false, true) | (false, false) => 2,
     }
 }
 

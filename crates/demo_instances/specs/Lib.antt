@@ -1,0 +1,5 @@
+pub mod Stream
+pub mod Shapes
+pub mod SeedProblems
+pub mod Claims
+pub mod Listing

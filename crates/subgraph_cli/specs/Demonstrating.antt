@@ -1,0 +1,81 @@
+-- What a `demo` answers.
+
+use Rattle.std.specs.Prelude.{◌≡◌, ℕ, ◌<◌, ◌≤◌, ◌⊎◌, Bool, true, false, ◌&&◌, List, [], ◌∷◌, ◌++◌, Result, Ok, Err, codes}
+use Rattle.graph_theory.specs.Graph.{size}
+use Rattle.graph_theory.specs.Embedding.{Problem}
+use Rattle.search_theory.specs.Bounds.{enough}
+use Rattle.search_theory.specs.Account.{Account, Spends}
+use Rattle.demo_instances.specs.SeedProblems.{IsPlanted, IsCycle}
+use Rattle.command_line.specs.declared.commands.DemoWords.{DemoWords}
+use Rattle.subgraph_cli.specs.Lines.{line_of, stop_status}
+use Rattle.subgraph_cli.specs.Streams.{Stream, Got, GotFront}
+use Rattle.subgraph_cli.specs.Outcomes.{Outcome}
+use Rattle.subgraph_cli.specs.Solving.{IsOrStops}
+use Rattle.subgraph_cli.specs.declared.demo.Shown.{Shown}
+use Rattle.subgraph_cli.specs.declared.stop.Stop.{Stop}
+use Rattle.subgraph_cli.specs.declared.stop.Stop.TheVariants.{Refused, FilesFault, OutputFault, NoMemory}
+
+-- The line of the planted problem: an embedding was found, or the budget is spent.
+abbrev pub planted_text : Bool → List ℕ
+planted_text true = line_of (codes "planted yes")
+planted_text false = line_of (codes "planted unknown")
+
+-- The line of the cycle: none exists, or the budget is spent.
+abbrev pub cycle_text : Bool → List ℕ
+cycle_text true = line_of (codes "cycle none")
+cycle_text false = line_of (codes "cycle unknown")
+
+-- The two lines, by whether the problems were decided.
+abbrev pub shown_text : Bool → Bool → List ℕ
+shown_text planted cycle = planted_text planted ++ cycle_text cycle
+
+-- The budget is spent on the problem of this description, as the account shows, and is less than enough for it.
+pub record IsSpentOn (description : Problem → Type 0) (budget : ℕ) (account : Account) : Type 0 where
+  pub problem : Problem
+  pub is_described : description problem
+  pub spends : Spends problem budget account
+  pub not_enough : budget < enough (size problem.pattern) (size problem.target)
+
+-- What deciding one of the two leaves of the accounts: all as they were where it was decided, and one more where it was not.
+abbrev pub ShowsOne : Result Bool Stop → (Problem → Type 0) → ℕ → List Account → List Account → Type 0
+ShowsOne (Ok true) description budget old new = new ≡ old
+ShowsOne (Ok false) description budget old new = (a : Account) × IsSpentOn description budget a × (new ≡ old ++ a ∷ [])
+ShowsOne (Err stop) description budget old new = Unit {0}
+
+-- The accounts of the problems that were not decided, in order.
+abbrev pub AreLeft : Bool → Bool → DemoWords → List Account → Type 0
+AreLeft true true w accounts = accounts ≡ []
+AreLeft false true w accounts = (a : Account) × IsSpentOn (IsPlanted w.seed) w.budget a × (accounts ≡ a ∷ [])
+AreLeft true false w accounts = (a : Account) × IsSpentOn (IsCycle w.seed) w.budget a × (accounts ≡ a ∷ [])
+AreLeft false false w accounts = (a b : Account) × IsSpentOn (IsPlanted w.seed) w.budget a × IsSpentOn (IsCycle w.seed) w.budget b × (accounts ≡ a ∷ b ∷ [])
+
+-- What a demo says: which of the two problems of the seed were decided, or why it stopped.
+abbrev pub DemoSays : Result Shown Stop → DemoWords → List Account → Stream → Type 0
+DemoSays (Ok shown) w accounts out = AreLeft shown.planted shown.cycle w accounts × Got out (shown_text shown.planted shown.cycle)
+DemoSays (Err OutputFault) w accounts out = (planted cycle : Bool) × AreLeft planted cycle w accounts × GotFront out (shown_text planted cycle)
+DemoSays (Err NoMemory) w accounts out = Unit {0}
+DemoSays (Err FilesFault) w accounts out = ⊥
+DemoSays (Err (Refused role fault)) w accounts out = ⊥
+
+-- The status of an answer.
+abbrev pub shown_status : Bool → Bool → ℕ
+shown_status true true = 0
+shown_status true false = 2
+shown_status false true = 2
+shown_status false false = 2
+
+abbrev pub demo_status : Result Shown Stop → ℕ
+demo_status (Ok shown) = shown_status shown.planted shown.cycle
+demo_status (Err stop) = stop_status stop
+
+-- The budget is enough for each problem of this description.
+abbrev pub IsEnoughFor : (Problem → Type 0) → ℕ → Type 0
+IsEnoughFor description budget = (q : Problem) → description q → enough (size q.pattern) (size q.target) ≤ budget
+
+-- What the status of a demo says.
+pub record DemoStatus (o : Outcome) (w : DemoWords) : Type 0 where
+  pub decided : o.status ≡ 0 → AreLeft true true w o.accounts × Got o.out (shown_text true true)
+  pub unknown : o.status ≡ 2 → (planted cycle : Bool) × (planted && cycle ≡ false) × AreLeft planted cycle w o.accounts × Got o.out (shown_text planted cycle)
+  pub fault : o.status ≡ 5 → (planted cycle : Bool) × AreLeft planted cycle w o.accounts × GotFront o.out (shown_text planted cycle)
+  pub answered : (o.status ≡ 0) ⊎ IsOrStops 2 o.status
+  pub enough : IsEnoughFor (IsPlanted w.seed) w.budget → IsEnoughFor (IsCycle w.seed) w.budget → o.status ≡ 2 → ⊥
