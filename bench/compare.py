@@ -1,13 +1,14 @@
 #!/usr/bin/env python3
 """Runs programs over the pairs of a folder, holds their answers against each other, and prints a table of times by family.
 
-    compare.py FOLDER NAME=COMMAND NAME=COMMAND .. [--limit SECONDS] [--only WORD] [--csv FILE]
+    compare.py FOLDER NAME=COMMAND NAME=COMMAND .. [--limit SECONDS] [--only WORD] [--peers NAME,NAME] [--csv FILE]
 
 A command is called with the words `PATTERN TARGET [--induced] [--format F]` behind its own, and prints `yes`, `none` or `unknown`
 first; lines `p -> t` behind a `yes` are tested. Times are seconds of processor time, reading and starting included; a run over the limit
 counts as the limit. The table gives for each family and program how many pairs it decided, and the ratio of the first program's time to
-its own: the geometric mean over the pairs that either decided, of times that count for 2 milliseconds at least. The status is 1 where two
-answers differ, an answer is not the known one, or a map is no embedding.
+its own: the geometric mean over the pairs that either decided, of times that count for 2 milliseconds at least. With --peers there is one
+program more, which on each pair is the quickest of those named. The status is 1 where two answers differ, an answer is not the known one,
+or a map is no embedding.
 """
 import argparse
 import json
@@ -18,6 +19,7 @@ import subprocess
 import sys
 
 LEAST = 0.002
+BEST = "best peer"
 
 
 def read_graph(path, labelled):
@@ -75,6 +77,7 @@ def main():
     words.add_argument("programs", nargs="+")
     words.add_argument("--limit", type=float, default=10)
     words.add_argument("--only", default="")
+    words.add_argument("--peers", default="")
     words.add_argument("--csv")
     asked = words.parse_args()
     programs = dict(p.split("=", 1) for p in asked.programs)
@@ -92,6 +95,9 @@ def main():
         if len(told) > 1:
             print(f"{pair['name']}: the answers differ: {answers}, known: {pair['answer']}", file=sys.stderr)
             faults += 1
+        if asked.peers:
+            quickest = min(asked.peers.split(","), key=lambda name: (answers[name] == "unknown", times[name]))
+            times[BEST], answers[BEST] = times[quickest], answers[quickest]
         rows.append((pair, answers, times))
         print(pair["name"], *(f"{n} {answers[n]} {times[n]:.3f}" for n in programs), file=sys.stderr)
     if asked.csv:
@@ -100,6 +106,7 @@ def main():
             for pair, answers, times in rows:
                 print(pair["name"], pair["family"], *(f"{answers[n]},{times[n]:.4f}" for n in programs), sep=",", file=file)
     first = next(iter(programs))
+    programs = list(programs) + [BEST] * bool(asked.peers)
     print("| family | pairs |" + "".join(f" {n} decides | {first} / {n} |" for n in programs if n != first) + f" {first} decides |")
     print("|---|---|" + "---|---|" * (len(programs) - 1) + "---|")
     for family in list(dict.fromkeys(p["family"] for p in pairs)) + ["all"]:

@@ -1,7 +1,7 @@
 #!/usr/bin/env python3
 """Writes pairs of graphs in LAD text, by family, the same for the same seed.
 
-    pairs.py FOLDER [--sizes S,M] [--families a,b] [--seed N]
+    pairs.py FOLDER [--sizes S,M,L] [--families a,b] [--seed N]
 
 FOLDER/index.json lists the pairs: name, family, pattern, target, induced, format and, where the way they are made tells it, the
 answer. Standard library only.
@@ -122,24 +122,24 @@ def choices(target, pattern):
     return sum(math.log(target - i) for i in range(pattern))
 
 
-# Each family gives (pattern, target, induced, answer if known); S and M are its sizes.
+# Each family gives (pattern, target, induced, answer if known); S, M and L are its sizes.
 
 def planted(source, size):
-    pattern, target, density = {"S": (15, 80, 0.3), "M": (45, 200, 0.3)}[size]
+    pattern, target, density = {"S": (15, 80, 0.3), "M": (45, 200, 0.3), "L": (60, 400, 0.3)}[size]
     graph = random_graph(source, target, density)
     yield graph.part(source.sample(range(target), pattern)).thinned(source, 0.85).shuffled(source), graph, False, "yes"
     yield graph.part(source.sample(range(target), pattern)).shuffled(source), graph, True, "yes"
 
 
 def dense_none(source, size):
-    pattern, target, thick, thin = {"S": (12, 60, 0.7, 0.3), "M": (15, 100, 0.75, 0.35)}[size]
+    pattern, target, thick, thin = {"S": (12, 60, 0.7, 0.3), "M": (15, 100, 0.75, 0.35), "L": (18, 200, 0.8, 0.4)}[size]
     yield random_graph(source, pattern, thick), random_graph(source, target, thin), False, None
     yield random_graph(source, pattern + 4, 0.5), random_graph(source, target, 0.5), True, None
 
 
 def phase(source, size):
     """About one embedding expected, moved by a factor."""
-    target, want = {"S": (60, 0.85), "M": (100, 0.75)}[size]
+    target, want = {"S": (60, 0.85), "M": (100, 0.75), "L": (150, 0.7)}[size]
     for thin in (0.3, 0.5, 0.7):
         pattern = round(1 + 2 * math.log(target * 0.9) / (-math.log(thin) * want))
         thick = choices(target, pattern) / (-math.log(thin) * pattern * (pattern - 1) / 2)
@@ -148,7 +148,7 @@ def phase(source, size):
 
 
 def phase_induced(source, size):
-    target = {"S": 50, "M": 80}[size]
+    target = {"S": 50, "M": 80, "L": 120}[size]
     for thick, thin in ((0.5, 0.5), (0.3, 0.4), (0.8, 0.6)):
         pattern = 4
         while choices(target, pattern) + pattern * (pattern - 1) / 2 * (thick * math.log(thin) + (1 - thick) * math.log(1 - thin)) > 0:
@@ -157,7 +157,7 @@ def phase_induced(source, size):
 
 
 def cliques(source, size):
-    target, count = {"S": (60, 8), "M": (100, 9)}[size]
+    target, count = {"S": (60, 8), "M": (100, 9), "L": (200, 11)}[size]
     graph = random_graph(source, target, 0.5)
     yield clique(count - 2), graph, False, None
     yield clique(count + 2), graph, False, None
@@ -165,38 +165,42 @@ def cliques(source, size):
 
 def odd_cycles(source, size):
     """An odd cycle into a bipartite graph."""
-    target, count = {"S": (40, 5), "M": (100, 7)}[size]
+    target, count = {"S": (40, 5), "M": (100, 7), "L": (200, 9)}[size]
     half = target // 2
     edges = [(a, b) for a in range(half) for b in range(half, target) if source.random() < 0.3]
     yield cycle(count), Graph(target, edges).shuffled(source), False, "none"
 
 
 def meshes(source, size):
-    small, large = {"S": (4, 10), "M": (6, 20)}[size]
+    small, large = {"S": (4, 10), "M": (6, 20), "L": (12, 80)}[size]
     yield mesh(small, small), mesh(large, large).shuffled(source), False, "yes"
     yield mesh(small, small), mesh(large, large).thinned(source, 0.97).shuffled(source), False, None
 
 
+def parts(source, graph, share):
+    """A connected part that lost some edges, and one that lost none."""
+    part = graph.part(graph.connected(source, int(graph.size * share)))
+    yield part.thinned(source, 0.95).shuffled(source), graph.shuffled(source), False, "yes"
+    yield part.shuffled(source), graph.shuffled(source), True, "yes"
+
+
 def sparse(source, size):
-    target, degree = {"S": (200, 4), "M": (2000, 5)}[size]
+    target, degree, shares = {"S": (200, 4, (0.1, 0.3)), "M": (2000, 5, (0.1, 0.3)), "L": (8000, 4, (0.02, 0.05))}[size]
     graph = sparse_graph(source, target, degree)
-    for share in (0.1, 0.3):
-        part = graph.part(graph.connected(source, int(target * share)))
-        yield part.thinned(source, 0.95).shuffled(source), graph.shuffled(source), False, "yes"
-        yield part.shuffled(source), graph.shuffled(source), True, "yes"
+    for share in shares:
+        yield from parts(source, graph, share)
 
 
 def scale_free_parts(source, size):
-    target, links = {"S": (60, 2), "M": (250, 3)}[size]
+    target, links, shares = {"S": (60, 2, (0.3, 0.8)), "M": (250, 3, (0.3, 0.8)), "L": (2000, 3, (0.05, 0.2))}[size]
     graph = scale_free(source, target, links)
-    for share in (0.3, 0.8):
-        part = graph.part(graph.connected(source, int(target * share)))
-        yield part.thinned(source, 0.9).shuffled(source), graph.shuffled(source), False, "yes"
+    for share in shares:
+        yield from parts(source, graph, share)
 
 
 def labelled(source, size):
     """Few labels on a sparse graph, as the atoms of molecules."""
-    target = {"S": 100, "M": 800}[size]
+    target = {"S": 100, "M": 800, "L": 5000}[size]
     graph = sparse_graph(source, target, 4)
     graph.labels = [source.choice((6, 6, 6, 6, 7, 8, 16)) for _ in range(target)]
     part = graph.part(graph.connected(source, target // 5))
@@ -211,7 +215,7 @@ FAMILIES = [planted, dense_none, phase, phase_induced, cliques, odd_cycles, mesh
 def main():
     words = argparse.ArgumentParser()
     words.add_argument("folder")
-    words.add_argument("--sizes", default="S,M")
+    words.add_argument("--sizes", default="S,M,L")
     words.add_argument("--families", default=",".join(f.__name__ for f in FAMILIES))
     words.add_argument("--seed", type=int, default=1)
     asked = words.parse_args()
