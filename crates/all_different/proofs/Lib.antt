@@ -2,9 +2,10 @@ pub mod Ranking
 pub mod Unions
 pub mod Choosing
 pub mod Placing
-pub mod Clearing
+pub mod Cleared
 pub mod Sums
 pub mod Meeting
 pub mod Scanning
-pub mod Looking
+pub mod OneLook
 pub mod Showing
+pub mod Decided

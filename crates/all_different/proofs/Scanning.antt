@@ -75,29 +75,33 @@ union_count d n row long bits =
     count_same (has row) (in_union d n) (64 * length row) (λ i l. bits i)
     ∙ count_bounds (in_union d n) (64 * length row) d.values (λ u e. omega (arith, union_below d n u e, long)) (union_below d n)
 
--- a prefix past those in order has more values than members
-pub beyond : (d : State) (order : List ℕ) (n : ℕ) → Ordered d order → length order < n → n ≤ d.vertices → n < union_size d n
-beyond d order n o past within = by (rank_onto (size_of d) d.vertices (d.values + 1) (n - 1) (λ q h. size_below d q) (omega arith))
+-- each domain from the place few on has more values than its place, counted from 1
+abbrev pub Ample : State → ℕ → Type 0
+Ample d few = (p : ℕ) → p < d.vertices → few ≤ rank (size_of d) d.vertices p → rank (size_of d) d.vertices p + 1 < size_of d p
+
+-- a prefix past the first few has more values than members
+pub beyond : (d : State) (few n : ℕ) → Ample d few → few < n → n ≤ d.vertices → n < union_size d n
+beyond d few n ample past within = by (rank_onto (size_of d) d.vertices (d.values + 1) (n - 1) (λ q h. size_below d q) (omega arith))
   where
     by : (q : ℕ) × (q < d.vertices) × (rank (size_of d) d.vertices q ≡ n - 1) → n < union_size d n
     by f =
         let q = f.0 in
-        let big = o.rest q f.1 (omega (arith, f.2, past)) in
+        let big = ample q f.1 (omega (arith, f.2, past)) in
         let inside : in_prefix d n q ≡ true = rw (lt-ltb q d.vertices f.1) (lt-ltb (rank (size_of d) d.vertices q) n (omega (arith, f.2, past))) in
         omega (arith, f.2, past, big, count_le (in_domain d q) (in_union d n) d.values d.values (omega arith) (λ t e. union_has d n q t f.1 inside e))
 
-pub none_short : (d : State) (order : List ℕ) → Ordered d order → ((m : ℕ) → m ≤ length order → Short d m → ⊥) → (n : ℕ) → Short d n → ⊥
-none_short d order o upto n s = by (cases_lt (length order) n)
+pub none_short : (d : State) (few : ℕ) → Ample d few → ((m : ℕ) → m ≤ few → Short d m → ⊥) → (n : ℕ) → Short d n → ⊥
+none_short d few ample upto n s = by (cases_lt few n)
   where
-    by : (length order < n) ⊎ (n ≤ length order) → ⊥
-    by (inl l) = omega (arith, beyond d order n o l s.within, s.few, s.within)
+    by : (few < n) ⊎ (n ≤ few) → ⊥
+    by (inl l) = omega (arith, beyond d few n ample l s.within, s.few, s.within)
     by (inr l) = upto n l s
 
-pub none_tight : (d : State) (order : List ℕ) → Ordered d order → ((m : ℕ) → m ≤ length order → Tight d m → ⊥) → (n : ℕ) → Tight d n → ⊥
-none_tight d order o upto n s = by (cases_lt (length order) n)
+pub none_tight : (d : State) (few : ℕ) → Ample d few → ((m : ℕ) → m ≤ few → Tight d m → ⊥) → (n : ℕ) → Tight d n → ⊥
+none_tight d few ample upto n s = by (cases_lt few n)
   where
-    by : (length order < n) ⊎ (n ≤ length order) → ⊥
-    by (inl l) = omega (arith, beyond d order n o l s.within, s.full, s.within)
+    by : (few < n) ⊎ (n ≤ few) → ⊥
+    by (inl l) = omega (arith, beyond d few n ample l s.within, s.full, s.within)
     by (inr l) = upto n l s
 
 pub upto_more : (P : ℕ → Type 0) (k : ℕ) → ((m : ℕ) → m ≤ k → P m → ⊥) → (P (k + 1) → ⊥) → (m : ℕ) → m ≤ k + 1 → P m → ⊥
@@ -107,11 +111,16 @@ upto_more P k before last m l h = by (cases_lt k m)
     by (inl g) = let e : m ≡ k + 1 = omega arith in last (subst P e h)
     by (inr g) = before m g h
 
+-- the union with the domain at the next place
+pub union_next : (d : State) (order old new : List ℕ) (k : ℕ) → Ordered d order → k < length order → ((t : ℕ) → has old t ≡ in_union d k t)
+    → ((t : ℕ) → has new t ≡ (has old t || in_domain d (get_or order k 0) t)) → (t : ℕ) → has new t ≡ in_union d (k + 1) t
+union_next d order old new k o l u e t =
+    let s : k + 1 ≡ suc k = omega arith in
+    e t ∙ rw (u t) (sym (union_more d k (get_or order k 0) (o.vertex k l) (o.rank_is k l) t)) ∙ ap (λ n. in_union d n t) (sym s)
+
 pub row_more : (d : State) (order old new row : List ℕ) (k : ℕ) → Ordered d order → k < length order → ((t : ℕ) → has old t ≡ in_union d k t)
     → ((t : ℕ) → has row t ≡ in_domain d (get_or order k 0) t) → ((t : ℕ) → has new t ≡ (has old t || has row t)) → (t : ℕ) → has new t ≡ in_union d (k + 1) t
-row_more d order old new row k o l u r e t =
-    let s : k + 1 ≡ suc k = omega arith in
-    e t ∙ rw (u t, r t) (sym (union_more d k (get_or order k 0) (o.vertex k l) (o.rank_is k l) t)) ∙ ap (λ n. in_union d n t) (sym s)
+row_more d order old new row k o l u r e = union_next d order old new k o l u (λ t. e t ∙ ap (λ (b : Bool). has old t || b) (r t))
 
 pub no_tight : (d : State) (m : ℕ) → m ≤ 0 → Tight d m → ⊥
 no_tight d m l t = let e : m ≡ 0 = omega arith in false≢true (sym (union_none d t.value) ∙ ap (λ n. in_union d n t.value) (sym e) ∙ t.shared)

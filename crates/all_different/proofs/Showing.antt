@@ -1,6 +1,6 @@
 -- The set and the row that an answer shows.
 use Rattle.std.proofs.Common.{◌≡◌, ℕ, ◌+◌, ◌-◌, ◌<◌, ◌≤◌, zero, suc, Bool, true, false, ◌||◌, not, eqb, List, [], ◌∷◌, ◌++◌, length, get_or, set, take, refl, sym, ap, ◌∙◌, arith, inl, inr, ◌⊎◌}
-use Rattle.std.proofs.lemmas.List.{take_more, take-take, get_or-take, length-take-le}
+use Rattle.std.proofs.lemmas.List.{take_more, length-take-le}
 use Rattle.std.proofs.lemmas.Bool.{cases_eq, eq-eqb, ne_eqb}
 use Rattle.domain_bits.specs.BitRows.{has}
 use Rattle.domain_bits.specs.Removals.{State, size_of}
@@ -13,7 +13,7 @@ use Rattle.all_different.specs.declared.Pruned.TheVariants.{Quiet, Hall, Fail}
 use Rattle.all_different.proofs.Scanning.{no_tight}
 use Rattle.all_different.proofs.Unions.{prefix_none, prefix_more}
 use Rattle.all_different.proofs.Choosing.{short_refutes}
-use Rattle.all_different.proofs.Clearing.{hall_keeps, hall_removes, cleared_follows}
+use Rattle.all_different.proofs.Cleared.{hall_keeps, hall_removes, cleared_follows}
 
 same-eqb : (a b : ℕ) → eqb a b ≡ eqb b a
 same-eqb a b = by (cases_eq a b)
@@ -44,26 +44,12 @@ among_prefix d order (suc k) o l p =
     or-false false true = refl
     or-false false false = refl
 
-pub shows_prefix : (d : State) (order : List ℕ) (few n : ℕ) (row : List ℕ) → Ordered d (take few order) → few ≤ length order → n ≤ length (take few order)
-    → ((t : ℕ) → has row t ≡ in_union d n t) → Shows d n (take n order) row
-shows_prefix d order few n row o l within bits =
-    let long = length-take-le few order l in
-    let front : take n (take few order) ≡ take n order = take-take n few order (omega (arith, long)) in
-    record {
-      size = length-take-le n order (omega (arith, long));
-      vertices = λ p. ap (λ xs. among xs p) (sym front) ∙ among_prefix d (take few order) n o within p;
-      values = bits;
-    }
+pub shows_prefix : (d : State) (order : List ℕ) (n : ℕ) (row : List ℕ) → Ordered d order → n ≤ length order → ((t : ℕ) → has row t ≡ in_union d n t) → Shows d n (take n order) row
+shows_prefix d order n row o within bits = record { size = length-take-le n order within; vertices = among_prefix d order n o within; values = bits }
 
--- the last vertex of a prefix
-pub last_rank : (d : State) (order : List ℕ) (few n : ℕ) → Ordered d (take few order) → few ≤ length order → n ≤ length (take few order) → 0 < n
-    → (get_or order (n - 1) 0 < d.vertices) × (rank (size_of d) d.vertices (get_or order (n - 1) 0) + 1 ≡ n)
-last_rank d order few n o l within some =
-    let long = length-take-le few order l in
-    let inside : n - 1 < few = omega (arith, long) in
-    let same = get_or-take few order (n - 1) 0 inside in
-    let h : n - 1 < length (take few order) = omega (arith, long) in
-    (rw (← same) (o.vertex (n - 1) h), omega (arith, rw same at (o.rank_is (n - 1) h)))
+-- the place after the last vertex of a prefix is the prefix's size
+pub last_place : (d : State) (order : List ℕ) (n : ℕ) → Ordered d order → n ≤ length order → (n ≡ 0 → ⊥) → rank (size_of d) d.vertices (get_or order (n - 1) 0) + 1 ≡ n
+last_place d order n o within some = omega (arith, some, o.rank_is (n - 1) (omega (arith, some, within)))
 
 -- what the answers mean for a search
 pub prunes_says : (answer : Pruned) (old new : State) (set row : List ℕ) → Prunes answer old new set row → PruneSays answer old new

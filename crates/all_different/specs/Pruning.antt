@@ -1,8 +1,8 @@
 -- What pruning by counting does.
-use Rattle.std.specs.Prelude.{◌≡◌, ℕ, ◌<◌, ◌==◌, Bool, false, not, cond, ◌||◌, List, [], ◌∷◌, length}
+use Rattle.std.specs.Prelude.{◌≡◌, ℕ, ◌<◌, ◌==◌, Bool, true, false, not, cond, ◌||◌, List, [], ◌∷◌, length}
 use Rattle.std.proofs.Common.{zero, suc}
 use Rattle.domain_bits.specs.BitRows.{has}
-use Rattle.domain_bits.specs.Removals.{State, filtered}
+use Rattle.domain_bits.specs.Removals.{State, filtered, in_domain, size_of}
 use Rattle.all_different.specs.Prefixes.{in_prefix, in_union, First, Short, Tight, Balanced}
 use Rattle.all_different.specs.Choices.{Chooses, LosesNoChoice}
 use Rattle.all_different.specs.declared.Pruned.{Pruned}
@@ -27,6 +27,10 @@ pub record Shows (d : State) (n : ℕ) (set row : List ℕ) : Type 0 where
   pub size : length set ≡ n
   pub vertices : (p : ℕ) → among set p ≡ in_prefix d n p
   pub values : (t : ℕ) → has row t ≡ in_union d n t
+
+-- a value that is all of one domain is in no other
+pub record DecidedApart (d : State) : Type 0 where
+  pub apart : (p r t : ℕ) → p < d.vertices → r < d.vertices → (p ≡ r → ⊥) → size_of d p ≡ 1 → in_domain d p t ≡ true → in_domain d r t ≡ true → ⊥
 
 -- what each answer says of the domains before and after, and of the set and its union
 abbrev pub Prunes : Pruned → State → State → List ℕ → List ℕ → Type 0

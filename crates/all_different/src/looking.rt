@@ -1,0 +1,120 @@
+//! The look at the unions of the first domains: where one has too few values, and where one has just enough.
+
+ghost use Rattle.std.specs.Prelude.{◌≡◌, ℕ, ◌+◌, ◌<◌, ◌≤◌, true, false, length, IfSome, IfNone};
+ghost use Rattle.domain_bits.specs.BitRows.{has, words_for};
+ghost use Rattle.domain_bits.specs.Removals.{size_of};
+ghost use Rattle.all_different.specs.Ranks.{rank};
+ghost use Rattle.all_different.specs.Prefixes.{in_union, First, Short};
+ghost use Rattle.all_different.specs.Steps.{BalancedTo, Meets, MissesAt, Ordered, Scans};
+
+use crate::ordering::is_later;
+use crate::uniting::{meets, unite_first};
+use bit_rows::clear;
+use domain_bits::{Domains, Trail, count_ones, or_into};
+
+/// How far the first domains were looked at.
+#[derive(Clone, Copy)]
+pub(crate) enum Scan {
+    /// All: no prefix has too few values, and how many domains the last one has that has just enough; 0 where none beyond those that
+    /// were passed over has.
+    Clear(usize),
+    /// Up to the first prefix with too few values.
+    Short(usize),
+    /// Up to a domain that has a value of a prefix before it which has just enough.
+    Met(usize),
+}
+
+/// Looks at the unions of the first domains in turn, from place `from` on. The last one of a prefix with as many values as members is
+/// kept in `full`, and the next domain is held against it, so that one look at each domain is enough. Cost: four steps for each word of
+/// these domains, and that of `unite_first` for those before.
+pub(crate) fn look<T: Trail>(
+    d: &Domains<T>,
+    from: usize,
+    order: &[u16],
+    union: &mut [u64],
+    full: &mut [u64],
+) -> Scan
+    requires begun { BalancedTo d.now from }
+    requires within { from ≤ length order.now }
+    requires ordered { Ordered d.now order.now }
+    requires long { length union.old ≡ words_for d.now.values }
+    requires full { length full.old ≡ words_for d.now.values }
+    ensures { Scans result d.now order.now union.new full.new }
+{
+    unite_first(d, order, from, union);
+    clear(full);
+    let mut last = 0;
+    for k in from..order.len() {
+        let row = d.row(order[k]);
+        if meets(full, row) {
+            return Scan::Met(k);
+        }
+        or_into(union, row);
+        let size = count_ones(union);
+        if size < k as u64 + 1 {
+            return Scan::Short(k + 1);
+        }
+        if size == k as u64 + 1 {
+            full.copy_from_slice(union);
+            last = k + 1;
+        }
+    }
+    Scan::Clear(last)
+}
+
+/// The first prefix with too few values, which is none of at most `from` domains. Its union is left in `union`.
+pub(crate) fn first_short<T: Trail>(
+    d: &Domains<T>,
+    from: usize,
+    order: &[u16],
+    union: &mut [u64],
+) -> Option<usize>
+    requires begun { BalancedTo d.now from }
+    requires within { from ≤ length order.now }
+    requires ordered { Ordered d.now order.now }
+    requires long { length union.old ≡ words_for d.now.values }
+    ensures some { IfSome result (λ n. First (Short d.now) n) }
+    ensures within { IfSome result (λ n. n ≤ length order.now) }
+    ensures union { IfSome result (λ n. (t : ℕ) → has union.new t ≡ in_union d.now n t) }
+    ensures none { IfNone result ((n : ℕ) → Short d.now n → ⊥) }
+{
+    unite_first(d, order, from, union);
+    for k in from..order.len() {
+        or_into(union, d.row(order[k]));
+        if count_ones(union) < k as u64 + 1 {
+            return Some(k + 1);
+        }
+    }
+    None
+}
+
+/// Whether a domain after those of a prefix meets their union.
+pub(crate) fn later_meets<T: Trail>(d: &Domains<T>, last: u16, union: &[u64]) -> bool
+    requires last_in { last < d.now.vertices }
+    requires long { length union.now ≡ words_for d.now.values }
+    requires union { (t : ℕ) → has union.now t ≡ in_union d.now (rank (size_of d.now) d.now.vertices last + 1) t }
+    ensures found { result ≡ true → Meets d.now (rank (size_of d.now) d.now.vertices last + 1) }
+    ensures none { result ≡ false → Meets d.now (rank (size_of d.now) d.now.vertices last + 1) → ⊥ }
+{
+    for p in 0..d.vertices() {
+        if meets_after(d, last, p, union) {
+            return true;
+        }
+    }
+    false
+}
+
+/// Whether one domain is after those of a prefix and meets their union.
+fn meets_after<T: Trail>(d: &Domains<T>, last: u16, p: u16, union: &[u64]) -> bool
+    requires last_in { last < d.now.vertices }
+    requires p_in { p < d.now.vertices }
+    requires long { length union.now ≡ words_for d.now.values }
+    requires union { (t : ℕ) → has union.now t ≡ in_union d.now (rank (size_of d.now) d.now.vertices last + 1) t }
+    ensures found { result ≡ true → Meets d.now (rank (size_of d.now) d.now.vertices last + 1) }
+    ensures none { result ≡ false → MissesAt d.now (rank (size_of d.now) d.now.vertices last + 1) p }
+{
+    if !is_later(d, last, p) {
+        return false;
+    }
+    meets(union, d.row(p))
+}

@@ -1,0 +1,75 @@
+//! Unions of domains, as rows of bits.
+
+ghost use Rattle.std.specs.Prelude.{◌≡◌, ℕ, ◌+◌, ◌<◌, ◌≤◌, ◌&&◌, ◌||◌, true, false, not, length};
+ghost use Rattle.domain_bits.specs.BitRows.{has, words_for};
+ghost use Rattle.domain_bits.specs.Removals.{in_domain, size_of};
+ghost use Rattle.all_different.specs.Ranks.{rank};
+ghost use Rattle.all_different.specs.Prefixes.{in_prefix, in_union};
+ghost use Rattle.all_different.specs.Steps.{Ordered, Shares, in_rest};
+
+use crate::ordering::is_later;
+use bit_rows::{clear, set_bit};
+use domain_bits::{Domains, Trail, or_into};
+
+/// Adds a domain to the row. Cost: one step for a domain of one value, else one for each word.
+fn add_domain<T: Trail>(d: &Domains<T>, p: u16, row: &mut [u64])
+    requires p_in { p < d.now.vertices }
+    requires long { length row.old ≡ words_for d.now.values }
+    ensures { (t : ℕ) → has row.new t ≡ (has row.old t || in_domain d.now p t) }
+{
+    match d.only(p) {
+        Some(t) => set_bit(row, usize::from(t)),
+        None => or_into(row, d.row(p)),
+    }
+}
+
+/// The union of the first `n` domains in the order. Cost: one step for each word, and that of `add_domain` for each of them.
+pub(crate) fn unite_first<T: Trail>(d: &Domains<T>, order: &[u16], n: usize, row: &mut [u64])
+    requires ordered { Ordered d.now order.now }
+    requires within { n ≤ length order.now }
+    requires long { length row.old ≡ words_for d.now.values }
+    ensures { (t : ℕ) → has row.new t ≡ in_union d.now n t }
+{
+    clear(row);
+    for k in 0..n {
+        add_domain(d, order[k], row);
+    }
+}
+
+/// Adds a domain to the row, if it is after those of a prefix.
+fn add_later<T: Trail>(d: &Domains<T>, last: u16, p: u16, row: &mut [u64])
+    requires last_in { last < d.now.vertices }
+    requires p_in { p < d.now.vertices }
+    requires long { length row.old ≡ words_for d.now.values }
+    ensures { (t : ℕ) → has row.new t ≡ (has row.old t || (not (in_prefix d.now (rank (size_of d.now) d.now.vertices last + 1) p) && in_domain d.now p t)) }
+{
+    if is_later(d, last, p) {
+        or_into(row, d.row(p));
+    }
+}
+
+/// The union of the domains after those of a prefix.
+pub(crate) fn unite_rest<T: Trail>(d: &Domains<T>, last: u16, row: &mut [u64])
+    requires last_in { last < d.now.vertices }
+    requires long { length row.old ≡ words_for d.now.values }
+    ensures { (t : ℕ) → has row.new t ≡ in_rest d.now (rank (size_of d.now) d.now.vertices last + 1) t }
+{
+    clear(row);
+    for p in 0..d.vertices() {
+        add_later(d, last, p, row);
+    }
+}
+
+/// Whether two rows have a value in common.
+pub(crate) fn meets(row: &[u64], other: &[u64]) -> bool
+    requires { length row.now ≡ length other.now }
+    ensures found { result ≡ true → Shares row.now other.now }
+    ensures none { result ≡ false → (t : ℕ) → has row.now t ≡ true → has other.now t ≡ true → ⊥ }
+{
+    for place in 0..row.len() {
+        if row[place] & other[place] != 0 {
+            return true;
+        }
+    }
+    false
+}
