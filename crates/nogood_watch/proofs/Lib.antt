@@ -6,3 +6,4 @@ pub mod Readiness
 pub mod Waiting
 pub mod Walks
 pub mod Adding
+pub mod InForce

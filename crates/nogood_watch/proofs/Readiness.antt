@@ -98,7 +98,7 @@ pub ready_free : (d : removals.State) (literals : List (ℕ × ℕ)) (entries : 
     → Visited d (nogoods_of literals entries) w w2 forced forced x
 ready_free d literals entries w w1 w2 heads next forced x y o to r e ren ew free =
     let same = sym (nogood_is literals entries (x / 2)) in
-    rw ew (visited_free d (nogoods_of literals entries) w w1 forced x o to r.watches_are r.x_in
+    rw ew (visited_free d (nogoods_of literals entries) w w1 forced x o to r.watches_are r.x_in r.assigned
     (subst (λ (n : Nogood). Renews d n.literals w w1 (partner x) (literal w x).0 o) same (subst (λ k. Renews d (nogood_at literals (entry entries (x / 2))).literals w w1 k (literal w x).0 o) e ren))
     (subst (λ (n : Nogood). IsFreeLiteral d n.literals (literal w x).0 o.0 to) same free))
 

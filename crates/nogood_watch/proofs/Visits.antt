@@ -6,7 +6,7 @@ use Rattle.std.proofs.lemmas.List.{get_or-set_same, get_or-set_other, length-set
 use Rattle.domain_bits.specs.Removals as removals
 use Rattle.nogood_watch.specs.Lists.{Chained, moved}
 use Rattle.nogood_watch.specs.Nogoods.{Nogood, literal, partner, nogood_of, AreLiterals, AreWatches}
-use Rattle.nogood_watch.specs.Watching.{IsAssigned, AllBut, IsGuarded, Follows, forced_at}
+use Rattle.nogood_watch.specs.Watching.{IsAssigned, AllBut, IsGuarded, KeepsOrFrees, MovesToFree, Follows, forced_at}
 use Rattle.nogood_watch.specs.Inside.{cell}
 use Rattle.nogood_watch.specs.Walking.{NoneFree, IsFreeLiteral, Renews, Forces, Homes, Visited}
 use Rattle.nogood_watch.proofs.Chains.{moved_at, moved_other}
@@ -81,6 +81,16 @@ set_watches nogoods w x o to a x-in o-is to-is apart = record {
     differ z h (inr n) (inr m) same = a.apart z h (ap (λ l. l.0) (sym (set_rest w x (partner x) o to z n m)) ∙ same
         ∙ ap (λ l. l.0) (set_rest w x (partner x) o to (partner z) (λ f. m (sym (partner_twice z) ∙ ap partner f)) (λ f. n (sym (partner_twice z) ∙ ap partner f ∙ partner_twice x))))
 
+-- where each of the two has kept its literal or is free, all have
+pub set_moves : (d : removals.State) (w : List (ℕ × ℕ)) (x : ℕ) (o to : ℕ × ℕ) → x < length w → partner x < length w
+    → KeepsOrFrees d (literal w x) to → KeepsOrFrees d (literal w (partner x)) o → MovesToFree d w (set (set w (partner x) o) x to)
+set_moves d w x o to x-in y-in this other z h = by (cases_eq z x) (cases_eq z (partner x))
+  where
+    by : (z ≡ x) ⊎ (z ≡ x → ⊥) → (z ≡ partner x) ⊎ (z ≡ partner x → ⊥) → KeepsOrFrees d (literal w z) (literal (set (set w (partner x) o) x to) z)
+    by (inl e) _ = rw (e, set_this w x (partner x) o to x-in) this
+    by (inr n) (inl e) = rw (e, set_other w x (partner x) o to (partner_apart x) y-in) other
+    by (inr n) (inr m) = inl (set_rest w x (partner x) o to z n m)
+
 -- where both watches are at home
 pub homes_after : (values : ℕ) (home : ℕ → ℕ) (w heads' next' : _) (x : ℕ) (o to : ℕ × ℕ) → x < length w → partner x < length w
     → Chained (moved (moved home (partner x) (cell values o)) x (cell values to)) heads' next' → Homes values home (set (set w (partner x) o) x to) heads' next' x
@@ -101,15 +111,16 @@ no_more d nogoods old new x forced = record { more = []; after = sym (append-nil
 visited : (d : removals.State) (nogoods : List Nogood) (w : List (ℕ × ℕ)) (forced forced' : List (ℕ × ℕ × ℕ)) (x : ℕ) (o to : ℕ × ℕ) → AreWatches nogoods w → x < length w
     → ((k : ℕ) × (k < length (nogood_of nogoods x).literals) × (literal (nogood_of nogoods x).literals k ≡ o))
     → ((k : ℕ) × (k < length (nogood_of nogoods x).literals) × (literal (nogood_of nogoods x).literals k ≡ to))
-    → (to.0 ≡ o.0 → ⊥)
+    → (to.0 ≡ o.0 → ⊥) → KeepsOrFrees d (literal w x) to → KeepsOrFrees d (literal w (partner x)) o
     → IsGuarded d nogoods (set (set w (partner x) o) x to) forced' (literal w x) x
     → Forces d nogoods w (set (set w (partner x) o) x to) x forced forced'
     → Visited d nogoods w (set (set w (partner x) o) x to) forced forced' x
-visited d nogoods w forced forced' x o to a x-in o-is to-is apart guarded forces = record {
+visited d nogoods w forced forced' x o to a x-in o-is to-is apart this other guarded forces = record {
   long = set_length w x (partner x) o to;
   watches_are = set_watches nogoods w x o to a x-in o-is to-is apart;
   guarded = guarded;
   others = λ y n m. set_rest w x (partner x) o to y n m;
+  moves = set_moves d w x o to x-in (partner_in x (length w) (length nogoods) a.two x-in) this other;
   forces = forces;
 }
 
@@ -120,17 +131,17 @@ pub visited_left : (d : removals.State) (nogoods : List Nogood) (w w1 : List (�
 visited_left d nogoods w w1 forced x o a x-in r gone =
     let y-in = partner_in x (length w) (length nogoods) a.two x-in in
     let other = set_other w x (partner x) o (literal w x) (partner_apart x) y-in in
-    rw r.after (visited d nogoods w forced forced x o (literal w x) a x-in (r.place, r.within, r.is) (a.of x x-in) (λ e. r.apart (sym e))
+    rw r.after (visited d nogoods w forced forced x o (literal w x) a x-in (r.place, r.within, r.is) (a.of x x-in) (λ e. r.apart (sym e)) (inl refl) r.moves
     (inr (inr (record { this = set_this w x (partner x) o (literal w x) x-in; other = rw other gone })))
     (no_more d nogoods w (set (set w (partner x) o) x (literal w x)) x forced))
 
 -- it moves to a literal that is free
-pub visited_free : (d : removals.State) (nogoods : List Nogood) (w w1 : List (ℕ × ℕ)) (forced : List (ℕ × ℕ × ℕ)) (x : ℕ) (o to : ℕ × ℕ) → AreWatches nogoods w → x < length w
+pub visited_free : (d : removals.State) (nogoods : List Nogood) (w w1 : List (ℕ × ℕ)) (forced : List (ℕ × ℕ × ℕ)) (x : ℕ) (o to : ℕ × ℕ) → AreWatches nogoods w → x < length w → IsAssigned d (literal w x)
     → Renews d (nogood_of nogoods x).literals w w1 (partner x) (literal w x).0 o → IsFreeLiteral d (nogood_of nogoods x).literals (literal w x).0 o.0 to
     → Visited d nogoods w (set w1 x to) forced forced x
-visited_free d nogoods w w1 forced x o to a x-in r f =
+visited_free d nogoods w w1 forced x o to a x-in assigned r f =
     let y-in = partner_in x (length w) (length nogoods) a.two x-in in
-    rw r.after (visited d nogoods w forced forced x o to a x-in (r.place, r.within, r.is) (f.place, f.within, f.is) f.not_q
+    rw r.after (visited d nogoods w forced forced x o to a x-in (r.place, r.within, r.is) (f.place, f.within, f.is) f.not_q (inr (assigned, f.free)) r.moves
     (inl (record { this = rw (set_this w x (partner x) o to x-in) f.free; other = rw (set_other w x (partner x) o to (partner_apart x) y-in) (fresh r.fresh) }))
     (no_more d nogoods w (set (set w (partner x) o) x to) x forced))
   where
@@ -176,7 +187,7 @@ visited_forced d nogoods w w1 forced x o a x-in are assigned r here none =
     let y-in = partner_in x (length w) (length nogoods) a.two x-in in
     let other = set_other w x (partner x) o (literal w x) (partner_apart x) y-in in
     let this = set_this w x (partner x) o (literal w x) x-in in
-    rw r.after (visited d nogoods w forced (forced ++ (o.0, o.1, (nogood_of nogoods x).name) ∷ []) x o (literal w x) a x-in (r.place, r.within, r.is) (a.of x x-in) (λ e. r.apart (sym e))
+    rw r.after (visited d nogoods w forced (forced ++ (o.0, o.1, (nogood_of nogoods x).name) ∷ []) x o (literal w x) a x-in (r.place, r.within, r.is) (a.of x x-in) (λ e. r.apart (sym e)) (inl refl) r.moves
     (inr (inl (record {
       this = this;
       place = length forced;

@@ -10,7 +10,7 @@ use Rattle.nogood_watch.specs.Lists.{no_watch, Chained, renamed}
 use Rattle.nogood_watch.specs.declared.watched.WatchAnswer.{WatchAnswer}
 use Rattle.nogood_watch.specs.declared.watched.WatchAnswer.TheVariants.{Quiet, Forced, Fail}
 use Rattle.nogood_watch.specs.Nogoods.{State, Nogood, literal, partner, nogood, nogood_of, AreLiterals, AreWatches}
-use Rattle.nogood_watch.specs.Watching.{IsAssigned, IsGuarded, Follows, Answers, forced_at}
+use Rattle.nogood_watch.specs.Watching.{IsAssigned, IsGuarded, KeepsOrFrees, Follows, Answers, forced_at}
 use Rattle.nogood_watch.specs.Inside.{cell, home_of}
 use Rattle.nogood_watch.specs.Walking.{Homes, Visited, Ready, Walking, Walked, Tells, to_visit}
 use Rattle.nogood_watch.proofs.Chains.{first_home, no_home, chained_same}
@@ -36,6 +36,13 @@ guarded_more d nogoods w w' forced more l x e f (inr (inr h)) = inr (inr (record
 other_literal : (nogoods : List Nogood) (w : List (ℕ × ℕ)) (x : ℕ) (l : ℕ × ℕ) → AreWatches nogoods w → x < length w → literal w x ≡ l → literal w (partner x) ≡ l → ⊥
 other_literal nogoods w x l a h e f = a.apart x h (ap (λ (k : ℕ × ℕ). k.0) (e ∙ sym f))
 
+-- a watch moves once at most
+moves_twice : (d : removals.State) (a b c : ℕ × ℕ) → KeepsOrFrees d a b → KeepsOrFrees d b c → KeepsOrFrees d a c
+moves_twice d a b c (inl e) (inl f) = inl (f ∙ e)
+moves_twice d a b c (inl e) (inr n) = inr (subst (IsAssigned d) e n.0, n.1)
+moves_twice d a b c (inr m) (inl f) = inr (m.0, λ s. m.1 (subst (IsAssigned d) f s))
+moves_twice d a b c (inr m) (inr n) = absurd (m.1 n.0)
+
 pub walking_more : (d : removals.State) (nogoods : List Nogood) (start : List (ℕ × ℕ)) (l : ℕ × ℕ) (w w' : List (ℕ × ℕ)) (heads heads' next next' : List ℕ) (forced forced' : List (ℕ × ℕ × ℕ)) (x : ℕ)
     → ((i : ℕ) → i < length nogoods → AreLiterals d.vertices d.values (nogood nogoods i).literals) → AreWatches nogoods start
     → (a : Walking d nogoods start l w heads next forced) → x < length w → a.home x ≡ d.vertices * d.values
@@ -54,6 +61,7 @@ walking_more d nogoods start l w w' heads heads' next next' forced forced' x are
     rests = λ z z-in n. rests z (rw v.long at z-in) n (cases_eq z x) (cases_eq z (partner x));
     done = λ z z-in s n. done z (rw v.long at z-in) s n (cases_eq z x) (cases_eq z (partner x));
     others = λ z z-in n m. others z (rw v.long at z-in) n m (cases_eq z x) (cases_eq z (partner x));
+    moves = λ z z-in. moves_twice d (literal start z) (literal w z) (literal w' z) (a.moves z z-in) (v.moves z (omega (arith, z-in, a.start_long)));
     follows = λ k k-in. rw v.forces.after (follows k (rw v.forces.after at k-in) (cut (length forced) k));
     room = room;
   },
@@ -216,6 +224,7 @@ walking_first d nogoods w l heads heads' next v at hand are watches heads-long n
   rests = λ z z-in n. rests z z-in n (cases_eq (cell d.values (literal w z)) at);
   done = λ z z-in s n. absurd (n (ap (λ k. cond k hand (cell d.values (literal w z))) (eq-eqb (cell d.values (literal w z)) at (ap (cell d.values) s ∙ sym at-cell)) ∙ hand-at));
   others = λ z z-in n m. refl;
+  moves = λ z z-in. inl refl;
   follows = λ k h. absurd (omega arith);
   room = subst (λ n. 0 + count (λ z. eqb (renamed (home_of d.values w) at hand z) (d.vertices * d.values)) n ≤ length nogoods) (sym (next-long ∙ watches.two)) (omega (arith, half_count (λ z. eqb (renamed (home_of d.values w) at hand z) (d.vertices * d.values)) (length nogoods) not-both));
 }
@@ -322,6 +331,7 @@ pub walking_done : (d : removals.State) (nogoods : List Nogood) (start : List (�
 walking_done d nogoods start l w heads next forced a none = record {
   guarded = λ x h e. a.done x (omega (arith, h, a.start_long)) e (ended d nogoods start l w heads next forced a none x (omega (arith, h, a.start_long)));
   others = λ x h n m. a.others x (omega (arith, h, a.start_long)) n m;
+  moves = a.moves;
   follows = λ k h. (a.follows k h).0;
 }
 

@@ -4,7 +4,7 @@ use Rattle.domain_bits.specs.Counting.{count}
 use Rattle.domain_bits.specs.Removals as removals
 use Rattle.nogood_watch.specs.Lists.{times, followed, Chained}
 use Rattle.nogood_watch.specs.Nogoods.{Nogood, literal, partner, nogood, AreLiterals, AreWatches}
-use Rattle.nogood_watch.specs.Watching.{IsAssigned, IsGuarded, Follows, forced_at}
+use Rattle.nogood_watch.specs.Watching.{IsAssigned, IsGuarded, KeepsOrFrees, MovesToFree, Follows, forced_at}
 use Rattle.nogood_watch.specs.Inside.{cell}
 use Rattle.nogood_watch.specs.declared.watched.WatchAnswer.{WatchAnswer}
 use Rattle.nogood_watch.specs.declared.watched.WatchAnswer.TheVariants.{Quiet, Forced, Fail}
@@ -30,6 +30,7 @@ pub record Renews (d : removals.State) (xs : List (ℕ × ℕ)) (old new : List 
   pub is : literal xs place ≡ l
   pub apart : l.0 ≡ p → ⊥
   pub fresh : (IsAssigned d l → ⊥) ⊎ NoneFree d xs p l.0
+  pub moves : KeepsOrFrees d (literal old x) l
 
 -- the lists and watches are in order for a visit of x
 pub record Ready (d : removals.State) (nogoods : List Nogood) (watches : List (ℕ × ℕ)) (heads next : List ℕ) (x : ℕ) : Type 0 where
@@ -65,6 +66,7 @@ pub record Visited (d : removals.State) (nogoods : List Nogood) (old new : List 
   pub watches_are : AreWatches nogoods new
   pub guarded : IsGuarded d nogoods new forced' (literal old x) x
   pub others : (y : ℕ) → (y ≡ x → ⊥) → (y ≡ partner x → ⊥) → literal new y ≡ literal old y
+  pub moves : MovesToFree d old new
   pub forces : Forces d nogoods old new x forced forced'
 
 -- how many watches are still to be visited
@@ -83,6 +85,7 @@ pub record Walking (d : removals.State) (nogoods : List Nogood) (start : List (�
   pub rests : (x : ℕ) → x < length watches → (home x ≡ d.vertices * d.values → ⊥) → home x ≡ cell d.values (literal watches x)
   pub done : (x : ℕ) → x < length watches → literal start x ≡ l → (home x ≡ d.vertices * d.values → ⊥) → IsGuarded d nogoods watches forced l x
   pub others : (x : ℕ) → x < length watches → (literal start x ≡ l → ⊥) → (literal start (partner x) ≡ l → ⊥) → literal watches x ≡ literal start x
+  pub moves : MovesToFree d start watches
   pub follows : (k : ℕ) → k < length forced → (f : Follows d nogoods start watches l (forced_at forced k)) × (home f.watch ≡ d.vertices * d.values → ⊥)
   pub room : length forced + count (λ x. home x == d.vertices * d.values) (length next) ≤ length nogoods
 
@@ -90,6 +93,7 @@ pub record Walking (d : removals.State) (nogoods : List Nogood) (start : List (�
 pub record Walked (d : removals.State) (nogoods : List Nogood) (old new : List (ℕ × ℕ)) (l : ℕ × ℕ) (forced : List (ℕ × ℕ × ℕ)) : Type 0 where
   pub guarded : (x : ℕ) → x < length old → literal old x ≡ l → IsGuarded d nogoods new forced l x
   pub others : (x : ℕ) → x < length old → (literal old x ≡ l → ⊥) → (literal old (partner x) ≡ l → ⊥) → literal new x ≡ literal old x
+  pub moves : MovesToFree d old new
   pub follows : (k : ℕ) → k < length forced → Follows d nogoods old new l (forced_at forced k)
 
 -- what an answer says of the forced pairs

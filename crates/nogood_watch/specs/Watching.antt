@@ -58,6 +58,14 @@ GuardsAll d old new l = (x : ℕ) → x < length old.watches → literal old.wat
 abbrev pub KeepsOthers : State → State → ℕ × ℕ → Type 0
 KeepsOthers old new l = (x : ℕ) → x < length old.watches → (literal old.watches x ≡ l → ⊥) → (literal old.watches (partner x) ≡ l → ⊥) → literal new.watches x ≡ literal old.watches x
 
+-- a watch keeps its literal, or that one is assigned and the new one is not
+abbrev pub KeepsOrFrees : removals.State → ℕ × ℕ → ℕ × ℕ → Type 0
+KeepsOrFrees d old new = (new ≡ old) ⊎ (IsAssigned d old × (IsAssigned d new → ⊥))
+
+-- no watch moves but from a literal that is assigned to one that is not
+abbrev pub MovesToFree : removals.State → List (ℕ × ℕ) → List (ℕ × ℕ) → Type 0
+MovesToFree d old new = (x : ℕ) → x < length old → KeepsOrFrees d (literal old x) (literal new x)
+
 -- nothing is forced that does not follow
 abbrev pub AllFollow : removals.State → State → State → ℕ × ℕ → Type 0
 AllFollow d old new l = (k : ℕ) → k < length new.forced → Follows d old.nogoods old.watches new.watches l (forced_at new.forced k)

@@ -9,10 +9,12 @@
 //! Watched literals are those of the solver Chaff (Moskewicz, Madigan, Zhao, Zhang, Malik 2001); nogoods of restarts are watched so by
 //! Lecoutre, Sais, Tabary and Vidal (2007).
 
+mod in_force;
 mod lists;
 mod walk;
 mod watched;
 
+pub use in_force::watch_laws;
 pub use watched::{WatchAnswer, Watched};
 
 #[cfg(test)]

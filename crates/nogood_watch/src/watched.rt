@@ -5,7 +5,7 @@ ghost use Rattle.domain_bits.specs.Changes.{Single};
 ghost use Rattle.nogood_watch.specs.Inside.{cell};
 ghost use Rattle.nogood_watch.specs.Lists.{Chained, moved, no_watch};
 ghost use Rattle.nogood_watch.specs.Nogoods.{added, empty, AreLiterals, AreWatches};
-ghost use Rattle.nogood_watch.specs.Watching.{AllFollow, Answers, GuardsAll, KeepsOthers};
+ghost use Rattle.nogood_watch.specs.Watching.{AllFollow, Answers, GuardsAll, KeepsOthers, MovesToFree};
 
 use crate::lists::{END, link};
 use crate::walk::{answer_of, cell_of, walk};
@@ -137,6 +137,7 @@ impl Watched {
         requires assigned { Single d.now p t }
         ensures guarded { GuardsAll d.now self.old self.new (p, t) }
         ensures others { KeepsOthers self.old self.new (p, t) }
+        ensures moves { MovesToFree d.now self.old.watches self.new.watches }
         ensures forced { AllFollow d.now self.old self.new (p, t) }
         ensures answer { Answers result d.now self.new }
         ensures watches { AreWatches self.new.nogoods self.new.watches }

@@ -47,6 +47,9 @@ returns-clause-guarded g c = rw (← c.self.view_is, back g c) (done g c).guarde
 pub returns-clause-others : goal.returns-clause-others
 returns-clause-others g c = rw (← c.self.view_is, back g c) (done g c).others
 
+pub returns-clause-moves : goal.returns-clause-moves
+returns-clause-moves g c = rw (← c.self.view_is, back g c) (done g c).moves
+
 pub returns-clause-forced : goal.returns-clause-forced
 returns-clause-forced g c = rw (← c.self.view_is, back g c) (done g c).follows
 
