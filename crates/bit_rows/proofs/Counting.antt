@@ -124,11 +124,11 @@ enough_where counts least v = by (cases_lt (get_or counts v 0) least)
     by (inr more) = rw (le-leb least (get_or counts v 0) more, le-ltb (get_or counts v 0) least more) refl
 
 -- one bit more
-pub bit_more : (counts : List ℕ) (word b least n : ℕ) (t : Bool) → b < 64 → n ≡ from_bool t → t ≡ enough counts least b
-    → ((v : ℕ) → v < b → is_set word v ≡ enough counts least v) → ((v : ℕ) → b ≤ v → is_set word v ≡ false)
-    → ((v : ℕ) → v < b + 1 → is_set (bit_or word (n * 2 ^ b % 2 ^ 64)) v ≡ enough counts least v)
+pub bit_more : (test : ℕ → Bool) (word b n : ℕ) (t : Bool) → b < 64 → n ≡ from_bool t → t ≡ test b
+    → ((v : ℕ) → v < b → is_set word v ≡ test v) → ((v : ℕ) → b ≤ v → is_set word v ≡ false)
+    → ((v : ℕ) → v < b + 1 → is_set (bit_or word (n * 2 ^ b % 2 ^ 64)) v ≡ test v)
     × ((v : ℕ) → b + 1 ≤ v → is_set (bit_or word (n * 2 ^ b % 2 ^ 64)) v ≡ false)
-bit_more counts word b least n t b_in n_is t_is done todo = rw n_is (
+bit_more test word b n t b_in n_is t_is done todo = rw n_is (
   λ v v_in. is_set_or word (from_bool t * 2 ^ b % 2 ^ 64) v ∙ low v v_in (cases_eq v b),
   λ v past. is_set_or word (from_bool t * 2 ^ b % 2 ^ 64) v ∙ rw (todo v (omega arith), flag t v, ne_eqb v b (λ e. omega arith)) (never t),
 )
@@ -141,13 +141,13 @@ bit_more counts word b least n t b_in n_is t_is done todo = rw n_is (
     flag true v = ap (λ (n : ℕ). is_set n v) (one_shifted b b_in) ∙ is_set_pow b v
     flag false v = let none : 0 * 2 ^ b % 2 ^ 64 ≡ 0 = omega arith in ap (λ (n : ℕ). is_set n v) none ∙ is_set-zero v
 
-    low : (v : ℕ) → v < b + 1 → (v ≡ b) ⊎ (v ≡ b → ⊥) → (is_set word v || is_set (from_bool t * 2 ^ b % 2 ^ 64) v) ≡ enough counts least v
-    low v v_in (inl e) = rw (todo v (omega arith), flag t v, eq-eqb v b e) (yes t) ∙ t_is ∙ ap (enough counts least) (sym e)
+    low : (v : ℕ) → v < b + 1 → (v ≡ b) ⊎ (v ≡ b → ⊥) → (is_set word v || is_set (from_bool t * 2 ^ b % 2 ^ 64) v) ≡ test v
+    low v v_in (inl e) = rw (todo v (omega arith), flag t v, eq-eqb v b e) (yes t) ∙ t_is ∙ ap test (sym e)
       where
         yes : (x : Bool) → (false || (x && true)) ≡ x
         yes true = refl
         yes false = refl
-    low v v_in (inr ne) = rw (done v (omega arith), flag t v, ne_eqb v b ne) (no (enough counts least v) t)
+    low v v_in (inr ne) = rw (done v (omega arith), flag t v, ne_eqb v b ne) (no (test v) t)
       where
         no : (y x : Bool) → (y || (x && false)) ≡ y
         no true x = refl
@@ -167,22 +167,22 @@ part_counted counts part place to least v result is bits long here v_in =
     bits (v % 64) (omega arith) ∙ ap (λ (n : ℕ). not (nat_lt n least)) at
 
 -- one word more
-pub kept_next : (old row counts : List ℕ) (place word least : ℕ) → place < length row → ((v : ℕ) → has old v ≡ true → v < length counts)
-    → ((v : ℕ) → v / 64 ≡ place → v < length counts → is_set word (v % 64) ≡ enough counts least v)
-    → ((v : ℕ) → v / 64 < place → has row v ≡ (has old v && enough counts least v)) → ((v : ℕ) → place ≤ v / 64 → has row v ≡ has old v)
-    → ((v : ℕ) → v / 64 < place + 1 → has (set row place (bit_and (get_or row place 0) word)) v ≡ (has old v && enough counts least v))
+pub kept_next : (test : ℕ → Bool) (old row : List ℕ) (place word n : ℕ) → place < length row → ((v : ℕ) → has old v ≡ true → v < n)
+    → ((v : ℕ) → v / 64 ≡ place → v < n → is_set word (v % 64) ≡ test v)
+    → ((v : ℕ) → v / 64 < place → has row v ≡ (has old v && test v)) → ((v : ℕ) → place ≤ v / 64 → has row v ≡ has old v)
+    → ((v : ℕ) → v / 64 < place + 1 → has (set row place (bit_and (get_or row place 0) word)) v ≡ (has old v && test v))
     × ((v : ℕ) → place + 1 ≤ v / 64 → has (set row place (bit_and (get_or row place 0) word)) v ≡ has old v)
-kept_next old row counts place word least inside within bits done todo = (
+kept_next test old row place word n inside within bits done todo = (
   λ v v_in. by v v_in (cases_eq (v / 64) place),
   λ v past. has_elsewhere row place (bit_and (get_or row place 0) word) v (λ e. omega arith) ∙ todo v (omega arith),
 )
   where
-    kept : (v : ℕ) → v / 64 ≡ place → (t : Bool) → has old v ≡ t → (t && is_set word (v % 64)) ≡ (t && enough counts least v)
+    kept : (v : ℕ) → v / 64 ≡ place → (t : Bool) → has old v ≡ t → (t && is_set word (v % 64)) ≡ (t && test v)
     kept v here true h = bits v here (within v h)
     kept v here false h = refl
 
     by : (v : ℕ) → v / 64 < place + 1 → (v / 64 ≡ place) ⊎ (v / 64 ≡ place → ⊥)
-        → has (set row place (bit_and (get_or row place 0) word)) v ≡ (has old v && enough counts least v)
+        → has (set row place (bit_and (get_or row place 0) word)) v ≡ (has old v && test v)
     by v v_in (inl here) =
         has_written row place (bit_and (get_or row place 0) word) v inside here ∙ is_set_and (get_or row place 0) word (v % 64)
         ∙ ap (λ (k : ℕ). is_set (get_or row k 0) (v % 64) && is_set word (v % 64)) (sym here)
@@ -190,11 +190,11 @@ kept_next old row counts place word least inside within bits done todo = (
     by v v_in (inr there) = has_elsewhere row place (bit_and (get_or row place 0) word) v there ∙ done v (omega arith)
 
 -- all words
-pub kept_whole : (old row counts : List ℕ) (place least : ℕ) → length old ≤ place → length row ≡ length old
-    → ((v : ℕ) → v / 64 < place → has row v ≡ (has old v && enough counts least v)) → (v : ℕ) → has row v ≡ (has old v && enough counts least v)
-kept_whole old row counts place least all long done v = by (cases_lt (v / 64) place)
+pub kept_whole : (test : ℕ → Bool) (old row : List ℕ) (place : ℕ) → length old ≤ place → length row ≡ length old
+    → ((v : ℕ) → v / 64 < place → has row v ≡ (has old v && test v)) → (v : ℕ) → has row v ≡ (has old v && test v)
+kept_whole test old row place all long done v = by (cases_lt (v / 64) place)
   where
-    by : (v / 64 < place) ⊎ (place ≤ v / 64) → has row v ≡ (has old v && enough counts least v)
+    by : (v / 64 < place) ⊎ (place ≤ v / 64) → has row v ≡ (has old v && test v)
     by (inl inside) = done v inside
     by (inr past) = rw (has_past row v (omega arith), has_past old v (omega arith)) refl
 

@@ -4,3 +4,4 @@ pub mod Filled
 pub mod WordsAt
 pub mod Walking
 pub mod Counting
+pub mod Sifted

@@ -12,9 +12,11 @@ ghost use Rattle.graph_theory.specs.Neighbours.{count};
 
 mod counts;
 mod members;
+mod numbers;
 
 pub use counts::{count_members, keep_counted};
 pub use members::next_member;
+pub use numbers::keep_equal;
 
 /// Whether the value is in the set that the row holds. Cost: one word.
 pub fn has_bit(row: &[u64], value: usize) -> bool

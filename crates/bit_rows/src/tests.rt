@@ -47,3 +47,16 @@ fn what_is_counted_is_kept(rt: HostRuntime) -> Result<(), Fail> {
     assert_eq!(rt; row[0], 0b10010);
     Ok(())
 }
+
+#[test]
+fn values_of_one_number_are_kept(rt: HostRuntime) -> Result<(), Fail> {
+    let mut numbers = [7u32; 65];
+    numbers[1] = 3;
+    numbers[64] = 5;
+    let mut row = [0u64; 2];
+    fill_below(&mut row, 65);
+    unset_bit(&mut row, 2);
+    keep_equal(&mut row, &numbers, 7);
+    assert_eq!(rt; row.as_slice(), [!0b110u64, 0].as_slice());
+    Ok(())
+}

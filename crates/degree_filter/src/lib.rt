@@ -5,11 +5,13 @@
 //! graphs keep: loops do not count.
 #![tactic(auto)]
 
-ghost use Rattle.std.specs.Prelude.{◌<◌, ◌≤◌, ◌↔◌, IsTrue};
+ghost use Rattle.std.specs.Prelude.{◌≡◌, ℕ, ◌<◌, ◌≤◌, ◌↔◌, true, length, IsTrue};
 ghost use Rattle.graph_theory.specs.Graph.{size};
 ghost use Rattle.graph_theory.specs.Neighbours.{degree};
+ghost use Rattle.graph_rows.specs.BitRow.{has, words_for};
 ghost use Rattle.degree_filter.specs.Degrees.{LesserDegreesAreDead};
 
+use bit_rows::keep_counted;
 use graph_rows::Problem;
 
 /// Whether `t` has as many neighbours as `p`, at least. Cost: two steps.
@@ -19,6 +21,18 @@ pub fn keeps(q: &Problem, p: u16, t: u16) -> bool
     ensures { IsTrue result ↔ (degree q.now.pattern p ≤ degree q.now.target t) }
 {
     q.pattern().degree(p) <= q.target().degree(t)
+}
+
+/// Keeps of a row of target vertices those with as many neighbours as `p`, at least. Cost: one step for each target vertex.
+pub fn keep_degrees(q: &Problem, p: u16, row: &mut [u64])
+    requires p_in { p < size q.now.pattern }
+    requires long { length row.old ≡ words_for (size q.now.target) }
+    requires within { (t : ℕ) → has row.old t ≡ true → t < size q.now.target }
+    ensures right { (t : ℕ) → has row.new t ≡ true → (has row.old t ≡ true) × (degree q.now.pattern p ≤ degree q.now.target t) }
+    ensures complete { (t : ℕ) → has row.old t ≡ true → degree q.now.pattern p ≤ degree q.now.target t → has row.new t ≡ true }
+{
+    let target = q.target();
+    keep_counted(row, target.degrees(), q.pattern().degree(p));
 }
 
 /// A value with fewer neighbours than its vertex lies in no embedding.

@@ -1,6 +1,6 @@
 -- What the graph says that labels and marks hold.
 
-use Rattle.std.proofs.Common.{◌≡◌, ℕ, ◌*◌, ◌<◌, ◌≤◌, Bool, true, false, not, eqb, ◌&&◌, List, length, map, get_or, take, drop, Option, None, is_some, refl, sym, ap, ◌∙◌, zero-add, arith, inl, inr, ◌⊎◌}
+use Rattle.std.proofs.Common.{◌≡◌, ℕ, ◌+◌, ◌*◌, ◌<◌, ◌≤◌, Bool, true, false, not, eqb, ◌&&◌, ◌||◌, subst, List, length, map, get_or, take, drop, Option, None, is_some, refl, sym, ap, ◌∙◌, zero-add, arith, inl, inr, ◌⊎◌}
 use Rattle.std.specs.List.{range_with_len}
 use Rattle.std.proofs.lemmas.Bool.{cases_lt, cases_eq, eq-eqb, ne_eqb, false≢true}
 use Rattle.std.proofs.lemmas.List.FromFn.{get_or-map-range_with_len, length-map-range_with_len, fill_by_all}
@@ -11,7 +11,7 @@ use Rattle.graph_theory.specs.Neighbours.{degree, is_neighbour}
 use Rattle.graph_theory.proofs.Counts.{count-same}
 use Rattle.graph_theory.proofs.Tables.{slice_get-tabulate}
 use Rattle.graph_rows.specs.BitRow.{has}
-use Rattle.graph_rows.specs.Held.{marked, marks_other, edge_of_mark, graph_held, AreMarks, AreMutual}
+use Rattle.graph_rows.specs.Held.{marked, marks_other, edge_of_mark, graph_held, AreMarks, AreMutual, AreLoops}
 use Rattle.graph_rows.proofs.Bits.{has_past}
 use Rattle.graph_rows.proofs.Places.{has-row}
 use Rattle.graph_rows.proofs.Marking.{room_in_row}
@@ -137,3 +137,85 @@ mutual_in labels words width g is turns a b =
     ∙ ap (λ (t : Bool). not t && is_some (edge (graph_held labels words width) a b)) (eqb-turned a b)
     ∙ ap (λ (t : Bool). not (eqb b a) && t) (edges_mutual labels words width turns a b)
     ∙ ap (λ (h : Graph). is_neighbour h b a) is
+
+-- the row of loops has the vertices with an edge to themselves
+pub loops_are : (labels words loops : List ℕ) (width : ℕ) (g : Graph) → graph_held labels words width ≡ g → AreLoops (length labels) width words loops
+    → (a : ℕ) → has loops a ≡ is_some (edge g a a)
+loops_are labels words loops width g is held a = by (cases_lt a (length labels)) ∙ ap (λ (h : Graph). is_some (edge h a a)) is
+  where
+    by : (a < length labels) ⊎ (length labels ≤ a) → has loops a ≡ is_some (edge (graph_held labels words width) a a)
+    by (inl inside) =
+        held.each a inside ∙ sym (is_some-mark (marked words width a a)) ∙ ap is_some (sym (edge-held labels words width a a inside inside))
+    by (inr past) = held.none a past ∙ ap is_some (sym (edge-held_from_past labels words width a a past))
+
+-- which are all vertices
+pub loops_within : (labels words loops : List ℕ) (width : ℕ) (g : Graph) → graph_held labels words width ≡ g → AreLoops (length labels) width words loops
+    → (a : ℕ) → has loops a ≡ true → a < size g
+loops_within labels words loops width g is held a h = by (cases_lt a (length labels))
+  where
+    by : (a < length labels) ⊎ (length labels ≤ a) → a < size g
+    by (inl inside) = let same : length labels ≡ size g = ap size is in rw (← same) inside
+    by (inr past) = absurd (false≢true (sym (held.none a past) ∙ h))
+
+-- and so a bit of it is the mark of a vertex in its own row
+pub loop_is : (labels words loops : List ℕ) (width : ℕ) (g : Graph) (a : ℕ) (m : Bool) → graph_held labels words width ≡ g → AreLoops (length labels) width words loops
+    → a < size g → m ≡ has loops a → edge_of_mark m ≡ edge g a a
+loop_is labels words loops width g a m is held a_in e =
+    let same : length labels ≡ size g = ap size is in
+    edge_is labels words width g a a m is a_in a_in (e ∙ held.each a (rw same a_in))
+
+-- the kept degrees are the degrees
+pub degrees_are : (labels words degrees : List ℕ) (width : ℕ) (g : Graph) → graph_held labels words width ≡ g → AreMarks (length labels) width words degrees
+    → (a : ℕ) → a < size g → get_or degrees a 0 ≡ degree g a
+degrees_are labels words degrees width g is marks a a_in =
+    let same : length labels ≡ size g = ap size is in
+    let inside : a < length labels = rw same a_in in
+    marks.counted a inside
+    ∙ count-same (marks_other words width a) (is_neighbour (graph_held labels words width) a) (length labels)
+    (λ k k_in. ap (λ t. not (eqb a k) && t) (sym (ap is_some (edge-held labels words width a k inside k_in) ∙ is_some-mark (marked words width a k))))
+    ∙ ap (λ (h : Graph). degree h a) is
+
+-- marks, and the row of loops, as they are kept
+pub marks_kept : (n size width : ℕ) (words ws degrees ds : List ℕ) → AreMarks size width ws ds → n ≡ size → words ≡ ws → degrees ≡ ds → AreMarks n width words degrees
+marks_kept n size width words ws degrees ds marks same put counted = rw (same, put, counted) marks
+
+pub mutual_kept : (n size width : ℕ) (words ws : List ℕ) → AreMutual size width ws → n ≡ size → words ≡ ws → AreMutual n width words
+mutual_kept n size width words ws turns same put = rw (same, put) turns
+
+pub loops_kept : (n size width : ℕ) (words ws loops ls : List ℕ) → AreLoops size width ws ls → n ≡ size → words ≡ ws → loops ≡ ls → AreLoops n width words loops
+loops_kept n size width words ws loops ls held same marks row = rw (same, marks, row) held
+
+-- ---- loops, gathered vertex by vertex
+
+either_of : (a b : Bool) → b ≡ true → (a || b) ≡ true
+either_of true b e = refl
+either_of false b e = e
+
+or_not : (a b : Bool) → b ≡ false → (a || b) ≡ a
+or_not true b e = refl
+or_not false b e = e
+
+-- one vertex more has a loop
+pub loops_more : (a width : ℕ) (words old new : List ℕ) → AreLoops a width words old → marked words width a a ≡ true → length new ≡ length old
+    → ((v : ℕ) → has new v ≡ (has old v || eqb a v)) → AreLoops (a + 1) width words new
+loops_more a width words old new held mark long put = record {
+  long = long ∙ held.long;
+  each = λ v v_in. put v ∙ by v v_in (cases_eq a v);
+  none = λ v past. put v ∙ or_not (has old v) (eqb a v) (ne_eqb a v (λ e. omega arith)) ∙ held.none v (omega arith);
+}
+  where
+    by : (v : ℕ) → v < a + 1 → (a ≡ v) ⊎ (a ≡ v → ⊥) → (has old v || eqb a v) ≡ marked words width v v
+    by v v_in (inl e) = either_of (has old v) (eqb a v) (eq-eqb a v e) ∙ sym (subst (λ (k : ℕ). marked words width k k ≡ true) e mark)
+    by v v_in (inr ne) = or_not (has old v) (eqb a v) (ne_eqb a v ne) ∙ held.each v (omega arith)
+
+-- or has none
+pub loops_same : (a width : ℕ) (words loops : List ℕ) → AreLoops a width words loops → marked words width a a ≡ false → AreLoops (a + 1) width words loops
+loops_same a width words loops held mark = record {
+  long = held.long;
+  each = λ v v_in. by v v_in (cases_eq a v);
+  none = λ v past. held.none v (omega arith);
+}
+  where
+    by : (v : ℕ) → v < a + 1 → (a ≡ v) ⊎ (a ≡ v → ⊥) → has loops v ≡ marked words width v v
+    by v v_in (inl e) = held.none v (omega arith) ∙ sym (subst (λ (k : ℕ). marked words width k k ≡ false) e mark)
+    by v v_in (inr ne) = held.each v (omega arith)

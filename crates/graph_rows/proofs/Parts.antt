@@ -4,7 +4,7 @@ use Rattle.std.proofs.Common.{◌≡◌, ℕ, ◌*◌, ◌<◌, ◌≤◌, zero,
 use Rattle.graph_theory.specs.Lad.{Vertex}
 use Rattle.graph_theory.specs.Graph.{tabulate, listed_label, listed_of, lists, or_label, either_lists, graph_of}
 use Rattle.lad_reader.specs.Parts.{unlabelled, vertices_from, AreBelow, AllBelow}
-use Rattle.graph_rows.specs.Held.{marked, edge_of_mark, graph_held, stands_in, said, either_said, AreMarks}
+use Rattle.graph_rows.specs.Held.{marked, edge_of_mark, graph_held, stands_in, said, either_said, AreMarks, AreMutual}
 use Rattle.graph_rows.proofs.Marking.{room_in_row}
 use Rattle.graph_rows.proofs.HeldGraph.{tabulate-same}
 
@@ -85,3 +85,18 @@ graph-made labels ls words kept degrees n width bss same put e long marks said =
     ap (λ (ks : List ℕ). graph_held ks kept width) same
     ∙ ap (λ (ws : List ℕ). graph_held ls ws width) put
     ∙ graph-held ls words width bss e (omega (arith, room_in_row n width marks.width_is)) said
+
+or_turned : (a b : Bool) → (a || b) ≡ (b || a)
+or_turned true true = refl
+or_turned true false = refl
+or_turned false true = refl
+or_turned false false = refl
+
+-- marks that say what the lists do are mutual
+pub mutual_made : (n width : ℕ) (words degrees : List ℕ) (bss : List (List ℕ)) → AreMarks n width words degrees
+    → ((x y : ℕ) → x < 64 * width → y < 64 * width → marked words width x y ≡ either_said bss x y) → AreMutual n width words
+mutual_made n width words degrees bss marks both = record {
+  each = λ a b a_in b_in.
+      let room = room_in_row n width marks.width_is in
+      both a b (omega (arith, room)) (omega (arith, room)) ∙ or_turned (said bss a b) (said bss b a) ∙ sym (both b a (omega (arith, room)) (omega (arith, room)));
+}

@@ -37,6 +37,12 @@ pub record AreMarks (n width : ℕ) (words degrees : List ℕ) : Type 0 where
 pub record AreMutual (n width : ℕ) (words : List ℕ) : Type 0 where
   pub each : (a b : ℕ) → a < n → b < n → marked words width a b ≡ marked words width b a
 
+-- The row holds those of the first n vertices that are marked in their own row.
+pub record AreLoops (n width : ℕ) (words loops : List ℕ) : Type 0 where
+  pub long : length loops ≡ width
+  pub each : (a : ℕ) → a < n → has loops a ≡ marked words width a a
+  pub none : (a : ℕ) → n ≤ a → has loops a ≡ false
+
 -- Whether b stands in a list.
 abbrev pub stands_in : List ℕ → ℕ → Bool
 stands_in [] b = false

@@ -5,7 +5,7 @@ ghost use Rattle.graph_theory.specs.Graph.{size as size_of, label as label_of, e
 ghost use Rattle.graph_theory.specs.Neighbours.{degree as degree_of, is_neighbour};
 ghost use Rattle.lad_reader.specs.Parts.{vertices_of, AreBelow, AllBelow};
 ghost use Rattle.graph_rows.specs.BitRow.{has, words_for};
-ghost use Rattle.graph_rows.specs.Held.{marked, AreMarks, AddsMark, AddsListed, either_said};
+ghost use Rattle.graph_rows.specs.Held.{marked, AreMarks, AreLoops, AddsMark, AddsListed, either_said};
 
 use lad_reader::{GraphParts, NeighbourLists};
 use std::alloc::{AllocError, Global};
@@ -18,18 +18,19 @@ pub struct Graph {
     words: Vec<u64>,
     width: usize,
     degrees: Vec<u16>,
+    loops: Vec<u64>,
 }
 
 impl Model for Graph {
     ghost use Rattle.graph_theory.specs.Graph.{Graph as TheGraph};
     ghost use Rattle.std.specs.Prelude.{length};
-    ghost use Rattle.graph_rows.specs.Held.{graph_held, AreMarks, AreMutual};
+    ghost use Rattle.graph_rows.specs.Held.{graph_held, AreMarks, AreMutual, AreLoops};
 
     ghost Value = { TheGraph };
 
     ghost view = { λ g. graph_held g.labels.items g.words.items g.width };
 
-    ghost invariant = { λ g. AreMarks (length g.labels.items) g.width g.words.items g.degrees.items × AreMutual (length g.labels.items) g.width g.words.items };
+    ghost invariant = { λ g. AreMarks (length g.labels.items) g.width g.words.items g.degrees.items × AreMutual (length g.labels.items) g.width g.words.items × AreLoops (length g.labels.items) g.width g.words.items g.loops.items };
 }
 
 impl Graph {
@@ -46,12 +47,15 @@ impl Graph {
         let width = (size + 63) / 64;
         let mut words = vec![in alloc; 0u64; size * width]?;
         let mut degrees = vec![in alloc; 0u16; size]?;
+        let mut loops = vec![in alloc; 0u64; width]?;
         mark_all(&mut words, &mut degrees, width, &parts.neighbours);
+        gather_loops(&words, width, size, &mut loops);
         Ok(Graph {
             labels,
             words,
             width,
             degrees,
+            loops,
         })
     }
 
@@ -84,6 +88,34 @@ impl Graph {
         }
     }
 
+    /// The label of the edge from `a` to itself, or none. It is kept beside the rows. Cost: one word.
+    pub fn loop_at(&self, a: u16) -> Option<u32>
+        requires { a < size_of self.now }
+        ensures { result ≡ edge_of self.now a a }
+    {
+        if has_bit(&self.loops, usize::from(a)) {
+            Some(0)
+        } else {
+            None
+        }
+    }
+
+    /// The vertices from which an edge leads to themselves, as a bit row.
+    pub fn loops(&self) -> &[u64]
+        ensures long { length result.now ≡ words_for (size_of self.now) }
+        ensures loops { (a : ℕ) → has result.now a ≡ is_some (edge_of self.now a a) }
+        ensures within { (a : ℕ) → has result.now a ≡ true → a < size_of self.now }
+    {
+        &self.loops
+    }
+
+    /// The labels of all vertices, in order.
+    pub fn labels(&self) -> &[u32]
+        ensures { result.now ≡ self.now.labels }
+    {
+        &self.labels
+    }
+
     /// Whether an edge leads from `a` to `b`. Cost: one word.
     pub fn has_edge(&self, a: u16, b: u16) -> bool
         requires from { a < size_of self.now }
@@ -99,6 +131,14 @@ impl Graph {
         ensures { result ≡ degree_of self.now a }
     {
         self.degrees[usize::from(a)]
+    }
+
+    /// The degrees of all vertices, in order.
+    pub fn degrees(&self) -> &[u16]
+        ensures long { length result.now ≡ size_of self.now }
+        ensures degrees { (a : ℕ) → a < size_of self.now → slice_index result.now a ≡ degree_of self.now a }
+    {
+        &self.degrees
     }
 
     /// The vertices to which an edge leads from `a`, as a bit row.
@@ -205,5 +245,21 @@ fn mark_all(words: &mut [u64], degrees: &mut [u16], width: usize, neighbours: &N
 {
     for a in 0..neighbours.len() {
         mark_listed(words, degrees, width, a, neighbours.of(a));
+    }
+}
+
+/// Puts the vertices that are marked in their own row into an empty row. Cost: one word for each vertex.
+fn gather_loops(words: &[u64], width: usize, size: usize, loops: &mut [u64])
+    requires width_is { width ≡ words_for size }
+    requires few { size ≤ 8192 }
+    requires words_are { length words.now ≡ size * width }
+    requires long { length loops.old ≡ width }
+    requires empty { (v : ℕ) → has loops.old v ≡ false }
+    ensures { AreLoops size width words.now loops.new }
+{
+    for a in 0..size {
+        if is_marked(words, width, a, a) {
+            let _is_new = set_bit(loops, a);
+        }
     }
 }

@@ -247,3 +247,16 @@ fn reads_and_writes_mappings(rt: HostRuntime) -> Result<(), Fail> {
     }
     Ok(())
 }
+
+#[test]
+fn loops_and_degrees_lie_beside_the_rows(rt: HostRuntime) -> Result<(), Fail> {
+    let Some(graph) = graph(rt.alloc(), b"3 5 2 1 2 5 2 1 0 6 1 0", LABELLED) else {
+        return Ok(());
+    };
+    assert_eq!(rt; graph.loops(), [0b010u64].as_slice());
+    assert_eq!(rt; graph.labels(), [5u32, 5, 6].as_slice());
+    assert_eq!(rt; graph.degrees(), [2u16, 1, 1].as_slice());
+    assert_eq!(rt; graph.size() > 1 && graph.loop_at(1) == Some(0), true);
+    assert_eq!(rt; graph.size() > 1 && graph.loop_at(0).is_none(), true);
+    Ok(())
+}

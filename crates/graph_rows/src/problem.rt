@@ -76,8 +76,8 @@ impl Problem {
         self.target.label(t) == self.pattern.label(p)
             && matches(
                 self.induced,
-                self.pattern.edge(p, p),
-                self.target.edge(t, t),
+                self.pattern.loop_at(p),
+                self.target.loop_at(t),
             )
     }
 

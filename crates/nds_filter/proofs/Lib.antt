@@ -1,3 +1,4 @@
 pub mod CountedLists
 pub mod Walked
 pub mod Answering
+pub mod Keeping

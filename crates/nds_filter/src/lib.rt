@@ -3,12 +3,15 @@
 //! The degrees of a vertex's neighbours in falling order are its sequence. An embedding keeps degrees and sends
 //! neighbours to neighbours, so the image's sequence goes on as long and is nowhere less (S. Zampelli, Y. Deville,
 //! C. Solnon, "Solving subgraph isomorphism problems with constraint programming", 2010). Sequences are made once for
-//! each graph, and two of them are compared without memory.
+//! each graph, and two of them are compared without memory. The layer above takes for each pattern vertex the row of the
+//! values that are kept; vertices of equal sequences share it.
 #![tactic(auto)]
 
+mod kept;
 mod sequences;
 mod shared;
 
+pub use kept::KeptRows;
 pub use sequences::{SequenceAnswer, Sequences, keeps, lesser_sequences_are_dead};
 
 #[cfg(test)]

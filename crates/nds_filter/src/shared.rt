@@ -1,11 +1,13 @@
-//! Sequences may be sent to another thread, and read from several at once.
+//! Sequences and the rows made of them may be sent to another thread, and read from several at once.
 
+use crate::kept::KeptRows;
 use crate::sequences::Sequences;
 
 /// Takes a type that may be sent and shared.
 const fn is_shared<T: Send + Sync>() {}
 
-/// Sequences may be sent and shared.
+/// Sequences and the rows made of them may be sent and shared.
 const fn are_shared() {
     is_shared::<Sequences>();
+    is_shared::<KeptRows>();
 }

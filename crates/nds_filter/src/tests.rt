@@ -3,8 +3,8 @@
 ghost use Rattle.std.specs.Prelude.{◌≤◌, IfSome};
 ghost use Rattle.graph_theory.specs.Graph.{size};
 
-use super::{SequenceAnswer, Sequences, keeps};
-use graph_rows::Graph;
+use super::{KeptRows, SequenceAnswer, Sequences, keeps};
+use graph_rows::{Graph, Problem};
 use lad_reader::{LadKind, read_lad};
 use std::alloc::Global;
 use std::test::Fail;
@@ -68,5 +68,26 @@ fn sequences_are_compared_place_by_place(rt: HostRuntime) -> Result<(), Fail> {
         answer(rt.alloc(), LONG_PATH, LONG_PATH, 1, 3),
         Some(SequenceAnswer::FailsAt(1))
     );
+    Ok(())
+}
+
+/// The values whose sequences keep that of `p`, as one word.
+fn kept(alloc: Global, pattern: &[u8], target: &[u8], p: u16) -> Option<u64> {
+    let q = Problem::new(graph(alloc, pattern)?, graph(alloc, target)?, false);
+    let Ok(rows) = KeptRows::new(alloc, &q) else {
+        return None;
+    };
+    if p >= q.pattern().size() {
+        return None;
+    }
+    rows.row(p).first().copied()
+}
+
+#[test]
+fn vertices_of_one_sequence_have_one_row(rt: HostRuntime) -> Result<(), Fail> {
+    assert_eq!(rt; kept(rt.alloc(), LONG_PATH, LONG_PATH, 0), Some(0b1111));
+    assert_eq!(rt; kept(rt.alloc(), LONG_PATH, LONG_PATH, 1), Some(0b0110));
+    assert_eq!(rt; kept(rt.alloc(), LONG_PATH, LONG_PATH, 2), Some(0b0110));
+    assert_eq!(rt; kept(rt.alloc(), TRIANGLE, LONG_PATH, 2), Some(0));
     Ok(())
 }

@@ -1,0 +1,182 @@
+//! For each pattern vertex the target vertices whose sequences keep its own, as a bit row. Vertices of equal sequences are of one
+//! class and share a row, which is made once.
+
+ghost use Rattle.std.specs.Prelude.{◌≡◌, ℕ, ◌*◌, ◌<◌, ◌≤◌, ◌↔◌, true, length, map, IsTrue, IfOk, IfSome, slice_index};
+ghost use Rattle.graph_theory.specs.Graph.{size};
+ghost use Rattle.graph_theory.specs.Neighbours.{degree, sequence, IsKeptBy};
+ghost use Rattle.graph_rows.specs.BitRow.{has, words_for};
+ghost use Rattle.nds_filter.specs.Sequences.{sequences, sequence_at};
+ghost use Rattle.nds_filter.specs.Kept.{KeptRow, row_at, AreFirsts, RowsStay, AreKept};
+
+use crate::sequences::{SequenceAnswer, Sequences, compare};
+use bit_rows::{fill_below, next_member, unset_bit};
+use degree_filter::keep_degrees;
+use graph_rows::Problem;
+use std::alloc::{AllocError, Global};
+use std::marker::Model;
+
+/// The target vertices whose sequences keep those of pattern vertices. Contracts see the problem.
+///
+/// `classes[p]` is the class of `p`, and `rows` has a row for each class.
+#[derive(Drop)]
+pub struct KeptRows<'a> {
+    problem: &'a Problem,
+    classes: Vec<usize>,
+    rows: Vec<Vec<u64>>,
+}
+
+impl<'a> Model for KeptRows<'a> {
+    ghost use Rattle.std.specs.Prelude.{map};
+    ghost use Rattle.graph_theory.specs.Graph.{size as size_of};
+    ghost use Rattle.graph_theory.specs.Embedding.{Problem as TheProblem};
+    ghost use Rattle.nds_filter.specs.Kept.{AreKept};
+
+    ghost Value = { TheProblem };
+
+    ghost view = { λ k. k.problem.now };
+
+    ghost invariant = { λ k. AreKept k.problem.now k.classes.items (map (λ row. row.items) k.rows.items) (size_of k.problem.now.pattern) };
+}
+
+impl<'a> KeptRows<'a> {
+    /// The rows of a problem. Cost: that of the sequences of both graphs; for each pattern vertex a comparison with the first vertex of each
+    /// class; and for each class one step for each target vertex, and the comparison of two sequences for each with as many neighbours.
+    pub fn new(alloc: Global, problem: &'a Problem) -> Result<KeptRows<'a>, AllocError>
+        ensures { IfOk result (λ k. k ≡ problem.entry.now) }
+    {
+        let ps = Sequences::new(alloc, problem.pattern())?;
+        let ts = Sequences::new(alloc, problem.target())?;
+        let mut classes = Vec::new(alloc);
+        let mut firsts = Vec::new(alloc);
+        let mut rows = Vec::new(alloc);
+        for p in 0..problem.pattern().size() {
+            let class = class_of(alloc, problem, &ps, &ts, p, &mut firsts, &mut rows)?;
+            classes.push(class)?;
+        }
+        Ok(KeptRows {
+            problem,
+            classes,
+            rows,
+        })
+    }
+
+    /// The target vertices whose sequence keeps that of `p`, as a bit row. Cost: two steps.
+    pub fn row(&self, p: u16) -> &[u64]
+        requires p_in { p < size self.now.pattern }
+        ensures long { length result.now ≡ words_for (size self.now.target) }
+        ensures within { (t : ℕ) → has result.now t ≡ true → t < size self.now.target }
+        ensures right { (t : ℕ) → has result.now t ≡ true → IsKeptBy (sequence self.now.pattern p) (sequence self.now.target t) }
+        ensures degrees { (t : ℕ) → has result.now t ≡ true → degree self.now.pattern p ≤ degree self.now.target t }
+        ensures complete { (t : ℕ) → t < size self.now.target → IsKeptBy (sequence self.now.pattern p) (sequence self.now.target t) → has result.now t ≡ true }
+    {
+        let class = self.classes[usize::from(p)];
+        &self.rows[class]
+    }
+}
+
+/// The class of `p`; a new one, with its row, where no vertex before had its sequence.
+fn class_of(
+    alloc: Global,
+    q: &Problem,
+    ps: &Sequences,
+    ts: &Sequences,
+    p: u16,
+    firsts: &mut Vec<u16>,
+    rows: &mut Vec<Vec<u64>>,
+) -> Result<usize, AllocError>
+    requires p_in { p < size q.now.pattern }
+    requires pattern { ps.now ≡ sequences q.now.pattern }
+    requires target { ts.now ≡ sequences q.now.target }
+    requires before { AreFirsts q.now firsts.old.items (map (λ row. row.items) rows.old.items) }
+    ensures firsts { IfOk result (λ _. AreFirsts q.now firsts.new.items (map (λ row. row.items) rows.new.items)) }
+    ensures stay { IfOk result (λ _. RowsStay (map (λ row. row.items) rows.old.items) (map (λ row. row.items) rows.new.items)) }
+    ensures inside { IfOk result (λ k. k < length rows.new.items) }
+    ensures class { IfOk result (λ k. KeptRow q.now p (row_at (map (λ row. row.items) rows.new.items) k)) }
+{
+    if let Some(class) = find_class(ps, firsts, p) {
+        return Ok(class);
+    }
+    let class = rows.len();
+    let row = kept_row(alloc, q, ps, ts, p)?;
+    rows.push(row)?;
+    firsts.push(p)?;
+    Ok(class)
+}
+
+/// The class whose first vertex has the sequence of `p`, if there is one. Cost: one step for each class, and for each with as many
+/// neighbours a comparison.
+fn find_class(ps: &Sequences, firsts: &[u16], p: u16) -> Option<usize>
+    requires p_in { p < length ps.now }
+    requires firsts_in { (k : ℕ) → k < length firsts.now → slice_index firsts.now k < length ps.now }
+    ensures inside { IfSome result (λ k. k < length firsts.now) }
+    ensures same { IfSome result (λ k. sequence_at ps.now (slice_index firsts.now k) ≡ sequence_at ps.now p) }
+{
+    let sequence = ps.of(p);
+    for k in 0..firsts.len() {
+        if ps.of(firsts[k]) == sequence {
+            return Some(k);
+        }
+    }
+    None
+}
+
+/// The row of `p`.
+fn kept_row(
+    alloc: Global,
+    q: &Problem,
+    ps: &Sequences,
+    ts: &Sequences,
+    p: u16,
+) -> Result<Vec<u64>, AllocError>
+    requires p_in { p < size q.now.pattern }
+    requires pattern { ps.now ≡ sequences q.now.pattern }
+    requires target { ts.now ≡ sequences q.now.target }
+    ensures { IfOk result (λ row. KeptRow q.now p row.items) }
+{
+    let width = (usize::from(q.target().size()) + 63) / 64;
+    let mut row = vec![in alloc; 0u64; width]?;
+    fill_kept(q, ps, ts, p, &mut row);
+    Ok(row)
+}
+
+/// Writes the row of `p`: of the target vertices with as many neighbours those whose sequences keep its own.
+fn fill_kept(q: &Problem, ps: &Sequences, ts: &Sequences, p: u16, row: &mut [u64])
+    requires p_in { p < size q.now.pattern }
+    requires pattern { ps.now ≡ sequences q.now.pattern }
+    requires target { ts.now ≡ sequences q.now.target }
+    requires long { length row.old ≡ words_for (size q.now.target) }
+    ensures { KeptRow q.now p row.new }
+{
+    fill_below(row, usize::from(q.target().size()));
+    keep_degrees(q, p, row);
+    keep_sequences(ps.of(p), ts, row);
+}
+
+/// Keeps of a row of target vertices those whose sequences keep this one. Cost: one step for each word and each member, and their
+/// comparisons.
+fn keep_sequences(sequence: &[u16], ts: &Sequences, row: &mut [u64])
+    requires short { length sequence.now ≤ 8192 }
+    requires few { length row.old ≤ 128 }
+    requires within { (t : ℕ) → has row.old t ≡ true → t < length ts.now }
+    ensures right { (t : ℕ) → has row.new t ≡ true → (has row.old t ≡ true) × IsKeptBy sequence.now (sequence_at ts.now t) }
+    ensures complete { (t : ℕ) → has row.old t ≡ true → IsKeptBy sequence.now (sequence_at ts.now t) → has row.new t ≡ true }
+{
+    let mut t = next_member(row, 0);
+    while t < 64 * row.len() {
+        if !is_kept(sequence, ts.of(t as u16)) {
+            unset_bit(row, t);
+        }
+        t = next_member(row, t + 1);
+    }
+}
+
+/// Whether the second list goes on at least as long as the first, and is nowhere less.
+fn is_kept(ps: &[u16], ts: &[u16]) -> bool
+    requires { length ps.now ≤ 8192 }
+    ensures { IsTrue result ↔ IsKeptBy ps.now ts.now }
+{
+    match compare(ps, ts) {
+        SequenceAnswer::Kept => true,
+        SequenceAnswer::FailsAt(_) => false,
+    }
+}
