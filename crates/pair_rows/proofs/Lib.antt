@@ -2,3 +2,4 @@ pub mod Rowing
 pub mod Classes
 pub mod Blocks
 pub mod ByWords
+pub mod Nearing

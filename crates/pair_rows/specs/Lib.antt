@@ -1,3 +1,4 @@
 pub mod Rows
 pub mod Kinds
 pub mod Held
+pub mod Near

@@ -2,7 +2,7 @@
 
 ghost use Rattle.std.specs.Prelude.{◌≡◌, ℕ, ◌+◌, ◌*◌, ◌^◌, ◌<◌, ◌≤◌, ◌↔◌, ◌&&◌, ◌||◌, not, true, false, is_some, IsTrue, IfOk, IfSome, Some, drop, length, slice_index, slice_get};
 ghost use Rattle.graph_theory.specs.Graph.{size, edge};
-ghost use Rattle.graph_theory.specs.Neighbours.{common};
+ghost use Rattle.graph_theory.specs.Neighbours.{common, is_neighbour};
 ghost use Rattle.graph_theory.specs.Embedding.{Matches};
 ghost use Rattle.graph_rows.specs.BitRow.{has, words_for};
 ghost use Rattle.pair_rows.specs.Kinds.{kind_of, Joins, RowIs, HasRow, AreKinds, KindsStay, WordsStay};
@@ -178,6 +178,14 @@ pub(crate) fn asks_nothing(q: &Problem, kind: &PairKind) -> bool
     ensures { IsTrue result → (t u : ℕ) → (t ≡ u → ⊥) → Joins q.now kind.now t u }
 {
     !q.induced() && !has_edge(kind) && kind.shared == 0
+}
+
+/// Whether a pair of the kind is asked nothing but distinct images without an edge, in the induced kind.
+pub(crate) fn asks_no_edge(q: &Problem, kind: &PairKind) -> bool
+    ensures { IsTrue result → (t u : ℕ) → Joins q.now kind.now t u ↔ ((t ≡ u → ⊥) × (is_neighbour q.now.target t u ≡ false)) }
+{
+    q.target().neighbours_are_mutual();
+    q.induced() && !has_edge(kind) && kind.shared == 0
 }
 
 /// Makes the row of a kind with an edge: its values are among the neighbours of `t`, of which each is tested. Cost: one step for each

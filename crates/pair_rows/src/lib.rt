@@ -9,6 +9,7 @@
 #![tactic(auto)]
 
 mod kinds;
+mod near;
 mod rows;
 mod shared;
 

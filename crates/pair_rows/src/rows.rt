@@ -1,13 +1,17 @@
 //! Rows of consistent values, made at a target vertex when it is first needed.
 
-ghost use Rattle.std.specs.Prelude.{◌≡◌, ℕ, ◌<◌, ◌≤◌, ◌==◌, true, length, IsTrue, IfOk, slice_index};
+ghost use Rattle.std.specs.Prelude.{◌≡◌, ℕ, ◌<◌, ◌≤◌, ◌==◌, ◌↔◌, true, false, length, is_some, IsTrue, IfOk, IfSome, slice_index};
 ghost use Rattle.graph_theory.specs.Graph.{size};
+ghost use Rattle.graph_theory.specs.Neighbours.{is_neighbour};
 ghost use Rattle.graph_rows.specs.BitRow.{has, words_for};
+ghost use Rattle.graph_rows.specs.Held.{stands_in};
 ghost use Rattle.search_theory.specs.Consistency.{AreConsistent};
 ghost use Rattle.pair_rows.specs.Rows.{IsMade};
+ghost use Rattle.pair_rows.specs.Near.{is_listed};
 ghost use Rattle.pair_rows.specs.Held.{owns};
 
-use crate::kinds::{PairKind, asks_nothing, classify, fill_block};
+use crate::kinds::{PairKind, asks_no_edge, asks_nothing, classify, fill_block};
+use crate::near::NearLists;
 use common_neighbour::Counts;
 use graph_rows::Problem;
 use std::alloc::{AllocError, Global};
@@ -35,9 +39,11 @@ pub struct PairRows<'a> {
     sharing: Counts<'a>,
     counts: Vec<u16>,
     pool: Vec<u64>,
+    near: NearLists<'a>,
 }
 
 impl<'a> Model for PairRows<'a> {
+    ghost use Rattle.std.specs.Prelude.{◌≡◌};
     ghost use Rattle.pair_rows.specs.Rows.{Rows};
     ghost use Rattle.pair_rows.specs.Held.{made_in, Held};
 
@@ -45,12 +51,13 @@ impl<'a> Model for PairRows<'a> {
 
     ghost view = { λ r. record { problem = r.problem.now; made = made_in r.block_of.items r.owners.items } };
 
-    ghost invariant = { λ r. Held r.problem.now r.vertices r.width r.kinds.items r.places.items r.block_of.items r.owners.items r.counts.items r.pool.items r.sharing };
+    ghost invariant = { λ r. Held r.problem.now r.vertices r.width r.kinds.items r.places.items r.block_of.items r.owners.items r.counts.items r.pool.items r.sharing × (r.near ≡ r.problem.now) };
 }
 
 impl<'a> PairRows<'a> {
     /// No rows yet, and the memory for them: a block for each target vertex, but not more than 8,388,608 words in all
-    /// unless one block has more. Cost: one step for each pattern pair, for each kind and for each word.
+    /// unless one block has more. Cost: one step for each pattern pair, for each kind and for each word, and in the induced kind for each
+    /// word of the target's rows.
     pub fn new(alloc: Global, problem: &'a Problem) -> Result<PairRows<'a>, AllocError>
         ensures { IfOk result (λ r. r.problem ≡ problem.entry.now) }
     {
@@ -64,6 +71,7 @@ impl<'a> PairRows<'a> {
         let owners = vec![in alloc; NO_OWNER; blocks]?;
         let counts = vec![in alloc; 0u16; size]?;
         let pool = vec![in alloc; 0u64; blocks * kinds.len() * width]?;
+        let near = NearLists::new(alloc, problem)?;
         Ok(PairRows {
             problem,
             vertices,
@@ -76,6 +84,7 @@ impl<'a> PairRows<'a> {
             sharing,
             counts,
             pool,
+            near,
         })
     }
 
@@ -135,6 +144,29 @@ impl<'a> PairRows<'a> {
     {
         let pair = usize::from(p) * self.vertices + usize::from(r);
         asks_nothing(self.problem, &self.kinds[self.places[pair] as usize])
+    }
+
+    /// Whether `p` and `r` are asked nothing but distinct images without an edge: the copy is to be an induced one, no edge leads from one
+    /// to the other in either direction, and they share no neighbour. Cost: two steps.
+    pub fn is_bare(&self, p: u16, r: u16) -> bool
+        requires p_in { p < size self.now.problem.pattern }
+        requires r_in { r < size self.now.problem.pattern }
+        requires apart { p ≡ r → ⊥ }
+        ensures { IsTrue result → (t u : ℕ) → AreConsistent self.now.problem p t r u ↔ ((t ≡ u → ⊥) × (is_neighbour self.now.problem.target t u ≡ false)) }
+    {
+        let pair = usize::from(p) * self.vertices + usize::from(r);
+        asks_no_edge(self.problem, &self.kinds[self.places[pair] as usize])
+    }
+
+    /// The neighbours of `t`, rising, where they are listed: in the induced kind, for a vertex with less than twice as many as a row has
+    /// words. Cost: a few steps.
+    pub fn neighbours(&self, t: u16) -> Option<&[u16]>
+        requires t_in { t < size self.now.problem.target }
+        ensures few { is_some result ≡ is_listed self.now.problem t }
+        ensures listed { IfSome result (λ us. (u : ℕ) → stands_in us.now u ≡ is_neighbour self.now.problem.target t u) }
+        ensures within { IfSome result (λ us. (u : ℕ) → stands_in us.now u ≡ true → u < size self.now.problem.target) }
+    {
+        self.near.of(t)
     }
 }
 

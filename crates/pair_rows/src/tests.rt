@@ -19,6 +19,9 @@ const EDGE: &[u8] = b"2 1 1 1 0";
 
 const APART: &[u8] = b"2 0 0";
 
+/// Two neighbours, of which the first has a loop, and a vertex apart.
+const LOOP: &[u8] = b"3 2 0 1 1 0 0";
+
 /// The graph of a text of at most 64 vertices.
 fn graph(alloc: Global, text: &[u8]) -> Option<Graph>
     ensures { IfSome result (λ g. size g ≤ 64) }
@@ -90,5 +93,57 @@ fn pairs_apart_are_free(rt: HostRuntime) -> Result<(), Fail> {
     assert_eq!(rt; free(rt.alloc(), APART, true, 0, 1), Some(false));
     assert_eq!(rt; free(rt.alloc(), EDGE, false, 1, 0), Some(false));
     assert_eq!(rt; free(rt.alloc(), PATH, false, 0, 2), Some(false));
+    Ok(())
+}
+
+/// In the induced kind: whether `p` and `r` are asked no edge and nothing besides, the first neighbour of `t` where its neighbours are
+/// listed, and the values of `r` that go together with `t` of `p`, as one word.
+fn near(
+    alloc: Global,
+    pattern: &[u8],
+    target: &[u8],
+    p: u16,
+    r: u16,
+    t: u16,
+) -> Option<(bool, Option<u16>, u64)> {
+    let q = Problem::new(graph(alloc, pattern)?, graph(alloc, target)?, true);
+    let Ok(mut rows) = PairRows::new(alloc, &q) else {
+        return None;
+    };
+    let (patterns, targets) = (q.pattern().size(), q.target().size());
+    if p >= patterns || r >= patterns || p == r || t >= targets {
+        return None;
+    }
+    rows.make(t);
+    let first = match rows.neighbours(t) {
+        Some(near) => near.first().copied(),
+        None => None,
+    };
+    let word = rows.row(p, r, t).first().copied()?;
+    Some((rows.is_bare(p, r), first, word))
+}
+
+#[test]
+fn few_neighbours_are_listed(rt: HostRuntime) -> Result<(), Fail> {
+    assert_eq!(rt;
+        near(rt.alloc(), APART, PATH, 0, 1, 0),
+        Some((true, Some(1), 0b100))
+    );
+    assert_eq!(rt;
+        near(rt.alloc(), APART, PATH, 0, 1, 1),
+        Some((true, None, 0b000))
+    );
+    assert_eq!(rt;
+        near(rt.alloc(), APART, LOOP, 1, 0, 0),
+        Some((true, Some(1), 0b100))
+    );
+    assert_eq!(rt;
+        near(rt.alloc(), PATH, PATH, 0, 2, 2),
+        Some((false, Some(1), 0b001))
+    );
+    assert_eq!(rt;
+        near(rt.alloc(), PATH, PATH, 0, 1, 0),
+        Some((false, Some(1), 0b010))
+    );
     Ok(())
 }

@@ -7,7 +7,7 @@ use Rattle.pair_rows.proofs.rows.PairRows.row.Goals as goal
 pub slice_bounds-result-end : goal.slice_bounds-result-end
 slice_bounds-result-end c =
     let g = row_read c.self.inside.problem.now c.self.inside.vertices c.self.inside.width c.self.inside.kinds.items c.self.inside.places.items c.self.inside.block_of.items
-    c.self.inside.owners.items c.self.inside.counts.items c.self.inside.pool.items c.self.inside.sharing c.self.invariant c.args.self.now c.self.view_is c.args.p c.args.r c.args.t
+    c.self.inside.owners.items c.self.inside.counts.items c.self.inside.pool.items c.self.inside.sharing c.self.invariant.0 c.args.self.now c.self.view_is c.args.p c.args.r c.args.t
     c.requires.p_in c.requires.r_in c.requires.apart c.requires.t_in c.requires.made c.from.result c.from-2.result c.from-3.result c.index.result.now c.index-2.result.now
     c.len.result c.deref.result.now c.from.ensures c.from-2.ensures c.from-3.ensures c.index.ensures c.index-2.ensures (omega (arith, c.len.ensures, c.self.inside.kinds.ok)) c.deref.ensures.value in
     g.ends
@@ -17,7 +17,7 @@ returns c =
     let x = (c.index-2.result.now * c.len.result + c.index.result.now) * c.self.inside.width in
     let e : x + c.self.inside.width - x ≡ c.self.inside.width = omega arith in
     let g = row_read c.self.inside.problem.now c.self.inside.vertices c.self.inside.width c.self.inside.kinds.items c.self.inside.places.items c.self.inside.block_of.items
-    c.self.inside.owners.items c.self.inside.counts.items c.self.inside.pool.items c.self.inside.sharing c.self.invariant c.args.self.now c.self.view_is c.args.p c.args.r c.args.t
+    c.self.inside.owners.items c.self.inside.counts.items c.self.inside.pool.items c.self.inside.sharing c.self.invariant.0 c.args.self.now c.self.view_is c.args.p c.args.r c.args.t
     c.requires.p_in c.requires.r_in c.requires.apart c.requires.t_in c.requires.made c.from.result c.from-2.result c.from-3.result c.index.result.now c.index-2.result.now
     c.len.result c.deref.result.now c.from.ensures c.from-2.ensures c.from-3.ensures c.index.ensures c.index-2.ensures (omega (arith, c.len.ensures, c.self.inside.kinds.ok)) c.deref.ensures.value in
     let row = row_at c.args.self.now.problem (kind_of c.args.self.now.problem c.args.p c.args.r) c.args.t (x + c.self.inside.width - x) c.self.inside.width x x c.deref.result.now
