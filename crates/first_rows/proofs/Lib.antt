@@ -1,1 +1,1 @@
-pub mod Sequenced
+pub mod Looped

@@ -3,19 +3,21 @@
 use Rattle.std.proofs.Common.{◌≡◌, ℕ, ◌+◌, ◌<◌, nat_lt, ◌&&◌, Bool, true, false, List, [], length, slice_index, slice_set, refl, sym, ap, ◌∙◌, subst, arith, ◌⊎◌, inl, inr}
 use Rattle.std.proofs.lemmas.Grind.{common_steps}
 use Rattle.std.proofs.lemmas.Bool.{cases_eq}
-use Rattle.std.proofs.lemmas.List.{append-nil, length-set}
+use Rattle.std.proofs.lemmas.List.{length-set}
 use Rattle.graph_theory.specs.Graph.{size}
 use Rattle.graph_theory.specs.Embedding.{Problem, Embeds, HasNone}
 use Rattle.search_theory.specs.Consistency.{IsFirstValue}
 use Rattle.search_theory.specs.Claims.{Inside, NoneInside, First, Quiet}
 use Rattle.search_theory.proofs.Pairs.{first_value_of}
 use Rattle.search_theory.specs.Account.{Account, path, Honest}
-use Rattle.domain_bits.specs.Removals.{State, in_domain, full, undone}
+use Rattle.domain_bits.specs.Removals.{State, in_domain, full}
 use Rattle.domain_bits.specs.Changes.{Keeps}
+use Rattle.sparse_set.specs.Removals as sparse
 use Rattle.all_different.specs.Prefixes.{Balanced}
-use Rattle.restart_search.specs.Propagation.{IsOf, Narrows, waits_at, HasTwo, NotesSize, Beginning, Rests, Ready, Propagates}
-use Rattle.restart_search.specs.Searching.{AtRest, Roots, Levels, Sound}
-use Rattle.restart_search.proofs.Levels.{undone_all}
+use Rattle.restart_search.specs.Propagation.{IsOf, Narrows, waits_at, HasValue, HasTwo, NotesSize, Beginning, Rests, Ready, LeavesPast, Propagates}
+use Rattle.restart_search.specs.declared.search.Moment.{Moment}
+use Rattle.restart_search.specs.Searching.{AtRest, Roots, IsNow, Levels, Sound}
+use Rattle.restart_search.proofs.Levels.{been_now, rested_now}
 use Rattle.restart_search.proofs.Narrowing.{narrows_none, narrows_more, narrows_keeps, none_narrowed, none_in_empty, is_of_narrowed}
 use Rattle.restart_search.proofs.Waiting.{rests_with_two, two_on, flag_other, flag_here}
 
@@ -26,6 +28,7 @@ beginning_start q d waiting is_of long = record {
   long = long;
   first = λ p t p_in. absurd (omega arith);
   noted = λ p p_in. absurd (omega arith);
+  some = λ p p_in. absurd (omega arith);
 }
 
 -- every image is in the first domain of its vertex
@@ -48,6 +51,7 @@ beginning_more q old mid new between after r keeps b k r_in right complete notes
   long = long_after notes;
   first = λ p t p_in h. by_first p t p_in h (cases_eq p r);
   noted = λ p p_in. by_note p p_in (cases_eq p r) notes;
+  some = λ p p_in. by_value p p_in (cases_eq p r) notes;
 }
   where
     narrows : Narrows q mid new
@@ -69,6 +73,11 @@ beginning_more q old mid new between after r keeps b k r_in right complete notes
         subst (λ (v : ℕ). IsFirstValue q v t) (sym same)
         (right t (second (in_domain mid r t) (keeps t) (sym (k.kept t) ∙ subst (λ (v : ℕ). in_domain new v t ≡ true) same h)))
     by_first p t p_in h (inr other) = b.first p t (below p r p_in other) (k.shrinks.less p t h)
+
+    by_value : (p : ℕ) → p < r + 1 → (p ≡ r) ⊎ (p ≡ r → ⊥) → NotesSize true new between after r → HasValue new p
+    by_value p p_in (inl same) (inl (v, s, raised)) = subst (λ (x : ℕ). HasValue new x) (sym same) (v, s.here)
+    by_value p p_in (inl same) (inr (two, unchanged)) = subst (λ (x : ℕ). HasValue new x) (sym same) (two.value, two.here)
+    by_value p p_in (inr other) told = let had = b.some p (below p r p_in other) in (had.0, k.shrinks.others p had.0 other ∙ had.1)
 
     by_note : (p : ℕ) → p < r + 1 → (p ≡ r) ⊎ (p ≡ r → ⊥) → NotesSize true new between after r → (waits_at after p ≡ true) ⊎ HasTwo new p
     by_note p p_in (inl same) (inl (v, s, raised)) =
@@ -113,7 +122,7 @@ begun_first q old new waiting b = record {
 }
 
 pub begun_ready : (q : Problem) (old new : State) (waiting : List Bool) → Beginning q old new waiting (size q.pattern) → Ready q new waiting
-begun_ready q old new waiting b = record { long = b.long; each = λ p p_in. by_note p (b.noted p p_in) }
+begun_ready q old new waiting b = record { long = b.long; some = b.some; each = λ p p_in. by_note p (b.noted p p_in) }
   where
     by_note : (p : ℕ) → (waits_at waiting p ≡ true) ⊎ HasTwo new p → (waits_at waiting p ≡ true) ⊎ Rests q new p
     by_note p (inl w) = inl w
@@ -134,16 +143,18 @@ none_at_all q none = λ m e. none m e (inside_full q m e)
 -- ---- the start of a search
 
 -- at the root, with an account that has not begun and no marks
-pub sound_fresh : (q : Problem) (d : State) (a : Account) (marks : List ℕ) (k : ℕ) → marks ≡ [] → Honest q a → path a ≡ [] → k ≡ length d.removed → IsOf q d → AtRest q [] d → Sound q d a marks k
-sound_fresh q d a marks k none honest at_start is is_of rest = record {
+pub sound_fresh : (q : Problem) (d : State) (s : sparse.State) (a : Account) (marks : List Moment) (k : Moment) → marks ≡ [] → Honest q a → path a ≡ [] → IsNow d s k → IsOf q d
+    → AtRest q [] d → LeavesPast q d s → Sound q d s a marks k
+sound_fresh q d s a marks k none honest at_start now is_of rest left = record {
   based = record {
     is_of = is_of;
     honest = honest;
-    levels = subst (λ (ks : List ℕ). Levels q d k [] (path a) ks) (sym none)
-        (subst (λ (ps : List (ℕ × ℕ)). Levels q d k [] ps []) (sym at_start) (omega (arith, is)));
-    root_rest = subst (λ (s : State). AtRest q [] s) (sym (ap (undone d) is ∙ undone_all d d [] refl refl (sym (append-nil d.removed)))) rest;
+    levels = subst (λ (ks : List Moment). Levels q d s k [] (path a) ks) (sym none)
+        (subst (λ (ps : List (ℕ × ℕ)). Levels q d s k [] ps []) (sym at_start) (been_now d s k now));
+    root_rest = rested_now q [] d s k now rest left;
   };
   here = subst (λ (ps : List (ℕ × ℕ)). AtRest q ps d) (sym at_start) rest;
+  left = left;
 }
 
 -- what the first domains and propagation answer together

@@ -204,6 +204,7 @@ forces_none q old mid new before between s told = (narrows_more q old mid new s.
 pub ready_on : (q : Problem) (old new : State) (before after : List Bool) → Ready q old before → Shrinks q old before new after → Ready q new after
 ready_on q old new before after ready s = record {
   long = s.long ∙ ready.long;
+  some = λ r r_in. s.some r (ready.some r r_in);
   each = λ r r_in. by_note r (s.noted r r_in) (ready.each r r_in);
 }
   where
@@ -241,6 +242,7 @@ settled_single q old mid before between p t s g = record { here = g.own t ∙ s.
 pub ready_at_rest : (q : Problem) (d : State) (waiting : List Bool) → Quiet q (in_domain d) → length waiting ≡ size q.pattern → Ready q d waiting
 ready_at_rest q d waiting quiet long = record {
   long = long;
+  some = quiet.some;
   each = λ p p_in. inr (record { some = quiet.some p p_in; settled = λ t s. quiet.settled p t p_in s });
 }
 

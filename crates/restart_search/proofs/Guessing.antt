@@ -1,8 +1,8 @@
 -- A guess: the vertex is given its value, and the consequences are taken.
 
-use Rattle.std.proofs.Common.{◌≡◌, ℕ, ◌<◌, Bool, true, List, [], ◌∷◌, ◌++◌, length, slice_index, slice_set, refl, sym, ap, ◌∙◌, subst, ◌⊎◌, inl, inr}
+use Rattle.std.proofs.Common.{◌≡◌, ℕ, ◌<◌, Bool, true, List, [], ◌∷◌, ◌++◌, length, slice_index, slice_set, sym, ap, ◌∙◌, subst, ◌⊎◌, inl, inr}
 use Rattle.std.proofs.lemmas.Bool.{cases_eq}
-use Rattle.std.proofs.lemmas.List.{append-nil, length-set}
+use Rattle.std.proofs.lemmas.List.{length-set}
 use Rattle.graph_theory.specs.Graph.{size}
 use Rattle.graph_theory.specs.Embedding.{Problem, Embeds}
 use Rattle.graph_theory.specs.Path.{Extends, Dead}
@@ -10,24 +10,31 @@ use Rattle.graph_theory.proofs.DeadPaths.{extends_front, extends_last}
 use Rattle.search_theory.specs.Claims.{NoneInside, Stands, Single, Pins, Quiet}
 use Rattle.search_theory.specs.Account.{Account, path, deepened, Honest}
 use Rattle.search_theory.proofs.Refuted.{path_of_push}
-use Rattle.domain_bits.specs.Removals.{State, in_domain, undone}
+use Rattle.domain_bits.specs.Removals.{State, in_domain}
 use Rattle.domain_bits.specs.Changes.{Keeps}
+use Rattle.sparse_set.specs.Removals as sparse
 use Rattle.all_different.specs.Prefixes.{Balanced}
-use Rattle.restart_search.specs.Propagation.{Narrows, waits_at, Rests, Ready}
-use Rattle.restart_search.specs.Searching.{AtRest, Levels, Based, Sound}
+use Rattle.restart_search.specs.Propagation.{Narrows, waits_at, HasValue, Rests, Ready}
+use Rattle.restart_search.specs.declared.search.Moment.{Moment}
+use Rattle.restart_search.specs.Searching.{AtRest, IsNow, Levels, Based, Sound}
 use Rattle.restart_search.proofs.Waiting.{rests_on, flag_here}
-use Rattle.restart_search.proofs.Levels.{low_within, undone_all, undone_later, levels_push, levels_more}
+use Rattle.restart_search.proofs.Levels.{Later, low_within, rested_now, rested_later, levels_push, levels_more}
 
 -- ---- the domains after the assignment
 
 -- each vertex waits or rests once p, which has a new domain, waits
-pub ready_assigned : (q : Problem) (old new : State) (p : ℕ) (keeps : ℕ → Bool) (waiting : List Bool) → Quiet q (in_domain old) → Keeps old new p keeps
+pub ready_assigned : (q : Problem) (old new : State) (p t : ℕ) (keeps : ℕ → Bool) (waiting : List Bool) → Quiet q (in_domain old) → Keeps old new p keeps → in_domain new p t ≡ true
     → length waiting ≡ size q.pattern → p < size q.pattern → Ready q new (slice_set waiting p true)
-ready_assigned q old new p keeps waiting quiet k long p_in = record {
+ready_assigned q old new p t keeps waiting quiet k here long p_in = record {
   long = length-set waiting p true ∙ long;
+  some = λ r r_in. by_value r (quiet.some r r_in) (cases_eq r p);
   each = λ r r_in. by_vertex r r_in (cases_eq r p);
 }
   where
+    by_value : (r : ℕ) → HasValue old r → (r ≡ p) ⊎ (r ≡ p → ⊥) → HasValue new r
+    by_value r had (inl same) = subst (λ (x : ℕ). HasValue new x) (sym same) (t, here)
+    by_value r had (inr other) = (had.0, k.shrinks.others r had.0 other ∙ had.1)
+
     by_vertex : (r : ℕ) → r < size q.pattern → (r ≡ p) ⊎ (r ≡ p → ⊥) → (waits_at (slice_set waiting p true) r ≡ true) ⊎ Rests q new r
     by_vertex r r_in (inl same) = inl (ap (waits_at (slice_set waiting p true)) same ∙ flag_here waiting p true (subst (λ (n : ℕ). p < n) (sym long) p_in))
     by_vertex r r_in (inr other) =
@@ -87,16 +94,13 @@ pub path_deepened : (a : Account) (p t : ℕ) → path (deepened a p t) ≡ path
 path_deepened a p t = path_of_push a.steps (record { vertex = p; value = t; refuted = a.refuted })
 
 -- what the search stands on after a guess
-pub based_guessed : (q : Problem) (old new : State) (a : Account) (marks : List ℕ) (root p t k : ℕ) (rest : List (ℕ × ℕ)) → Sound q old a marks root
-    → new.vertices ≡ old.vertices → new.values ≡ old.values → new.removed ≡ old.removed ++ rest → k ≡ length old.removed
-    → Honest q (deepened a p t) → Based q new (deepened a p t) (marks ++ k ∷ []) root
-based_guessed q old new a marks root p t k rest sound v w front is honest = record {
-  is_of = record { vertices_is = v ∙ sound.based.is_of.vertices_is; values_is = w ∙ sound.based.is_of.values_is };
+pub based_guessed : (q : Problem) (old new : State) (s r : sparse.State) (a : Account) (marks : List Moment) (root : Moment) (p t : ℕ) (k : Moment)
+    → Sound q old s a marks root → Later old new s r → IsNow old s k → Honest q (deepened a p t) → Based q new r (deepened a p t) (marks ++ k ∷ []) root
+based_guessed q old new s r a marks root p t k sound l now honest = record {
+  is_of = record { vertices_is = l.vertices_same ∙ sound.based.is_of.vertices_is; values_is = l.values_same ∙ sound.based.is_of.values_is };
   honest = honest;
-  levels = subst (λ (ps : List (ℕ × ℕ)). Levels q new root [] ps (marks ++ k ∷ [])) (sym (path_deepened a p t))
-      (levels_more q old new rest root [] (path a ++ (p, t) ∷ []) (marks ++ k ∷ []) v w front
-      (levels_push q old root [] (path a) marks (p, t) k is sound.based.levels
-      (subst (λ (s : State). AtRest q (path a) s) (sym (ap (undone old) is ∙ undone_all old old [] refl refl (sym (append-nil old.removed)))) sound.here)));
-  root_rest = subst (λ (s : State). AtRest q [] s)
-      (sym (undone_later old new rest root v w front (low_within q old root [] (path a) marks sound.based.levels))) sound.based.root_rest;
+  levels = subst (λ (ps : List (ℕ × ℕ)). Levels q new r root [] ps (marks ++ k ∷ [])) (sym (path_deepened a p t))
+      (levels_more q old new s r root [] (path a ++ (p, t) ∷ []) (marks ++ k ∷ []) l
+      (levels_push q old s root [] (path a) marks (p, t) k now sound.based.levels (rested_now q (path a) old s k now sound.here sound.left)));
+  root_rest = rested_later q [] old new s r root l (low_within q old s root [] (path a) marks sound.based.levels) sound.based.root_rest;
 }

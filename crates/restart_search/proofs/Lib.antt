@@ -2,6 +2,8 @@ pub mod Narrowing
 pub mod Waiting
 pub mod Sweeping
 pub mod Levels
+pub mod Past
+pub mod Walking
 pub mod Guessing
 pub mod Closing
 pub mod Beginning
@@ -10,3 +12,8 @@ pub mod Pruning
 pub mod Steps
 pub mod Forcing
 pub mod Refuting
+pub mod Kept
+pub mod Acting
+pub mod Moments
+pub mod Lasting
+pub mod Taking

@@ -9,8 +9,9 @@ use Rattle.search_theory.specs.Claims.{Inside, NoneInside, Quiet, Single}
 use Rattle.domain_bits.specs.Removals.{State, in_domain, size_of}
 use Rattle.domain_bits.proofs.Sizes.{some_counted, size_single, not_single}
 use Rattle.all_different.specs.Choices.{Chooses, LosesNoChoice}
+use Rattle.all_different.specs.Pruning.{DecidedApart}
 use Rattle.all_different.proofs.Unions.{same_tests}
-use Rattle.restart_search.specs.Propagation.{IsOf, Narrows, waits_at, HasTwo, Rests, Ready, UndecidedWait, NotesDecided, Noting}
+use Rattle.restart_search.specs.Propagation.{IsOf, Narrows, waits_at, HasValue, HasTwo, Rests, Ready, UndecidedWait, NotesDecided, Noting, DecidedOnesWait}
 use Rattle.restart_search.proofs.Narrowing.{narrows_none, none_narrowed, none_in_empty}
 use Rattle.restart_search.proofs.Waiting.{rests_on, rests_with_two, flag_other}
 
@@ -39,6 +40,15 @@ pub none_chosen : (q : Problem) (d : State) → IsOf q d → ((m : ℕ → ℕ) 
 none_chosen q d is none = λ m e h. none (slice_index m) (choice_of q d m is e h)
 
 -- ---- what is decided
+
+-- domains at rest hold no value that is all of another
+pub decided_apart : (q : Problem) (d : State) → IsOf q d → Quiet q (in_domain d) → DecidedApart d
+decided_apart q d is quiet = record {
+  apart = λ p r t p_in r_in other one here there.
+      let s = size_single d p t one here in
+      let settled = quiet.settled p t (subst (λ (n : ℕ). p < n) is.vertices_is p_in) (record { here = s.here; only = s.only }) in
+      (settled.goes r t (subst (λ (n : ℕ). r < n) is.vertices_is r_in) other there).pair.apart refl;
+}
 
 -- a domain of one value that keeps one is the same
 same_single : (old new : State) (p : ℕ) → ((u : ℕ) → in_domain new p u ≡ true → in_domain old p u ≡ true) → size_of old p ≡ 1 → size_of new p ≡ 1
@@ -98,11 +108,28 @@ noting_more d before between after n g (inr (two, lowered)) = record {
         earlier (inl (single, flag)) = inl (single, ap (λ (ws : List Bool). waits_at ws p) lowered ∙ flag_other between n p false (λ is. other (sym is)) ∙ flag)
         earlier (inr twice) = inr twice
 
+-- each of them has a value
+value_noted : (d : State) (a b : Bool) (p : ℕ) → ((size_of d p ≡ 1) × (a ≡ b)) ⊎ HasTwo d p → HasValue d p
+value_noted d a b p (inl (one, flag)) = let found = one_by_size d p one in (found.0, found.1.here)
+value_noted d a b p (inr two) = (two.value, two.here)
+
+-- and each that is decided by it waits
+pub decided_wait : (q : Problem) (old new : State) (before after : List Bool) → IsOf q old → Narrows q old new → UndecidedWait old before old.vertices → Noting new before after new.vertices
+    → DecidedOnesWait q old new after
+decided_wait q old new before after is n undecided g p p_in = by_note (g.noted p (omega (arith, p_in, n.vertices_same, is.vertices_is))) (waits_at before p) refl
+  where
+    by_note : ((size_of new p ≡ 1) × (waits_at after p ≡ waits_at before p)) ⊎ HasTwo new p → (b : Bool) → waits_at before p ≡ b
+        → (waits_at after p ≡ true) ⊎ (HasTwo new p ⊎ ((t : ℕ) → in_domain new p t ≡ in_domain old p t))
+    by_note (inr two) b flag = inr (inl two)
+    by_note (inl (one, same)) true flag = inl (same ∙ flag)
+    by_note (inl (one, same)) false flag = inr (inr (same_single old new p (n.less p) (undecided p (omega (arith, p_in, is.vertices_is)) flag) one))
+
 -- after all of them each vertex waits or rests
 pub ready_noted : (q : Problem) (old new : State) (before after : List Bool) → Quiet q (in_domain old) → IsOf q old → Narrows q old new → length before ≡ size q.pattern
     → UndecidedWait old before old.vertices → Noting new before after new.vertices → Ready q new after
 ready_noted q old new before after quiet is n long undecided g = record {
   long = g.long ∙ long;
+  some = λ p p_in. value_noted new (waits_at after p) (waits_at before p) p (g.noted p (omega (arith, p_in, n.vertices_same, is.vertices_is)));
   each = λ p p_in. by_note p p_in (g.noted p (omega (arith, p_in, n.vertices_same, is.vertices_is))) (waits_at before p) refl;
 }
   where

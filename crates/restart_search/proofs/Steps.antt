@@ -1,7 +1,7 @@
--- One step of a search: the vertex of a level, its untried values, and the marks.
+-- One step of a search: the vertex of a level, its untried values, and the moments.
 
-use Rattle.std.proofs.Common.{◌≡◌, ℕ, suc, ◌+◌, ◌*◌, ◌<◌, ◌≤◌, ◌&&◌, not, Bool, true, false, List, [], ◌∷◌, ◌++◌, length, Option, Some, None, IfSome, refl, sym, ap, ◌∙◌, subst, arith, append_assoc, ◌⊎◌, inl, inr}
-use Rattle.std.proofs.lemmas.Bool.{cases_eq, cases_lt}
+use Rattle.std.proofs.Common.{◌≡◌, ℕ, suc, ◌*◌, ◌<◌, ◌≤◌, ◌&&◌, not, Bool, true, false, List, [], ◌∷◌, ◌++◌, length, Option, Some, None, IfSome, refl, sym, ap, ◌∙◌, subst, arith, append_assoc, ◌⊎◌, inl, inr}
+use Rattle.std.proofs.lemmas.Bool.{cases_lt}
 use Rattle.graph_theory.specs.Graph.{size}
 use Rattle.graph_theory.specs.Neighbours.{members}
 use Rattle.graph_theory.specs.Path.{NotOn}
@@ -17,21 +17,13 @@ use Rattle.domain_bits.proofs.Sizes.{count_some}
 use Rattle.all_different.specs.Prefixes.{Balanced}
 use Rattle.domain_bits.specs.Removals.{State, in_domain}
 use Rattle.fail_account.proofs.Members.{off_members, members_off}
-use Rattle.restart_search.specs.Propagation.{Narrows}
-use Rattle.restart_search.specs.Searching.{AtRest, Levels, Based, Sound, IsBest}
+use Rattle.sparse_set.specs.Removals as sparse
+use Rattle.restart_search.specs.declared.search.Moment.{Moment}
+use Rattle.restart_search.specs.Propagation.{Narrows, Fewer, LeavesPast}
+use Rattle.restart_search.specs.Searching.{AtRest, IsNow, Levels, Based, Sound, IsBest}
 use Rattle.restart_search.proofs.Guessing.{path_deepened, based_guessed, rest_guessed}
-use Rattle.restart_search.proofs.Visits.{single_of}
 
 -- ---- the vertex of a level
-
--- a vertex that is decided leaves the best one as it is
-pub best_decided : (d : State) (best : Option ℕ) (p t : ℕ) → IsBest d best p → changes.Single d p t → IsBest d best (p + 1)
-best_decided d None p t h s = λ r r_in. by_place r (cases_eq r p) r_in
-  where
-    by_place : (r : ℕ) → (r ≡ p) ⊎ (r ≡ p → ⊥) → r < p + 1 → (u : ℕ) × Single (in_domain d) r u
-    by_place r (inl same) r_in = subst (λ (v : ℕ). (u : ℕ) × Single (in_domain d) v u) (sym same) (t, single_of d p t s)
-    by_place r (inr other) r_in = h r (omega arith)
-best_decided d (Some r) p t h s = (omega (arith, h.0), h.1)
 
 -- an undecided vertex is on no path that the domains are pinned to
 pub off_path : (q : Problem) (ps : List (ℕ × ℕ)) (D : ℕ → ℕ → Bool) (p : ℕ) → Pins q ps D → ((t : ℕ) → Single D p t → ⊥) → NotOn ps p
@@ -81,35 +73,42 @@ row_counted row t here = by_place (cases_lt t (64 * length row))
     by_place (inl within) = count_some (has row) (64 * length row) t within here
     by_place (inr past) = absurd (clash (has row t) (has_past row t past) here)
 
--- ---- marks
+-- ---- moments
 
--- there is a mark for each level
-pub levels_length : (q : Problem) (d : State) (low : ℕ) (above xs : List (ℕ × ℕ)) (ks : List ℕ) → Levels q d low above xs ks → length ks ≡ length xs
-levels_length q d low above [] [] h = refl
-levels_length q d low above (x ∷ xs) (k ∷ ks) h = ap suc (levels_length q d k (above ++ x ∷ []) xs ks h.2)
-levels_length q d low above [] (k ∷ ks) h = absurd h
-levels_length q d low above (x ∷ xs) [] h = absurd h
+-- there is a moment for each level
+pub levels_length : (q : Problem) (d : State) (s : sparse.State) (low : Moment) (above xs : List (ℕ × ℕ)) (ks : List Moment) → Levels q d s low above xs ks → length ks ≡ length xs
+levels_length q d s low above [] [] h = refl
+levels_length q d s low above (x ∷ xs) (k ∷ ks) h = ap suc (levels_length q d s k (above ++ x ∷ []) xs ks h.2)
+levels_length q d s low above [] (k ∷ ks) h = absurd h
+levels_length q d s low above (x ∷ xs) [] h = absurd h
 
 -- so a search that may guess has room for one more
-pub guessed_room : (q : Problem) (d : State) (a : Account) (marks : List ℕ) (root room : ℕ) → Levels q d root [] (path a) marks → length (path a) < a.pattern
-    → a.pattern ≡ size q.pattern → size q.pattern ≤ room → length marks < room
-guessed_room q d a marks root room levels few is le = omega (arith, levels_length q d root [] (path a) marks levels, few, is, le)
+pub guessed_room : (q : Problem) (d : State) (s : sparse.State) (a : Account) (marks : List Moment) (root : Moment) (room : ℕ) → Levels q d s root [] (path a) marks
+    → length (path a) < a.pattern → a.pattern ≡ size q.pattern → size q.pattern ≤ room → length marks < room
+guessed_room q d s a marks root room levels few is le = omega (arith, levels_length q d s root [] (path a) marks levels, few, is, le)
 
 -- ---- what stands after a guess and its consequences
 
 -- what was removed by an assignment and then by propagation
-pub based_narrowed : (q : Problem) (old mid new : State) (a : Account) (marks : List ℕ) (root p t k : ℕ) (keeps : ℕ → Bool) → Sound q old a marks root
-    → changes.Keeps old mid p keeps → Narrows q mid new → k ≡ length old.removed → Honest q (deepened a p t) → Based q new (deepened a p t) (marks ++ k ∷ []) root
-based_narrowed q old mid new a marks root p t k keeps sound s n is honest =
-    based_guessed q old new a marks root p t k (s.shrinks.rest ++ n.rest) sound (n.vertices_same ∙ s.shrinks.vertices_same) (n.values_same ∙ s.shrinks.values_same)
-    (n.front ∙ ap (λ (xs : List (ℕ × ℕ)). xs ++ n.rest) s.shrinks.front ∙ append_assoc old.removed s.shrinks.rest n.rest) is honest
+pub based_narrowed : (q : Problem) (old mid new : State) (s r : sparse.State) (a : Account) (marks : List Moment) (root : Moment) (p t : ℕ) (k : Moment) (keeps : ℕ → Bool)
+    → Sound q old s a marks root → changes.Keeps old mid p keeps → Narrows q mid new → Fewer s r → IsNow old s k → Honest q (deepened a p t)
+    → Based q new r (deepened a p t) (marks ++ k ∷ []) root
+based_narrowed q old mid new s r a marks root p t k keeps sound kept n fewer now honest =
+    based_guessed q old new s r a marks root p t k sound (record {
+      vertices_same = n.vertices_same ∙ kept.shrinks.vertices_same;
+      values_same = n.values_same ∙ kept.shrinks.values_same;
+      rest = kept.shrinks.rest ++ n.rest;
+      front = n.front ∙ ap (λ (xs : List (ℕ × ℕ)). xs ++ n.rest) kept.shrinks.front ∙ append_assoc old.removed kept.shrinks.rest n.rest;
+      fewer = fewer;
+    }) now honest
 
-pub sound_guessed : (q : Problem) (old mid new : State) (a : Account) (marks : List ℕ) (root p t k : ℕ) (keeps : ℕ → Bool) → Sound q old a marks root
-    → changes.Keeps old mid p keeps → Single (in_domain mid) p t → Narrows q mid new → Quiet q (in_domain new) → Balanced new → p < size q.pattern → k ≡ length old.removed
-    → Honest q (deepened a p t) → Sound q new (deepened a p t) (marks ++ k ∷ []) root
-sound_guessed q old mid new a marks root p t k keeps sound s single n quiet balanced p_in is honest = record {
-  based = based_narrowed q old mid new a marks root p t k keeps sound s n is honest;
-  here = subst (λ (ps : List (ℕ × ℕ)). AtRest q ps new) (sym (path_deepened a p t)) (rest_guessed q (path a) old mid new p t keeps sound.here s single p_in n quiet balanced);
+pub sound_guessed : (q : Problem) (old mid new : State) (s r : sparse.State) (a : Account) (marks : List Moment) (root : Moment) (p t : ℕ) (k : Moment) (keeps : ℕ → Bool)
+    → Sound q old s a marks root → changes.Keeps old mid p keeps → Single (in_domain mid) p t → Narrows q mid new → Quiet q (in_domain new) → Balanced new → p < size q.pattern
+    → Fewer s r → LeavesPast q new r → IsNow old s k → Honest q (deepened a p t) → Sound q new r (deepened a p t) (marks ++ k ∷ []) root
+sound_guessed q old mid new s r a marks root p t k keeps sound kept single n quiet balanced p_in fewer left now honest = record {
+  based = based_narrowed q old mid new s r a marks root p t k keeps sound kept n fewer now honest;
+  here = subst (λ (ps : List (ℕ × ℕ)). AtRest q ps new) (sym (path_deepened a p t)) (rest_guessed q (path a) old mid new p t keeps sound.here kept single p_in n quiet balanced);
+  left = left;
 }
 
 -- ---- where no value is left

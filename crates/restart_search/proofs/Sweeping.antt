@@ -10,8 +10,8 @@ use Rattle.search_theory.specs.Claims.{Single, Inside}
 use Rattle.search_theory.proofs.Pairs.{consistent_of}
 use Rattle.domain_bits.specs.Removals.{State, in_domain}
 use Rattle.domain_bits.specs.Changes.{Keeps}
-use Rattle.restart_search.specs.Propagation.{Narrows, waits_at, waiting_count, work, HasTwo, IsSame, Shrinks, Rests, NotesSize, Swept, Sweeps, Settling}
-use Rattle.restart_search.proofs.Waiting.{shrinks_none, shrinks_more, flag_other, flag_here, count_raised, count_raised_again, single_moved, single_same}
+use Rattle.restart_search.specs.Propagation.{Narrows, waits_at, waiting_count, work, HasValue, HasTwo, IsSame, Shrinks, Rests, NotesSize, Swept, Settling}
+use Rattle.restart_search.proofs.Waiting.{flag_other, flag_here, count_raised, count_raised_again, single_moved, single_same}
 
 -- ---- one domain
 
@@ -46,6 +46,11 @@ less_by_removal space old new flags more bounded grown one = omega arith
 not_more : (space old new flags more : ℕ) → new ≤ space → old ≤ new → more ≤ flags → 2 * (space - new) + more ≤ 2 * (space - old) + flags
 not_more space old new flags more bounded grown one = omega arith
 
+-- where r has a value after its domain has changed, each vertex that had one has
+keeps_value : (old new : State) (p r : ℕ) (keeps : ℕ → Bool) → Keeps old new r keeps → HasValue old p → HasValue new r → (p ≡ r) ⊎ (p ≡ r → ⊥) → HasValue new p
+keeps_value old new p r keeps k had has (inl same) = subst (λ (x : ℕ). HasValue new x) (sym same) has
+keeps_value old new p r keeps k had has (inr other) = (had.0, k.shrinks.others p had.0 other ∙ had.1)
+
 -- what keeping the values of a row does to the work and the flags
 pub narrow_shrinks : (q : Problem) (old new : State) (before after : List Bool) (r : ℕ) (keeps : ℕ → Bool) → Keeps old new r keeps → Narrows q old new
     → r < length before → length new.removed ≤ new.vertices * new.values → NotesSize true new before after r
@@ -54,6 +59,7 @@ narrow_shrinks q old new before after r keeps k n r_in bounded (inr (two, same))
   narrows = n;
   long = ap length same;
   noted = λ p p_in. by_vertex p (cases_eq p r);
+  some = λ p h. keeps_value old new p r keeps k h (two.value, two.here) (cases_eq p r);
   bounded = bounded;
   less_work = less;
 }
@@ -70,6 +76,7 @@ narrow_shrinks q old new before after r keeps k n r_in bounded (inl (v, s, raise
   narrows = n;
   long = ap length raised ∙ length-set before r true;
   noted = λ p p_in. by_vertex p (cases_eq p r);
+  some = λ p h. keeps_value old new p r keeps k h (v, s.here) (cases_eq p r);
   bounded = bounded;
   less_work = less undecided;
 }
@@ -110,27 +117,9 @@ kept_swept q old new p t r keeps k row = λ u other h. row u (second (in_domain 
 
 -- ---- all domains
 
-pub settling_start : (q : Problem) (d : State) (waiting : List Bool) (p t : ℕ) → length d.removed ≤ d.vertices * d.values → Settling q d waiting d waiting p t 0
-settling_start q d waiting p t bounded = record { shrinks = shrinks_none q d waiting bounded; own = λ v. refl; past = λ s s_in. absurd (omega arith) }
-
 -- what was swept stays so
-swept_on : (q : Problem) (old new : State) (p t s : ℕ) → Narrows q old new → Swept true q old p t s → Swept true q new p t s
+pub swept_on : (q : Problem) (old new : State) (p t s : ℕ) → Narrows q old new → Swept true q old p t s → Swept true q new p t s
 swept_on q old new p t s n h = λ u other here. h u other (n.less s u here)
-
-pub settling_more : (q : Problem) (old mid new : State) (before between after : List Bool) (p t r : ℕ) → Settling q old before mid between p t r
-    → Sweeps true q mid between new after p t r → Settling q old before new after p t (r + 1)
-settling_more q old mid new before between after p t r s w = record {
-  shrinks = shrinks_more q old mid new before between after s.shrinks (w.shrinks refl);
-  own = λ v. w.own v ∙ s.own v;
-  past = λ x x_in. by_place x x_in (cases_eq x r);
-}
-  where
-    by_place : (x : ℕ) → x < r + 1 → (x ≡ r) ⊎ (x ≡ r → ⊥) → Swept true q new p t x
-    by_place x x_in (inl is) = subst (λ (y : ℕ). Swept true q new p t y) (sym is) w.swept
-    by_place x x_in (inr other) = swept_on q mid new p t x w.narrows (s.past x (omega (arith, below x r x_in other)))
-      where
-        below : (a b : ℕ) → a < b + 1 → (a ≡ b → ⊥) → a < b
-        below a b le apart = omega arith
 
 -- p rests once all are swept
 pub rests_settled : (q : Problem) (old new : State) (before after : List Bool) (p t : ℕ) → Single (in_domain old) p t

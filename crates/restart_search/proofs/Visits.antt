@@ -9,8 +9,8 @@ use Rattle.search_theory.specs.Claims.{Single}
 use Rattle.domain_bits.specs.Counting.{count}
 use Rattle.domain_bits.specs.Removals.{State, in_domain, size_of}
 use Rattle.domain_bits.specs.Changes as changes
-use Rattle.restart_search.specs.Propagation.{Narrows, waits_at, work, HasTwo, Shrinks, Rests, Ready, ReadyBut, NotesSize, NotesTaken, Swept, Sweeps, Settling, Settles, Visited}
-use Rattle.restart_search.proofs.Narrowing.{narrows_none, narrows_more, narrows_keeps, none_narrowed, none_in_empty}
+use Rattle.restart_search.specs.Propagation.{Narrows, waits_at, work, HasTwo, Shrinks, Rests, Ready, ReadyBut, NotesSize, NotesTaken, Swept, Sweeps, Settles, Visited}
+use Rattle.restart_search.proofs.Narrowing.{narrows_none, narrows_keeps, none_narrowed, none_in_empty}
 use Rattle.restart_search.proofs.Waiting.{shrinks_none, ready_but_on, ready_with, ready_but_lowered, rests_with_two, count_lowered, swept_by_rest}
 use Rattle.restart_search.proofs.Sweeping.{narrow_shrinks, images_pass, kept_swept, rests_settled}
 
@@ -121,14 +121,6 @@ sweeps_taken answer q old new before after p t r p_in r_in other flag s k taken 
       own = λ v. k.shrinks.others p v other;
       shrinks = λ _. shrinks_same q old new before after same flags bounded;
     }
-
--- ---- all domains
-
--- where the step at r finds an empty domain, no embedding is within the domains
-pub settles_none : (q : Problem) (old mid new : State) (before between after : List Bool) (p t r : ℕ) → Settling q old before mid between p t r
-    → Sweeps false q mid between new after p t r → r < size q.pattern → Settles false q old before new after p t
-settles_none q old mid new before between after p t r g w r_in =
-    (narrows_more q old mid new g.shrinks.narrows w.narrows, none_in_empty q new r r_in w.swept)
 
 -- ---- one vertex that waited
 

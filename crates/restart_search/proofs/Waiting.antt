@@ -51,6 +51,7 @@ shrinks_none q d waiting bounded = record {
   narrows = narrows_none q d;
   long = refl;
   noted = λ p p_in. inr (inr (record { domain = λ t. refl; flag = refl }));
+  some = λ p h. h;
   bounded = bounded;
   less_work = omega arith;
 }
@@ -60,6 +61,7 @@ shrinks_more q a b c before between after f s = record {
   narrows = narrows_more q a b c f.narrows s.narrows;
   long = s.long ∙ f.long;
   noted = λ p p_in. by_later p (s.noted p p_in) (f.noted p p_in);
+  some = λ p h. s.some p (f.some p h);
   bounded = s.bounded;
   less_work = omega (arith, f.less_work, s.less_work);
 }
@@ -77,6 +79,7 @@ shrinks_more q a b c before between after f s = record {
 pub ready_but_on : (q : Problem) (old new : State) (before after : List Bool) (p : ℕ) → ReadyBut q old before p → Shrinks q old before new after → ReadyBut q new after p
 ready_but_on q old new before after p ready s = record {
   long = s.long ∙ ready.long;
+  some = λ r r_in. s.some r (ready.some r r_in);
   each = λ r r_in other. by_note r (s.noted r r_in) (ready.each r r_in other);
 }
   where
@@ -89,7 +92,7 @@ ready_but_on q old new before after p ready s = record {
 
 -- and all do where p rests
 pub ready_with : (q : Problem) (d : State) (waiting : List Bool) (p : ℕ) → ReadyBut q d waiting p → Rests q d p → Ready q d waiting
-ready_with q d waiting p ready rests = record { long = ready.long; each = λ r r_in. by_vertex r r_in (cases_eq p r) }
+ready_with q d waiting p ready rests = record { long = ready.long; some = ready.some; each = λ r r_in. by_vertex r r_in (cases_eq p r) }
   where
     by_vertex : (r : ℕ) → r < size q.pattern → (p ≡ r) ⊎ (p ≡ r → ⊥) → (waits_at waiting r ≡ true) ⊎ Rests q d r
     by_vertex r r_in (inl same) = inr (subst (λ (v : ℕ). Rests q d v) same rests)
@@ -152,6 +155,7 @@ count_raised_again (b ∷ bs) (suc p) up = omega (arith, count_raised_again bs p
 pub ready_but_lowered : (q : Problem) (d : State) (waiting : List Bool) (p : ℕ) → Ready q d waiting → ReadyBut q d (slice_set waiting p false) p
 ready_but_lowered q d waiting p ready = record {
   long = length-set waiting p false ∙ ready.long;
+  some = ready.some;
   each = λ r r_in other. by_note r other (ready.each r r_in);
 }
   where

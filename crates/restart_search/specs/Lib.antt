@@ -1,3 +1,4 @@
 pub mod Propagation
 pub mod Searching
 pub mod Learning
+pub mod Acting

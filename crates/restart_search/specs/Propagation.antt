@@ -6,6 +6,7 @@ use Rattle.graph_theory.specs.Embedding.{Problem}
 use Rattle.search_theory.specs.Consistency.{IsFirstValue, AreConsistent}
 use Rattle.search_theory.specs.Claims.{KeepsEmbeddings, NoneInside, Single, Settled, Quiet}
 use Rattle.domain_bits.specs.Removals.{State, in_domain, size_of}
+use Rattle.sparse_set.specs.Removals as sparse
 use Rattle.all_different.specs.Memory.{Memory}
 use Rattle.all_different.specs.Prefixes.{Balanced}
 use Rattle.all_different.specs.declared.Pruned.{Pruned}
@@ -54,11 +55,20 @@ pub record IsSame (old : State) (before : List Bool) (new : State) (after : List
   pub domain : (t : ℕ) → in_domain new p t ≡ in_domain old p t
   pub flag : waits_at after p ≡ waits_at before p
 
--- Values were removed, and each vertex waits, or has two values, or is as it was.
+-- The domain of p has a value.
+abbrev pub HasValue : State → ℕ → Type 0
+HasValue d p = (t : ℕ) × (in_domain d p t ≡ true)
+
+-- Each domain has one.
+abbrev pub HaveValues : Problem → State → Type 0
+HaveValues q d = (p : ℕ) → p < size q.pattern → HasValue d p
+
+-- Values were removed, no domain was emptied, and each vertex waits, or has two values, or is as it was.
 pub record Shrinks (q : Problem) (old : State) (before : List Bool) (new : State) (after : List Bool) : Type 0 where
   pub narrows : Narrows q old new
   pub long : length after ≡ length before
   pub noted : (p : ℕ) → p < size q.pattern → (waits_at after p ≡ true) ⊎ (HasTwo new p ⊎ IsSame old before new after p)
+  pub some : (p : ℕ) → HasValue old p → HasValue new p
   pub bounded : length new.removed ≤ new.vertices * new.values
   pub less_work : work new after ≤ work old before
 
@@ -67,14 +77,32 @@ pub record Rests (q : Problem) (d : State) (p : ℕ) : Type 0 where
   pub some : (t : ℕ) × (in_domain d p t ≡ true)
   pub settled : (t : ℕ) → Single (in_domain d) p t → Settled q (in_domain d) p t
 
--- Each vertex waits or rests.
+-- The vertex p is past: at most one value is left for it, and the other domains hold only what is consistent with this one. So it stays while values leave.
+pub record IsPast (q : Problem) (d : State) (p : ℕ) : Type 0 where
+  pub one : (t u : ℕ) → in_domain d p t ≡ true → in_domain d p u ≡ true → t ≡ u
+  pub settled : (t : ℕ) → in_domain d p t ≡ true → Settled q (in_domain d) p t
+
+-- The set is one of the pattern's vertices, and those that have left it are past.
+pub record LeavesPast (q : Problem) (d : State) (s : sparse.State) : Type 0 where
+  pub count_is : s.count ≡ size q.pattern
+  pub past : (p : ℕ) → sparse.among s.removed p ≡ true → IsPast q d p
+
+-- Members may have left the set.
+pub record Fewer (old new : sparse.State) : Type 0 where
+  pub count_same : new.count ≡ old.count
+  pub rest : List ℕ
+  pub front : new.removed ≡ old.removed ++ rest
+
+-- Each vertex has a value, and waits or rests.
 pub record Ready (q : Problem) (d : State) (waiting : List Bool) : Type 0 where
   pub long : length waiting ≡ size q.pattern
+  pub some : HaveValues q d
   pub each : (p : ℕ) → p < size q.pattern → (waits_at waiting p ≡ true) ⊎ Rests q d p
 
--- Each vertex but p waits or rests.
+-- Each vertex has a value, and each but p waits or rests.
 pub record ReadyBut (q : Problem) (d : State) (waiting : List Bool) (p : ℕ) : Type 0 where
   pub long : length waiting ≡ size q.pattern
+  pub some : HaveValues q d
   pub each : (r : ℕ) → r < size q.pattern → (p ≡ r → ⊥) → (waits_at waiting r ≡ true) ⊎ Rests q d r
 
 -- After a true answer r has a value: it waits where it has only one, and else no flag has changed. After a false one it has none.
@@ -98,7 +126,7 @@ pub record Sweeps (answer : Bool) (q : Problem) (old : State) (before : List Boo
   pub own : (v : ℕ) → in_domain new p v ≡ in_domain old p v
   pub shrinks : answer ≡ true → Shrinks q old before new after
 
--- After the steps at the vertices below r.
+-- After steps that have swept the vertices below r.
 pub record Settling (q : Problem) (old : State) (before : List Bool) (new : State) (after : List Bool) (p t r : ℕ) : Type 0 where
   pub shrinks : Shrinks q old before new after
   pub own : (v : ℕ) → in_domain new p v ≡ in_domain old p v
@@ -116,6 +144,7 @@ pub record Beginning (q : Problem) (old new : State) (waiting : List Bool) (r : 
   pub long : length waiting ≡ size q.pattern
   pub first : (p t : ℕ) → p < r → in_domain new p t ≡ true → IsFirstValue q p t
   pub noted : (p : ℕ) → p < r → (waits_at waiting p ≡ true) ⊎ HasTwo new p
+  pub some : (p : ℕ) → p < r → HasValue new p
 
 -- What the first domains of all vertices leave.
 abbrev pub Begins : Bool → Problem → State → State → List Bool → Type 0
@@ -152,10 +181,14 @@ abbrev pub Notes : Bool → State → List Bool → List Bool → Type 0
 Notes true d before after = Noting d before after d.vertices
 Notes false d before after = (p : ℕ) × (p < d.vertices) × ((t : ℕ) → in_domain d p t ≡ true → ⊥)
 
--- What pruning tells of a problem: its domains are balanced; or values left that no embedding needs, and each vertex waits or rests; or no embedding is within them.
+-- Each vertex waits, or has two values, or its domain is as it was.
+abbrev pub DecidedOnesWait : Problem → State → State → List Bool → Type 0
+DecidedOnesWait q old new after = (p : ℕ) → p < size q.pattern → (waits_at after p ≡ true) ⊎ (HasTwo new p ⊎ ((t : ℕ) → in_domain new p t ≡ in_domain old p t))
+
+-- What pruning tells of a problem: its domains are balanced; or values left that no embedding needs, each vertex waits or rests, and each that is decided by it waits; or no embedding is within them.
 abbrev pub PrunesFor : Pruned → Problem → State → State → List Bool → Type 0
 PrunesFor pruned.Quiet q old new after = (new ≡ old) × Balanced new
-PrunesFor pruned.Hall q old new after = Narrows q old new × Ready q new after × (length old.removed < length new.removed)
+PrunesFor pruned.Hall q old new after = Narrows q old new × Ready q new after × (length old.removed < length new.removed) × DecidedOnesWait q old new after
 PrunesFor pruned.Fail q old new after = Narrows q old new × NoneInside q (in_domain old)
 
 -- What propagation answers: domains at rest, those of unions of them included, or none that an embedding is within.

@@ -1,4 +1,4 @@
--- A search: domains that claim only what is sound for the path, an account, and a mark for each level.
+-- A search: domains that claim only what is sound for the path, the set of the vertices that are not past, an account, and a moment for each level.
 
 use Rattle.std.specs.Prelude.{◌≡◌, ℕ, ◌<◌, ◌≤◌, Bool, true, false, List, [], ◌∷◌, ◌++◌, length, Option, Some, None}
 use Rattle.graph_theory.specs.Graph.{size}
@@ -7,13 +7,18 @@ use Rattle.search_theory.specs.Claims.{Single, Stands, Pins, Quiet}
 use Rattle.search_theory.specs.Bounds.{enough}
 use Rattle.search_theory.specs.Account.{Account, path, Honest, Spends}
 use Rattle.domain_bits.specs.Removals.{State, in_domain, undone}
+use Rattle.sparse_set.specs.Removals as sparse
 use Rattle.all_different.specs.Prefixes.{Balanced}
-use Rattle.restart_search.specs.Propagation.{IsOf}
+use Rattle.nogood_watch.specs.Nogoods as watched
+use Rattle.restart_search.specs.Propagation.{IsOf, LeavesPast}
+use Rattle.restart_search.specs.Learning.{Filtering, unlearned, LastFrom}
+use Rattle.restart_search.specs.Acting.{Acting}
 use Rattle.domain_bits.specs.BitRows.{words_for}
 use Rattle.restart_search.specs.declared.root.Rooted.{Rooted}
 use Rattle.restart_search.specs.declared.root.Rooted.TheVariants as ending
 use Rattle.restart_search.specs.declared.worker.Decided.{Decided}
 use Rattle.restart_search.specs.declared.worker.Decided.TheVariants as decided
+use Rattle.restart_search.specs.declared.search.Moment.{Moment}
 use Rattle.restart_search.specs.declared.search.Ended.{Ended}
 use Rattle.restart_search.specs.declared.search.Ended.TheVariants.{Found, Refuted, Spent, NoMemory}
 
@@ -25,24 +30,45 @@ pub record AtRest (q : Problem) (path : List (ℕ × ℕ)) (d : State) : Type 0 
   pub stands : Stands q path (in_domain d)
   pub pins : Pins q path (in_domain d)
 
--- At each level's mark the domains were at rest for the path above it; the marks rise from low.
-abbrev pub Levels : Problem → State → ℕ → List (ℕ × ℕ) → List (ℕ × ℕ) → List ℕ → Type 0
-Levels q d low above [] [] = low ≤ length d.removed
-Levels q d low above (x ∷ xs) (k ∷ ks) = (low ≤ k) × AtRest q above (undone d k) × Levels q d k (above ++ x ∷ []) xs ks
-Levels q d low above [] (k ∷ ks) = ⊥
-Levels q d low above (x ∷ xs) [] = ⊥
+-- The moment is the present one.
+pub record IsNow (d : State) (s : sparse.State) (k : Moment) : Type 0 where
+  pub domains_is : k.domains ≡ length d.removed
+  pub past_is : k.past ≡ length s.removed
+
+-- No more had happened at the moment j than at k.
+pub record IsEarlier (j k : Moment) : Type 0 where
+  pub domains : j.domains ≤ k.domains
+  pub past : j.past ≤ k.past
+
+-- The moment is not later than the present.
+pub record HasBeen (d : State) (s : sparse.State) (k : Moment) : Type 0 where
+  pub domains : k.domains ≤ length d.removed
+  pub past : k.past ≤ length s.removed
+
+-- At the moment the domains were at rest for the path, and the vertices that had left the set were past.
+pub record RestedAt (q : Problem) (path : List (ℕ × ℕ)) (d : State) (s : sparse.State) (k : Moment) : Type 0 where
+  pub rest : AtRest q path (undone d k.domains)
+  pub left : LeavesPast q (undone d k.domains) (sparse.undone s k.past)
+
+-- So it was at each level's moment for the path above it; the moments rise from low.
+abbrev pub Levels : Problem → State → sparse.State → Moment → List (ℕ × ℕ) → List (ℕ × ℕ) → List Moment → Type 0
+Levels q d s low above [] [] = HasBeen d s low
+Levels q d s low above (x ∷ xs) (k ∷ ks) = IsEarlier low k × RestedAt q above d s k × Levels q d s k (above ++ x ∷ []) xs ks
+Levels q d s low above [] (k ∷ ks) = ⊥
+Levels q d s low above (x ∷ xs) [] = ⊥
 
 -- What holds of a search also where its last guess has failed.
-pub record Based (q : Problem) (d : State) (a : Account) (marks : List ℕ) (root : ℕ) : Type 0 where
+pub record Based (q : Problem) (d : State) (s : sparse.State) (a : Account) (marks : List Moment) (root : Moment) : Type 0 where
   pub is_of : IsOf q d
   pub honest : Honest q a
-  pub levels : Levels q d root [] (path a) marks
-  pub root_rest : AtRest q [] (undone d root)
+  pub levels : Levels q d s root [] (path a) marks
+  pub root_rest : RestedAt q [] d s root
 
 -- What holds of a search before each step.
-pub record Sound (q : Problem) (d : State) (a : Account) (marks : List ℕ) (root : ℕ) : Type 0 where
-  pub based : Based q d a marks root
+pub record Sound (q : Problem) (d : State) (s : sparse.State) (a : Account) (marks : List Moment) (root : Moment) : Type 0 where
+  pub based : Based q d s a marks root
   pub here : AtRest q (path a) d
+  pub left : LeavesPast q d s
 
 -- What an ending says.
 abbrev pub Ends : Ended → Problem → Account → Type 0
@@ -51,10 +77,21 @@ Ends Refuted q a = HasNone q
 Ends Spent q a = Spends q a.budget a × (a.budget < enough a.pattern a.target)
 Ends NoMemory q a = Unit {0}
 
+-- What was kept is kept still, unless the search has ended with nothing found.
+abbrev pub LastAfter : Ended → Option watched.State → Option watched.State → Type 0
+LastAfter (Found m) old new = LastFrom old new
+LastAfter Refuted old new = Unit {0}
+LastAfter Spent old new = LastFrom old new
+LastAfter NoMemory old new = Unit {0}
+
 -- The best vertex so far is below r and undecided; where there is none, each vertex below r is decided.
 abbrev pub IsBest : State → Option ℕ → ℕ → Type 0
 IsBest d None r = (s : ℕ) → s < r → (t : ℕ) × Single (in_domain d) s t
 IsBest d (Some p) r = (p < r) × ((t : ℕ) → Single (in_domain d) p t → ⊥)
+
+-- The vertex p is undecided.
+abbrev pub IsUndecided : State → ℕ → Type 0
+IsUndecided d p = (p < d.vertices) × ((t : ℕ) → Single (in_domain d) p t → ⊥)
 
 -- The found list is an embedding, or memory was refused.
 abbrev pub FoundOf : Problem → Ended → Type 0
@@ -68,9 +105,9 @@ abbrev pub Roots : Bool → Problem → State → Type 0
 Roots true q d = IsOf q d × AtRest q [] d
 Roots false q d = HasNone q
 
--- What the root says: its domains are at rest and hold every embedding, and its filters are of the same problem; or none exists.
+-- What the root says: its domains are at rest and hold every embedding, and its filters are of the same problem and keep no nogoods; or none exists.
 abbrev pub RootSays : {T : Type 0} → Rooted T → Problem → Type 0
-RootSays (ending.Quiet d filters) q = IsOf q d × AtRest q [] d × (filters ≡ q)
+RootSays (ending.Quiet d filters) q = IsOf q d × AtRest q [] d × (filters ≡ unlearned q)
 RootSays ending.Failed q = HasNone q
 RootSays ending.NoMemory q = Unit {0}
 
@@ -79,11 +116,13 @@ pub record Search : Type 0 where
   pub problem : Problem
   pub domains : State
   pub account : Account
+  pub nogoods : Option watched.State
 
 -- What holds of a worker between its calls.
-pub record Working (q rows_of : Problem) (d : State) (a : Account) (marks : List ℕ) (waiting : List Bool) (untried : List ℕ) (choice root capacity : ℕ) : Type 0 where
-  pub rows : rows_of ≡ q
-  pub sound : Sound q d a marks root
+pub record Working (q : Problem) (filters : Filtering) (d : State) (s : sparse.State) (a : Account) (marks : List Moment) (waiting : List Bool) (untried : List ℕ) (choice : ℕ) (root : Moment) (capacity : ℕ) : Type 0 where
+  pub problem : filters.problem ≡ q
+  pub sound : Sound q d s a marks root
+  pub acting : Acting d filters.nogoods marks root
   pub long : length waiting ≡ size q.pattern
   pub words : length untried ≡ words_for (size q.target)
   pub degrees : choice ≡ size q.target

@@ -7,6 +7,7 @@
 //! restarts after Luby (Archibald et al., CPAIOR 2019).
 #![tactic(auto)]
 
+mod near;
 mod nogoods;
 mod propagation;
 pub mod root;

@@ -3,7 +3,7 @@
 //! at them when a vertex is decided: where all pairs of a list but one are decided, the last one leaves its domain. This is what
 //! Lecoutre, Sais, Tabary and Vidal (2007) record at restarts.
 
-ghost use Rattle.std.specs.Prelude.{◌≡◌, ℕ, [], ◌∷◌, ◌++◌, ◌*◌, ◌<◌, ◌≤◌, true, length, IfOk};
+ghost use Rattle.std.specs.Prelude.{◌≡◌, ℕ, [], ◌∷◌, ◌++◌, ◌*◌, ◌<◌, ◌≤◌, true, length, Some, IfOk, OnOk};
 ghost use Rattle.graph_theory.specs.Graph.{size};
 ghost use Rattle.domain_bits.specs.BitRows.{has, words_for};
 ghost use Rattle.domain_bits.specs.Removals.{in_domain};
@@ -11,8 +11,9 @@ ghost use Rattle.search_theory.specs.Account.{Honest};
 ghost use Rattle.search_theory.specs.Claims.{Single};
 ghost use Rattle.nogood_watch.specs.Nogoods.{empty};
 ghost use Rattle.nogood_watch.specs.Watching.{forced_at};
-ghost use Rattle.restart_search.specs.Propagation.{IsOf};
-ghost use Rattle.restart_search.specs.Learning.{IsNogood, AreNogoods, IsUnused, Forces};
+ghost use Rattle.restart_search.specs.Propagation.{IsOf, HaveValues};
+ghost use Rattle.restart_search.specs.Learning.{IsNogood, AreNogoods, IsKept, Grows, Learned, IsUnused, Forces};
+ghost use Rattle.restart_search.specs.Acting.{Move, OutAfter, WaitAfter, WatchesWaitBut};
 
 use crate::propagation::take_value;
 use bit_rows::next_member;
@@ -60,7 +61,9 @@ impl Nogoods {
     pub fn learn(&mut self, q: &Problem, account: &Account) -> Result<(), AllocError>
         requires honest { Honest q.now account.now }
         requires nogoods { AreNogoods q.now self.old }
-        ensures { AreNogoods q.now self.new }
+        ensures nogoods { AreNogoods q.now self.new }
+        ensures grows { Grows self.old self.new }
+        ensures learned { OnOk result (Learned account.now self.new) }
     {
         let _vertex = account.vertex();
         let path = account.path();
@@ -85,7 +88,9 @@ impl Nogoods {
         requires nogoods { AreNogoods q.now self.old }
         requires long { length refuted.now ≡ words_for (size q.now.target) }
         requires refuted { (t : ℕ) → has refuted.now t ≡ true → IsNogood q.now (above.now ++ (p, t) ∷ []) }
-        ensures { AreNogoods q.now self.new }
+        ensures nogoods { AreNogoods q.now self.new }
+        ensures grows { Grows self.old self.new }
+        ensures all { OnOk result ((t : ℕ) → has refuted.now t ≡ true → IsKept self.new (above.now ++ (p, t) ∷ [])) }
     {
         let _few = q.target().size();
         let mut t = next_member(refuted, 0);
@@ -100,7 +105,9 @@ impl Nogoods {
     fn keep(&mut self, q: &Problem, above: &[(u16, u16)], p: u16, t: u16) -> Result<(), AllocError>
         requires nogoods { AreNogoods q.now self.old }
         requires nogood { IsNogood q.now (above.now ++ (p, t) ∷ []) }
-        ensures { AreNogoods q.now self.new }
+        ensures nogoods { AreNogoods q.now self.new }
+        ensures grows { Grows self.old self.new }
+        ensures kept { OnOk result (IsKept self.new (above.now ++ (p, t) ∷ [])) }
     {
         if self.named == u32::MAX {
             return Err(AllocError);
@@ -126,11 +133,15 @@ impl Nogoods {
         requires nogoods { AreNogoods rows.now.problem self.old }
         requires is_of { IsOf rows.now.problem d.old }
         requires long { length waiting.old ≡ size rows.now.problem.pattern }
+        requires some { HaveValues rows.now.problem d.old }
+        requires wait { WatchesWaitBut d.old waiting.old p self.old }
         requires p_in { p < size rows.now.problem.pattern }
         requires single { Single (in_domain d.old) p t }
         requires bounded { length d.old.removed ≤ d.old.vertices * d.old.values }
         ensures nogoods { AreNogoods rows.now.problem self.new }
         ensures forces { Forces result rows.now.problem d.old waiting.old d.new waiting.new }
+        ensures wait { WaitAfter result d.new waiting.new (Some self.new) }
+        ensures moved { Move d.old self.old self.new }
     {
         match self.watched.on_assign(d, p, t) {
             WatchAnswer::Quiet => true,
@@ -150,7 +161,8 @@ impl Nogoods {
         requires is_of { IsOf rows.now.problem d.old }
         requires long { length waiting.old ≡ size rows.now.problem.pattern }
         requires bounded { length d.old.removed ≤ d.old.vertices * d.old.values }
-        ensures { Forces result rows.now.problem d.old waiting.old d.new waiting.new }
+        ensures forces { Forces result rows.now.problem d.old waiting.old d.new waiting.new }
+        ensures out { OutAfter result d.new self.now.units }
     {
         take_out(rows, self.watched.units(), d, waiting)
     }
@@ -168,7 +180,8 @@ fn take_out<T: Trail>(
     requires long { length waiting.old ≡ size rows.now.problem.pattern }
     requires bounded { length d.old.removed ≤ d.old.vertices * d.old.values }
     requires unused { (k : ℕ) → k < length pairs.now → IsUnused rows.now.problem d.old (forced_at pairs.now k) }
-    ensures { Forces result rows.now.problem d.old waiting.old d.new waiting.new }
+    ensures forces { Forces result rows.now.problem d.old waiting.old d.new waiting.new }
+    ensures out { OutAfter result d.new pairs.now }
 {
     for k in 0..pairs.len() {
         let (r, u, _) = pairs[k];

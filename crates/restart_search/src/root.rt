@@ -4,15 +4,17 @@ ghost use Rattle.std.specs.Prelude.{◌≡◌, ℕ, [], ◌<◌, ◌≤◌, leng
 ghost use Rattle.graph_theory.specs.Graph.{size};
 ghost use Rattle.domain_bits.specs.BitRows.{words_for};
 ghost use Rattle.domain_bits.specs.Removals.{full};
-ghost use Rattle.nds_filter.specs.Sequences.{sequences};
+ghost use Rattle.sparse_set.specs.Removals.{whole};
 ghost use Rattle.restart_search.specs.Propagation.{Begins};
+ghost use Rattle.restart_search.specs.Learning.{unlearned};
 ghost use Rattle.restart_search.specs.Searching.{Roots, RootSays};
 
 use crate::propagation::{Filters, narrow, propagate};
 use domain_bits::{Domains, Trail};
 use first_rows::fill_first;
 use graph_rows::Problem;
-use nds_filter::Sequences;
+use nds_filter::KeptRows;
+use sparse_set::SparseSet;
 use std::alloc::{AllocError, Global};
 
 /// What the root answers.
@@ -26,24 +28,23 @@ pub enum Rooted<'a, T: Trail> {
     NoMemory,
 }
 
-/// Leaves each vertex its first domain. Where one is empty, the answer is false. Cost: a test for each pair of vertices.
+/// Leaves each vertex its first domain. Where one is empty, the answer is false. Cost: for each vertex that of `fill_first`, and the
+/// values that leave.
 fn begin<T: Trail>(
     q: &Problem,
-    ps: &Sequences,
-    ts: &Sequences,
+    kept: &KeptRows,
     d: &mut Domains<T>,
     waiting: &mut [bool],
     row: &mut [u64],
 ) -> bool
-    requires pattern { ps.now ≡ sequences q.now.pattern }
-    requires target { ts.now ≡ sequences q.now.target }
+    requires rows { kept.now ≡ q.now }
     requires is_full { d.old ≡ full (size q.now.pattern) (size q.now.target) }
     requires long { length waiting.old ≡ size q.now.pattern }
     requires words { length row.old ≡ words_for (size q.now.target) }
     ensures { Begins result q.now d.old d.new waiting.new }
 {
     for p in 0..d.vertices() {
-        fill_first(q, ps, ts, p, row);
+        fill_first(q, kept, p, row);
         if !narrow(d, waiting, row, p) {
             return false;
         }
@@ -54,26 +55,26 @@ fn begin<T: Trail>(
 /// Leaves each vertex its first domain, and takes the consequences; false where no embedding is left.
 fn settle_root<T: Trail>(
     q: &Problem,
-    ps: &Sequences,
-    ts: &Sequences,
+    kept: &KeptRows,
     filters: &mut Filters,
     d: &mut Domains<T>,
     waiting: &mut [bool],
+    undecided: &mut SparseSet,
     row: &mut [u64],
 ) -> bool
-    requires pattern { ps.now ≡ sequences q.now.pattern }
-    requires target { ts.now ≡ sequences q.now.target }
-    requires problem { filters.old ≡ q.now }
+    requires rows { kept.now ≡ q.now }
+    requires filters { filters.old ≡ unlearned q.now }
     requires is_full { d.old ≡ full (size q.now.pattern) (size q.now.target) }
+    requires whole { undecided.old ≡ whole (size q.now.pattern) }
     requires long { length waiting.old ≡ size q.now.pattern }
     requires words { length row.old ≡ words_for (size q.now.target) }
     ensures roots { Roots result q.now d.new }
-    ensures problem { filters.new ≡ q.now }
+    ensures filters { filters.new ≡ unlearned q.now }
 {
-    begin(q, ps, ts, d, waiting, row) && propagate(q, filters, d, waiting)
+    begin(q, kept, d, waiting, row) && propagate(q, filters, d, waiting, undecided)
 }
 
-/// The first domains and what follows from them. Cost: a test for each pair of vertices, and the propagation.
+/// The first domains and what follows from them. Cost: that of `KeptRows::new`, for each vertex that of `fill_first`, and the propagation.
 pub fn root<'a, T: Trail>(alloc: Global, q: &'a Problem) -> Rooted<'a, T>
     ensures { RootSays result q.entry.now }
 {
@@ -91,17 +92,17 @@ fn take_root<'a, T: Trail>(alloc: Global, q: &'a Problem) -> Result<Rooted<'a, T
     let values = q.target().size();
     let mut domains = Domains::<T>::with_trail(alloc, vertices, values)?;
     let mut waiting = vec![in alloc; false; usize::from(vertices)]?;
+    let mut undecided = SparseSet::new(alloc, vertices)?;
     let mut row = vec![in alloc; 0u64; (usize::from(values) + 63) / 64]?;
-    let ps = Sequences::new(alloc, q.pattern())?;
-    let ts = Sequences::new(alloc, q.target())?;
+    let kept = KeptRows::new(alloc, q)?;
     let mut filters = Filters::new(alloc, q)?;
     if settle_root(
         q,
-        &ps,
-        &ts,
+        &kept,
         &mut filters,
         &mut domains,
         &mut waiting,
+        &mut undecided,
         &mut row,
     ) {
         Ok(Rooted::Quiet(domains, filters))

@@ -1,6 +1,6 @@
 //! The steps of a search, down a path of guesses and back, and the loop over them.
 
-ghost use Rattle.std.specs.Prelude.{◌≡◌, ℕ, [], ◌+◌, ◌<◌, ◌≤◌, ◌&&◌, not, true, false, length, Some, IfSome, IfNone, IsTrue, vec_capacity};
+ghost use Rattle.std.specs.Prelude.{◌≡◌, ℕ, [], ◌+◌, ◌<◌, ◌≤◌, ◌&&◌, not, true, false, length, Option, None, IfSome, IfNone, IsTrue, vec_capacity};
 ghost use Rattle.graph_theory.specs.Graph.{size};
 ghost use Rattle.graph_theory.specs.Path.{NotOn, Dead};
 ghost use Rattle.domain_bits.specs.BitRows.{has, words_for};
@@ -9,14 +9,18 @@ ghost use Rattle.search_theory.specs.Claims.{Single, Quiet};
 ghost use Rattle.search_theory.specs.Bounds.{cutoff};
 ghost use Rattle.search_theory.specs.Account.{path, IsAt, NotAmong, MayGuess};
 ghost use Rattle.search_theory.specs.Remaining.{remaining};
-ghost use Rattle.restart_search.specs.Propagation.{IsOf};
-ghost use Rattle.restart_search.specs.Searching.{AtRest, Based, Sound, Ends, FoundOf, IsBest};
+ghost use Rattle.restart_search.specs.Propagation.{IsOf, LeavesPast};
+ghost use Rattle.nogood_watch.specs.Nogoods as watched;
+ghost use Rattle.restart_search.specs.Acting.{Acting, WereActedOn};
+ghost use Rattle.restart_search.specs.Learning.{HasLearned, LastFrom};
+ghost use Rattle.restart_search.specs.Searching.{AtRest, Based, Sound, Ends, LastAfter, FoundOf, IsBest, IsNow, IsUndecided};
 
 use crate::propagation::{Filters, lower, propagate, propagate_again};
 use crate::value_choice::ValueChoice;
 use domain_bits::{Domains, Mark, Trail, and_not_into};
 use fail_account::Account;
 use graph_rows::Problem;
+use sparse_set::SparseSet;
 use std::alloc::Global;
 
 /// How a search ends.
@@ -32,15 +36,27 @@ pub enum Ended {
     NoMemory,
 }
 
+/// A moment of a search: how much had been removed from the domains, and how many vertices were past.
+#[derive(Clone, Copy)]
+pub struct Moment {
+    /// The mark of the domains.
+    pub domains: Mark,
+    /// The mark of the set of the vertices that are not past.
+    pub past: usize,
+}
+
 /// The vertex with the smallest domain of more than one value; of these the one of the greatest degree, and then the
-/// least. Cost: one step for each vertex.
-fn smallest<T: Trail>(q: &Problem, d: &Domains<T>) -> Option<u16>
+/// least. Cost: one step for each vertex that is not past.
+fn smallest<T: Trail>(q: &Problem, d: &Domains<T>, undecided: &SparseSet) -> Option<u16>
     requires is_of { IsOf q.now d.now }
+    requires quiet { Quiet q.now (in_domain d.now) }
+    requires left { LeavesPast q.now d.now undecided.now }
     ensures { IsBest d.now result (size q.now.pattern) }
 {
+    let members = undecided.members();
     let mut best: Option<u16> = None;
-    for p in 0..d.vertices() {
-        best = better(q, d, p, best);
+    for k in 0..members.len() {
+        best = better(q, d, members[k], best);
     }
     best
 }
@@ -49,8 +65,9 @@ fn smallest<T: Trail>(q: &Problem, d: &Domains<T>) -> Option<u16>
 fn better<T: Trail>(q: &Problem, d: &Domains<T>, p: u16, best: Option<u16>) -> Option<u16>
     requires is_of { IsOf q.now d.now }
     requires p_in { p < size q.now.pattern }
-    requires so_far { IsBest d.now best p }
-    ensures { IsBest d.now result (p + 1) }
+    requires so_far { IfSome best (IsUndecided d.now) }
+    ensures some { IfSome result (IsUndecided d.now) }
+    ensures none { IfNone result ((best ≡ None) × ((t : ℕ) × Single (in_domain d.now) p t)) }
 {
     if d.size(p) == 1 {
         return best;
@@ -61,10 +78,9 @@ fn better<T: Trail>(q: &Problem, d: &Domains<T>, p: u16, best: Option<u16>) -> O
 /// Which of `p` and the best vertex so far comes first; `p` where there is none.
 fn first_of<T: Trail>(q: &Problem, d: &Domains<T>, p: u16, best: Option<u16>) -> u16
     requires is_of { IsOf q.now d.now }
-    requires p_in { p < size q.now.pattern }
-    requires undecided { (t : ℕ) → Single (in_domain d.now) p t → ⊥ }
-    requires so_far { IsBest d.now best p }
-    ensures { IsBest d.now (Some result) (p + 1) }
+    requires undecided { IsUndecided d.now p }
+    requires so_far { IfSome best (IsUndecided d.now) }
+    ensures { IsUndecided d.now result }
 {
     match best {
         None => p,
@@ -72,7 +88,7 @@ fn first_of<T: Trail>(q: &Problem, d: &Domains<T>, p: u16, best: Option<u16>) ->
     }
 }
 
-/// Whether `p` has a smaller domain than `r`, or an equal one and a greater degree.
+/// Whether `p` has a smaller domain than `r`, or an equal one and a greater degree, or these alike and the lesser number.
 fn comes_first<T: Trail>(q: &Problem, d: &Domains<T>, p: u16, r: u16) -> bool
     requires is_of { IsOf q.now d.now }
     requires p_in { p < size q.now.pattern }
@@ -80,21 +96,32 @@ fn comes_first<T: Trail>(q: &Problem, d: &Domains<T>, p: u16, r: u16) -> bool
 {
     let size = d.size(p);
     let least = d.size(r);
-    size < least || (size == least && q.pattern().degree(p) > q.pattern().degree(r))
+    if size != least {
+        return size < least;
+    }
+    let degree = q.pattern().degree(p);
+    let greatest = q.pattern().degree(r);
+    degree > greatest || (degree == greatest && p < r)
 }
 
 /// The vertex of the level after the path: the one that it has, or for a fresh level the one of the smallest domain of
 /// more than one value; none where each domain has one value.
-fn level_vertex<T: Trail>(q: &Problem, d: &Domains<T>, account: &Account) -> Option<u16>
+fn level_vertex<T: Trail>(
+    q: &Problem,
+    d: &Domains<T>,
+    undecided: &SparseSet,
+    account: &Account,
+) -> Option<u16>
     requires is_of { IsOf q.now d.now }
     requires rest { AtRest q.now (path account.now) d.now }
+    requires left { LeavesPast q.now d.now undecided.now }
     requires sizes { account.now.pattern ≡ size q.now.pattern }
     ensures some { IfSome result (λ p. (p < size q.now.pattern) × NotOn (path account.now) p × IsAt account.now.vertex p) }
     ensures none { IfNone result ((p : ℕ) → p < size q.now.pattern → (t : ℕ) × Single (in_domain d.now) p t) }
 {
     match account.vertex() {
         Some(p) => Some(p),
-        None => smallest(q, d),
+        None => smallest(q, d, undecided),
     }
 }
 
@@ -136,14 +163,16 @@ fn has_value(row: &[u64]) -> bool
 fn close<T: Trail>(
     q: &Problem,
     d: &mut Domains<T>,
+    undecided: &mut SparseSet,
     account: &mut Account,
-    marks: &mut Vec<Mark>,
-    root: Mark,
+    marks: &mut Vec<Moment>,
+    root: Moment,
 )
-    requires based { Based q.now d.old account.old marks.old.items root }
+    requires based { Based q.now d.old undecided.old account.old marks.old.items root }
     requires some { 0 < length (path account.old) }
     requires dead { Dead q.now (path account.old) }
-    ensures sound { Sound q.now d.new account.new marks.new.items root }
+    ensures sound { Sound q.now d.new undecided.new account.new marks.new.items root }
+    ensures acting { (nogoods : Option watched.State) → WereActedOn d.old nogoods marks.old.items root → Acting d.new nogoods marks.new.items root }
     ensures nearer { remaining account.new < remaining account.old }
     ensures budget { account.new.budget ≡ account.old.budget }
     ensures room { vec_capacity marks.old ≤ vec_capacity marks.new }
@@ -151,48 +180,70 @@ fn close<T: Trail>(
     account.fail(q);
     match marks.pop() {
         None => (),
-        Some(mark) => d.undo_to(mark),
+        Some(moment) => {
+            d.undo_to(moment.domains);
+            undecided.undo_to(moment.past);
+        }
     }
 }
 
 /// Begins the next run: what the position has refuted is kept, and taken up at the root together with what earlier runs left. Where
-/// that leaves no embedding, or memory is refused, the search ends so. Cost: what had been removed since the root, that of
-/// `Filters::learn`, and the propagation.
+/// that leaves no embedding, or memory is refused, the search ends so, and its nogoods are let go. Cost: what had been removed since
+/// the root, that of `Filters::learn`, and the propagation.
 fn begin_again<T: Trail>(
     alloc: Global,
     q: &Problem,
     filters: &mut Filters,
     d: &mut Domains<T>,
+    undecided: &mut SparseSet,
     account: &mut Account,
-    marks: &mut Vec<Mark>,
+    marks: &mut Vec<Moment>,
     waiting: &mut [bool],
-    root: &mut Mark,
+    root: &mut Moment,
 ) -> Option<Ended>
-    requires problem { filters.old ≡ q.now }
-    requires sound { Sound q.now d.old account.old marks.old.items root.old }
+    requires problem { filters.old.problem ≡ q.now }
+    requires sound { Sound q.now d.old undecided.old account.old marks.old.items root.old }
     requires due { account.old.count ≡ cutoff account.old.run }
     requires long { length waiting.old ≡ size q.now.pattern }
-    ensures problem { filters.new ≡ q.now }
-    ensures sound { Sound q.now d.new account.new marks.new.items root.new }
+    ensures problem { filters.new.problem ≡ q.now }
+    ensures sound { Sound q.now d.new undecided.new account.new marks.new.items root.new }
+    ensures acting { Acting d.new filters.new.nogoods marks.new.items root.new }
+    ensures learned { IfNone result (HasLearned account.old filters.new.nogoods) }
+    ensures last { IfNone result (LastFrom filters.old.nogoods filters.new.nogoods) }
+    ensures last_of { IfSome result (λ ended. LastAfter ended filters.old.nogoods filters.new.nogoods) }
     ensures nearer { IfNone result (remaining account.new < remaining account.old) }
     ensures ends { IfSome result (λ ended. Ends ended q.now account.new) }
     ensures budget { account.new.budget ≡ account.old.budget }
     ensures room { vec_capacity marks.old ≤ vec_capacity marks.new }
 {
     if filters.learn(alloc, q, account).is_err() {
+        filters.forget();
         return Some(Ended::NoMemory);
     }
     let start = *root;
     account.restart(q);
     marks.clear();
-    d.undo_to(start);
-    if !propagate_again(q, filters, d, waiting) {
+    d.undo_to(start.domains);
+    undecided.undo_to(start.past);
+    if !propagate_again(q, filters, d, waiting, undecided) {
+        filters.forget();
         lower(waiting);
-        d.undo_to(start);
+        d.undo_to(start.domains);
+        undecided.undo_to(start.past);
         return Some(Ended::Refuted);
     }
-    *root = d.mark();
+    *root = present(d, undecided);
     None
+}
+
+/// The present moment. Cost: one step.
+pub(crate) fn present<T: Trail>(d: &Domains<T>, undecided: &SparseSet) -> Moment
+    ensures { IsNow d.now undecided.now result }
+{
+    Moment {
+        domains: d.mark(),
+        past: undecided.mark(),
+    }
 }
 
 /// Guesses `t` for `p`, and takes the consequences; where no embedding is left, refutes the guess.
@@ -200,35 +251,39 @@ fn guess<T: Trail>(
     q: &Problem,
     filters: &mut Filters,
     d: &mut Domains<T>,
+    undecided: &mut SparseSet,
     account: &mut Account,
-    marks: &mut Vec<Mark>,
+    marks: &mut Vec<Moment>,
     waiting: &mut [bool],
-    root: Mark,
+    root: Moment,
     p: u16,
     t: u16,
 )
-    requires problem { filters.old ≡ q.now }
-    requires sound { Sound q.now d.old account.old marks.old.items root }
+    requires problem { filters.old.problem ≡ q.now }
+    requires sound { Sound q.now d.old undecided.old account.old marks.old.items root }
+    requires acting { Acting d.old filters.old.nogoods marks.old.items root }
     requires unspent { account.old.all < account.old.budget }
     requires before_cutoff { account.old.count < cutoff account.old.run }
     requires may { MayGuess q.now account.old p t }
     requires here { in_domain d.old p t ≡ true }
     requires long { length waiting.old ≡ size q.now.pattern }
     requires room { size q.now.pattern ≤ vec_capacity marks.old }
-    ensures problem { filters.new ≡ q.now }
-    ensures sound { Sound q.now d.new account.new marks.new.items root }
+    ensures problem { filters.new.problem ≡ q.now }
+    ensures sound { Sound q.now d.new undecided.new account.new marks.new.items root }
+    ensures acting { Acting d.new filters.new.nogoods marks.new.items root }
+    ensures last { LastFrom filters.old.nogoods filters.new.nogoods }
     ensures nearer { remaining account.new < remaining account.old }
     ensures budget { account.new.budget ≡ account.old.budget }
     ensures room { vec_capacity marks.old ≤ vec_capacity marks.new }
 {
-    let mark = d.mark();
+    let moment = present(d, undecided);
     account.deepen(q, p, t);
-    marks.push_reserved(mark);
+    marks.push_reserved(moment);
     d.assign(p, t);
     waiting[usize::from(p)] = true;
-    if !propagate(q, filters, d, waiting) {
+    if !propagate(q, filters, d, waiting, undecided) {
         lower(waiting);
-        close(q, d, account, marks, root);
+        close(q, d, undecided, account, marks, root);
     }
 }
 
@@ -259,28 +314,32 @@ pub(crate) fn run<T: Trail>(
     q: &Problem,
     filters: &mut Filters,
     d: &mut Domains<T>,
+    undecided: &mut SparseSet,
     account: &mut Account,
-    marks: &mut Vec<Mark>,
+    marks: &mut Vec<Moment>,
     waiting: &mut [bool],
     untried: &mut [u64],
     choice: &mut ValueChoice,
-    root: &mut Mark,
+    root: &mut Moment,
 ) -> Ended
-    requires problem { filters.old ≡ q.now }
-    requires sound { Sound q.now d.old account.old marks.old.items root.old }
+    requires problem { filters.old.problem ≡ q.now }
+    requires sound { Sound q.now d.old undecided.old account.old marks.old.items root.old }
+    requires acting { Acting d.old filters.old.nogoods marks.old.items root.old }
     requires long { length waiting.old ≡ size q.now.pattern }
     requires words { length untried.old ≡ words_for (size q.now.target) }
     requires choice { choice.old ≡ size q.now.target }
     requires room { size q.now.pattern ≤ vec_capacity marks.old }
     ensures ends { Ends result q.now account.new }
     ensures budget { account.new.budget ≡ account.old.budget }
-    ensures sound { Sound q.now d.new account.new marks.new.items root.new }
-    ensures problem { filters.new ≡ q.now }
+    ensures sound { Sound q.now d.new undecided.new account.new marks.new.items root.new }
+    ensures acting { Acting d.new filters.new.nogoods marks.new.items root.new }
+    ensures last { LastAfter result filters.old.nogoods filters.new.nogoods }
+    ensures problem { filters.new.problem ≡ q.now }
     ensures choice { choice.new ≡ size q.now.target }
     ensures room { size q.now.pattern ≤ vec_capacity marks.new }
 {
     loop {
-        let Some(p) = level_vertex(q, d, account) else {
+        let Some(p) = level_vertex(q, d, undecided, account) else {
             return found(alloc, q, d);
         };
         fill_untried(d, account, p, untried);
@@ -288,19 +347,23 @@ pub(crate) fn run<T: Trail>(
             if account.path().is_empty() {
                 return Ended::Refuted;
             }
-            close(q, d, account, marks, *root);
+            close(q, d, undecided, account, marks, *root);
             continue;
         }
         if account.spent() {
             return Ended::Spent;
         }
         if account.at_cutoff() {
-            if let Some(ended) = begin_again(alloc, q, filters, d, account, marks, waiting, root) {
+            if let Some(ended) = begin_again(
+                alloc, q, filters, d, undecided, account, marks, waiting, root,
+            ) {
                 return ended;
             }
             continue;
         }
         let t = choice.choose(untried);
-        guess(q, filters, d, account, marks, waiting, *root, p, t);
+        guess(
+            q, filters, d, undecided, account, marks, waiting, *root, p, t,
+        );
     }
 }

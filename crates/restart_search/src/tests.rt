@@ -15,6 +15,8 @@ const FOUR_CYCLE: &[u8] = b"4 2 1 3 2 0 2 2 1 3 2 0 2";
 
 const PATH: &[u8] = b"3 1 1 2 0 2 1 1";
 
+const EDGE: &[u8] = b"2 1 1 1 0";
+
 const TRIANGLE_AND_TAIL: &[u8] = b"4 1 1 3 0 2 3 2 1 3 2 1 2";
 
 const TWO_POINTS: &[u8] = b"2 0 0";
@@ -89,6 +91,8 @@ fn small_problems_are_decided(rt: HostRuntime) {
     assert!(rt; ending(alloc, PATH, TRIANGLE, false, 100) == End::Yes);
     assert!(rt; ending(alloc, PATH, TRIANGLE, true, 100) == End::None);
     assert!(rt; ending(alloc, TWO_POINTS, TRIANGLE, true, 100) == End::None);
+    assert!(rt; ending(alloc, TWO_POINTS, EDGE, true, 100) == End::None);
+    assert!(rt; ending(alloc, TWO_POINTS, PATH, true, 100) == End::Yes);
     assert!(rt; ending(alloc, TRIANGLE, TRIANGLE, true, 0) == End::Spent(0));
     assert!(rt; ending(alloc, FOUR_CYCLE, PATH, false, 0) == End::None);
     assert!(rt; ending(alloc, THREE_POINTS, TWO_POINTS, false, 0) == End::None);

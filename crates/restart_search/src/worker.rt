@@ -1,19 +1,23 @@
 //! A worker, and the whole of a search by one.
 
-ghost use Rattle.std.specs.Prelude.{◌≡◌, ℕ, [], ◌^◌, ◌<◌, ◌≤◌, length, vec_capacity, IfOk};
+ghost use Rattle.std.specs.Prelude.{◌≡◌, ℕ, [], ◌^◌, ◌<◌, ◌≤◌, length, vec_capacity, None, IfOk, IfSome};
 ghost use Rattle.graph_theory.specs.Graph.{size};
 ghost use Rattle.domain_bits.specs.Removals.{in_domain};
 ghost use Rattle.search_theory.specs.Account.{fresh, path};
-ghost use Rattle.restart_search.specs.Propagation.{IsOf};
-ghost use Rattle.restart_search.specs.Searching.{AtRest, Ends, Decides};
+ghost use Rattle.search_theory.specs.Claims.{Quiet};
+ghost use Rattle.restart_search.specs.Acting.{NothingLeft};
+ghost use Rattle.restart_search.specs.Learning.{unlearned};
+ghost use Rattle.restart_search.specs.Propagation.{IsOf, LeavesPast};
+ghost use Rattle.restart_search.specs.Searching.{AtRest, Ends, LastAfter, Decides};
 
 use crate::propagation::Filters;
 use crate::root::{Rooted, root};
-use crate::search::{Ended, run};
+use crate::search::{Ended, Moment, present, run};
 use crate::value_choice::ValueChoice;
-use domain_bits::{Domains, Mark, Trail, WordTrail};
+use domain_bits::{Domains, Trail, WordTrail};
 use fail_account::Account;
 use graph_rows::Problem;
+use sparse_set::SparseSet;
 use std::alloc::{AllocError, Global};
 use std::marker::Model;
 
@@ -23,12 +27,13 @@ pub struct Worker<'a, T: Trail> {
     problem: &'a Problem,
     filters: Filters<'a>,
     domains: Domains<T>,
+    undecided: SparseSet,
     account: Account,
-    marks: Vec<Mark>,
+    marks: Vec<Moment>,
     waiting: Vec<bool>,
     untried: Vec<u64>,
     choice: ValueChoice,
-    root: Mark,
+    root: Moment,
 }
 
 impl<'a, T: Trail> Model for Worker<'a, T> {
@@ -37,9 +42,29 @@ impl<'a, T: Trail> Model for Worker<'a, T> {
 
     ghost Value = { Search };
 
-    ghost view = { λ w. record { problem = w.problem.now; domains = w.domains; account = w.account } };
+    ghost view = { λ w. record { problem = w.problem.now; domains = w.domains; account = w.account; nogoods = w.filters.nogoods } };
 
-    ghost invariant = { λ w. Working w.problem.now w.filters w.domains w.account w.marks.items w.waiting.items w.untried.items w.choice w.root (vec_capacity w.marks) };
+    ghost invariant = { λ w. Working w.problem.now w.filters w.domains w.undecided w.account w.marks.items w.waiting.items w.untried.items w.choice w.root (vec_capacity w.marks) };
+}
+
+/// The set of the vertices that have more than one value in domains at rest. Cost: one step for each vertex.
+fn undecided_of<T: Trail>(
+    alloc: Global,
+    q: &Problem,
+    d: &Domains<T>,
+) -> Result<SparseSet, AllocError>
+    requires is_of { IsOf q.now d.now }
+    requires quiet { Quiet q.now (in_domain d.now) }
+    ensures { IfOk result (LeavesPast q.now d.now) }
+{
+    let mut undecided = SparseSet::new(alloc, d.vertices())?;
+    for p in 0..d.vertices() {
+        if d.size(p) != 1 {
+            continue;
+        }
+        undecided.remove(p);
+    }
+    Ok(undecided)
 }
 
 impl<'a, T: Trail> Worker<'a, T> {
@@ -54,10 +79,11 @@ impl<'a, T: Trail> Worker<'a, T> {
     ) -> Result<Worker<'a, T>, AllocError>
         requires is_of { IsOf q.now domains }
         requires rest { AtRest q.now [] domains }
-        requires problem { filters ≡ q.now }
+        requires filters { filters ≡ unlearned q.now }
         requires budget { budget < 2 ^ 63 }
         ensures problem { IfOk result (λ w. w.problem ≡ q.entry.now) }
         ensures account { IfOk result (λ w. w.account ≡ fresh (size q.entry.now.pattern) (size q.entry.now.target) budget) }
+        ensures nogoods { IfOk result (λ w. w.nogoods ≡ None) }
     {
         let account = Account::new(alloc, q, budget)?;
         let vertices = usize::from(q.pattern().size());
@@ -66,11 +92,13 @@ impl<'a, T: Trail> Worker<'a, T> {
         let words = (usize::from(q.target().size()) + 63) / 64;
         let untried = vec![in alloc; 0u64; words]?;
         let choice = ValueChoice::new(alloc, q, seed)?;
-        let root = domains.mark();
+        let undecided = undecided_of(alloc, q, &domains)?;
+        let root = present(&domains, &undecided);
         Ok(Worker {
             problem: q,
             filters,
             domains,
+            undecided,
             account,
             marks,
             waiting,
@@ -86,12 +114,15 @@ impl<'a, T: Trail> Worker<'a, T> {
         ensures problem { self.new.problem ≡ self.old.problem }
         ensures budget { self.new.account.budget ≡ self.old.account.budget }
         ensures rest { AtRest self.new.problem (path self.new.account) self.new.domains }
+        ensures in_force { IfSome self.new.nogoods (NothingLeft self.new.domains) }
+        ensures last { LastAfter result self.old.nogoods self.new.nogoods }
     {
         run(
             alloc,
             self.problem,
             &mut self.filters,
             &mut self.domains,
+            &mut self.undecided,
             &mut self.account,
             &mut self.marks,
             &mut self.waiting,
@@ -109,6 +140,7 @@ impl<'a, T: Trail> Worker<'a, T> {
             problem: _,
             filters: _,
             domains: _,
+            undecided: _,
             account,
             marks: _,
             waiting: _,
@@ -157,7 +189,7 @@ fn search_from<'a>(
 ) -> Decided
     requires is_of { IsOf q.now domains }
     requires rest { AtRest q.now [] domains }
-    requires problem { filters ≡ q.now }
+    requires filters { filters ≡ unlearned q.now }
     requires budget { budget < 2 ^ 63 }
     ensures { Decides result q.entry.now budget }
 {

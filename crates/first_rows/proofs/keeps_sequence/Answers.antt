@@ -1,7 +1,7 @@
 use Rattle.std.proofs.Common.{arith, refl, List, ℕ, subst, sym}
 use Rattle.graph_theory.specs.Neighbours.{sequence, IsKeptBy}
 use Rattle.nds_filter.specs.Sequences.{sequence_at}
-use Rattle.first_rows.proofs.Sequenced.{sequence_is, sequences_long}
+use Rattle.nds_filter.proofs.Keeping.{sequence_is, sequences_long}
 use Rattle.first_rows.proofs.keeps_sequence.Goals as goal
 
 pub keeps-requires-clause-p_in : goal.keeps-requires-clause-p_in

@@ -1,6 +1,7 @@
-use Rattle.std.proofs.Common.{◌≡◌, ◌*◌, ◌-◌, length}
+use Rattle.std.proofs.Common.{◌≡◌, ◌*◌, ◌-◌, length, IfSome}
 use Rattle.restart_search.specs.Learning.{AreKept}
-use Rattle.restart_search.specs.Propagation.{IsFor, Narrows, Ready}
+use Rattle.restart_search.specs.Acting.{HaveMoved, WatchesWait}
+use Rattle.restart_search.specs.Propagation.{IsFor, Narrows, Ready, LeavesPast, Fewer}
 use Rattle.restart_search.proofs.propagation.propagate.Given as goal
 
 abbrev pub invariant-loop-filters : goal.invariant-loop-filters
@@ -10,6 +11,10 @@ invariant-loop-filters g l = record {
   kept : AreKept l.q l.filters-inside.nogoods;
   narrows : Narrows l.q l.fn.d l.d;
   ready : Ready l.q l.d l.waiting;
+  left : LeavesPast l.q l.d l.undecided;
+  fewer : Fewer l.fn.undecided l.undecided;
+  wait : IfSome l.filters-inside.nogoods (WatchesWait l.d l.waiting);
+  moved : HaveMoved l.fn.d l.fn.filters.nogoods l.filters-inside.nogoods;
 }
 
 abbrev pub decreases-loop-filters : goal.decreases-loop-filters

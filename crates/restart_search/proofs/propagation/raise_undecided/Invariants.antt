@@ -1,9 +1,5 @@
-use Rattle.std.proofs.Common.{◌≡◌, length}
-use Rattle.restart_search.specs.Propagation.{UndecidedWait}
+use Rattle.restart_search.proofs.Walking.{Raised}
 use Rattle.restart_search.proofs.propagation.raise_undecided.Given as goal
 
-abbrev pub invariant-loop-p : goal.invariant-loop-p
-invariant-loop-p g l = record {
-  long : length l.waiting ≡ l.d.vertices;
-  undecided : UndecidedWait l.d l.waiting l.p;
-}
+abbrev pub invariant-loop-k : goal.invariant-loop-k
+invariant-loop-k g l = Raised l.d l.waiting l.members l.k

@@ -1,6 +1,7 @@
-use Rattle.std.proofs.Common.{◌≡◌}
+use Rattle.std.proofs.Common.{◌≡◌, IfSome}
 use Rattle.restart_search.specs.Learning.{AreKept}
-use Rattle.restart_search.specs.Propagation.{Narrows, Ready, work}
+use Rattle.restart_search.specs.Acting.{HaveMoved, WatchesWait}
+use Rattle.restart_search.specs.Propagation.{Narrows, Ready, LeavesPast, Fewer, work}
 use Rattle.restart_search.proofs.propagation.take_up.Given as goal
 
 abbrev pub invariant-loop-p : goal.invariant-loop-p
@@ -9,6 +10,10 @@ invariant-loop-p g l = record {
   kept : AreKept l.fn.rows.problem l.nogoods;
   narrows : Narrows l.fn.rows.problem l.fn.d l.d;
   ready : Ready l.fn.rows.problem l.d l.waiting;
+  left : LeavesPast l.fn.rows.problem l.d l.undecided;
+  fewer : Fewer l.fn.undecided l.undecided;
+  wait : IfSome l.nogoods (WatchesWait l.d l.waiting);
+  moved : HaveMoved l.fn.d l.fn.nogoods l.nogoods;
 }
 
 abbrev pub decreases-loop-p : goal.decreases-loop-p

@@ -1,5 +1,5 @@
-use Rattle.restart_search.specs.Searching.{IsBest}
+use Rattle.restart_search.proofs.Walking.{Looked}
 use Rattle.restart_search.proofs.search.smallest.Given as goal
 
-abbrev pub invariant-loop-p : goal.invariant-loop-p
-invariant-loop-p g l = IsBest l.d l.best l.p
+abbrev pub invariant-loop-k : goal.invariant-loop-k
+invariant-loop-k g l = Looked l.d l.members l.best l.k

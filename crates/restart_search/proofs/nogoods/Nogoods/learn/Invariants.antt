@@ -1,5 +1,10 @@
-use Rattle.restart_search.specs.Learning.{AreNogoods}
+use Rattle.restart_search.specs.Learning.{AreNogoods, Grows}
+use Rattle.restart_search.proofs.Kept.{LearnedBelow}
 use Rattle.restart_search.proofs.nogoods.Nogoods.learn.Given as goal
 
 abbrev pub invariant-loop-i : goal.invariant-loop-i
-invariant-loop-i l = AreNogoods l.q l.self
+invariant-loop-i l = record {
+  kept : AreNogoods l.q l.self;
+  grows : Grows l.fn.self l.self;
+  learned : LearnedBelow l.account l.self l.i;
+}
