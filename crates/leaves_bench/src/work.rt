@@ -17,7 +17,9 @@ fn mixed(sum: u64, number: u64) -> u64 {
 /// The vertex after this one, and the first after the last.
 fn next_vertex(p: u16, vertices: u16) -> u16
     requires { p < vertices }
-    ensures { result < vertices }
+    ensures within { result < vertices }
+    ensures after { p + 1 < vertices → result ≡ p + 1 }
+    ensures last { p + 1 ≡ vertices → result ≡ 0 }
 {
     if p + 1 < vertices { p + 1 } else { 0 }
 }
@@ -106,7 +108,9 @@ fn pass(kernel: Kernel, into: &mut [u64], from: &[u64]) -> u64
 /// Where the next row begins, and at the start again after the last.
 fn next_row(at: usize, words: usize, all: usize) -> usize
     requires { at + words ≤ all }
-    ensures { result + words ≤ all }
+    ensures within { result + words ≤ all }
+    ensures after { (at + words) + words ≤ all → result ≡ at + words }
+    ensures last { all < (at + words) + words → result ≡ 0 }
 {
     let next = at + words;
     if words <= all - next { next } else { 0 }
