@@ -8,6 +8,7 @@ use Rattle.graph_theory.specs.Path.{Dead}
 use Rattle.search_theory.specs.Account.{Step, Account, path_of, path, fresh, IsAt, inserted, deepened, failed, restarted, Event, Deepen, Fail, Restart, Happens, Leads, Reached, AllDead, LawfulSteps, LawfulLevel, Lawful}
 use Rattle.search_theory.specs.Laws.{AccountLaws}
 use Rattle.search_theory.proofs.Enough.{spent_below}
+use Rattle.search_theory.proofs.Cutoffs.{refuted_at_cutoff}
 
 -- the path with one level more
 pub path_of_push : (ss : List Step) (s : Step) → path_of (ss ++ s ∷ []) ≡ path_of ss ++ (s.vertex, s.value) ∷ []
@@ -88,4 +89,4 @@ pub reached_is_lawful : (q : Problem) (a : Account) → Reached q a → Lawful q
 reached_is_lawful q a reached = lawful_along q (size q.pattern) (size q.target) a.budget reached.events a reached.lead
 
 pub account_laws_hold : AccountLaws
-account_laws_hold = record { lawful = reached_is_lawful; enough = spent_below }
+account_laws_hold = record { lawful = reached_is_lawful; enough = spent_below; refuted = refuted_at_cutoff }

@@ -1,6 +1,6 @@
 -- The account of a search: where it stands, how often it failed, and by which events it came there.
 
-use Rattle.std.specs.Prelude.{◌≡◌, ℕ, ◌+◌, ◌<◌, nat_lt, Bool, ◌&&◌, if◌then◌else◌, List, [], ◌∷◌, ◌++◌, Option, Some, None}
+use Rattle.std.specs.Prelude.{◌≡◌, ℕ, ◌+◌, ◌<◌, nat_lt, Bool, ◌&&◌, if◌then◌else◌, List, [], ◌∷◌, ◌++◌, Contains, Option, Some, None}
 use Rattle.std.proofs.Common.{zero, suc}
 use Rattle.graph_theory.specs.Graph.{size}
 use Rattle.graph_theory.specs.Embedding.{Problem}
@@ -55,6 +55,14 @@ level_among (s ∷ ss) vertex us (suc i) = level_among ss vertex us i
 -- Level i of the account, from 0.
 abbrev pub level_at : Account → ℕ → Level
 level_at a i = level_among a.steps a.vertex a.refuted i
+
+-- At some level a value is refuted for the level's vertex.
+pub record HasRefuted (a : Account) : Type 0 where
+  pub level : ℕ
+  pub vertex : ℕ
+  pub value : ℕ
+  pub vertex_is : (level_at a level).vertex ≡ Some vertex
+  pub refuted : Contains (level_at a level).refuted value
 
 -- The empty state of these sizes.
 abbrev pub fresh : ℕ → ℕ → ℕ → Account

@@ -7,8 +7,8 @@ use Rattle.graph_theory.specs.Embedding.{Problem, Embeds}
 use Rattle.graph_theory.specs.Path.{NotOn, Dead}
 use Rattle.search_theory.specs.Fits.{Fits}
 use Rattle.search_theory.specs.Claims.{Stands, Single, Pins, Quiet}
-use Rattle.search_theory.specs.Bounds.{most, luby, earlier, fails_to, enough, BelowEnough}
-use Rattle.search_theory.specs.Account.{Account, AllDead, NotAmong, Reached, Lawful}
+use Rattle.search_theory.specs.Bounds.{most, luby, cutoff, earlier, fails_to, enough, BelowEnough}
+use Rattle.search_theory.specs.Account.{Account, AllDead, NotAmong, HasRefuted, Reached, Lawful}
 use Rattle.search_theory.specs.Remaining.{Bounded}
 
 -- Where each of quiet domains has one value, these are an embedding.
@@ -51,3 +51,4 @@ pub record BoundLaws : Type 0 where
 pub record AccountLaws : Type 0 where
   pub lawful : (q : Problem) (a : Account) → Reached q a → Lawful q a
   pub enough : (a : Account) → Bounded a → a.all ≡ a.budget → BelowEnough a.budget a.pattern a.target
+  pub refuted : (q : Problem) (a : Account) → Reached q a → a.count ≡ cutoff a.run → HasRefuted a

@@ -2,8 +2,8 @@
 
 ghost use Rattle.search_theory.specs.Laws.{AccountLaws};
 
-/// What lawful events reach holds only dead values refuted, and a budget that is spent within the bounds is below the
-/// one that is enough.
+/// What lawful events reach holds only dead values refuted, a budget that is spent within the bounds is below the one that
+/// is enough, and at its cutoff a run has some value refuted.
 pub fn account_laws()
     ensures { AccountLaws }
 {}
