@@ -30,6 +30,15 @@ impl Model for Mark {
     ghost inverse = { λ n. record { length = n } };
 }
 
+impl Mark {
+    /// Whether less had been removed at this mark than at the other. Cost: one step.
+    pub fn is_before(&self, other: Mark) -> bool
+        ensures { result ≡ nat_lt self.now other }
+    {
+        self.length < other.length
+    }
+}
+
 /// A domain for each vertex. All domains are full at first.
 ///
 /// Row `p` is the words from `p * words` on of `rows`; `sizes[p]` is how many bits it has set. Where that is one bit, `singles[p]`
@@ -184,6 +193,13 @@ impl<T: Trail> Domains<T> {
         Mark {
             length: self.trail.len(),
         }
+    }
+
+    /// Whether values have left since the mark. Cost: one step.
+    pub fn has_changed(&self, since: Mark) -> bool
+        ensures { result ≡ nat_lt since (length self.now.removed) }
+    {
+        since.is_before(self.mark())
     }
 
     /// Takes `t` from the domain of `p`, if it is there, and says whether it was. Cost: one step, and where one value is left one for
