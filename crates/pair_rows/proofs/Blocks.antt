@@ -1,13 +1,13 @@
 -- Blocks of rows, and what a row says of its pair.
 
-use Rattle.std.proofs.Common.{◌≡◌, ℕ, ◌+◌, ◌*◌, ◌<◌, ◌≤◌, true, false, List, ◌++◌, length, take, drop, get_or, set, refl, sym, ap, ◌∙◌, subst, arith, inl, inr, ◌⊎◌, Some, zero-add}
+use Rattle.std.proofs.Common.{◌≡◌, ℕ, ◌+◌, ◌*◌, ◌<◌, ◌≤◌, true, false, List, ◌++◌, length, take, drop, get_or, set, replicate, refl, sym, ap, ◌∙◌, subst, arith, inl, inr, ◌⊎◌, Some, zero-add}
 use Rattle.std.specs.Prelude.{slice_get, slice_index_or}
 use Rattle.std.proofs.lemmas.Bool.{cases_eq, cases_order, eqb-true, eq-eqb}
-use Rattle.std.proofs.lemmas.List.{get_or-set_same, get_or-set_other, length-set, get_or_read, take-append-le}
+use Rattle.std.proofs.lemmas.List.{get_or-set_same, get_or-set_other, length-set, get_or_read, take-append-le, get_or-replicate, length-replicate}
 use Rattle.std.proofs.lemmas.List.FromFn.{get_or-map-range_with_len}
 use Rattle.std.proofs.lemmas.Option.{slice_get_within, get_or_from_slice_get}
 use Rattle.std.proofs.Math.Seq.{take-length}
-use native.Mathlib.Nat.{mul-le-mul_right}
+use native.Mathlib.Nat.{mul-le-mul_right, mul_assoc}
 use Rattle.graph_rows.specs.BitRow.{has, words_for}
 use Rattle.graph_rows.proofs.Places.{place_within}
 use Rattle.graph_theory.specs.Graph.{Graph, size}
@@ -17,6 +17,7 @@ use Rattle.pair_rows.specs.declared.kinds.PairKind.{PairKind}
 use Rattle.pair_rows.specs.Kinds.{kind_of, Joins, RowIs, HasRow, WordsStay}
 use Rattle.pair_rows.specs.Held.{owns, made_in, Held}
 use Rattle.pair_rows.specs.Rows.{Rows, IsMade}
+use Rattle.pair_rows.specs.Shape.{Shaped}
 use Rattle.pair_rows.proofs.Rowing.{next_row, row_same, part_same}
 
 -- values that join in a pair's kind are consistent, and the other way round
@@ -81,11 +82,11 @@ row_read q vertices width kinds places block_of owners counts pool counted held 
     rw (place_at, block_at, len_is, words_is) (row_given q vertices width kinds places block_of owners counts pool counted held rows is p r t p_in r_in apart t_in made)
 
 -- the kind of a pair, where the parts are read one by one
-pub kind_read : (q : Problem) (vertices width : ℕ) (kinds : List PairKind) (places block_of owners counts pool : List ℕ) (counted : Graph)
-    → Held q vertices width kinds places block_of owners counts pool counted → (problem : Problem) → q ≡ problem
+pub kind_read : (q : Problem) (vertices width : ℕ) (kinds : List PairKind) (places : List ℕ) (counted : Graph)
+    → Shaped q vertices width kinds places counted → (problem : Problem) → q ≡ problem
     → (p r : ℕ) → p < size problem.pattern → r < size problem.pattern → (p ≡ r → ⊥)
     → (i j place : ℕ) (kind : PairKind) → i ≡ p → j ≡ r → place ≡ get_or places (i * vertices + j) place → kind ≡ get_or kinds place kind → kind ≡ kind_of problem p r
-kind_read q vertices width kinds places block_of owners counts pool counted held problem same p r p_in r_in apart i j place kind i_is j_is place_is kind_is =
+kind_read q vertices width kinds places counted held problem same p r p_in r_in apart i j place kind i_is j_is place_is kind_is =
     let p_below : p < size q.pattern = subst (λ (x : Problem). p < size x.pattern) (sym same) p_in in
     let r_below : r < size q.pattern = subst (λ (x : Problem). r < size x.pattern) (sym same) r_in in
     let number : i * vertices + j ≡ p * size q.pattern + r = rw (i_is, j_is, held.vertices_are) refl in
@@ -214,3 +215,40 @@ pub made_taken : (block_of owners : List ℕ) (s t block : ℕ) → s ≡ t → 
 made_taken block_of owners s t block same t_in b_in =
     subst (λ (v : ℕ). slice_index_or (made_in (set block_of v block) (set owners block t)) t false ≡ true) (sym same)
     (owns_made (set block_of t block) (set owners block t) t (omega (arith, length-set block_of t block)) ∙ owns_taken block_of owners t block t_in b_in)
+
+-- the rows before any is made: each block has an owner that is no target vertex
+pub held_none : (q : Problem) (vertices width : ℕ) (kinds : List PairKind) (places : List ℕ) (counted : Graph) → Shaped q vertices width kinds places counted
+    → (n blocks : ℕ) (block_of owners counts pool : List ℕ) → block_of ≡ replicate n 0 → owners ≡ replicate blocks 65535 → n ≡ size q.target → blocks ≤ n → (0 < n → 0 < blocks)
+    → length counts ≡ n → length pool ≡ blocks * (length kinds * width) → Held q vertices width kinds places block_of owners counts pool counted
+held_none q vertices width kinds places counted shaped n blocks block_of owners counts pool block_of_is owners_is n_is few some counts_long pool_long = record {
+  few_pattern = shaped.few_pattern;
+  few_target = shaped.few_target;
+  vertices_are = shaped.vertices_are;
+  width_is = shaped.width_is;
+  classed = shaped.classed;
+  counts_are = counts_long ∙ n_is;
+  counted_is = shaped.counted_is;
+  block_of_are = block_of_long ∙ n_is;
+  owners_few = omega (arith, owners_long);
+  owners_some = λ more. omega (arith, owners_long, some (omega arith));
+  blocks_in = λ t t_in. omega (arith, owners_long, some (omega arith), first t t_in);
+  pool_is = pool_long ∙ sym (ap (λ m. m * length kinds * width) owners_long ∙ mul_assoc blocks (length kinds) width);
+  rows = λ t i t_in owned. absurd (no_owner t t_in owned);
+}
+  where
+    block_of_long : length block_of ≡ n
+    block_of_long = ap length block_of_is ∙ length-replicate n 0
+
+    owners_long : length owners ≡ blocks
+    owners_long = ap length owners_is ∙ length-replicate blocks 65535
+
+    first : (t : ℕ) → t < size q.target → get_or block_of t 0 ≡ 0
+    first t t_in = ap (λ (xs : List ℕ). get_or xs t 0) block_of_is ∙ get_or-replicate n t 0 0 (omega arith)
+
+    owner : (t : ℕ) → t < size q.target → get_or owners (get_or block_of t 0) 0 ≡ 65535
+    owner t t_in = ap (λ i. get_or owners i 0) (first t t_in) ∙ ap (λ (xs : List ℕ). get_or xs 0 0) owners_is ∙ get_or-replicate blocks 0 65535 0 (some (omega arith))
+
+    no_owner : (t : ℕ) → t < size q.target → owns block_of owners t ≡ true → ⊥
+    no_owner t t_in owned =
+        let is : get_or owners (get_or block_of t 0) 0 ≡ t = eqb-true (get_or owners (get_or block_of t 0) 0) t owned in
+        omega (arith, owner t t_in, shaped.few_target)

@@ -10,10 +10,12 @@
 
 mod kinds;
 mod near;
+mod pair_kinds;
 mod rows;
 mod shared;
 
-pub use rows::PairRows;
+pub use pair_kinds::PairKinds;
+pub use rows::{MOST_WORDS, PairRows};
 
 #[cfg(test)]
 mod tests;

@@ -10,81 +10,66 @@ ghost use Rattle.pair_rows.specs.Rows.{IsMade};
 ghost use Rattle.pair_rows.specs.Near.{is_listed};
 ghost use Rattle.pair_rows.specs.Held.{owns};
 
-use crate::kinds::{PairKind, asks_no_edge, asks_nothing, classify, fill_block};
-use crate::near::NearLists;
-use common_neighbour::Counts;
-use graph_rows::Problem;
+use crate::kinds::fill_block;
+use crate::pair_kinds::PairKinds;
 use std::alloc::{AllocError, Global};
 use std::marker::Model;
 
-/// The most words that rows take, where one target vertex alone does not take more.
-const MOST_WORDS: usize = 8388608;
+/// The most words that rows take where nobody says less: 64 MiB.
+pub const MOST_WORDS: usize = 8388608;
 
 /// The owner of a block that has none.
 const NO_OWNER: u16 = 65535;
 
 /// Rows of consistent values of a problem. Contracts see the problem, and for which target vertices the rows are made.
 ///
-/// A block is the rows of all kinds at one target vertex. `block_of[t]` is the block of `t` where `owners` says so.
+/// A block is the rows of all kinds at one target vertex. `block_of[t]` is the block of `t` where `owners` says so. The kinds are
+/// only read, so that the rows of several searches over one problem can share them.
 #[derive(Drop)]
 pub struct PairRows<'a> {
-    problem: &'a Problem,
-    vertices: usize,
-    width: usize,
-    kinds: Vec<PairKind>,
-    places: Vec<u32>,
+    kinds: &'a PairKinds<'a>,
     block_of: Vec<u32>,
     owners: Vec<u16>,
     used: usize,
-    sharing: Counts<'a>,
     counts: Vec<u16>,
     pool: Vec<u64>,
-    near: NearLists<'a>,
 }
 
 impl<'a> Model for PairRows<'a> {
-    ghost use Rattle.std.specs.Prelude.{◌≡◌};
     ghost use Rattle.pair_rows.specs.Rows.{Rows};
     ghost use Rattle.pair_rows.specs.Held.{made_in, Held};
 
     ghost Value = { Rows };
 
-    ghost view = { λ r. record { problem = r.problem.now; made = made_in r.block_of.items r.owners.items } };
+    ghost view = { λ r. record { problem = r.kinds.now.problem; made = made_in r.block_of.items r.owners.items } };
 
-    ghost invariant = { λ r. Held r.problem.now r.vertices r.width r.kinds.items r.places.items r.block_of.items r.owners.items r.counts.items r.pool.items r.sharing × (r.near ≡ r.problem.now) };
+    ghost invariant = { λ r. Held r.kinds.now.problem r.kinds.now.vertices r.kinds.now.width r.kinds.now.kinds r.kinds.now.places r.block_of.items r.owners.items r.counts.items r.pool.items r.kinds.now.counted };
 }
 
 impl<'a> PairRows<'a> {
-    /// No rows yet, and the memory for them: a block for each target vertex, but not more than 8,388,608 words in all
-    /// unless one block has more. Cost: one step for each pattern pair, for each kind and for each word, and in the induced kind for each
-    /// word of the target's rows.
-    pub fn new(alloc: Global, problem: &'a Problem) -> Result<PairRows<'a>, AllocError>
-        ensures { IfOk result (λ r. r.problem ≡ problem.entry.now) }
+    /// No rows yet, and the memory for them: a block for each target vertex, but not more than `most` words in all unless one block
+    /// has more. Cost: one step for each target vertex and for each word.
+    pub fn new(
+        alloc: Global,
+        kinds: &'a PairKinds<'a>,
+        most: usize,
+    ) -> Result<PairRows<'a>, AllocError>
+        ensures { IfOk result (λ r. r.problem ≡ kinds.entry.now.problem) }
     {
-        let vertices = usize::from(problem.pattern().size());
-        let (kinds, places) = classify(alloc, problem)?;
-        let size = usize::from(problem.target().size());
-        let width = (size + 63) / 64;
-        let blocks = blocks_for(size, kinds.len() * width);
-        let sharing = Counts::new(alloc, problem.target())?;
+        let size = usize::from(kinds.problem.target().size());
+        let block = kinds.kinds.len() * kinds.width;
+        let blocks = blocks_for(size, block, most);
         let block_of = vec![in alloc; 0u32; size]?;
         let owners = vec![in alloc; NO_OWNER; blocks]?;
         let counts = vec![in alloc; 0u16; size]?;
-        let pool = vec![in alloc; 0u64; blocks * kinds.len() * width]?;
-        let near = NearLists::new(alloc, problem)?;
+        let pool = vec![in alloc; 0u64; blocks * block]?;
         Ok(PairRows {
-            problem,
-            vertices,
-            width,
             kinds,
-            places,
             block_of,
             owners,
             used: 0,
-            sharing,
             counts,
             pool,
-            near,
         })
     }
 
@@ -97,18 +82,19 @@ impl<'a> PairRows<'a> {
         ensures problem { self.new.problem ≡ self.old.problem }
         ensures made { IsMade self.new t }
     {
+        let kinds = self.kinds;
         if is_owner(&self.block_of, &self.owners, t) {
             return;
         }
         let block = next_block(self.used, self.owners.len());
-        self.sharing.fill_counts(t, &mut self.counts);
+        kinds.sharing.fill_counts(t, &mut self.counts);
         fill_block(
-            self.problem,
-            &self.kinds,
+            kinds.problem,
+            &kinds.kinds,
             t,
             &self.counts,
-            self.width,
-            block * self.kinds.len(),
+            kinds.width,
+            block * kinds.kinds.len(),
             &mut self.pool,
         );
         self.owners[block] = t;
@@ -128,45 +114,41 @@ impl<'a> PairRows<'a> {
         ensures within { (u : ℕ) → has result.now u ≡ true → u < size self.now.problem.target }
         ensures complete { (u : ℕ) → AreConsistent self.now.problem p t r u → u < size self.now.problem.target → has result.now u ≡ true }
     {
-        let place = self.places[usize::from(p) * self.vertices + usize::from(r)] as usize;
+        let kinds = self.kinds;
+        let place = kinds.places[usize::from(p) * kinds.vertices + usize::from(r)] as usize;
         let block = self.block_of[usize::from(t)] as usize;
-        let from = (block * self.kinds.len() + place) * self.width;
-        &self.pool[from..from + self.width]
+        let from = (block * kinds.kinds.len() + place) * kinds.width;
+        &self.pool[from..from + kinds.width]
     }
 
-    /// Whether `p` and `r` are asked nothing but distinct images, so that no row is needed: the copy is not to be an induced one, no edge
-    /// leads from one to the other in either direction, and they share no neighbour. Cost: two steps.
+    /// As `PairKinds::is_free`. Cost: three steps.
     pub fn is_free(&self, p: u16, r: u16) -> bool
         requires p_in { p < size self.now.problem.pattern }
         requires r_in { r < size self.now.problem.pattern }
         requires apart { p ≡ r → ⊥ }
         ensures { IsTrue result → (t u : ℕ) → (t ≡ u → ⊥) → AreConsistent self.now.problem p t r u }
     {
-        let pair = usize::from(p) * self.vertices + usize::from(r);
-        asks_nothing(self.problem, &self.kinds[self.places[pair] as usize])
+        self.kinds.is_free(p, r)
     }
 
-    /// Whether `p` and `r` are asked nothing but distinct images without an edge: the copy is to be an induced one, no edge leads from one
-    /// to the other in either direction, and they share no neighbour. Cost: two steps.
+    /// As `PairKinds::is_bare`. Cost: three steps.
     pub fn is_bare(&self, p: u16, r: u16) -> bool
         requires p_in { p < size self.now.problem.pattern }
         requires r_in { r < size self.now.problem.pattern }
         requires apart { p ≡ r → ⊥ }
         ensures { IsTrue result → (t u : ℕ) → AreConsistent self.now.problem p t r u ↔ ((t ≡ u → ⊥) × (is_neighbour self.now.problem.target t u ≡ false)) }
     {
-        let pair = usize::from(p) * self.vertices + usize::from(r);
-        asks_no_edge(self.problem, &self.kinds[self.places[pair] as usize])
+        self.kinds.is_bare(p, r)
     }
 
-    /// The neighbours of `t`, rising, where they are listed: in the induced kind, for a vertex with less than twice as many as a row has
-    /// words. Cost: a few steps.
+    /// As `PairKinds::neighbours`. Cost: a few steps.
     pub fn neighbours(&self, t: u16) -> Option<&[u16]>
         requires t_in { t < size self.now.problem.target }
         ensures few { is_some result ≡ is_listed self.now.problem t }
         ensures listed { IfSome result (λ us. (u : ℕ) → stands_in us.now u ≡ is_neighbour self.now.problem.target t u) }
         ensures within { IfSome result (λ us. (u : ℕ) → stands_in us.now u ≡ true → u < size self.now.problem.target) }
     {
-        self.near.of(t)
+        self.kinds.neighbours(t)
     }
 }
 
@@ -187,10 +169,10 @@ fn next_block(used: usize, blocks: usize) -> usize
     if used < blocks { used } else { blocks - 1 }
 }
 
-/// How many blocks of so many words are made room for.
-fn blocks_for(size: usize, block: usize) -> usize
+/// How many blocks of so many words are made room for, where all take no more than `most` unless one alone does.
+fn blocks_for(size: usize, block: usize, most: usize) -> usize
     ensures few { result ≤ size }
     ensures some { 0 < size → 0 < result }
 {
-    size.min((MOST_WORDS / block.max(1)).max(1))
+    size.min((most / block.max(1)).max(1))
 }

@@ -3,7 +3,7 @@
 ghost use Rattle.std.specs.Prelude.{◌≤◌, IfSome};
 ghost use Rattle.graph_theory.specs.Graph.{size};
 
-use super::PairRows;
+use super::{MOST_WORDS, PairKinds, PairRows};
 use graph_rows::{Graph, Problem};
 use lad_reader::{LadKind, read_lad};
 use std::alloc::Global;
@@ -49,7 +49,10 @@ fn row(
     t: u16,
 ) -> Option<u64> {
     let q = Problem::new(graph(alloc, pattern)?, graph(alloc, target)?, induced);
-    let Ok(mut rows) = PairRows::new(alloc, &q) else {
+    let Ok(kinds) = PairKinds::new(alloc, &q) else {
+        return None;
+    };
+    let Ok(mut rows) = PairRows::new(alloc, &kinds, MOST_WORDS) else {
         return None;
     };
     let (patterns, targets) = (q.pattern().size(), q.target().size());
@@ -77,7 +80,10 @@ fn rows_hold_what_goes_together(rt: HostRuntime) -> Result<(), Fail> {
 /// Whether `p` and `r` are asked nothing but distinct images.
 fn free(alloc: Global, pattern: &[u8], induced: bool, p: u16, r: u16) -> Option<bool> {
     let q = Problem::new(graph(alloc, pattern)?, graph(alloc, CYCLE)?, induced);
-    let Ok(rows) = PairRows::new(alloc, &q) else {
+    let Ok(kinds) = PairKinds::new(alloc, &q) else {
+        return None;
+    };
+    let Ok(rows) = PairRows::new(alloc, &kinds, MOST_WORDS) else {
         return None;
     };
     let patterns = q.pattern().size();
@@ -107,7 +113,10 @@ fn near(
     t: u16,
 ) -> Option<(bool, Option<u16>, u64)> {
     let q = Problem::new(graph(alloc, pattern)?, graph(alloc, target)?, true);
-    let Ok(mut rows) = PairRows::new(alloc, &q) else {
+    let Ok(kinds) = PairKinds::new(alloc, &q) else {
+        return None;
+    };
+    let Ok(mut rows) = PairRows::new(alloc, &kinds, MOST_WORDS) else {
         return None;
     };
     let (patterns, targets) = (q.pattern().size(), q.target().size());

@@ -3,17 +3,16 @@ use Rattle.graph_theory.specs.Embedding.{Problem}
 use Rattle.graph_theory.specs.Neighbours.{is_neighbour}
 use Rattle.search_theory.specs.Consistency.{AreConsistent}
 use Rattle.pair_rows.specs.declared.kinds.PairKind.{PairKind}
-use Rattle.pair_rows.specs.Rows.{Rows}
+use Rattle.pair_rows.specs.Shape.{Shape}
 use Rattle.pair_rows.specs.Kinds.{Joins}
 use Rattle.pair_rows.proofs.Blocks.{kind_read, consistent_joins, joins_consistent}
-use Rattle.pair_rows.proofs.rows.PairRows.is_bare.Goals as goal
+use Rattle.pair_rows.proofs.pair_kinds.PairKinds.is_bare.Goals as goal
 
 pub returns : goal.returns
 returns c = λ told t u.
     let q = c.args.self.now.problem in
-    let same : c.self.inside.problem.now ≡ q = ap (λ (x : Rows). x.problem) c.self.view_is in
-    let kind = kind_read c.self.inside.problem.now c.self.inside.vertices c.self.inside.width c.self.inside.kinds.items c.self.inside.places.items c.self.inside.block_of.items
-    c.self.inside.owners.items c.self.inside.counts.items c.self.inside.pool.items c.self.inside.sharing c.self.invariant.0 q same c.args.p c.args.r
+    let same : c.self.inside.problem.now ≡ q = ap (λ (x : Shape). x.problem) c.self.view_is in
+    let kind = kind_read c.self.inside.problem.now c.self.inside.vertices c.self.inside.width c.self.inside.kinds.items c.self.inside.places.items c.self.inside.sharing c.self.invariant.0 q same c.args.p c.args.r
     c.requires.p_in c.requires.r_in c.requires.apart c.from.result c.from-2.result c.index.result.now c.index-2.result.now
     c.from.ensures c.from-2.ensures c.index.ensures c.index-2.ensures in
     let said = subst (λ (k : PairKind). Joins q k t u ↔ ((t ≡ u → ⊥) × (is_neighbour q.target t u ≡ false))) kind

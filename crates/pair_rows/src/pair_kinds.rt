@@ -1,0 +1,97 @@
+//! The kinds of a problem's pairs: what any number of searches over the problem reads and none of them changes.
+
+ghost use Rattle.std.specs.Prelude.{◌≡◌, ℕ, ◌<◌, ◌↔◌, true, false, length, is_some, IsTrue, IfOk, IfSome};
+ghost use Rattle.graph_theory.specs.Graph.{size};
+ghost use Rattle.graph_theory.specs.Neighbours.{is_neighbour};
+ghost use Rattle.graph_rows.specs.BitRow.{words_for};
+ghost use Rattle.graph_rows.specs.Held.{stands_in};
+ghost use Rattle.search_theory.specs.Consistency.{AreConsistent};
+ghost use Rattle.pair_rows.specs.Near.{is_listed};
+
+use crate::kinds::{PairKind, asks_no_edge, asks_nothing, classify};
+use crate::near::NearLists;
+use common_neighbour::Counts;
+use graph_rows::Problem;
+use std::alloc::{AllocError, Global};
+use std::marker::Model;
+
+/// The kinds of the pattern's pairs, and the neighbours of target vertices that have few. Contracts see what the rows are held by.
+#[derive(Drop)]
+pub struct PairKinds<'a> {
+    pub(crate) problem: &'a Problem,
+    pub(crate) vertices: usize,
+    pub(crate) width: usize,
+    pub(crate) kinds: Vec<PairKind>,
+    pub(crate) places: Vec<u32>,
+    pub(crate) sharing: Counts<'a>,
+    near: NearLists<'a>,
+}
+
+impl<'a> Model for PairKinds<'a> {
+    ghost use Rattle.std.specs.Prelude.{◌≡◌};
+    ghost use Rattle.pair_rows.specs.Shape.{Shape, Shaped};
+
+    ghost Value = { Shape };
+
+    ghost view = { λ k. record { problem = k.problem.now; vertices = k.vertices; width = k.width; kinds = k.kinds.items; places = k.places.items; counted = k.sharing } };
+
+    ghost invariant = { λ k. Shaped k.problem.now k.vertices k.width k.kinds.items k.places.items k.sharing × (k.near ≡ k.problem.now) };
+}
+
+impl<'a> PairKinds<'a> {
+    /// The kinds of a problem's pairs. Cost: one step for each pattern pair, for each kind, and in the induced kind for each word of the
+    /// target's rows.
+    pub fn new(alloc: Global, problem: &'a Problem) -> Result<PairKinds<'a>, AllocError>
+        ensures { IfOk result (λ k. k.problem ≡ problem.entry.now) }
+    {
+        let vertices = usize::from(problem.pattern().size());
+        let (kinds, places) = classify(alloc, problem)?;
+        let width = (usize::from(problem.target().size()) + 63) / 64;
+        let sharing = Counts::new(alloc, problem.target())?;
+        let near = NearLists::new(alloc, problem)?;
+        Ok(PairKinds {
+            problem,
+            vertices,
+            width,
+            kinds,
+            places,
+            sharing,
+            near,
+        })
+    }
+
+    /// Whether `p` and `r` are asked nothing but distinct images, so that no row is needed: the copy is not to be an induced one, no edge
+    /// leads from one to the other in either direction, and they share no neighbour. Cost: two steps.
+    pub fn is_free(&self, p: u16, r: u16) -> bool
+        requires p_in { p < size self.now.problem.pattern }
+        requires r_in { r < size self.now.problem.pattern }
+        requires apart { p ≡ r → ⊥ }
+        ensures { IsTrue result → (t u : ℕ) → (t ≡ u → ⊥) → AreConsistent self.now.problem p t r u }
+    {
+        let pair = usize::from(p) * self.vertices + usize::from(r);
+        asks_nothing(self.problem, &self.kinds[self.places[pair] as usize])
+    }
+
+    /// Whether `p` and `r` are asked nothing but distinct images without an edge: the copy is to be an induced one, no edge leads from one
+    /// to the other in either direction, and they share no neighbour. Cost: two steps.
+    pub fn is_bare(&self, p: u16, r: u16) -> bool
+        requires p_in { p < size self.now.problem.pattern }
+        requires r_in { r < size self.now.problem.pattern }
+        requires apart { p ≡ r → ⊥ }
+        ensures { IsTrue result → (t u : ℕ) → AreConsistent self.now.problem p t r u ↔ ((t ≡ u → ⊥) × (is_neighbour self.now.problem.target t u ≡ false)) }
+    {
+        let pair = usize::from(p) * self.vertices + usize::from(r);
+        asks_no_edge(self.problem, &self.kinds[self.places[pair] as usize])
+    }
+
+    /// The neighbours of `t`, rising, where they are listed: in the induced kind, for a vertex with less than twice as many as a row has
+    /// words. Cost: a few steps.
+    pub fn neighbours(&self, t: u16) -> Option<&[u16]>
+        requires t_in { t < size self.now.problem.target }
+        ensures few { is_some result ≡ is_listed self.now.problem t }
+        ensures listed { IfSome result (λ us. (u : ℕ) → stands_in us.now u ≡ is_neighbour self.now.problem.target t u) }
+        ensures within { IfSome result (λ us. (u : ℕ) → stands_in us.now u ≡ true → u < size self.now.problem.target) }
+    {
+        self.near.of(t)
+    }
+}
