@@ -1,0 +1,42 @@
+//! What a worker needs of a book: a seat that shows rows, and the two calls that bring more.
+
+ghost use Rattle.std.specs.Prelude.{◌≡◌, ◌≤◌, length};
+ghost use Rattle.nogood_book.specs.Rows.{Sound, MayFollow};
+ghost use Rattle.nogood_book.specs.Facts.{Facts, CaughtUp, IsPlaced};
+
+use crate::row::{Published, Row};
+
+/// A place at a book, from which one owner reads and writes.
+pub trait RowSeat {
+    ghost shows: { Self → Facts };
+
+    /// The rows that this seat has seen, from the first on. It takes no memory.
+    fn rows(&self) -> &[Row]
+        ensures seen { result.now ≡ (shows self.now).seen }
+        ensures few { length result.now ≤ (shows self.now).size }
+        ensures size { (shows self.now).size ≤ 4194304 }
+        ensures sound { Sound (shows self.now).problem (shows self.now).seen };
+}
+
+/// One list of rows that several seats read and write. Neither call takes memory.
+pub trait Book {
+    type Seat: RowSeat;
+
+    /// The seat is one of this book's.
+    ghost fits: { Self → Self.Seat → Type 0 };
+
+    /// Brings the rows that others have written into sight.
+    fn catch_up(&self, seat: &mut Self::Seat)
+        requires { fits self.now seat.old }
+        ensures fits { fits self.now seat.new }
+        ensures caught { CaughtUp (Self.Seat.shows seat.old) (Self.Seat.shows seat.new) };
+
+    /// Writes a row behind all others. Rows of others may come into sight.
+    fn publish(&self, seat: &mut Self::Seat, row: Row) -> Published
+        requires of { fits self.now seat.old }
+        requires owner { row.owner ≡ (Self.Seat.shows seat.old).owner }
+        requires row { MayFollow (Self.Seat.shows seat.old).problem (Self.Seat.shows seat.old).seen row }
+        ensures fits { fits self.now seat.new }
+        ensures few { (Self.Seat.shows seat.new).size ≤ 4194304 }
+        ensures placed { IsPlaced row (Self.Seat.shows seat.old) (Self.Seat.shows seat.new) result };
+}

@@ -1,0 +1,26 @@
+//! Rows, and what publishing one answers.
+
+/// A guess on the way to nogoods, or a nogood.
+#[derive(Clone, Copy, Debug, PartialEq, Eq)]
+pub enum RowKind {
+    Step,
+    Nogood,
+}
+
+/// A row of a book: that `vertex` goes to `value` below the path of the row `parent`, which is a step; with no parent, below the
+/// empty path. Owners are the workers' numbers, from 1.
+#[derive(Clone, Copy, Debug, PartialEq, Eq)]
+pub struct Row {
+    pub kind: RowKind,
+    pub owner: u8,
+    pub parent: Option<u32>,
+    pub vertex: u16,
+    pub value: u16,
+}
+
+/// The place of the row that was published, from 0, or that there is no room for more.
+#[derive(Clone, Copy, Debug, PartialEq, Eq)]
+pub enum Published {
+    At(u32),
+    Full,
+}
