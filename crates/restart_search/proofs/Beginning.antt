@@ -14,12 +14,13 @@ use Rattle.domain_bits.specs.Removals.{State, in_domain, full}
 use Rattle.domain_bits.specs.Changes.{Keeps}
 use Rattle.sparse_set.specs.Removals as sparse
 use Rattle.all_different.specs.Prefixes.{Balanced}
-use Rattle.restart_search.specs.Propagation.{IsOf, Narrows, waits_at, HasValue, HasTwo, NotesSize, Beginning, Rests, Ready, LeavesPast, Propagates}
+use Rattle.propagation.specs.Propagation.{IsOf, Narrows, waits_at, HasValue, HasTwo, NotesSize, Rests, Ready, LeavesPast, Propagates}
+use Rattle.restart_search.specs.Searching.{Beginning}
 use Rattle.restart_search.specs.declared.search.Moment.{Moment}
 use Rattle.restart_search.specs.Searching.{AtRest, Roots, IsNow, Levels, Sound}
 use Rattle.restart_search.proofs.Levels.{been_now, rested_now}
-use Rattle.restart_search.proofs.Narrowing.{narrows_none, narrows_more, narrows_keeps, none_narrowed, none_in_empty, is_of_narrowed}
-use Rattle.restart_search.proofs.Waiting.{rests_with_two, two_on, flag_other, flag_here}
+use Rattle.propagation.proofs.Narrowing.{narrows_none, narrows_more, narrows_keeps, none_narrowed, none_in_empty, is_of_narrowed}
+use Rattle.propagation.proofs.Waiting.{rests_with_two, two_on, flag_other, flag_here}
 
 pub beginning_start : (q : Problem) (d : State) (waiting : List Bool) → IsOf q d → length waiting ≡ size q.pattern → Beginning q d d waiting 0
 beginning_start q d waiting is_of long = record {

@@ -8,8 +8,8 @@ use Rattle.domain_bits.specs.Removals.{State}
 use Rattle.nogood_watch.specs.Nogoods as watched
 use Rattle.restart_search.specs.declared.search.Ended.{Ended}
 use Rattle.restart_search.specs.declared.search.Ended.TheVariants.{Found, Refuted, Spent, NoMemory}
-use Rattle.restart_search.specs.Learning.{IsListed, IsUnit, IsKept, HasLearned, GrowsFrom, LastFrom}
-use Rattle.restart_search.specs.Acting.{HaveMoved}
+use Rattle.propagation.specs.Learning.{IsListed, IsUnit, IsKept, HasLearned, GrowsFrom, LastFrom}
+use Rattle.propagation.specs.Acting.{HaveMoved}
 use Rattle.restart_search.specs.Searching.{LastAfter}
 
 -- ---- what was kept

@@ -6,7 +6,7 @@ use Rattle.graph_theory.specs.Embedding.{Problem}
 use Rattle.domain_bits.specs.Removals.{State, undone}
 use Rattle.sparse_set.specs.Removals as sparse
 use Rattle.restart_search.specs.declared.search.Moment.{Moment}
-use Rattle.restart_search.specs.Propagation.{Fewer, LeavesPast}
+use Rattle.propagation.specs.Propagation.{Fewer, LeavesPast}
 use Rattle.restart_search.specs.Searching.{AtRest, IsNow, IsEarlier, HasBeen, RestedAt, Levels}
 
 -- ---- domains and their trail

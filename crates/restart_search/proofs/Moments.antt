@@ -12,11 +12,12 @@ use Rattle.nogood_watch.specs.Nogoods as watched
 use Rattle.nogood_watch.specs.InForce.{InForce}
 use Rattle.restart_search.specs.declared.search.Moment.{Moment}
 use Rattle.restart_search.specs.Searching.{Levels}
-use Rattle.restart_search.specs.Learning.{Filtering, unlearned}
-use Rattle.restart_search.specs.Acting.{IsPart, HaveMoved, AreActedOn, AtMoments, WereActedOn, Acting}
-use Rattle.restart_search.specs.Propagation.{Narrows}
+use Rattle.propagation.specs.Learning.{Filtering, unlearned}
+use Rattle.propagation.specs.Acting.{IsPart, HaveMoved, AreActedOn}
+use Rattle.restart_search.specs.Acting.{AtMoments, WereActedOn, Acting}
+use Rattle.propagation.specs.Propagation.{Narrows}
 use Rattle.restart_search.proofs.Levels.{same_state, undone_all, undone_further, undone_later, low_within}
-use Rattle.restart_search.proofs.Acting.{acted_wider, acted_after, units_on}
+use Rattle.propagation.proofs.Acting.{acted_wider, acted_after, units_on}
 
 -- ---- undoing
 

@@ -1,4 +1,2 @@
-pub mod Propagation
 pub mod Searching
-pub mod Learning
 pub mod Acting

@@ -1,17 +1,18 @@
 -- A search: domains that claim only what is sound for the path, the set of the vertices that are not past, an account, and a moment for each level.
 
-use Rattle.std.specs.Prelude.{◌≡◌, ℕ, ◌<◌, ◌≤◌, Bool, true, false, List, [], ◌∷◌, ◌++◌, length, Option, Some, None}
+use Rattle.std.specs.Prelude.{◌≡◌, ℕ, ◌<◌, ◌≤◌, Bool, true, false, ◌⊎◌, List, [], ◌∷◌, ◌++◌, length, Option, Some, None}
 use Rattle.graph_theory.specs.Graph.{size}
 use Rattle.graph_theory.specs.Embedding.{Problem, Embeds, HasNone}
-use Rattle.search_theory.specs.Claims.{Single, Stands, Pins, Quiet}
+use Rattle.search_theory.specs.Claims.{NoneInside, Single, Stands, Pins, Quiet}
+use Rattle.search_theory.specs.Consistency.{IsFirstValue}
 use Rattle.search_theory.specs.Bounds.{enough}
 use Rattle.search_theory.specs.Account.{Account, path, Honest, Spends}
 use Rattle.domain_bits.specs.Removals.{State, in_domain, undone}
 use Rattle.sparse_set.specs.Removals as sparse
 use Rattle.all_different.specs.Prefixes.{Balanced}
 use Rattle.nogood_watch.specs.Nogoods as watched
-use Rattle.restart_search.specs.Propagation.{IsOf, LeavesPast}
-use Rattle.restart_search.specs.Learning.{Filtering, unlearned, LastFrom}
+use Rattle.propagation.specs.Propagation.{IsOf, LeavesPast, Narrows, waits_at, HasTwo, HasValue}
+use Rattle.propagation.specs.Learning.{Filtering, unlearned, LastFrom}
 use Rattle.restart_search.specs.Acting.{Acting}
 use Rattle.domain_bits.specs.BitRows.{words_for}
 use Rattle.restart_search.specs.declared.root.Rooted.{Rooted}
@@ -99,6 +100,20 @@ FoundOf q (Found m) = Embeds q m.items
 FoundOf q Refuted = ⊥
 FoundOf q Spent = ⊥
 FoundOf q NoMemory = Unit {0}
+
+-- After the first domains of the vertices below r.
+pub record Beginning (q : Problem) (old new : State) (waiting : List Bool) (r : ℕ) : Type 0 where
+  pub is_of : IsOf q new
+  pub narrows : Narrows q old new
+  pub long : length waiting ≡ size q.pattern
+  pub first : (p t : ℕ) → p < r → in_domain new p t ≡ true → IsFirstValue q p t
+  pub noted : (p : ℕ) → p < r → (waits_at waiting p ≡ true) ⊎ HasTwo new p
+  pub some : (p : ℕ) → p < r → HasValue new p
+
+-- What the first domains of all vertices leave.
+abbrev pub Begins : Bool → Problem → State → State → List Bool → Type 0
+Begins true q old new waiting = Beginning q old new waiting (size q.pattern)
+Begins false q old new waiting = NoneInside q (in_domain old)
 
 -- What the first propagation answers: domains at rest, or that no embedding exists.
 abbrev pub Roots : Bool → Problem → State → Type 0

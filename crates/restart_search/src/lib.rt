@@ -7,9 +7,6 @@
 //! restarts after Luby (Archibald et al., CPAIOR 2019).
 #![tactic(auto)]
 
-mod near;
-mod nogoods;
-mod propagation;
 pub mod root;
 pub mod search;
 #[cfg(test)]

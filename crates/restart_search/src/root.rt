@@ -5,15 +5,14 @@ ghost use Rattle.graph_theory.specs.Graph.{size};
 ghost use Rattle.domain_bits.specs.BitRows.{words_for};
 ghost use Rattle.domain_bits.specs.Removals.{full};
 ghost use Rattle.sparse_set.specs.Removals.{whole};
-ghost use Rattle.restart_search.specs.Propagation.{Begins};
-ghost use Rattle.restart_search.specs.Learning.{unlearned};
-ghost use Rattle.restart_search.specs.Searching.{Roots, RootSays};
+ghost use Rattle.propagation.specs.Learning.{unlearned};
+ghost use Rattle.restart_search.specs.Searching.{Begins, Roots, RootSays};
 
-use crate::propagation::{Filters, narrow, propagate};
 use domain_bits::{Domains, Trail};
 use first_rows::fill_first;
 use graph_rows::Problem;
 use nds_filter::KeptRows;
+use propagation::{Filters, narrow, propagate};
 use sparse_set::SparseSet;
 use std::alloc::{AllocError, Global};
 

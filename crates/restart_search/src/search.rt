@@ -9,17 +9,17 @@ ghost use Rattle.search_theory.specs.Claims.{Single, Quiet};
 ghost use Rattle.search_theory.specs.Bounds.{cutoff};
 ghost use Rattle.search_theory.specs.Account.{path, IsAt, NotAmong, MayGuess};
 ghost use Rattle.search_theory.specs.Remaining.{remaining};
-ghost use Rattle.restart_search.specs.Propagation.{IsOf, LeavesPast};
+ghost use Rattle.propagation.specs.Propagation.{IsOf, LeavesPast};
 ghost use Rattle.nogood_watch.specs.Nogoods as watched;
 ghost use Rattle.restart_search.specs.Acting.{Acting, WereActedOn};
-ghost use Rattle.restart_search.specs.Learning.{HasLearned, LastFrom};
+ghost use Rattle.propagation.specs.Learning.{HasLearned, LastFrom};
 ghost use Rattle.restart_search.specs.Searching.{AtRest, Based, Sound, Ends, LastAfter, FoundOf, IsBest, IsNow, IsUndecided};
 
-use crate::propagation::{Filters, lower, propagate, propagate_again};
 use crate::value_choice::ValueChoice;
 use domain_bits::{Domains, Mark, Trail, and_not_into};
 use fail_account::Account;
 use graph_rows::Problem;
+use propagation::{Filters, lower, propagate, propagate_again};
 use sparse_set::SparseSet;
 use std::alloc::Global;
 

@@ -1,7 +1,7 @@
 use Rattle.std.proofs.Common.{◌≡◌, length}
 use Rattle.graph_theory.specs.Graph.{size}
 use Rattle.domain_bits.specs.BitRows.{words_for}
-use Rattle.restart_search.specs.Propagation.{Beginning}
+use Rattle.restart_search.specs.Searching.{Beginning}
 use Rattle.restart_search.proofs.root.begin.Given as goal
 
 abbrev pub invariant-loop-p : goal.invariant-loop-p

@@ -1,6 +1,6 @@
 use Rattle.std.proofs.Common.{IfSome, subst, sym}
-use Rattle.restart_search.specs.Learning.{Filtering}
-use Rattle.restart_search.specs.Acting.{WatchesWait}
+use Rattle.propagation.specs.Learning.{Filtering}
+use Rattle.propagation.specs.Acting.{WatchesWait}
 use Rattle.restart_search.proofs.Moments.{still_unlearned}
 use Rattle.restart_search.proofs.Beginning.{roots_of}
 use Rattle.restart_search.proofs.root.settle_root.Goals as goal

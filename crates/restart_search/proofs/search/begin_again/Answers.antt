@@ -2,10 +2,10 @@ use Rattle.std.proofs.Common.{[], ap, refl, sym, subst, ◌∙◌}
 use Rattle.search_theory.specs.Account.{Account, Honest, restarted}
 use Rattle.domain_bits.specs.Removals.{State}
 use Rattle.sparse_set.specs.Removals as sparse
-use Rattle.restart_search.specs.Learning.{Filtering}
-use Rattle.restart_search.specs.Propagation.{Narrows, Fewer}
+use Rattle.propagation.specs.Learning.{Filtering}
+use Rattle.propagation.specs.Propagation.{Narrows, Fewer}
 use Rattle.restart_search.specs.Searching.{AtRest}
-use Rattle.restart_search.proofs.Narrowing.{is_of_narrowed}
+use Rattle.propagation.proofs.Narrowing.{is_of_narrowed}
 use Rattle.restart_search.proofs.Beginning.{sound_fresh}
 use Rattle.restart_search.proofs.Moments.{acting_fresh, acting_none}
 use Rattle.restart_search.proofs.Lasting.{learned_again, last_again}

@@ -1,6 +1,6 @@
 use Rattle.std.proofs.Common.{arith, sym, ◌∙◌}
-use Rattle.restart_search.proofs.Pruning.{one_by_size, not_one_by_size}
-use Rattle.restart_search.proofs.Walking.{none_still}
+use Rattle.propagation.proofs.Pruning.{one_by_size, not_one_by_size}
+use Rattle.restart_search.proofs.Choosing.{none_still}
 use Rattle.restart_search.proofs.search.better.Goals as goal
 
 pub first_of-requires-clause-undecided : goal.first_of-requires-clause-undecided

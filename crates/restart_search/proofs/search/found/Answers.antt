@@ -1,6 +1,6 @@
 use Rattle.std.proofs.Common.{ℕ, ◌<◌, subst, ◌∙◌}
 use Rattle.graph_theory.specs.Graph.{size}
-use Rattle.restart_search.proofs.Visits.{not_single_of}
+use Rattle.propagation.proofs.Visits.{not_single_of}
 use Rattle.restart_search.proofs.search.found.Goals as goal
 
 pub unreachable-requires : goal.unreachable-requires

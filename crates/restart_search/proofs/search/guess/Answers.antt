@@ -3,14 +3,14 @@ use Rattle.graph_theory.specs.Path.{Dead}
 use Rattle.search_theory.specs.Account.{Account, Honest, path}
 use Rattle.restart_search.specs.declared.search.Moment.{Moment}
 use Rattle.restart_search.specs.Acting.{WereActedOn}
-use Rattle.restart_search.proofs.Acting.{kept_assigned}
+use Rattle.propagation.proofs.Acting.{kept_assigned}
 use Rattle.restart_search.proofs.Moments.{were_guessed, acting_guessed}
 use Rattle.restart_search.proofs.Lasting.{last_moved}
 use Rattle.restart_search.proofs.Guessing.{ready_assigned, inside_assigned, dead_assigned, path_deepened}
-use Rattle.restart_search.proofs.Past.{leaves_on}
+use Rattle.propagation.proofs.Past.{leaves_on}
 use Rattle.restart_search.proofs.Steps.{guessed_room, based_narrowed, sound_guessed}
-use Rattle.restart_search.proofs.Waiting.{first_on}
-use Rattle.restart_search.proofs.Visits.{single_of}
+use Rattle.propagation.proofs.Waiting.{first_on}
+use Rattle.propagation.proofs.Visits.{single_of}
 use Rattle.restart_search.proofs.search.guess.Goals as goal
 
 pub push_reserved-requires : goal.push_reserved-requires

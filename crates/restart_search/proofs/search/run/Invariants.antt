@@ -2,7 +2,7 @@ use Rattle.std.proofs.Common.{◌≡◌, ◌≤◌, vec_capacity}
 use Rattle.graph_theory.specs.Graph.{size}
 use Rattle.search_theory.specs.Remaining.{remaining}
 use Rattle.restart_search.specs.Acting.{Acting}
-use Rattle.restart_search.specs.Learning.{LastFrom}
+use Rattle.propagation.specs.Learning.{LastFrom}
 use Rattle.restart_search.specs.Searching.{Sound}
 use Rattle.restart_search.proofs.search.run.Given as goal
 

@@ -1,4 +1,4 @@
-use Rattle.restart_search.proofs.Walking.{looked_more, looked_all}
+use Rattle.restart_search.proofs.Choosing.{looked_more, looked_all}
 use Rattle.restart_search.proofs.search.smallest.Goals as goal
 
 pub returns : goal.returns

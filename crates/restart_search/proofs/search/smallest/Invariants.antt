@@ -1,4 +1,4 @@
-use Rattle.restart_search.proofs.Walking.{Looked}
+use Rattle.restart_search.proofs.Choosing.{Looked}
 use Rattle.restart_search.proofs.search.smallest.Given as goal
 
 abbrev pub invariant-loop-k : goal.invariant-loop-k

@@ -1,7 +1,7 @@
 use Rattle.std.proofs.Common.{ℕ, ◌<◌, sym, subst, ◌∙◌}
 use Rattle.graph_theory.specs.Graph.{size}
-use Rattle.restart_search.proofs.Past.{leaves_one, past_quiet}
-use Rattle.restart_search.proofs.Pruning.{one_by_size}
+use Rattle.propagation.proofs.Past.{leaves_one, past_quiet}
+use Rattle.propagation.proofs.Pruning.{one_by_size}
 use Rattle.restart_search.proofs.worker.undecided_of.Goals as goal
 
 pub loop-p-preserved : goal.loop-p-preserved

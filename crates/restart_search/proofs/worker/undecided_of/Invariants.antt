@@ -1,4 +1,4 @@
-use Rattle.restart_search.specs.Propagation.{LeavesPast}
+use Rattle.propagation.specs.Propagation.{LeavesPast}
 use Rattle.restart_search.proofs.worker.undecided_of.Given as goal
 
 abbrev pub invariant-loop-p : goal.invariant-loop-p

@@ -3,7 +3,7 @@ use Rattle.std.proofs.lemmas.List.{length-replicate}
 use Rattle.graph_theory.specs.Graph.{size}
 use Rattle.domain_bits.specs.BitRows.{words_for}
 use Rattle.search_theory.specs.Account.{path}
-use Rattle.restart_search.specs.Learning.{Filtering}
+use Rattle.propagation.specs.Learning.{Filtering}
 use Rattle.restart_search.proofs.Moments.{acting_none}
 use Rattle.restart_search.proofs.Beginning.{sound_fresh}
 use Rattle.restart_search.proofs.worker.Worker.new.Goals as goal

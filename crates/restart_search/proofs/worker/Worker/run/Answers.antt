@@ -1,4 +1,4 @@
-use Rattle.restart_search.proofs.Acting.{nothing_left}
+use Rattle.propagation.proofs.Acting.{nothing_left}
 use Rattle.restart_search.proofs.worker.Worker.run.Goals as goal
 
 pub returns-clause-in_force : goal.returns-clause-in_force

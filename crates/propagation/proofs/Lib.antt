@@ -1,0 +1,12 @@
+pub mod Narrowing
+pub mod Waiting
+pub mod Sweeping
+pub mod Past
+pub mod Walking
+pub mod Visits
+pub mod Pruning
+pub mod Forcing
+pub mod Refuting
+pub mod Kept
+pub mod Acting
+pub mod Taking

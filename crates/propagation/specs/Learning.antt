@@ -1,0 +1,117 @@
+-- The nogoods of a search: what its runs have refuted, and what follows from it.
+
+use Rattle.std.specs.Prelude.{◌≡◌, ℕ, ◌<◌, ◌⊎◌, Bool, true, false, List, [], ◌∷◌, ◌++◌, length, take, slice_index, Contains, Option, Some, None}
+use Rattle.graph_theory.specs.Graph.{size}
+use Rattle.graph_theory.specs.Embedding.{Problem, Embeds}
+use Rattle.graph_theory.specs.Path.{Dead}
+use Rattle.search_theory.specs.Account.{Account, path, level_at}
+use Rattle.search_theory.specs.Claims.{Inside, NoneInside}
+use Rattle.domain_bits.specs.Removals.{State, in_domain, size_of}
+use Rattle.nogood_watch.specs.Nogoods as watched
+use Rattle.nogood_watch.specs.Watching.{forced_at}
+use Rattle.all_different.specs.Memory.{Memory}
+use Rattle.propagation.specs.Propagation.{IsFor, Narrows, Shrinks, waits_at}
+
+-- These pairs are a nogood: no vertex has two of them, and no embedding has all of them.
+pub record IsNogood (q : Problem) (xs : List (ℕ × ℕ)) : Type 0 where
+  pub literals : watched.AreLiterals (size q.pattern) (size q.target) xs
+  pub dead : Dead q xs
+
+-- All that is kept is a nogood: the lists of pairs, each with its two watches, and the single pairs.
+pub record AreNogoods (q : Problem) (s : watched.State) : Type 0 where
+  pub vertices_is : s.vertices ≡ size q.pattern
+  pub values_is : s.values ≡ size q.target
+  pub watches : watched.AreWatches s.nogoods s.watches
+  pub lists : (i : ℕ) → i < length s.nogoods → IsNogood q (watched.nogood s.nogoods i).literals
+  pub units : (i : ℕ) → i < length s.units → IsNogood q (((forced_at s.units i).0, (forced_at s.units i).1) ∷ [])
+
+-- Where nogoods are kept, they are nogoods.
+abbrev pub AreKept : Problem → Option watched.State → Type 0
+AreKept q None = Unit {0}
+AreKept q (Some s) = AreNogoods q s
+
+-- ---- what learning adds
+
+-- One of these lists has the pairs xs.
+pub record IsListed (nogoods : List watched.Nogood) (xs : List (ℕ × ℕ)) : Type 0 where
+  pub place : ℕ
+  pub within : place < length nogoods
+  pub pairs_are : (watched.nogood nogoods place).literals ≡ xs
+
+-- The list xs is one pair, and that is one of these single pairs.
+pub record IsUnit (units : List (ℕ × ℕ × ℕ)) (xs : List (ℕ × ℕ)) : Type 0 where
+  pub place : ℕ
+  pub within : place < length units
+  pub pair_is : ((forced_at units place).0, (forced_at units place).1) ∷ [] ≡ xs
+
+-- The pairs xs are among what is kept: as one of the lists, or as a single pair.
+abbrev pub IsKept : watched.State → List (ℕ × ℕ) → Type 0
+IsKept s xs = IsListed s.nogoods xs ⊎ IsUnit s.units xs
+
+-- What was kept is kept still: the lists, their watches and the single pairs before are fronts of those after.
+pub record Grows (old new : watched.State) : Type 0 where
+  pub more_lists : List watched.Nogood
+  pub lists : new.nogoods ≡ old.nogoods ++ more_lists
+  pub more_watches : List (ℕ × ℕ)
+  pub watches : new.watches ≡ old.watches ++ more_watches
+  pub more_units : List (ℕ × ℕ × ℕ)
+  pub units : new.units ≡ old.units ++ more_units
+
+-- What the account's position has refuted is kept: at each level that has a vertex, each value refuted there, after the path above.
+pub record Learned (a : Account) (s : watched.State) : Type 0 where
+  pub each : (i p t : ℕ) → (level_at a i).vertex ≡ Some p → Contains (level_at a i).refuted t → IsKept s (take i (path a) ++ (p, t) ∷ [])
+
+-- Where nogoods were kept, they are kept still.
+abbrev pub GrowsFrom : Option watched.State → Option watched.State → Type 0
+GrowsFrom None new = Unit {0}
+GrowsFrom (Some old) None = ⊥
+GrowsFrom (Some old) (Some new) = Grows old new
+
+-- Nogoods are kept, and what the account's position has refuted is among them.
+abbrev pub HasLearned : Account → Option watched.State → Type 0
+HasLearned a None = ⊥
+HasLearned a (Some s) = Learned a s
+
+-- What was kept is kept still, wherever its watches are: the lists and the single pairs before are fronts of those after.
+pub record Lasts (old new : watched.State) : Type 0 where
+  pub more_lists : List watched.Nogood
+  pub lists : new.nogoods ≡ old.nogoods ++ more_lists
+  pub more_units : List (ℕ × ℕ × ℕ)
+  pub units : new.units ≡ old.units ++ more_units
+
+-- So it is where nogoods were kept.
+abbrev pub LastFrom : Option watched.State → Option watched.State → Type 0
+LastFrom None new = Unit {0}
+LastFrom (Some old) None = ⊥
+LastFrom (Some old) (Some new) = Lasts old new
+
+-- ---- what propagation makes of it
+
+-- What propagation works with is of the problem: the memory for counting is made for it, and what is kept are nogoods.
+pub record Works (q : Problem) (memory : Memory) (nogoods : Option watched.State) : Type 0 where
+  pub is_for : IsFor q memory
+  pub kept : AreKept q nogoods
+
+-- What propagation works with, as its callers see it: the problem, and the nogoods, once some are kept.
+pub record Filtering : Type 0 where
+  pub problem : Problem
+  pub nogoods : Option watched.State
+
+-- No nogoods are kept.
+abbrev pub unlearned : Problem → Filtering
+unlearned q = record { problem = q; nogoods = None }
+
+-- The pair is one of vertices of the problem, and no embedding within the domains has it.
+pub record IsUnused (q : Problem) (d : State) (e : ℕ × ℕ × ℕ) : Type 0 where
+  pub vertex_in : e.0 < size q.pattern
+  pub value_in : e.1 < size q.target
+  pub none : (m : List ℕ) → Embeds q m → Inside q (in_domain d) m → slice_index m e.0 ≡ e.1 → ⊥
+
+-- What nogoods leave: fewer values, or none that an embedding is within.
+abbrev pub Forces : Bool → Problem → State → List Bool → State → List Bool → Type 0
+Forces true q old before new after = Shrinks q old before new after
+Forces false q old before new after = Narrows q old new × NoneInside q (in_domain old)
+
+-- Each vertex below n that does not wait has not one value only.
+abbrev pub DecidedWait : State → List Bool → ℕ → Type 0
+DecidedWait d waiting n = (p : ℕ) → p < n → waits_at waiting p ≡ false → size_of d p ≡ 1 → ⊥

@@ -1,0 +1,3 @@
+pub mod Propagation
+pub mod Learning
+pub mod Acting

@@ -1,0 +1,113 @@
+//! Domains counted together, and the flags of the vertices that this decides.
+
+ghost use Rattle.std.specs.Prelude.{◌≡◌, ℕ, ◌*◌, ◌<◌, ◌≤◌, false, length};
+ghost use Rattle.graph_theory.specs.Graph.{size};
+ghost use Rattle.domain_bits.specs.Removals.{in_domain, size_of};
+ghost use Rattle.search_theory.specs.Claims.{Quiet};
+ghost use Rattle.propagation.specs.Learning.{DecidedWait};
+ghost use Rattle.sparse_set.specs.Removals.{has as is_member};
+ghost use Rattle.propagation.specs.Propagation.{IsOf, IsFor, LeavesPast, UndecidedWait, NotesDecided, Notes, PrunesFor};
+
+use all_different::{Pruned, Scratch, prune_undecided};
+use domain_bits::{Domains, Trail};
+use graph_rows::Problem;
+use sparse_set::SparseSet;
+
+/// Lowers all flags.
+pub fn lower(waiting: &mut [bool])
+    ensures { length waiting.new ≡ length waiting.old }
+{
+    waiting.fill(false);
+}
+
+/// Of the vertices that are not past, raises the flags of those with more than one value, and lowers the others. Cost: one
+/// step for each of them.
+fn raise_undecided<T: Trail>(d: &Domains<T>, waiting: &mut [bool], undecided: &SparseSet)
+    requires long { length waiting.old ≡ d.now.vertices }
+    requires count { undecided.now.count ≡ d.now.vertices }
+    requires decided { (p : ℕ) → p < d.now.vertices → is_member undecided.now p ≡ false → size_of d.now p ≡ 1 }
+    ensures { UndecidedWait d.now waiting.new d.now.vertices }
+{
+    let members = undecided.members();
+    for k in 0..members.len() {
+        let p = members[k];
+        waiting[usize::from(p)] = d.size(p) != 1;
+    }
+}
+
+/// Raises the flags of the vertices with one value only, and lowers the others. Cost: one step for each vertex.
+pub(crate) fn raise_decided<T: Trail>(d: &Domains<T>, waiting: &mut [bool])
+    requires long { length waiting.old ≡ d.now.vertices }
+    ensures { DecidedWait d.now waiting.new d.now.vertices }
+{
+    for p in 0..d.vertices() {
+        waiting[usize::from(p)] = d.size(p) == 1;
+    }
+}
+
+/// Lowers the flag of `p` unless it has one value; false where it has none. Cost: one step.
+fn note_decided<T: Trail>(d: &Domains<T>, waiting: &mut [bool], p: u16) -> bool
+    requires p_in { p < d.now.vertices }
+    requires flags { p < length waiting.old }
+    ensures { NotesDecided result d.now waiting.old waiting.new p }
+{
+    let size = d.size(p);
+    if size == 0 {
+        return false;
+    }
+    if size != 1 {
+        waiting[usize::from(p)] = false;
+    }
+    true
+}
+
+/// Lowers the flags of all vertices that have more than one value; false where one has none. Cost: one step for each
+/// vertex.
+fn note_all_decided<T: Trail>(d: &Domains<T>, waiting: &mut [bool]) -> bool
+    requires long { length waiting.old ≡ d.now.vertices }
+    ensures { Notes result d.now waiting.old waiting.new }
+{
+    for p in 0..d.vertices() {
+        if !note_decided(d, waiting, p) {
+            return false;
+        }
+    }
+    true
+}
+
+/// Counts the values of the first domains together. Where values leave, the vertices that this decides wait: the flags
+/// are raised of those that are undecided before, and lowered of those that still are.
+pub(crate) fn prune_noting<T: Trail>(
+    d: &mut Domains<T>,
+    waiting: &mut [bool],
+    undecided: &SparseSet,
+    scratch: &mut Scratch,
+    problem: &Problem,
+) -> Pruned
+    requires is_of { IsOf problem.now d.old }
+    requires left { LeavesPast problem.now d.old undecided.now }
+    requires is_for { IsFor problem.now scratch.old }
+    requires quiet { Quiet problem.now (in_domain d.old) }
+    requires long { length waiting.old ≡ size problem.now.pattern }
+    ensures pruned { PrunesFor result problem.now d.old d.new waiting.new }
+    ensures is_for { IsFor problem.now scratch.new }
+    ensures bounded { length d.new.removed ≤ d.new.vertices * d.new.values }
+{
+    raise_undecided(d, waiting, undecided);
+    let answer = prune_undecided(d, scratch);
+    let _removed = d.mark();
+    match answer {
+        Pruned::Quiet => {
+            lower(waiting);
+            Pruned::Quiet
+        }
+        Pruned::Fail => Pruned::Fail,
+        Pruned::Hall => {
+            if note_all_decided(d, waiting) {
+                Pruned::Hall
+            } else {
+                Pruned::Fail
+            }
+        }
+    }
+}

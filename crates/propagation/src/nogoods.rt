@@ -1,0 +1,193 @@
+//! The nogoods of a search. A run that is cut off leaves what its position has refuted: each refuted value is dead with the path above
+//! its level, so these pairs are a list that no embedding has, and no later run walks there again. A worker keeps the lists, and looks
+//! at them when a vertex is decided: where all pairs of a list but one are decided, the last one leaves its domain. This is what
+//! Lecoutre, Sais, Tabary and Vidal (2007) record at restarts.
+
+ghost use Rattle.std.specs.Prelude.{◌≡◌, ℕ, [], ◌∷◌, ◌++◌, ◌*◌, ◌<◌, ◌≤◌, true, length, Some, IfOk, OnOk};
+ghost use Rattle.graph_theory.specs.Graph.{size};
+ghost use Rattle.domain_bits.specs.BitRows.{has, words_for};
+ghost use Rattle.domain_bits.specs.Removals.{in_domain};
+ghost use Rattle.search_theory.specs.Account.{Honest};
+ghost use Rattle.search_theory.specs.Claims.{Single};
+ghost use Rattle.nogood_watch.specs.Nogoods.{empty};
+ghost use Rattle.nogood_watch.specs.Watching.{forced_at};
+ghost use Rattle.propagation.specs.Propagation.{IsOf, HaveValues};
+ghost use Rattle.propagation.specs.Learning.{IsNogood, AreNogoods, IsKept, Grows, Learned, IsUnused, Forces};
+ghost use Rattle.propagation.specs.Acting.{Move, OutAfter, WaitAfter, WatchesWaitBut};
+
+use crate::removal::take_value;
+use bit_rows::next_member;
+use domain_bits::{Domains, Trail};
+use fail_account::Account;
+use graph_rows::Problem;
+use nogood_watch::{WatchAnswer, Watched};
+use pair_rows::PairRows;
+use std::alloc::{AllocError, Global};
+use std::marker::Model;
+
+/// The nogoods that a search keeps, named by numbers from 0 in the order of adding, and memory to put one together. Contracts see
+/// them with their watches.
+#[derive(Drop)]
+pub struct Nogoods {
+    watched: Watched,
+    literals: Vec<(u16, u16)>,
+    named: u32,
+}
+
+impl Model for Nogoods {
+    ghost use Rattle.nogood_watch.specs.Nogoods.{State};
+
+    ghost Value = { State };
+
+    ghost view = { λ n. n.watched };
+}
+
+impl Nogoods {
+    /// No nogoods. Cost: one step and four bytes for each pair of a pattern vertex and a target vertex.
+    pub fn new(alloc: Global, q: &Problem) -> Result<Nogoods, AllocError>
+        ensures { IfOk result (λ n. n ≡ empty (size q.now.pattern) (size q.now.target)) }
+    {
+        let watched = Watched::new(alloc, q.pattern().size(), q.target().size())?;
+        Ok(Nogoods {
+            watched,
+            literals: Vec::new(alloc),
+            named: 0,
+        })
+    }
+
+    /// Keeps what the position of the account has refuted: for each level in order, each value refuted there with the path above it.
+    /// Where memory is refused, what was added so far stays. Cost: one step for each word of a row at each level, and the length of the
+    /// path for each refuted value.
+    pub fn learn(&mut self, q: &Problem, account: &Account) -> Result<(), AllocError>
+        requires honest { Honest q.now account.now }
+        requires nogoods { AreNogoods q.now self.old }
+        ensures nogoods { AreNogoods q.now self.new }
+        ensures grows { Grows self.old self.new }
+        ensures learned { OnOk result (Learned account.now self.new) }
+    {
+        let _vertex = account.vertex();
+        let path = account.path();
+        for i in 0..q.pattern().size() {
+            let (vertex, refuted) = account.level(i);
+            let Some(p) = vertex else {
+                return Ok(());
+            };
+            self.learn_level(q, &path[..usize::from(i)], p, refuted)?;
+        }
+        Ok(())
+    }
+
+    /// Keeps each value of the row with the path above.
+    fn learn_level(
+        &mut self,
+        q: &Problem,
+        above: &[(u16, u16)],
+        p: u16,
+        refuted: &[u64],
+    ) -> Result<(), AllocError>
+        requires nogoods { AreNogoods q.now self.old }
+        requires long { length refuted.now ≡ words_for (size q.now.target) }
+        requires refuted { (t : ℕ) → has refuted.now t ≡ true → IsNogood q.now (above.now ++ (p, t) ∷ []) }
+        ensures nogoods { AreNogoods q.now self.new }
+        ensures grows { Grows self.old self.new }
+        ensures all { OnOk result ((t : ℕ) → has refuted.now t ≡ true → IsKept self.new (above.now ++ (p, t) ∷ [])) }
+    {
+        let _few = q.target().size();
+        let mut t = next_member(refuted, 0);
+        while t < 64 * refuted.len() {
+            self.keep(q, above, p, t as u16)?;
+            t = next_member(refuted, t + 1);
+        }
+        Ok(())
+    }
+
+    /// Keeps one nogood more.
+    fn keep(&mut self, q: &Problem, above: &[(u16, u16)], p: u16, t: u16) -> Result<(), AllocError>
+        requires nogoods { AreNogoods q.now self.old }
+        requires nogood { IsNogood q.now (above.now ++ (p, t) ∷ []) }
+        ensures nogoods { AreNogoods q.now self.new }
+        ensures grows { Grows self.old self.new }
+        ensures kept { OnOk result (IsKept self.new (above.now ++ (p, t) ∷ [])) }
+    {
+        if self.named == u32::MAX {
+            return Err(AllocError);
+        }
+        self.literals.clear();
+        self.literals.extend_from_slice(above)?;
+        self.literals.push((p, t))?;
+        self.watched.add(&self.literals, self.named)?;
+        self.named += 1;
+        Ok(())
+    }
+
+    /// Looks at the nogoods that have `p` at `t`, where that is all of the domain of `p`, and takes out what they force; false where a
+    /// nogood is whole, or a domain becomes empty. Cost: that of `on_assign`, and one step for each pair that is forced.
+    pub(crate) fn force<T: Trail>(
+        &mut self,
+        rows: &PairRows,
+        d: &mut Domains<T>,
+        waiting: &mut [bool],
+        p: u16,
+        t: u16,
+    ) -> bool
+        requires nogoods { AreNogoods rows.now.problem self.old }
+        requires is_of { IsOf rows.now.problem d.old }
+        requires long { length waiting.old ≡ size rows.now.problem.pattern }
+        requires some { HaveValues rows.now.problem d.old }
+        requires wait { WatchesWaitBut d.old waiting.old p self.old }
+        requires p_in { p < size rows.now.problem.pattern }
+        requires single { Single (in_domain d.old) p t }
+        requires bounded { length d.old.removed ≤ d.old.vertices * d.old.values }
+        ensures nogoods { AreNogoods rows.now.problem self.new }
+        ensures forces { Forces result rows.now.problem d.old waiting.old d.new waiting.new }
+        ensures wait { WaitAfter result d.new waiting.new (Some self.new) }
+        ensures moved { Move d.old self.old self.new }
+    {
+        match self.watched.on_assign(d, p, t) {
+            WatchAnswer::Quiet => true,
+            WatchAnswer::Fail(_) => false,
+            WatchAnswer::Forced => take_out(rows, self.watched.forced(), d, waiting),
+        }
+    }
+
+    /// Takes the nogoods of one pair out of the domains; false where a domain becomes empty. Cost: one step for each.
+    pub(crate) fn take_units<T: Trail>(
+        &self,
+        rows: &PairRows,
+        d: &mut Domains<T>,
+        waiting: &mut [bool],
+    ) -> bool
+        requires nogoods { AreNogoods rows.now.problem self.now }
+        requires is_of { IsOf rows.now.problem d.old }
+        requires long { length waiting.old ≡ size rows.now.problem.pattern }
+        requires bounded { length d.old.removed ≤ d.old.vertices * d.old.values }
+        ensures forces { Forces result rows.now.problem d.old waiting.old d.new waiting.new }
+        ensures out { OutAfter result d.new self.now.units }
+    {
+        take_out(rows, self.watched.units(), d, waiting)
+    }
+}
+
+/// Takes pairs that no embedding has out of the domains. Where one value is left, its vertex waits; where none is, the answer is
+/// false. Cost: one step for each.
+fn take_out<T: Trail>(
+    rows: &PairRows,
+    pairs: &[(u16, u16, u32)],
+    d: &mut Domains<T>,
+    waiting: &mut [bool],
+) -> bool
+    requires is_of { IsOf rows.now.problem d.old }
+    requires long { length waiting.old ≡ size rows.now.problem.pattern }
+    requires bounded { length d.old.removed ≤ d.old.vertices * d.old.values }
+    requires unused { (k : ℕ) → k < length pairs.now → IsUnused rows.now.problem d.old (forced_at pairs.now k) }
+    ensures forces { Forces result rows.now.problem d.old waiting.old d.new waiting.new }
+    ensures out { OutAfter result d.new pairs.now }
+{
+    for k in 0..pairs.len() {
+        let (r, u, _) = pairs[k];
+        if !take_value(d, waiting, r, u) {
+            return false;
+        }
+    }
+    true
+}

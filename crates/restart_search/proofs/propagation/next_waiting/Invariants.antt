@@ -1,6 +1,0 @@
-use Rattle.std.proofs.Common.{◌≡◌, ℕ, ◌<◌, false}
-use Rattle.restart_search.specs.Propagation.{waits_at}
-use Rattle.restart_search.proofs.propagation.next_waiting.Given as goal
-
-abbrev pub invariant-loop-p : goal.invariant-loop-p
-invariant-loop-p l = (k : ℕ) → k < l.p → waits_at l.waiting k ≡ false

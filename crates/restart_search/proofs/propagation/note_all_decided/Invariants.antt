@@ -1,5 +1,0 @@
-use Rattle.restart_search.specs.Propagation.{Noting}
-use Rattle.restart_search.proofs.propagation.note_all_decided.Given as goal
-
-abbrev pub invariant-loop-p : goal.invariant-loop-p
-invariant-loop-p g l = Noting l.d l.fn.waiting l.waiting l.p

@@ -1,5 +1,0 @@
-use Rattle.restart_search.proofs.Walking.{Walked}
-use Rattle.restart_search.proofs.propagation.settle.Given as goal
-
-abbrev pub invariant-loop-k : goal.invariant-loop-k
-invariant-loop-k g l = Walked l.rows.problem l.fn.d l.fn.waiting l.d l.waiting l.p l.t l.members l.k
