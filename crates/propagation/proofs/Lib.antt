@@ -7,6 +7,6 @@ pub mod Visits
 pub mod Pruning
 pub mod Forcing
 pub mod Refuting
-pub mod Kept
+pub mod Holding
 pub mod Acting
 pub mod Taking

@@ -1,10 +1,9 @@
--- The nogoods of a search: what its runs have refuted, and what follows from it.
+-- The nogoods of a search, and what follows from them.
 
-use Rattle.std.specs.Prelude.{◌≡◌, ℕ, ◌<◌, ◌⊎◌, Bool, true, false, List, [], ◌∷◌, ◌++◌, length, take, slice_index, Contains, Option, Some, None}
+use Rattle.std.specs.Prelude.{◌≡◌, ℕ, ◌<◌, Bool, true, false, List, [], ◌∷◌, length, slice_index, Option, Some, None}
 use Rattle.graph_theory.specs.Graph.{size}
 use Rattle.graph_theory.specs.Embedding.{Problem, Embeds}
 use Rattle.graph_theory.specs.Path.{Dead}
-use Rattle.search_theory.specs.Account.{Account, path, level_at}
 use Rattle.search_theory.specs.Claims.{Inside, NoneInside}
 use Rattle.domain_bits.specs.Removals.{State, in_domain, size_of}
 use Rattle.nogood_watch.specs.Nogoods as watched
@@ -29,61 +28,6 @@ pub record AreNogoods (q : Problem) (s : watched.State) : Type 0 where
 abbrev pub AreKept : Problem → Option watched.State → Type 0
 AreKept q None = Unit {0}
 AreKept q (Some s) = AreNogoods q s
-
--- ---- what learning adds
-
--- One of these lists has the pairs xs.
-pub record IsListed (nogoods : List watched.Nogood) (xs : List (ℕ × ℕ)) : Type 0 where
-  pub place : ℕ
-  pub within : place < length nogoods
-  pub pairs_are : (watched.nogood nogoods place).literals ≡ xs
-
--- The list xs is one pair, and that is one of these single pairs.
-pub record IsUnit (units : List (ℕ × ℕ × ℕ)) (xs : List (ℕ × ℕ)) : Type 0 where
-  pub place : ℕ
-  pub within : place < length units
-  pub pair_is : ((forced_at units place).0, (forced_at units place).1) ∷ [] ≡ xs
-
--- The pairs xs are among what is kept: as one of the lists, or as a single pair.
-abbrev pub IsKept : watched.State → List (ℕ × ℕ) → Type 0
-IsKept s xs = IsListed s.nogoods xs ⊎ IsUnit s.units xs
-
--- What was kept is kept still: the lists, their watches and the single pairs before are fronts of those after.
-pub record Grows (old new : watched.State) : Type 0 where
-  pub more_lists : List watched.Nogood
-  pub lists : new.nogoods ≡ old.nogoods ++ more_lists
-  pub more_watches : List (ℕ × ℕ)
-  pub watches : new.watches ≡ old.watches ++ more_watches
-  pub more_units : List (ℕ × ℕ × ℕ)
-  pub units : new.units ≡ old.units ++ more_units
-
--- What the account's position has refuted is kept: at each level that has a vertex, each value refuted there, after the path above.
-pub record Learned (a : Account) (s : watched.State) : Type 0 where
-  pub each : (i p t : ℕ) → (level_at a i).vertex ≡ Some p → Contains (level_at a i).refuted t → IsKept s (take i (path a) ++ (p, t) ∷ [])
-
--- Where nogoods were kept, they are kept still.
-abbrev pub GrowsFrom : Option watched.State → Option watched.State → Type 0
-GrowsFrom None new = Unit {0}
-GrowsFrom (Some old) None = ⊥
-GrowsFrom (Some old) (Some new) = Grows old new
-
--- Nogoods are kept, and what the account's position has refuted is among them.
-abbrev pub HasLearned : Account → Option watched.State → Type 0
-HasLearned a None = ⊥
-HasLearned a (Some s) = Learned a s
-
--- What was kept is kept still, wherever its watches are: the lists and the single pairs before are fronts of those after.
-pub record Lasts (old new : watched.State) : Type 0 where
-  pub more_lists : List watched.Nogood
-  pub lists : new.nogoods ≡ old.nogoods ++ more_lists
-  pub more_units : List (ℕ × ℕ × ℕ)
-  pub units : new.units ≡ old.units ++ more_units
-
--- So it is where nogoods were kept.
-abbrev pub LastFrom : Option watched.State → Option watched.State → Type 0
-LastFrom None new = Unit {0}
-LastFrom (Some old) None = ⊥
-LastFrom (Some old) (Some new) = Lasts old new
 
 -- ---- what propagation makes of it
 

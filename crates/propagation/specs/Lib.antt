@@ -1,3 +1,4 @@
 pub mod Propagation
 pub mod Learning
 pub mod Acting
+pub mod Holding

@@ -1,23 +1,24 @@
 //! What propagation works with: rows of consistent values, memory for counting, and nogoods.
 
-ghost use Rattle.std.specs.Prelude.{◌≡◌, ◌*◌, ◌≤◌, length, IfOk, OnOk};
+ghost use Rattle.std.specs.Prelude.{◌≡◌, ◌*◌, ◌^◌, ◌<◌, ◌≤◌, length, take, IfOk, OnOk};
 ghost use Rattle.graph_theory.specs.Graph.{size};
-ghost use Rattle.search_theory.specs.Account.{Honest};
-ghost use Rattle.propagation.specs.Learning.{AreKept, GrowsFrom, HasLearned, Forces, unlearned};
+ghost use Rattle.nogood_book.specs.Rows.{Sound};
+ghost use Rattle.propagation.specs.Learning.{AreKept, Forces, unlearned};
+ghost use Rattle.propagation.specs.Holding.{HoldsRows};
 ghost use Rattle.propagation.specs.Acting.{UnitsOutAfter};
 ghost use Rattle.propagation.specs.Propagation.{IsOf};
 
 use crate::nogoods::Nogoods;
 use all_different::Scratch;
 use domain_bits::{Domains, Trail};
-use fail_account::Account;
 use graph_rows::Problem;
-use pair_rows::PairRows;
+use nogood_book::Row;
+use pair_rows::{PairKinds, PairRows};
 use std::alloc::{AllocError, Global};
 use std::marker::Model;
 
-/// What propagation works with, made once: the rows of consistent values, and memory for counting; from the first restart on also
-/// the nogoods of the runs before.
+/// What propagation works with, made once: the rows of consistent values, and memory for counting; once rows of a book have come,
+/// also the nogoods among them.
 #[derive(Drop)]
 pub struct Filters<'a> {
     pub(crate) rows: PairRows<'a>,
@@ -36,11 +37,18 @@ impl<'a> Model for Filters<'a> {
 }
 
 impl<'a> Filters<'a> {
-    /// No rows yet, and memory for them and for counting. Cost: that of `PairRows::new`.
-    pub fn new(alloc: Global, q: &'a Problem) -> Result<Filters<'a>, AllocError>
-        ensures { IfOk result (λ f. f ≡ unlearned q.entry.now) }
+    /// No rows and no nogoods yet, with memory for counting and for at most so many words of rows, which the kinds of the problem's
+    /// pairs are shared for. Cost: that of `PairRows::new`.
+    pub fn new(
+        alloc: Global,
+        q: &Problem,
+        kinds: &'a PairKinds<'a>,
+        most: usize,
+    ) -> Result<Filters<'a>, AllocError>
+        requires problem { kinds.now.problem ≡ q.now }
+        ensures { IfOk result (λ f. f ≡ unlearned q.now) }
     {
-        let rows = PairRows::new(alloc, q)?;
+        let rows = PairRows::new(alloc, kinds, most)?;
         let scratch = Scratch::new(alloc, q.pattern().size(), q.target().size())?;
         Ok(Filters {
             rows,
@@ -49,23 +57,28 @@ impl<'a> Filters<'a> {
         })
     }
 
-    /// Keeps what the position of the account has refuted. Where memory is refused, what was added so far stays. Cost: that of
-    /// `Nogoods::learn`, and the first time that of `Nogoods::new`.
-    pub fn learn(&mut self, alloc: Global, q: &Problem, account: &Account) -> Result<(), AllocError>
+    /// Keeps the nogoods among the rows from a place on, those before it being kept. The table for them is made once some row is there.
+    /// Where memory is refused, what was added so far stays. Cost: that of `Nogoods::take_rows`, and the first time that of
+    /// `Nogoods::new`.
+    pub fn take_rows(
+        &mut self,
+        alloc: Global,
+        q: &Problem,
+        rows: &[Row],
+        from: usize,
+    ) -> Result<(), AllocError>
         requires problem { self.old.problem ≡ q.now }
-        requires honest { Honest q.now account.now }
+        requires sound { Sound q.now rows.now }
+        requires few { length rows.now < 2 ^ 32 }
+        requires begun { from ≤ length rows.now }
+        requires holds { HoldsRows (take from rows.now) self.old.nogoods }
         ensures problem { self.new.problem ≡ q.now }
-        ensures grows { GrowsFrom self.old.nogoods self.new.nogoods }
-        ensures learned { OnOk result (HasLearned account.now self.new.nogoods) }
+        ensures holds { OnOk result (HoldsRows rows.now self.new.nogoods) }
     {
-        learn_into(alloc, q, account, &mut self.nogoods)
-    }
-
-    /// Lets go of all nogoods, for a search that has ended. Cost: one step.
-    pub fn forget(&mut self)
-        ensures { self.new ≡ unlearned self.old.problem }
-    {
-        self.nogoods = None;
+        if from == rows.len() {
+            return Ok(());
+        }
+        take_into(alloc, q, rows, from, &mut self.nogoods)
     }
 
     /// Takes the nogoods of one pair out of the domains; false where a domain becomes empty. Cost: one step for each.
@@ -84,24 +97,27 @@ impl<'a> Filters<'a> {
     }
 }
 
-/// Keeps what the position of the account has refuted, where nogoods are kept; where none are yet, they are from now on.
-fn learn_into(
+/// Keeps the nogoods among the rows from a place on, in a table that is made where none is there.
+fn take_into(
     alloc: Global,
     q: &Problem,
-    account: &Account,
+    rows: &[Row],
+    from: usize,
     nogoods: &mut Option<Nogoods>,
 ) -> Result<(), AllocError>
-    requires honest { Honest q.now account.now }
+    requires sound { Sound q.now rows.now }
+    requires few { length rows.now < 2 ^ 32 }
+    requires begun { from ≤ length rows.now }
     requires kept { AreKept q.now nogoods.old }
+    requires holds { HoldsRows (take from rows.now) nogoods.old }
     ensures kept { AreKept q.now nogoods.new }
-    ensures grows { GrowsFrom nogoods.old nogoods.new }
-    ensures learned { OnOk result (HasLearned account.now nogoods.new) }
+    ensures holds { OnOk result (HoldsRows rows.now nogoods.new) }
 {
     if nogoods.is_none() {
         *nogoods = Some(Nogoods::new(alloc, q)?);
     }
     match nogoods {
         None => Ok(()),
-        Some(table) => table.learn(q, account),
+        Some(table) => table.take_rows(q, rows, from),
     }
 }

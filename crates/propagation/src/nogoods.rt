@@ -1,37 +1,37 @@
 //! The nogoods of a search. A run that is cut off leaves what its position has refuted: each refuted value is dead with the path above
-//! its level, so these pairs are a list that no embedding has, and no later run walks there again. A worker keeps the lists, and looks
-//! at them when a vertex is decided: where all pairs of a list but one are decided, the last one leaves its domain. This is what
-//! Lecoutre, Sais, Tabary and Vidal (2007) record at restarts.
+//! its level, so these pairs are a list that no embedding has, and no later run walks there again. Such lists come as rows of a book,
+//! from this search and from others over the same problem. A worker keeps them, and looks at them when a vertex is decided: where all
+//! pairs of a list but one are decided, the last one leaves its domain. This is what Lecoutre, Sais, Tabary and Vidal (2007) record at
+//! restarts.
 
-ghost use Rattle.std.specs.Prelude.{◌≡◌, ℕ, [], ◌∷◌, ◌++◌, ◌*◌, ◌<◌, ◌≤◌, true, length, Some, IfOk, OnOk};
+ghost use Rattle.std.specs.Prelude.{◌≡◌, ℕ, ◌+◌, ◌*◌, ◌^◌, ◌<◌, ◌≤◌, true, length, take, Some, IfOk, OnOk};
 ghost use Rattle.graph_theory.specs.Graph.{size};
-ghost use Rattle.domain_bits.specs.BitRows.{has, words_for};
 ghost use Rattle.domain_bits.specs.Removals.{in_domain};
-ghost use Rattle.search_theory.specs.Account.{Honest};
 ghost use Rattle.search_theory.specs.Claims.{Single};
-ghost use Rattle.nogood_watch.specs.Nogoods.{empty};
+ghost use Rattle.nogood_watch.specs.Nogoods.{empty, added};
 ghost use Rattle.nogood_watch.specs.Watching.{forced_at};
 ghost use Rattle.propagation.specs.Propagation.{IsOf, HaveValues};
-ghost use Rattle.propagation.specs.Learning.{IsNogood, AreNogoods, IsKept, Grows, Learned, IsUnused, Forces};
+ghost use Rattle.nogood_book.specs.Rows.{Sound, path_at};
+ghost use Rattle.nogood_book.specs.Places.{IsNogoodRow};
+ghost use Rattle.propagation.specs.Learning.{AreNogoods, IsUnused, Forces};
+ghost use Rattle.propagation.specs.Holding.{HoldsRows};
 ghost use Rattle.propagation.specs.Acting.{Move, OutAfter, WaitAfter, WatchesWaitBut};
 
 use crate::removal::take_value;
-use bit_rows::next_member;
 use domain_bits::{Domains, Trail};
-use fail_account::Account;
 use graph_rows::Problem;
+use nogood_book::{Row, RowKind, push_path};
 use nogood_watch::{WatchAnswer, Watched};
 use pair_rows::PairRows;
 use std::alloc::{AllocError, Global};
 use std::marker::Model;
 
-/// The nogoods that a search keeps, named by numbers from 0 in the order of adding, and memory to put one together. Contracts see
-/// them with their watches.
+/// The nogoods that a search keeps, each named by the place of its row, and memory to put one together. Contracts see them with their
+/// watches.
 #[derive(Drop)]
 pub struct Nogoods {
     watched: Watched,
     literals: Vec<(u16, u16)>,
-    named: u32,
 }
 
 impl Model for Nogoods {
@@ -51,72 +51,53 @@ impl Nogoods {
         Ok(Nogoods {
             watched,
             literals: Vec::new(alloc),
-            named: 0,
         })
     }
 
-    /// Keeps what the position of the account has refuted: for each level in order, each value refuted there with the path above it.
-    /// Where memory is refused, what was added so far stays. Cost: one step for each word of a row at each level, and the length of the
-    /// path for each refuted value.
-    pub fn learn(&mut self, q: &Problem, account: &Account) -> Result<(), AllocError>
-        requires honest { Honest q.now account.now }
+    /// Keeps the nogoods among the rows from a place on. Where memory is refused, what was added so far stays. Cost: for each of them a
+    /// row for each pair of its path.
+    pub fn take_rows(&mut self, q: &Problem, rows: &[Row], from: usize) -> Result<(), AllocError>
+        requires sound { Sound q.now rows.now }
+        requires few { length rows.now < 2 ^ 32 }
+        requires begun { from ≤ length rows.now }
         requires nogoods { AreNogoods q.now self.old }
+        requires holds { HoldsRows (take from rows.now) (Some self.old) }
         ensures nogoods { AreNogoods q.now self.new }
-        ensures grows { Grows self.old self.new }
-        ensures learned { OnOk result (Learned account.now self.new) }
+        ensures holds { OnOk result (HoldsRows rows.now (Some self.new)) }
     {
-        let _vertex = account.vertex();
-        let path = account.path();
-        for i in 0..q.pattern().size() {
-            let (vertex, refuted) = account.level(i);
-            let Some(p) = vertex else {
-                return Ok(());
-            };
-            self.learn_level(q, &path[..usize::from(i)], p, refuted)?;
+        for k in from..rows.len() {
+            self.take_row(q, rows, k as u32)?;
         }
         Ok(())
     }
 
-    /// Keeps each value of the row with the path above.
-    fn learn_level(
-        &mut self,
-        q: &Problem,
-        above: &[(u16, u16)],
-        p: u16,
-        refuted: &[u64],
-    ) -> Result<(), AllocError>
+    /// Keeps row `k`, where it is a nogood.
+    fn take_row(&mut self, q: &Problem, rows: &[Row], k: u32) -> Result<(), AllocError>
+        requires sound { Sound q.now rows.now }
+        requires inside { k < length rows.now }
         requires nogoods { AreNogoods q.now self.old }
-        requires long { length refuted.now ≡ words_for (size q.now.target) }
-        requires refuted { (t : ℕ) → has refuted.now t ≡ true → IsNogood q.now (above.now ++ (p, t) ∷ []) }
+        requires holds { HoldsRows (take k rows.now) (Some self.old) }
         ensures nogoods { AreNogoods q.now self.new }
-        ensures grows { Grows self.old self.new }
-        ensures all { OnOk result ((t : ℕ) → has refuted.now t ≡ true → IsKept self.new (above.now ++ (p, t) ∷ [])) }
+        ensures holds { OnOk result (HoldsRows (take (k + 1) rows.now) (Some self.new)) }
     {
-        let _few = q.target().size();
-        let mut t = next_member(refuted, 0);
-        while t < 64 * refuted.len() {
-            self.keep(q, above, p, t as u16)?;
-            t = next_member(refuted, t + 1);
+        match rows[k as usize].kind {
+            RowKind::Step => Ok(()),
+            RowKind::Nogood => self.keep(q, rows, k),
         }
-        Ok(())
     }
 
-    /// Keeps one nogood more.
-    fn keep(&mut self, q: &Problem, above: &[(u16, u16)], p: u16, t: u16) -> Result<(), AllocError>
+    /// Keeps the path of row `k`, under its place.
+    fn keep(&mut self, q: &Problem, rows: &[Row], k: u32) -> Result<(), AllocError>
+        requires sound { Sound q.now rows.now }
+        requires inside { k < length rows.now }
         requires nogoods { AreNogoods q.now self.old }
-        requires nogood { IsNogood q.now (above.now ++ (p, t) ∷ []) }
+        requires nogood { IsNogoodRow rows.now k }
         ensures nogoods { AreNogoods q.now self.new }
-        ensures grows { Grows self.old self.new }
-        ensures kept { OnOk result (IsKept self.new (above.now ++ (p, t) ∷ [])) }
+        ensures kept { OnOk result (self.new ≡ added self.old (path_at rows.now k) k) }
     {
-        if self.named == u32::MAX {
-            return Err(AllocError);
-        }
         self.literals.clear();
-        self.literals.extend_from_slice(above)?;
-        self.literals.push((p, t))?;
-        self.watched.add(&self.literals, self.named)?;
-        self.named += 1;
+        push_path(q, rows, k, &mut self.literals)?;
+        self.watched.add(&self.literals, k)?;
         Ok(())
     }
 

@@ -12,16 +12,20 @@ use Rattle.sparse_set.specs.Removals as sparse
 use Rattle.all_different.specs.Prefixes.{Balanced}
 use Rattle.nogood_watch.specs.Nogoods as watched
 use Rattle.propagation.specs.Propagation.{IsOf, LeavesPast, Narrows, waits_at, HasTwo, HasValue}
-use Rattle.propagation.specs.Learning.{Filtering, unlearned, LastFrom}
+use Rattle.propagation.specs.Learning.{Filtering}
+use Rattle.propagation.specs.Holding.{HoldsRows}
+use Rattle.nogood_book.specs.Facts.{Facts}
+use Rattle.worker_gate.specs.Answers.{AnswerView, NoteView}
 use Rattle.restart_search.specs.Acting.{Acting}
+use Rattle.restart_search.specs.Sharing.{RowsInForce, KeepsUp}
 use Rattle.domain_bits.specs.BitRows.{words_for}
 use Rattle.restart_search.specs.declared.root.Rooted.{Rooted}
-use Rattle.restart_search.specs.declared.root.Rooted.TheVariants as ending
-use Rattle.restart_search.specs.declared.worker.Decided.{Decided}
-use Rattle.restart_search.specs.declared.worker.Decided.TheVariants as decided
+use Rattle.restart_search.specs.declared.root.Rooted.TheVariants as rooted
 use Rattle.restart_search.specs.declared.search.Moment.{Moment}
-use Rattle.restart_search.specs.declared.search.Ended.{Ended}
-use Rattle.restart_search.specs.declared.search.Ended.TheVariants.{Found, Refuted, Spent, NoMemory}
+use Rattle.restart_search.specs.declared.outcome.Outcome.{Outcome}
+use Rattle.restart_search.specs.declared.outcome.Outcome.TheVariants.{Found, Refuted, Spent, Stopped, NoMemory}
+use Rattle.restart_search.specs.declared.outcome.Stage.{Stage}
+use Rattle.restart_search.specs.declared.outcome.Stage.TheVariants.{Fresh, Halfway, Over}
 
 -- The domains are at rest, one by one, pair by pair and in their unions; they hold each embedding that extends the path, and have
 -- each pair of the path as its vertex's domain.
@@ -71,19 +75,37 @@ pub record Sound (q : Problem) (d : State) (s : sparse.State) (a : Account) (mar
   pub here : AtRest q (path a) d
   pub left : LeavesPast q d s
 
--- What an ending says.
-abbrev pub Ends : Ended → Problem → Account → Type 0
+-- ---- how a run ends
+
+-- The note knows an answer to the problem.
+pub record Knows (q : Problem) (n : NoteView) : Type 0 where
+  pub answer : AnswerView
+  pub known : n.known ≡ Some answer
+  pub problem_is : answer.problem ≡ q
+
+-- What an outcome says.
+abbrev pub Ends : Outcome → Problem → Account → Type 0
 Ends (Found m) q a = Embeds q m.items
 Ends Refuted q a = HasNone q
 Ends Spent q a = Spends q a.budget a × (a.budget < enough a.pattern a.target)
+Ends (Stopped n) q a = Knows q n
 Ends NoMemory q a = Unit {0}
 
--- What was kept is kept still, unless the search has ended with nothing found.
-abbrev pub LastAfter : Ended → Option watched.State → Option watched.State → Type 0
-LastAfter (Found m) old new = LastFrom old new
-LastAfter Refuted old new = Unit {0}
-LastAfter Spent old new = LastFrom old new
-LastAfter NoMemory old new = Unit {0}
+-- The run was not stopped.
+abbrev pub IsNotStopped : Outcome → Type 0
+IsNotStopped (Found m) = Unit {0}
+IsNotStopped Refuted = Unit {0}
+IsNotStopped Spent = Unit {0}
+IsNotStopped (Stopped n) = ⊥
+IsNotStopped NoMemory = Unit {0}
+
+-- What is left after an outcome, unless nothing can go on from there.
+abbrev pub Leaves : Outcome → Type 0 → Type 0
+Leaves (Found m) P = P
+Leaves Refuted P = Unit {0}
+Leaves Spent P = P
+Leaves (Stopped n) P = P
+Leaves NoMemory P = Unit {0}
 
 -- The best vertex so far is below r and undecided; where there is none, each vertex below r is decided.
 abbrev pub IsBest : State → Option ℕ → ℕ → Type 0
@@ -95,11 +117,14 @@ abbrev pub IsUndecided : State → ℕ → Type 0
 IsUndecided d p = (p < d.vertices) × ((t : ℕ) → Single (in_domain d) p t → ⊥)
 
 -- The found list is an embedding, or memory was refused.
-abbrev pub FoundOf : Problem → Ended → Type 0
+abbrev pub FoundOf : Problem → Outcome → Type 0
 FoundOf q (Found m) = Embeds q m.items
 FoundOf q Refuted = ⊥
 FoundOf q Spent = ⊥
+FoundOf q (Stopped n) = ⊥
 FoundOf q NoMemory = Unit {0}
+
+-- ---- the root
 
 -- After the first domains of the vertices below r.
 pub record Beginning (q : Problem) (old new : State) (waiting : List Bool) (r : ℕ) : Type 0 where
@@ -120,32 +145,74 @@ abbrev pub Roots : Bool → Problem → State → Type 0
 Roots true q d = IsOf q d × AtRest q [] d
 Roots false q d = HasNone q
 
--- What the root says: its domains are at rest and hold every embedding, and its filters are of the same problem and keep no nogoods; or none exists.
+-- What the root says: its domains are at rest and hold every embedding; or none exists.
 abbrev pub RootSays : {T : Type 0} → Rooted T → Problem → Type 0
-RootSays (ending.Quiet d filters) q = IsOf q d × AtRest q [] d × (filters ≡ unlearned q)
-RootSays ending.Failed q = HasNone q
-RootSays ending.NoMemory q = Unit {0}
+RootSays (rooted.Quiet d) q = IsOf q d × AtRest q [] d
+RootSays rooted.Failed q = HasNone q
+RootSays rooted.NoMemory q = Unit {0}
 
--- A search as its callers see it.
-pub record Search : Type 0 where
+-- ---- a worker
+
+-- A worker as its callers see it.
+pub record Search (S K : Type 0) : Type 0 where
   pub problem : Problem
+  pub number : ℕ
+  pub seat : S
+  pub facts : Facts
+  pub keeper : K
   pub domains : State
   pub account : Account
-  pub nogoods : Option watched.State
+  pub stage : Stage
 
--- What holds of a worker between its calls.
-pub record Working (q : Problem) (filters : Filtering) (d : State) (s : sparse.State) (a : Account) (marks : List Moment) (waiting : List Bool) (untried : List ℕ) (choice : ℕ) (root : Moment) (capacity : ℕ) : Type 0 where
-  pub problem : filters.problem ≡ q
+-- The search stands at the root: its domains are at rest for the empty path, and the root's moment is the present one.
+pub record IsAtRoot (q : Problem) (d : State) (s : sparse.State) (a : Account) (marks : List Moment) (root : Moment) : Type 0 where
+  pub is_of : IsOf q d
+  pub honest : Honest q a
+  pub no_path : path a ≡ []
+  pub no_marks : marks ≡ []
+  pub now : IsNow d s root
+  pub rest : AtRest q [] d
+  pub left : LeavesPast q d s
+
+-- The first run has not begun.
+pub record NotBegun (q : Problem) (nogoods : Option watched.State) (d : State) (s : sparse.State) (a : Account) (marks : List Moment) (root : Moment) : Type 0 where
+  pub at_root : IsAtRoot q d s a marks root
+  pub none : nogoods ≡ None
+  pub first : a.run ≡ 1
+
+-- What holds of a search before each step: it is sound, the nogoods that are kept are those of all rows that were seen, nothing is left to follow from them, and the search keeps up with its book.
+pub record Begun (q : Problem) (nogoods : Option watched.State) (d : State) (s : sparse.State) (a : Account) (marks : List Moment) (root : Moment) (f : Facts) : Type 0 where
   pub sound : Sound q d s a marks root
-  pub acting : Acting d filters.nogoods marks root
+  pub acting : Acting d nogoods marks root
+  pub holds : HoldsRows f.seen nogoods
+  pub keeps : KeepsUp f a.run
+
+-- Where the worker stands between its runs.
+abbrev pub AtStage : Stage → Problem → Option watched.State → State → sparse.State → Account → List Moment → Moment → Facts → Type 0
+AtStage Fresh q nogoods d s a marks root f = NotBegun q nogoods d s a marks root
+AtStage Halfway q nogoods d s a marks root f = Begun q nogoods d s a marks root f
+AtStage Over q nogoods d s a marks root f = Unit {0}
+
+-- What a worker has made is of its problem, and it has a number.
+pub record Equipped (q : Problem) (number : ℕ) (filters : Filtering) (waiting : List Bool) (untried : List ℕ) (choice : ℕ) (capacity : ℕ) : Type 0 where
+  pub some : 1 ≤ number
+  pub few : number ≤ 64
+  pub problem : filters.problem ≡ q
   pub long : length waiting ≡ size q.pattern
   pub words : length untried ≡ words_for (size q.target)
   pub degrees : choice ≡ size q.target
   pub room : size q.pattern ≤ capacity
 
--- What the end of the search of one worker from the start says.
-abbrev pub Decides : Decided → Problem → ℕ → Type 0
-Decides (decided.Found m) q budget = Embeds q m.items
-Decides decided.Refuted q budget = HasNone q
-Decides (decided.Spent a) q budget = Spends q budget a × (budget < enough (size q.pattern) (size q.target))
-Decides decided.NoMemory q budget = Unit {0}
+-- After a stop a worker may go on; after every other outcome it may not.
+abbrev pub stage_after : Outcome → Stage
+stage_after (Found m) = Over
+stage_after Refuted = Over
+stage_after Spent = Over
+stage_after (Stopped n) = Halfway
+stage_after NoMemory = Over
+
+-- A worker that has not ended by refuting or for want of memory: its domains are at rest for its path, no row that it has seen is left to follow from, and it keeps up with its book.
+pub record IsPaused {S K : Type 0} (w : Search S K) : Type 0 where
+  pub rest : AtRest w.problem (path w.account) w.domains
+  pub in_force : RowsInForce w.domains w.facts.seen
+  pub keeps : KeepsUp w.facts w.account.run

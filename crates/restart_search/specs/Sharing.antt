@@ -1,0 +1,61 @@
+-- What a worker shares by a book of nogoods: what it publishes, which rows are in force in its domains, and that it keeps up.
+
+use Rattle.std.specs.Prelude.{◌≡◌, ℕ, ◌+◌, ◌<◌, ◌≤◌, ◌⊎◌, false, List, [], ◌∷◌, ◌++◌, length, take, Contains, Option, Some, None, slice_get}
+use Rattle.graph_theory.specs.Embedding.{Problem}
+use Rattle.search_theory.specs.Account.{Account, path, level_at}
+use Rattle.domain_bits.specs.Removals.{State, in_domain}
+use Rattle.nogood_watch.specs.Nogoods.{literal}
+use Rattle.nogood_watch.specs.Watching.{IsAssigned, AllBut}
+use Rattle.nogood_book.specs.declared.row.Row.{Row}
+use Rattle.nogood_book.specs.declared.row.RowKind.TheVariants.{Nogood}
+use Rattle.nogood_book.specs.Rows.{Pairs, path_at}
+use Rattle.nogood_book.specs.Places.{IsNogoodRow, nogoods_by}
+use Rattle.nogood_book.specs.Facts.{Facts, Grew}
+
+-- The seat is one of this owner, for this problem.
+pub record IsSeatFor (q : Problem) (owner : ℕ) (f : Facts) : Type 0 where
+  pub problem : f.problem ≡ q
+  pub owner_is : f.owner ≡ owner
+
+-- ---- what is published
+
+-- These pairs are the path of a nogood of this owner, at a place from the given one on.
+pub record IsRowOf (owner from : ℕ) (rows : List Row) (xs : Pairs) : Type 0 where
+  pub place : ℕ
+  pub past : from ≤ place
+  pub row : Row
+  pub row_is : slice_get rows place ≡ Some row
+  pub kind : row.kind ≡ Nogood
+  pub owner_is : row.owner ≡ owner
+  pub path_is : path_at rows place ≡ xs
+
+-- What the account's position has refuted is published: at each level that has a vertex, each value refuted there, with the path above.
+pub record IsPublished (a : Account) (owner from : ℕ) (rows : List Row) : Type 0 where
+  pub each : (i p t : ℕ) → (level_at a i).vertex ≡ Some p → Contains (level_at a i).refuted t → IsRowOf owner from rows (take i (path a) ++ (p, t) ∷ [])
+
+-- The same seat has seen no less, and has not looked again.
+pub record Went (s t : Facts) : Type 0 where
+  pub grew : Grew s t
+  pub looks : t.looks ≡ s.looks
+
+-- ---- which rows are in force
+
+-- Not all pairs of the path are assigned, and where all but one are, that one has left its domain.
+pub record IsPathInForce (d : State) (xs : Pairs) : Type 0 where
+  pub not_whole : ((k : ℕ) → k < length xs → IsAssigned d (literal xs k)) → ⊥
+  pub last_gone : (l : ℕ × ℕ) → AllBut d xs l → in_domain d l.0 l.1 ≡ false
+
+-- So it is with the path of each nogood among the rows.
+abbrev pub RowsInForce : State → List Row → Type 0
+RowsInForce d rows = (k : ℕ) → IsNogoodRow rows k → IsPathInForce d (path_at rows k)
+
+-- ---- keeping up
+
+-- There were so many looks, where looks are told.
+abbrev pub HasLooked : Option (List ℕ) → ℕ → Type 0
+HasLooked None n = Unit {0}
+HasLooked (Some looks) n = n ≤ length looks
+
+-- Every row of the book is used and seen; or all runs before this one have left a nogood of the seat's owner, and each run has begun with a look.
+abbrev pub KeepsUp : Facts → ℕ → Type 0
+KeepsUp f run = (f.size ≤ length f.seen) ⊎ ((run ≤ nogoods_by f.owner f.seen + 1) × HasLooked f.looks run)

@@ -1,0 +1,200 @@
+//! Publishing a position: what a run has refuted goes to the book as rows, before the next run begins.
+//!
+//! For each level in order there is one nogood for each value refuted there, and then a step for the level's guess, below which the
+//! rows of the next level stand. So the guesses above a nogood are written once, however many nogoods stand below them.
+
+ghost use Rattle.std.specs.Prelude.{◌≡◌, ℕ, [], ◌∷◌, ◌++◌, ◌+◌, ◌<◌, ◌≤◌, true, false, length, take, Some, None, IfSome, IfNone};
+ghost use Rattle.graph_theory.specs.Graph.{size};
+ghost use Rattle.graph_theory.specs.Path.{NotOn, IsPath, Dead};
+ghost use Rattle.domain_bits.specs.BitRows.{has, words_for};
+ghost use Rattle.search_theory.specs.Account.{InRange, Honest};
+ghost use Rattle.nogood_book.specs.Reaching.{Reaches, MayStand};
+ghost use Rattle.restart_search.specs.Sharing.{IsSeatFor, IsRowOf, IsPublished, Went};
+
+use bit_rows::next_member;
+use fail_account::Account;
+use graph_rows::Problem;
+use nogood_book::{Book, Published, Row, RowKind};
+
+/// Whose rows are written, and which problem they are about.
+#[derive(Clone, Copy)]
+pub(crate) struct Author<'q> {
+    /// The problem.
+    pub problem: &'q Problem,
+    /// The worker's number.
+    pub owner: u8,
+}
+
+/// Publishes one nogood: that no embedding has the pairs above and this one. False where the book is full.
+fn publish_nogood<B: Book>(
+    book: &B,
+    seat: &mut B::Seat,
+    author: &Author,
+    parent: Option<u32>,
+    above: &[(u16, u16)],
+    pair: (u16, u16),
+) -> bool
+    requires fits { B.fits book.now seat.old }
+    requires seat { IsSeatFor author.now.problem.now author.now.owner (B.Seat.shows seat.old) }
+    requires narrow { author.now.owner < 128 }
+    requires parent { Reaches (B.Seat.shows seat.old).seen parent above.now }
+    requires stands { MayStand author.now.problem.now above.now pair }
+    requires dead { Dead author.now.problem.now (above.now ++ pair ∷ []) }
+    ensures fits { B.fits book.now seat.new }
+    ensures went { Went (B.Seat.shows seat.old) (B.Seat.shows seat.new) }
+    ensures row { result ≡ true → IsRowOf author.now.owner (length (B.Seat.shows seat.old).seen) (B.Seat.shows seat.new).seen (above.now ++ pair ∷ []) }
+    ensures full { result ≡ false → length (B.Seat.shows seat.new).seen ≡ (B.Seat.shows seat.new).size }
+{
+    let _pattern = author.problem.pattern();
+    let _target = author.problem.target();
+    let row = Row {
+        kind: RowKind::Nogood,
+        owner: author.owner,
+        parent,
+        vertex: pair.0,
+        value: pair.1,
+    };
+    match book.publish(seat, row) {
+        Published::At(_) => true,
+        Published::Full => false,
+    }
+}
+
+/// Publishes one guess, and answers its place, below which the next level's rows stand; none where the book is full.
+fn publish_step<B: Book>(
+    book: &B,
+    seat: &mut B::Seat,
+    author: &Author,
+    parent: Option<u32>,
+    above: &[(u16, u16)],
+    pair: (u16, u16),
+) -> Option<u32>
+    requires fits { B.fits book.now seat.old }
+    requires seat { IsSeatFor author.now.problem.now author.now.owner (B.Seat.shows seat.old) }
+    requires narrow { author.now.owner < 128 }
+    requires parent { Reaches (B.Seat.shows seat.old).seen parent above.now }
+    requires stands { MayStand author.now.problem.now above.now pair }
+    ensures fits { B.fits book.now seat.new }
+    ensures went { Went (B.Seat.shows seat.old) (B.Seat.shows seat.new) }
+    ensures next { IfSome result (λ at. Reaches (B.Seat.shows seat.new).seen (Some at) (above.now ++ pair ∷ [])) }
+    ensures full { IfNone result (length (B.Seat.shows seat.new).seen ≡ (B.Seat.shows seat.new).size) }
+{
+    let _pattern = author.problem.pattern();
+    let _target = author.problem.target();
+    let row = Row {
+        kind: RowKind::Step,
+        owner: author.owner,
+        parent,
+        vertex: pair.0,
+        value: pair.1,
+    };
+    match book.publish(seat, row) {
+        Published::At(place) => Some(place),
+        Published::Full => None,
+    }
+}
+
+/// Publishes a nogood for each value of the row, with the pairs above. False where the book is full. Cost: a row of the book for each
+/// value, and one step for each word.
+fn publish_level<B: Book>(
+    book: &B,
+    seat: &mut B::Seat,
+    author: &Author,
+    parent: Option<u32>,
+    above: &[(u16, u16)],
+    p: u16,
+    refuted: &[u64],
+) -> bool
+    requires fits { B.fits book.now seat.old }
+    requires seat { IsSeatFor author.now.problem.now author.now.owner (B.Seat.shows seat.old) }
+    requires narrow { author.now.owner < 128 }
+    requires parent { Reaches (B.Seat.shows seat.old).seen parent above.now }
+    requires fresh { NotOn above.now p }
+    requires vertex { p < size author.now.problem.now.pattern }
+    requires long { length refuted.now ≡ words_for (size author.now.problem.now.target) }
+    requires refuted { (t : ℕ) → has refuted.now t ≡ true → (t < size author.now.problem.now.target) × Dead author.now.problem.now (above.now ++ (p, t) ∷ []) }
+    ensures fits { B.fits book.now seat.new }
+    ensures went { Went (B.Seat.shows seat.old) (B.Seat.shows seat.new) }
+    ensures all { result ≡ true → (t : ℕ) → has refuted.now t ≡ true → IsRowOf author.now.owner (length (B.Seat.shows seat.old).seen) (B.Seat.shows seat.new).seen (above.now ++ (p, t) ∷ []) }
+    ensures full { result ≡ false → length (B.Seat.shows seat.new).seen ≡ (B.Seat.shows seat.new).size }
+{
+    let _few = author.problem.target().size();
+    let mut t = next_member(refuted, 0);
+    while t < 64 * refuted.len() {
+        if !publish_nogood(book, seat, author, parent, above, (p, t as u16)) {
+            return false;
+        }
+        t = next_member(refuted, t + 1);
+    }
+    true
+}
+
+/// Publishes the guess of level `at`, where the path has one, and makes it the parent of what follows. False where the book is full.
+fn publish_guess<B: Book>(
+    book: &B,
+    seat: &mut B::Seat,
+    author: &Author,
+    parent: &mut Option<u32>,
+    path: &[(u16, u16)],
+    at: usize,
+) -> bool
+    requires fits { B.fits book.now seat.old }
+    requires seat { IsSeatFor author.now.problem.now author.now.owner (B.Seat.shows seat.old) }
+    requires narrow { author.now.owner < 128 }
+    requires parent { Reaches (B.Seat.shows seat.old).seen parent.old (take at path.now) }
+    requires path { IsPath path.now }
+    requires range { InRange (size author.now.problem.now.pattern) (size author.now.problem.now.target) path.now }
+    ensures fits { B.fits book.now seat.new }
+    ensures went { Went (B.Seat.shows seat.old) (B.Seat.shows seat.new) }
+    ensures next { result ≡ true → Reaches (B.Seat.shows seat.new).seen parent.new (take (at + 1) path.now) }
+    ensures full { result ≡ false → length (B.Seat.shows seat.new).seen ≡ (B.Seat.shows seat.new).size }
+{
+    if at >= path.len() {
+        return true;
+    }
+    match publish_step(book, seat, author, *parent, &path[..at], path[at]) {
+        None => false,
+        Some(place) => {
+            *parent = Some(place);
+            true
+        }
+    }
+}
+
+/// Publishes what the position of the account has refuted: for each level in order, a nogood for each value refuted there, rising, and
+/// then the level's guess. False where the book is full, which ends it. Cost: a row of the book for each of these, and the words of the
+/// levels' rows.
+pub(crate) fn publish_position<B: Book>(
+    book: &B,
+    seat: &mut B::Seat,
+    author: &Author,
+    account: &Account,
+) -> bool
+    requires fits { B.fits book.now seat.old }
+    requires seat { IsSeatFor author.now.problem.now author.now.owner (B.Seat.shows seat.old) }
+    requires narrow { author.now.owner < 128 }
+    requires honest { Honest author.now.problem.now account.now }
+    ensures fits { B.fits book.now seat.new }
+    ensures went { Went (B.Seat.shows seat.old) (B.Seat.shows seat.new) }
+    ensures all { result ≡ true → IsPublished account.now author.now.owner (length (B.Seat.shows seat.old).seen) (B.Seat.shows seat.new).seen }
+    ensures full { result ≡ false → length (B.Seat.shows seat.new).seen ≡ (B.Seat.shows seat.new).size }
+{
+    let _vertex = account.vertex();
+    let _rows = seat.rows();
+    let path = account.path();
+    let mut parent = None;
+    for i in 0..author.problem.pattern().size() {
+        let (vertex, refuted) = account.level(i);
+        let Some(p) = vertex else {
+            return true;
+        };
+        let at = usize::from(i);
+        if !publish_level(book, seat, author, parent, &path[..at], p, refuted) {
+            return false;
+        }
+        if !publish_guess(book, seat, author, &mut parent, path, at) {
+            return false;
+        }
+    }
+    true
+}
