@@ -1,12 +1,15 @@
 -- Keeping the nogoods of one row more, and of all.
 
-use Rattle.std.proofs.Common.{◌≡◌, ℕ, ◌+◌, ◌<◌, ◌≤◌, List, [], ◌∷◌, ◌++◌, length, take, Option, Some, None, Result, Ok, Err, refl, sym, ap, ◌∙◌, subst, arith, append_assoc, append-nil, length-append}
+use Rattle.std.proofs.Common.{◌≡◌, ℕ, ◌+◌, ◌<◌, ◌≤◌, List, [], ◌∷◌, ◌++◌, length, take, drop, Option, Some, None, Result, Ok, Err, refl, sym, ap, ◌∙◌, subst, arith, append_assoc, append-nil, length-append}
 use Rattle.std.specs.Result.{OnOk}
 use Rattle.std.specs.Prelude.{slice_get, slice_index_or}
 use Rattle.std.proofs.lemmas.Option.{slice_get-get_or}
 use Rattle.std.proofs.Math.Seq.{take-append_seam, take-append-add, take-length}
 use Rattle.graph_theory.specs.Embedding.{Problem}
 use Rattle.nogood_watch.specs.Nogoods as watched
+use Rattle.nogood_watch.specs.Nogoods.{nogood}
+use Rattle.nogood_watch.specs.Watching.{forced_at}
+use Rattle.std.proofs.lemmas.List.{take-append-drop}
 use Rattle.nogood_book.specs.declared.row.Row.{Row}
 use Rattle.nogood_book.specs.declared.row.RowKind.{RowKind}
 use Rattle.nogood_book.specs.declared.row.RowKind.TheVariants.{Step, Nogood}
@@ -15,7 +18,7 @@ use Rattle.nogood_book.specs.Places.{IsNogoodRow}
 use Rattle.nogood_book.proofs.Paths.{length-paths, above_more, follows_at, path_at_is}
 use Rattle.domain_bits.specs.Removals.{State}
 use Rattle.propagation.specs.Acting.{HaveMoved}
-use Rattle.propagation.specs.Holding.{listed, single, made_from, HoldsRows, KeepsSame}
+use Rattle.propagation.specs.Holding.{listed, single, made_from, lists_in, singles_in, HoldsRows, KeepsSame}
 
 -- ---- rows in order
 
@@ -154,3 +157,50 @@ same_moved d None None m = same_none None
 same_moved d None (Some b) m = absurd m
 same_moved d (Some a) None m = absurd m
 same_moved d (Some a) (Some b) m = record { lists = m.nogoods_same; singles = m.units_same }
+
+-- ---- where a nogood is kept
+
+-- what is made of a row stands among what is made of all
+made_here : {A : Type 0} (f : RowKind → Pairs → ℕ → List A) (q : Problem) (rows : List Row) (k : ℕ) (r : Row) → Sound q rows → slice_get rows k ≡ Some r
+    → (rest : List A) × (made_from f [] rows ≡ (made_from f [] (take k rows) ++ f r.kind (path_at rows k) k) ++ rest)
+made_here f q rows k r sound here = (
+  made_from f (paths_after [] (take (k + 1) rows)) (drop (k + 1) rows),
+  ap (made_from f []) (sym (take-append-drop (k + 1) rows)) ∙ made_from-append [] (take (k + 1) rows) (drop (k + 1) rows)
+  ∙ ap (λ zs. zs ++ made_from f (paths_after [] (take (k + 1) rows)) (drop (k + 1) rows)) (made_next f rows k r (stands_next q rows k r sound here)),
+)
+  where
+    made_from-append : (known : List Pairs) (xs ys : List Row) → made_from f known (xs ++ ys) ≡ made_from f known xs ++ made_from f (paths_after known xs) ys
+    made_from-append known [] ys = refl
+    made_from-append known (x ∷ xs) ys =
+        ap (λ zs. f x.kind (path_of known x) (length known) ++ zs) (made_from-append (known ++ path_of known x ∷ []) xs ys)
+        ∙ sym (append_assoc (f x.kind (path_of known x) (length known)) (made_from f (known ++ path_of known x ∷ []) xs) (made_from f (paths_after (known ++ path_of known x ∷ []) xs) ys))
+
+-- one that is made of a row has a place
+made_place : {A : Type 0} (f : RowKind → Pairs → ℕ → List A) (q : Problem) (rows : List Row) (k : ℕ) (all : List A) (e d : A) → Sound q rows → IsNogoodRow rows k
+    → f Nogood (path_at rows k) k ≡ e ∷ [] → all ≡ made_from f [] rows → (i : ℕ) × (i < length all) × (slice_index_or all i d ≡ e)
+made_place f q rows k all e d sound row is all_is =
+    let made = made_here f q rows k row.0 sound row.1 in
+    let front = made_from f [] (take k rows) in
+    let told : all ≡ front ++ (e ∷ made.0) =
+    all_is ∙ made.1 ∙ ap (λ (o : RowKind). (front ++ f o (path_at rows k) k) ++ made.0) row.2 ∙ ap (λ zs. (front ++ zs) ++ made.0) is ∙ append_assoc front (e ∷ []) made.0 in (
+      length front,
+      omega (arith, ap length told, length-append front (e ∷ made.0)),
+      ap (λ zs. slice_index_or zs (length front) d) told ∙ at_seam front e made.0,
+    )
+  where
+    at_seam : (xs : List _) (x : _) (ys : List _) → slice_index_or (xs ++ x ∷ ys) (length xs) d ≡ x
+    at_seam [] x ys = refl
+    at_seam (z ∷ zs) x ys = at_seam zs x ys
+
+-- a nogood of one pair is one of the single pairs
+pub single_place : (q : Problem) (rows : List Row) (k : ℕ) (n : Option watched.State) (x : ℕ × ℕ) → Sound q rows → IsNogoodRow rows k → path_at rows k ≡ x ∷ [] → HoldsRows rows n
+    → (i : ℕ) × (i < length (singles_in n)) × (forced_at (singles_in n) i ≡ (x.0, x.1, k))
+single_place q rows k n x sound row is holds =
+    made_place single q rows k (singles_in n) (x.0, x.1, k) (0, 0, 0) sound row (ap (λ (xs : Pairs). single Nogood xs k) is) holds.singles
+
+-- and one of more is one of the lists
+pub listed_place : (q : Problem) (rows : List Row) (k : ℕ) (n : Option watched.State) (x y : ℕ × ℕ) (rest : Pairs) → Sound q rows → IsNogoodRow rows k → path_at rows k ≡ x ∷ y ∷ rest
+    → HoldsRows rows n → (i : ℕ) × (i < length (lists_in n)) × ((nogood (lists_in n) i).literals ≡ x ∷ y ∷ rest)
+listed_place q rows k n x y rest sound row is holds =
+    let at = made_place listed q rows k (lists_in n) (record { literals = x ∷ y ∷ rest; name = k }) (record { literals = []; name = 0 }) sound row (ap (λ (xs : Pairs). listed Nogood xs k) is) holds.lists in
+    (at.0, at.1, ap (λ (z : watched.Nogood). z.literals) at.2)
