@@ -5,4 +5,7 @@ pub mod Beginning
 pub mod Steps
 pub mod Choosing
 pub mod Moments
-pub mod Lasting
+pub mod Positions
+pub mod Publishing
+pub mod KeepingUp
+pub mod Restarting

@@ -198,7 +198,10 @@ take_guess xs at d within = rw (add-one) (take-suc xs at d within)
 
 -- past the end there is none
 pub take_past : (xs : Pairs) (at : ℕ) → length xs ≤ at → take (at + 1) xs ≡ take at xs
-take_past [] zero past = refl
-take_past [] (suc at) past = refl
-take_past (x ∷ xs) zero past = absurd (omega (arith, past))
-take_past (x ∷ xs) (suc at) past = rw (add-one) (ap (λ (ys : Pairs). x ∷ ys) (rw (add-one) at (take_past xs at (omega (arith, past)))))
+take_past xs at past = whole xs (at + 1) (omega (arith, past)) ∙ sym (whole xs at past)
+  where
+    whole : (ys : Pairs) (n : ℕ) → length ys ≤ n → take n ys ≡ ys
+    whole [] zero le = refl
+    whole [] (suc n) le = refl
+    whole (y ∷ ys) zero le = absurd (omega (arith, le))
+    whole (y ∷ ys) (suc n) le = ap (λ (zs : Pairs). y ∷ zs) (whole ys n (omega (arith, le)))

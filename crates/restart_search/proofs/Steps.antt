@@ -123,26 +123,7 @@ none_left d us row p all none t here off = clash (has row t) (all t here off) (n
 
 -- ---- a spent budget
 
--- an event leaves the sizes
-sizes_happen : (q : Problem) (old : Account) (e : Event) (new : Account) → Happens q old e new → (new.pattern ≡ old.pattern) × (new.target ≡ old.target)
-sizes_happen q old (Deepen p t) new h = (ap (λ (a : Account). a.pattern) h.3, ap (λ (a : Account). a.target) h.3)
-sizes_happen q old Fail new h = (ap (λ (a : Account). a.pattern) h.1.new_is, ap (λ (a : Account). a.target) h.1.new_is)
-sizes_happen q old Restart new h = (ap (λ (a : Account). a.pattern) h.1, ap (λ (a : Account). a.target) h.1)
-
-sizes_lead : (q : Problem) (start : Account) (es : List Event) (a : Account) → Leads q start es a → (a.pattern ≡ start.pattern) × (a.target ≡ start.target)
-sizes_lead q start [] a is = (ap (λ (b : Account). b.pattern) is, ap (λ (b : Account). b.target) is)
-sizes_lead q start (e ∷ es) a led =
-    let rest = sizes_lead q start es led.0 led.1 in
-    let last = sizes_happen q led.0 e a led.2 in
-    (last.0 ∙ rest.0, last.1 ∙ rest.1)
-
--- what is reached has the problem's sizes and the budget it began with, so that an end of the search is one from the start
-pub spends_from_start : (q r : Problem) (a : Account) (budget : ℕ) → r ≡ q → a.budget ≡ budget → Spends r a.budget a × (a.budget < enough a.pattern a.target)
-    → Spends q budget a × (budget < enough (size q.pattern) (size q.target))
-spends_from_start q r a budget problem is h =
-    let spent : Spends q budget a = subst (λ (p : Problem). Spends p budget a) problem (subst (λ (b : ℕ). Spends r b a) is h.0) in
-    let sizes = sizes_lead q _ spent.reached.events a spent.reached.lead in (
-      spent,
-      subst (λ (n : ℕ). budget < enough n (size q.target)) sizes.0
-          (subst (λ (n : ℕ). budget < enough a.pattern n) sizes.1 (subst (λ (b : ℕ). b < enough a.pattern a.target) is h.1)),
-    )
+-- an honest account has the problem's sizes
+pub enough_for : (q : Problem) (a : Account) → Honest q a → a.budget < enough a.pattern a.target → a.budget < enough (size q.pattern) (size q.target)
+enough_for q a honest h =
+    subst (λ (n : ℕ). a.budget < enough n (size q.target)) honest.pattern_is (subst (λ (n : ℕ). a.budget < enough a.pattern n) honest.target_is h)

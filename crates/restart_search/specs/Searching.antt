@@ -16,6 +16,8 @@ use Rattle.propagation.specs.Learning.{Filtering}
 use Rattle.propagation.specs.Holding.{HoldsRows}
 use Rattle.nogood_book.specs.Facts.{Facts}
 use Rattle.worker_gate.specs.Answers.{AnswerView, NoteView}
+use Rattle.nogood_book.specs.declared.row.Row.{Row}
+use Rattle.propagation.specs.Acting.{AreActedOn}
 use Rattle.restart_search.specs.Acting.{Acting}
 use Rattle.restart_search.specs.Sharing.{RowsInForce, KeepsUp}
 use Rattle.domain_bits.specs.BitRows.{words_for}
@@ -87,9 +89,17 @@ pub record Knows (q : Problem) (n : NoteView) : Type 0 where
 abbrev pub Ends : Outcome → Problem → Account → Type 0
 Ends (Found m) q a = Embeds q m.items
 Ends Refuted q a = HasNone q
-Ends Spent q a = Spends q a.budget a × (a.budget < enough a.pattern a.target)
+Ends Spent q a = Spends q a.budget a × (a.budget < enough (size q.pattern) (size q.target))
 Ends (Stopped n) q a = Knows q n
 Ends NoMemory q a = Unit {0}
+
+-- What the outcome decides is true of the problem.
+abbrev pub IsTrueFor : Problem → Outcome → Type 0
+IsTrueFor q (Found m) = Embeds q m.items
+IsTrueFor q Refuted = HasNone q
+IsTrueFor q Spent = Unit {0}
+IsTrueFor q (Stopped n) = Unit {0}
+IsTrueFor q NoMemory = Unit {0}
 
 -- The run was not stopped.
 abbrev pub IsNotStopped : Outcome → Type 0
@@ -164,6 +174,13 @@ pub record Search (S K : Type 0) : Type 0 where
   pub account : Account
   pub stage : Stage
 
+-- What a worker begins with, as its callers see it.
+pub record Outfit : Type 0 where
+  pub problem : Problem
+  pub number : ℕ
+  pub domains : State
+  pub account : Account
+
 -- The search stands at the root: its domains are at rest for the empty path, and the root's moment is the present one.
 pub record IsAtRoot (q : Problem) (d : State) (s : sparse.State) (a : Account) (marks : List Moment) (root : Moment) : Type 0 where
   pub is_of : IsOf q d
@@ -186,6 +203,16 @@ pub record Begun (q : Problem) (nogoods : Option watched.State) (d : State) (s :
   pub acting : Acting d nogoods marks root
   pub holds : HoldsRows f.seen nogoods
   pub keeps : KeepsUp f a.run
+
+-- What taking up the book leaves at the root: all nogoods that were seen are kept and nothing is left to follow from them, or no embedding exists.
+abbrev pub TookUp : Bool → Problem → Option watched.State → State → sparse.State → Account → List Moment → Moment → List Row → Type 0
+TookUp true q nogoods d s a marks root rows = IsAtRoot q d s a marks root × AreActedOn d nogoods × HoldsRows rows nogoods
+TookUp false q nogoods d s a marks root rows = HasNone q
+
+-- What beginning again leaves: a search that goes on, or no embedding exists.
+abbrev pub BeganAgain : Bool → Problem → Option watched.State → State → sparse.State → Account → List Moment → Moment → Facts → Type 0
+BeganAgain true q nogoods d s a marks root f = Begun q nogoods d s a marks root f
+BeganAgain false q nogoods d s a marks root f = HasNone q
 
 -- Where the worker stands between its runs.
 abbrev pub AtStage : Stage → Problem → Option watched.State → State → sparse.State → Account → List Moment → Moment → Facts → Type 0

@@ -12,15 +12,16 @@ use domain_bits::{Domains, Trail};
 use first_rows::fill_first;
 use graph_rows::Problem;
 use nds_filter::KeptRows;
+use pair_rows::PairKinds;
 use propagation::{Filters, narrow, propagate};
 use sparse_set::SparseSet;
 use std::alloc::{AllocError, Global};
 
 /// What the root answers.
 #[derive(Drop)]
-pub enum Rooted<'a, T: Trail> {
-    /// Domains at rest that hold every embedding, and what propagation worked with, for a worker to go on with.
-    Quiet(Domains<T>, Filters<'a>),
+pub enum Rooted<T: Trail> {
+    /// Domains at rest that hold every embedding, for workers to begin with.
+    Quiet(Domains<T>),
     /// No embedding exists.
     Failed,
     /// Memory was refused.
@@ -73,19 +74,27 @@ fn settle_root<T: Trail>(
     begin(q, kept, d, waiting, row) && propagate(q, filters, d, waiting, undecided)
 }
 
-/// The first domains and what follows from them. Cost: that of `KeptRows::new`, for each vertex that of `fill_first`, and the propagation.
-pub fn root<'a, T: Trail>(alloc: Global, q: &'a Problem) -> Rooted<'a, T>
-    ensures { RootSays result q.entry.now }
+/// The first domains and what follows from them, with at most so many words of rows of pairs. Cost: that of `KeptRows::new`, for each
+/// vertex that of `fill_first`, and the propagation.
+pub fn root<T: Trail>(alloc: Global, q: &Problem, kinds: &PairKinds, most: usize) -> Rooted<T>
+    requires { kinds.now.problem ≡ q.now }
+    ensures { RootSays result q.now }
 {
-    match take_root::<T>(alloc, q) {
+    match take_root::<T>(alloc, q, kinds, most) {
         Ok(answer) => answer,
         Err(_) => Rooted::NoMemory,
     }
 }
 
 /// The same, where memory suffices.
-fn take_root<'a, T: Trail>(alloc: Global, q: &'a Problem) -> Result<Rooted<'a, T>, AllocError>
-    ensures { IfOk result (λ answer. RootSays answer q.entry.now) }
+fn take_root<T: Trail>(
+    alloc: Global,
+    q: &Problem,
+    kinds: &PairKinds,
+    most: usize,
+) -> Result<Rooted<T>, AllocError>
+    requires { kinds.now.problem ≡ q.now }
+    ensures { IfOk result (λ answer. RootSays answer q.now) }
 {
     let vertices = q.pattern().size();
     let values = q.target().size();
@@ -94,7 +103,7 @@ fn take_root<'a, T: Trail>(alloc: Global, q: &'a Problem) -> Result<Rooted<'a, T
     let mut undecided = SparseSet::new(alloc, vertices)?;
     let mut row = vec![in alloc; 0u64; (usize::from(values) + 63) / 64]?;
     let kept = KeptRows::new(alloc, q)?;
-    let mut filters = Filters::new(alloc, q)?;
+    let mut filters = Filters::new(alloc, q, kinds, most)?;
     if settle_root(
         q,
         &kept,
@@ -104,7 +113,7 @@ fn take_root<'a, T: Trail>(alloc: Global, q: &'a Problem) -> Result<Rooted<'a, T
         &mut undecided,
         &mut row,
     ) {
-        Ok(Rooted::Quiet(domains, filters))
+        Ok(Rooted::Quiet(domains))
     } else {
         Ok(Rooted::Failed)
     }

@@ -1,40 +1,33 @@
 //! The steps of a search, down a path of guesses and back, and the loop over them.
 
-ghost use Rattle.std.specs.Prelude.{◌≡◌, ℕ, [], ◌+◌, ◌<◌, ◌≤◌, ◌&&◌, not, true, false, length, Option, None, IfSome, IfNone, IsTrue, vec_capacity};
+ghost use Rattle.std.specs.Prelude.{◌≡◌, ℕ, [], ◌+◌, ◌<◌, ◌≤◌, ◌&&◌, not, true, false, length, take, Option, None, IfOk, IfSome, IfNone, IsTrue, vec_capacity};
 ghost use Rattle.graph_theory.specs.Graph.{size};
 ghost use Rattle.graph_theory.specs.Path.{NotOn, Dead};
 ghost use Rattle.domain_bits.specs.BitRows.{has, words_for};
 ghost use Rattle.domain_bits.specs.Removals.{in_domain, size_of};
 ghost use Rattle.search_theory.specs.Claims.{Single, Quiet};
 ghost use Rattle.search_theory.specs.Bounds.{cutoff};
-ghost use Rattle.search_theory.specs.Account.{path, IsAt, NotAmong, MayGuess};
+ghost use Rattle.search_theory.specs.Account.{path, IsAt, NotAmong, MayGuess, restarted};
 ghost use Rattle.search_theory.specs.Remaining.{remaining};
 ghost use Rattle.propagation.specs.Propagation.{IsOf, LeavesPast};
 ghost use Rattle.nogood_watch.specs.Nogoods as watched;
 ghost use Rattle.restart_search.specs.Acting.{Acting, WereActedOn};
-ghost use Rattle.propagation.specs.Learning.{HasLearned, LastFrom};
-ghost use Rattle.restart_search.specs.Searching.{AtRest, Based, Sound, Ends, LastAfter, FoundOf, IsBest, IsNow, IsUndecided};
+ghost use Rattle.propagation.specs.Holding.{HoldsRows, KeepsSame};
+ghost use Rattle.nogood_book.specs.Facts.{CaughtUp};
+ghost use Rattle.restart_search.specs.Sharing.{IsSeatFor};
+ghost use Rattle.restart_search.specs.Searching.{AtRest, Based, Sound, Begun, BeganAgain, IsAtRoot, TookUp, Knows, Ends, IsNotStopped, Leaves, FoundOf, IsBest, IsNow, IsUndecided};
 
+use crate::outcome::Outcome;
+use crate::sharing::{Author, publish_position};
 use crate::value_choice::ValueChoice;
 use domain_bits::{Domains, Mark, Trail, and_not_into};
 use fail_account::Account;
 use graph_rows::Problem;
+use nogood_book::{Book, RowSeat};
 use propagation::{Filters, lower, propagate, propagate_again};
 use sparse_set::SparseSet;
-use std::alloc::Global;
-
-/// How a search ends.
-#[derive(Drop)]
-pub enum Ended {
-    /// An embedding: the target vertex of each pattern vertex in order.
-    Found(Vec<u32>),
-    /// No embedding exists.
-    Refuted,
-    /// The budget is spent, and a further guess is due.
-    Spent,
-    /// Memory was refused.
-    NoMemory,
-}
+use std::alloc::{AllocError, Global};
+use worker_gate::{AnswerCell, Gate, Note, Point};
 
 /// A moment of a search: how much had been removed from the domains, and how many vertices were past.
 #[derive(Clone, Copy)]
@@ -175,6 +168,7 @@ fn close<T: Trail>(
     ensures acting { (nogoods : Option watched.State) → WereActedOn d.old nogoods marks.old.items root → Acting d.new nogoods marks.new.items root }
     ensures nearer { remaining account.new < remaining account.old }
     ensures budget { account.new.budget ≡ account.old.budget }
+    ensures run { account.new.run ≡ account.old.run }
     ensures room { vec_capacity marks.old ≤ vec_capacity marks.new }
 {
     account.fail(q);
@@ -187,12 +181,73 @@ fn close<T: Trail>(
     }
 }
 
-/// Begins the next run: what the position has refuted is kept, and taken up at the root together with what earlier runs left. Where
-/// that leaves no embedding, or memory is refused, the search ends so, and its nogoods are let go. Cost: what had been removed since
-/// the root, that of `Filters::learn`, and the propagation.
-fn begin_again<T: Trail>(
+/// Goes back to the root, and begins the next run. Cost: what had been removed since the root.
+fn restart<T: Trail>(
+    q: &Problem,
+    d: &mut Domains<T>,
+    undecided: &mut SparseSet,
+    account: &mut Account,
+    marks: &mut Vec<Moment>,
+    root: Moment,
+)
+    requires sound { Sound q.now d.old undecided.old account.old marks.old.items root }
+    requires due { account.old.count ≡ cutoff account.old.run }
+    ensures at_root { IsAtRoot q.now d.new undecided.new account.new marks.new.items root }
+    ensures restarted { account.new ≡ restarted account.old }
+    ensures nearer { remaining account.new < remaining account.old }
+    ensures room { vec_capacity marks.old ≤ vec_capacity marks.new }
+{
+    account.restart(q);
+    marks.clear();
+    d.undo_to(root.domains);
+    undecided.undo_to(root.past);
+}
+
+/// Takes up what the book has: the nogoods among the rows from a place on, those before it being kept, and what follows at the root.
+/// False where no embedding is left. Cost: that of `Filters::take_rows` and of the propagation.
+pub(crate) fn take_up_book<T: Trail, B: Book>(
     alloc: Global,
     q: &Problem,
+    book: &B,
+    seat: &mut B::Seat,
+    taken: usize,
+    filters: &mut Filters,
+    d: &mut Domains<T>,
+    undecided: &mut SparseSet,
+    account: &Account,
+    marks: &[Moment],
+    waiting: &mut [bool],
+    root: &mut Moment,
+) -> Result<bool, AllocError>
+    requires fits { B.fits book.now seat.old }
+    requires seat { (B.Seat.shows seat.old).problem ≡ q.now }
+    requires begun { taken ≤ length (B.Seat.shows seat.old).seen }
+    requires problem { filters.old.problem ≡ q.now }
+    requires holds { HoldsRows (take taken (B.Seat.shows seat.old).seen) filters.old.nogoods }
+    requires at_root { IsAtRoot q.now d.old undecided.old account.now marks.now root.old }
+    requires long { length waiting.old ≡ size q.now.pattern }
+    ensures fits { B.fits book.now seat.new }
+    ensures caught { CaughtUp (B.Seat.shows seat.old) (B.Seat.shows seat.new) }
+    ensures problem { filters.new.problem ≡ q.now }
+    ensures took { IfOk result (λ some. TookUp some q.now filters.new.nogoods d.new undecided.new account.now marks.now root.new (B.Seat.shows seat.new).seen) }
+{
+    book.catch_up(seat);
+    filters.take_rows(alloc, q, seat.rows(), taken)?;
+    if !propagate_again(q, filters, d, waiting, undecided) {
+        lower(waiting);
+        return Ok(false);
+    }
+    *root = present(d, undecided);
+    Ok(true)
+}
+
+/// Begins the next run: what the position has refuted is published, and what the book has is taken up at the root. False where that
+/// leaves no embedding. Cost: that of `publish_position`, of `restart` and of `take_up_book`.
+fn begin_again<T: Trail, B: Book>(
+    alloc: Global,
+    author: &Author,
+    book: &B,
+    seat: &mut B::Seat,
     filters: &mut Filters,
     d: &mut Domains<T>,
     undecided: &mut SparseSet,
@@ -200,40 +255,39 @@ fn begin_again<T: Trail>(
     marks: &mut Vec<Moment>,
     waiting: &mut [bool],
     root: &mut Moment,
-) -> Option<Ended>
-    requires problem { filters.old.problem ≡ q.now }
-    requires sound { Sound q.now d.old undecided.old account.old marks.old.items root.old }
+) -> Result<bool, AllocError>
+    requires fits { B.fits book.now seat.old }
+    requires seat { IsSeatFor author.now.problem.now author.now.owner (B.Seat.shows seat.old) }
+    requires narrow { author.now.owner < 128 }
+    requires problem { filters.old.problem ≡ author.now.problem.now }
+    requires begun { Begun author.now.problem.now filters.old.nogoods d.old undecided.old account.old marks.old.items root.old (B.Seat.shows seat.old) }
     requires due { account.old.count ≡ cutoff account.old.run }
-    requires long { length waiting.old ≡ size q.now.pattern }
-    ensures problem { filters.new.problem ≡ q.now }
-    ensures sound { Sound q.now d.new undecided.new account.new marks.new.items root.new }
-    ensures acting { Acting d.new filters.new.nogoods marks.new.items root.new }
-    ensures learned { IfNone result (HasLearned account.old filters.new.nogoods) }
-    ensures last { IfNone result (LastFrom filters.old.nogoods filters.new.nogoods) }
-    ensures last_of { IfSome result (λ ended. LastAfter ended filters.old.nogoods filters.new.nogoods) }
-    ensures nearer { IfNone result (remaining account.new < remaining account.old) }
-    ensures ends { IfSome result (λ ended. Ends ended q.now account.new) }
+    requires long { length waiting.old ≡ size author.now.problem.now.pattern }
+    ensures fits { B.fits book.now seat.new }
+    ensures seat { IsSeatFor author.now.problem.now author.now.owner (B.Seat.shows seat.new) }
+    ensures problem { filters.new.problem ≡ author.now.problem.now }
+    ensures begun { IfOk result (λ some. BeganAgain some author.now.problem.now filters.new.nogoods d.new undecided.new account.new marks.new.items root.new (B.Seat.shows seat.new)) }
+    ensures nearer { remaining account.new < remaining account.old }
     ensures budget { account.new.budget ≡ account.old.budget }
     ensures room { vec_capacity marks.old ≤ vec_capacity marks.new }
 {
-    if filters.learn(alloc, q, account).is_err() {
-        filters.forget();
-        return Some(Ended::NoMemory);
-    }
-    let start = *root;
-    account.restart(q);
-    marks.clear();
-    d.undo_to(start.domains);
-    undecided.undo_to(start.past);
-    if !propagate_again(q, filters, d, waiting, undecided) {
-        filters.forget();
-        lower(waiting);
-        d.undo_to(start.domains);
-        undecided.undo_to(start.past);
-        return Some(Ended::Refuted);
-    }
-    *root = present(d, undecided);
-    None
+    let taken = seat.rows().len();
+    publish_position(book, seat, author, account);
+    restart(author.problem, d, undecided, account, marks, *root);
+    take_up_book(
+        alloc,
+        author.problem,
+        book,
+        seat,
+        taken,
+        filters,
+        d,
+        undecided,
+        account,
+        marks,
+        waiting,
+        root,
+    )
 }
 
 /// The present moment. Cost: one step.
@@ -271,9 +325,10 @@ fn guess<T: Trail>(
     ensures problem { filters.new.problem ≡ q.now }
     ensures sound { Sound q.now d.new undecided.new account.new marks.new.items root }
     ensures acting { Acting d.new filters.new.nogoods marks.new.items root }
-    ensures last { LastFrom filters.old.nogoods filters.new.nogoods }
+    ensures kept { KeepsSame filters.old.nogoods filters.new.nogoods }
     ensures nearer { remaining account.new < remaining account.old }
     ensures budget { account.new.budget ≡ account.old.budget }
+    ensures run { account.new.run ≡ account.old.run }
     ensures room { vec_capacity marks.old ≤ vec_capacity marks.new }
 {
     let moment = present(d, undecided);
@@ -288,7 +343,7 @@ fn guess<T: Trail>(
 }
 
 /// The embedding that domains of one value are.
-fn found<T: Trail>(alloc: Global, q: &Problem, d: &Domains<T>) -> Ended
+fn found<'a, T: Trail>(alloc: Global, q: &Problem, d: &Domains<T>) -> Outcome<'a>
     requires is_of { IsOf q.now d.now }
     requires quiet { Quiet q.now (in_domain d.now) }
     requires single { (p : ℕ) → p < size q.now.pattern → (t : ℕ) × Single (in_domain d.now) p t }
@@ -299,19 +354,46 @@ fn found<T: Trail>(alloc: Global, q: &Problem, d: &Domains<T>) -> Ended
         match d.only(p) {
             Some(t) => {
                 if map.push(u32::from(t)).is_err() {
-                    return Ended::NoMemory;
+                    return Outcome::NoMemory;
                 }
             }
             None => unreachable!(),
         }
     }
-    Ended::Found(map)
+    Outcome::Found(map)
 }
 
-/// Searches until an embedding is found, none is left, or the budget is spent.
-pub(crate) fn run<T: Trail>(
-    alloc: Global,
+/// A note of the cell that knows an answer to the problem, if the cell has one. Where it has an answer to another problem, it is
+/// looked at no more. Cost: one load while the cell is empty; once there is an answer, that of `Problem::same`.
+fn stop_at<'a>(
+    cell: Option<&AnswerCell<'a>>,
+    asks: &mut bool,
     q: &Problem,
+) -> Option<Note<'a>>
+    ensures knows { IfSome result (Knows q.now) }
+    ensures alone { cell.entry ≡ None → result ≡ None }
+{
+    if !*asks {
+        return None;
+    }
+    let cell = cell?;
+    let mut note = cell.note();
+    let answer = cell.seen(&mut note)?;
+    if answer.answers(q) {
+        return Some(note);
+    }
+    *asks = false;
+    None
+}
+
+/// Searches until an embedding is found, none is left, the cell shows an answer, or the budget is spent.
+pub(crate) fn run<'a, T: Trail, B: Book, G: Gate>(
+    alloc: Global,
+    author: &Author,
+    book: &B,
+    seat: &mut B::Seat,
+    cell: Option<&AnswerCell<'a>>,
+    gate: &G,
     filters: &mut Filters,
     d: &mut Domains<T>,
     undecided: &mut SparseSet,
@@ -321,23 +403,29 @@ pub(crate) fn run<T: Trail>(
     untried: &mut [u64],
     choice: &mut ValueChoice,
     root: &mut Moment,
-) -> Ended
-    requires problem { filters.old.problem ≡ q.now }
-    requires sound { Sound q.now d.old undecided.old account.old marks.old.items root.old }
-    requires acting { Acting d.old filters.old.nogoods marks.old.items root.old }
-    requires long { length waiting.old ≡ size q.now.pattern }
-    requires words { length untried.old ≡ words_for (size q.now.target) }
-    requires choice { choice.old ≡ size q.now.target }
-    requires room { size q.now.pattern ≤ vec_capacity marks.old }
-    ensures ends { Ends result q.now account.new }
+) -> Outcome<'a>
+    requires fits { B.fits book.now seat.old }
+    requires seat { IsSeatFor author.now.problem.now author.now.owner (B.Seat.shows seat.old) }
+    requires narrow { author.now.owner < 128 }
+    requires problem { filters.old.problem ≡ author.now.problem.now }
+    requires begun { Begun author.now.problem.now filters.old.nogoods d.old undecided.old account.old marks.old.items root.old (B.Seat.shows seat.old) }
+    requires long { length waiting.old ≡ size author.now.problem.now.pattern }
+    requires words { length untried.old ≡ words_for (size author.now.problem.now.target) }
+    requires choice { choice.old ≡ size author.now.problem.now.target }
+    requires room { size author.now.problem.now.pattern ≤ vec_capacity marks.old }
+    ensures fits { B.fits book.now seat.new }
+    ensures seat { IsSeatFor author.now.problem.now author.now.owner (B.Seat.shows seat.new) }
+    ensures ends { Ends result author.now.problem.now account.new }
+    ensures alone { cell.entry ≡ None → IsNotStopped result }
     ensures budget { account.new.budget ≡ account.old.budget }
-    ensures sound { Sound q.now d.new undecided.new account.new marks.new.items root.new }
-    ensures acting { Acting d.new filters.new.nogoods marks.new.items root.new }
-    ensures last { LastAfter result filters.old.nogoods filters.new.nogoods }
-    ensures problem { filters.new.problem ≡ q.now }
-    ensures choice { choice.new ≡ size q.now.target }
-    ensures room { size q.now.pattern ≤ vec_capacity marks.new }
+    ensures begun { Leaves result (Begun author.now.problem.now filters.new.nogoods d.new undecided.new account.new marks.new.items root.new (B.Seat.shows seat.new)) }
+    ensures problem { filters.new.problem ≡ author.now.problem.now }
+    ensures choice { choice.new ≡ size author.now.problem.now.target }
+    ensures room { size author.now.problem.now.pattern ≤ vec_capacity marks.new }
 {
+    let q = author.problem;
+    let number = u32::from(author.owner);
+    let mut asks = true;
     loop {
         let Some(p) = level_vertex(q, d, undecided, account) else {
             return found(alloc, q, d);
@@ -345,22 +433,28 @@ pub(crate) fn run<T: Trail>(
         fill_untried(d, account, p, untried);
         if !has_value(untried) {
             if account.path().is_empty() {
-                return Ended::Refuted;
+                return Outcome::Refuted;
             }
             close(q, d, undecided, account, marks, *root);
             continue;
         }
+        if let Some(note) = stop_at(cell, &mut asks, q) {
+            return Outcome::Stopped(note);
+        }
         if account.spent() {
-            return Ended::Spent;
+            return Outcome::Spent;
         }
         if account.at_cutoff() {
-            if let Some(ended) = begin_again(
-                alloc, q, filters, d, undecided, account, marks, waiting, root,
+            gate.at(number, Point::Restart);
+            match begin_again(
+                alloc, author, book, seat, filters, d, undecided, account, marks, waiting, root,
             ) {
-                return ended;
+                Ok(true) => continue,
+                Ok(false) => return Outcome::Refuted,
+                Err(_) => return Outcome::NoMemory,
             }
-            continue;
         }
+        gate.at(number, Point::Guess);
         let t = choice.choose(untried);
         guess(
             q, filters, d, undecided, account, marks, waiting, *root, p, t,

@@ -14,7 +14,7 @@ ghost use Rattle.restart_search.specs.Sharing.{IsSeatFor, IsRowOf, IsPublished, 
 use bit_rows::next_member;
 use fail_account::Account;
 use graph_rows::Problem;
-use nogood_book::{Book, Published, Row, RowKind};
+use nogood_book::{Book, Published, Row, RowKind, RowSeat};
 
 /// Whose rows are written, and which problem they are about.
 #[derive(Clone, Copy)]
@@ -119,6 +119,7 @@ fn publish_level<B: Book>(
     ensures full { result ≡ false → length (B.Seat.shows seat.new).seen ≡ (B.Seat.shows seat.new).size }
 {
     let _few = author.problem.target().size();
+    let _rows = seat.rows();
     let mut t = next_member(refuted, 0);
     while t < 64 * refuted.len() {
         if !publish_nogood(book, seat, author, parent, above, (p, t as u16)) {
@@ -149,6 +150,7 @@ fn publish_guess<B: Book>(
     ensures next { result ≡ true → Reaches (B.Seat.shows seat.new).seen parent.new (take (at + 1) path.now) }
     ensures full { result ≡ false → length (B.Seat.shows seat.new).seen ≡ (B.Seat.shows seat.new).size }
 {
+    let _rows = seat.rows();
     if at >= path.len() {
         return true;
     }

@@ -26,8 +26,15 @@ impl Model for ValueChoice {
 }
 
 impl ValueChoice {
-    /// The choice of the first worker, whose stream begins at the seed. Cost: one step for each target vertex.
-    pub fn new(alloc: Global, q: &Problem, seed: u64) -> Result<ValueChoice, AllocError>
+    /// The choice of the worker of this number, from 1, whose stream is that of the seed after as many jumps as there are workers before
+    /// it. Cost: one step for each target vertex, and for each jump some hundred.
+    pub fn new(
+        alloc: Global,
+        q: &Problem,
+        seed: u64,
+        worker: u8,
+    ) -> Result<ValueChoice, AllocError>
+        requires { 1 ≤ worker }
         ensures { IfOk result (λ v. v ≡ size q.now.target) }
     {
         let target = q.target();
@@ -35,7 +42,7 @@ impl ValueChoice {
         for t in 0..target.size() {
             degrees.push(target.degree(t))?;
         }
-        let chooser = Chooser::new(seed, 1);
+        let chooser = Chooser::new(seed, u32::from(worker));
         Ok(ValueChoice { degrees, chooser })
     }
 

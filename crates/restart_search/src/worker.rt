@@ -1,30 +1,36 @@
-//! A worker, and the whole of a search by one.
+//! A worker: one search beside others over the same problem, which share a book of nogoods and a cell for the first answer.
 
-ghost use Rattle.std.specs.Prelude.{◌≡◌, ℕ, [], ◌^◌, ◌<◌, ◌≤◌, length, vec_capacity, None, IfOk, IfSome};
+ghost use Rattle.std.specs.Prelude.{◌≡◌, ℕ, [], ◌^◌, ◌<◌, ◌≤◌, ◌≢◌, length, vec_capacity, None, IfOk};
 ghost use Rattle.graph_theory.specs.Graph.{size};
+ghost use Rattle.graph_theory.specs.Embedding.{Embeds};
+ghost use Rattle.domain_bits.specs.BitRows.{words_for};
 ghost use Rattle.domain_bits.specs.Removals.{in_domain};
 ghost use Rattle.search_theory.specs.Account.{fresh, path};
 ghost use Rattle.search_theory.specs.Claims.{Quiet};
-ghost use Rattle.propagation.specs.Acting.{NothingLeft};
 ghost use Rattle.propagation.specs.Learning.{unlearned};
 ghost use Rattle.propagation.specs.Propagation.{IsOf, LeavesPast};
-ghost use Rattle.restart_search.specs.Searching.{AtRest, Ends, LastAfter, Decides};
+ghost use Rattle.restart_search.specs.Sharing.{IsSeatFor};
+ghost use Rattle.restart_search.specs.Searching.{AtRest, AtStage, Begun, Ends, IsNotStopped, IsPaused, IsTrueFor, Leaves, NotBegun, stage_after};
 
-use crate::root::{Rooted, root};
-use crate::search::{Ended, Moment, present, run};
+use crate::outcome::{Outcome, Stage, stage_of};
+use crate::search::{Moment, present, run, take_up_book};
+use crate::sharing::Author;
 use crate::value_choice::ValueChoice;
-use domain_bits::{Domains, Trail, WordTrail};
+use domain_bits::{Domains, Trail};
 use fail_account::Account;
 use graph_rows::Problem;
+use nogood_book::{Book, RowSeat};
 use propagation::Filters;
 use sparse_set::SparseSet;
 use std::alloc::{AllocError, Global};
 use std::marker::Model;
+use worker_gate::{Answer, AnswerCell, Gate, Point};
 
-/// One search, with where it stands.
+/// What a worker searches with, before it has a seat: all of its memory. So a seat is asked for only where a worker will have it.
 #[derive(Drop)]
-pub struct Worker<'a, T: Trail> {
+pub struct Equipment<'a, T: Trail> {
     problem: &'a Problem,
+    number: u8,
     filters: Filters<'a>,
     domains: Domains<T>,
     undecided: SparseSet,
@@ -36,15 +42,15 @@ pub struct Worker<'a, T: Trail> {
     root: Moment,
 }
 
-impl<'a, T: Trail> Model for Worker<'a, T> {
-    ghost use Rattle.std.specs.Prelude.{vec_capacity};
-    ghost use Rattle.restart_search.specs.Searching.{Search, Working};
+impl<'a, T: Trail> Model for Equipment<'a, T> {
+    ghost use Rattle.std.specs.Prelude.{◌≡◌, vec_capacity};
+    ghost use Rattle.restart_search.specs.Searching.{Outfit, Equipped, NotBegun};
 
-    ghost Value = { Search };
+    ghost Value = { Outfit };
 
-    ghost view = { λ w. record { problem = w.problem.now; domains = w.domains; account = w.account; nogoods = w.filters.nogoods } };
+    ghost view = { λ e. record { problem = e.problem.now; number = e.number; domains = e.domains; account = e.account } };
 
-    ghost invariant = { λ w. Working w.problem.now w.filters w.domains w.undecided w.account w.marks.items w.waiting.items w.untried.items w.choice w.root (vec_capacity w.marks) };
+    ghost invariant = { λ e. Equipped e.problem.now e.number e.filters e.waiting.items e.untried.items e.choice (vec_capacity e.marks) × NotBegun e.problem.now e.filters.nogoods e.domains e.undecided e.account e.marks.items e.root };
 }
 
 /// The set of the vertices that have more than one value in domains at rest. Cost: one step for each vertex.
@@ -67,23 +73,27 @@ fn undecided_of<T: Trail>(
     Ok(undecided)
 }
 
-impl<'a, T: Trail> Worker<'a, T> {
-    /// A worker before its first guess. It reserves a mark for each pattern vertex; its choices of values begin at the seed.
+impl<'a, T: Trail> Equipment<'a, T> {
+    /// The equipment of the worker of this number. It reserves a mark for each pattern vertex; the worker's choices of values are those
+    /// of its own stream, which begins at the seed.
     pub fn new(
         alloc: Global,
         q: &'a Problem,
         domains: Domains<T>,
         filters: Filters<'a>,
+        number: u8,
         seed: u64,
         budget: u64,
-    ) -> Result<Worker<'a, T>, AllocError>
+    ) -> Result<Equipment<'a, T>, AllocError>
         requires is_of { IsOf q.now domains }
         requires rest { AtRest q.now [] domains }
         requires filters { filters ≡ unlearned q.now }
+        requires some { 1 ≤ number }
+        requires few { number ≤ 64 }
         requires budget { budget < 2 ^ 63 }
-        ensures problem { IfOk result (λ w. w.problem ≡ q.entry.now) }
-        ensures account { IfOk result (λ w. w.account ≡ fresh (size q.entry.now.pattern) (size q.entry.now.target) budget) }
-        ensures nogoods { IfOk result (λ w. w.nogoods ≡ None) }
+        ensures problem { IfOk result (λ e. e.problem ≡ q.entry.now) }
+        ensures number { IfOk result (λ e. e.number ≡ number) }
+        ensures account { IfOk result (λ e. e.account ≡ fresh (size q.entry.now.pattern) (size q.entry.now.target) budget) }
     {
         let account = Account::new(alloc, q, budget)?;
         let vertices = usize::from(q.pattern().size());
@@ -91,11 +101,12 @@ impl<'a, T: Trail> Worker<'a, T> {
         let waiting = vec![in alloc; false; vertices]?;
         let words = (usize::from(q.target().size()) + 63) / 64;
         let untried = vec![in alloc; 0u64; words]?;
-        let choice = ValueChoice::new(alloc, q, seed)?;
+        let choice = ValueChoice::new(alloc, q, seed, number)?;
         let undecided = undecided_of(alloc, q, &domains)?;
         let root = present(&domains, &undecided);
-        Ok(Worker {
+        Ok(Equipment {
             problem: q,
+            number,
             filters,
             domains,
             undecided,
@@ -107,19 +118,125 @@ impl<'a, T: Trail> Worker<'a, T> {
             root,
         })
     }
+}
 
-    /// Searches to an end.
-    pub fn run(&mut self, alloc: Global) -> Ended
-        ensures ends { Ends result self.new.problem self.new.account }
-        ensures problem { self.new.problem ≡ self.old.problem }
-        ensures budget { self.new.account.budget ≡ self.old.account.budget }
-        ensures rest { AtRest self.new.problem (path self.new.account) self.new.domains }
-        ensures in_force { IfSome self.new.nogoods (NothingLeft self.new.domains) }
-        ensures last { LastAfter result self.old.nogoods self.new.nogoods }
+/// One search, with where it stands, its seat at the book, and what keeps its lines.
+#[derive(Drop)]
+pub struct Worker<'a, S: RowSeat + Drop, T: Trail, K: Drop> {
+    problem: &'a Problem,
+    number: u8,
+    seat: S,
+    keeper: K,
+    filters: Filters<'a>,
+    domains: Domains<T>,
+    undecided: SparseSet,
+    account: Account,
+    marks: Vec<Moment>,
+    waiting: Vec<bool>,
+    untried: Vec<u64>,
+    choice: ValueChoice,
+    root: Moment,
+    stage: Stage,
+}
+
+impl<'a, S: RowSeat + Drop, T: Trail, K: Drop> Model for Worker<'a, S, T, K> {
+    ghost use Rattle.std.specs.Prelude.{vec_capacity};
+    ghost use Rattle.restart_search.specs.Searching.{Search, Equipped, AtStage};
+    ghost use Rattle.restart_search.specs.Sharing.{IsSeatFor};
+
+    ghost Value = { Search S K };
+
+    ghost view = { λ w. record { problem = w.problem.now; number = w.number; seat = w.seat; facts = S.shows w.seat; keeper = w.keeper; domains = w.domains; account = w.account; stage = w.stage } };
+
+    ghost invariant = { λ w. Equipped w.problem.now w.number w.filters w.waiting.items w.untried.items w.choice (vec_capacity w.marks) × IsSeatFor w.problem.now w.number (S.shows w.seat) × AtStage w.stage w.problem.now w.filters.nogoods w.domains w.undecided w.account w.marks.items w.root (S.shows w.seat) };
+}
+
+impl<'a, S: RowSeat + Drop, T: Trail, K: Drop> Worker<'a, S, T, K> {
+    /// A worker that has not begun, at this seat of its own. It takes no memory.
+    pub fn new(equipment: Equipment<'a, T>, seat: S, keeper: K) -> Worker<'a, S, T, K>
+        requires { IsSeatFor equipment.problem equipment.number (S.shows seat) }
+        ensures problem { result.problem ≡ equipment.entry.problem }
+        ensures number { result.number ≡ equipment.entry.number }
+        ensures seat { result.seat ≡ seat }
+        ensures facts { result.facts ≡ S.shows seat }
+        ensures keeper { result.keeper ≡ keeper }
+        ensures account { result.account ≡ equipment.entry.account }
+        ensures stage { result.stage ≡ result.stage.Fresh }
     {
-        run(
+        let Equipment {
+            problem,
+            number,
+            filters,
+            domains,
+            undecided,
+            account,
+            marks,
+            waiting,
+            untried,
+            choice,
+            root,
+        } = equipment;
+        Worker {
+            problem,
+            number,
+            seat,
+            keeper,
+            filters,
+            domains,
+            undecided,
+            account,
+            marks,
+            waiting,
+            untried,
+            choice,
+            root,
+            stage: Stage::Fresh,
+        }
+    }
+
+    /// The worker's number, from 1, which is also the owner of its seat.
+    pub fn number(&self) -> u8
+        ensures { result ≡ self.now.number }
+    {
+        self.number
+    }
+
+    /// Searches to an outcome, and offers what it decides to the cell; a refused offer changes nothing. After `Stopped` it may run
+    /// again, from the guess that was due.
+    pub fn run<B: Book<Seat = S>, G: Gate>(
+        &mut self,
+        alloc: Global,
+        book: &B,
+        cell: Option<&AnswerCell<'a>>,
+        gate: &G,
+    ) -> Outcome<'a>
+        requires fits { B.fits book.now self.old.seat }
+        requires open { self.old.stage ≢ Stage.Over }
+        ensures fits { B.fits book.now self.new.seat }
+        ensures facts { self.new.facts ≡ S.shows self.new.seat }
+        ensures seat { IsSeatFor self.new.problem self.new.number self.new.facts }
+        ensures ends { Ends result self.new.problem self.new.account }
+        ensures alone { cell.entry ≡ None → IsNotStopped result }
+        ensures problem { self.new.problem ≡ self.old.problem }
+        ensures number { self.new.number ≡ self.old.number }
+        ensures keeper { self.new.keeper ≡ self.old.keeper }
+        ensures budget { self.new.account.budget ≡ self.old.account.budget }
+        ensures stage { self.new.stage ≡ stage_after result }
+        ensures paused { Leaves result (IsPaused self.new) }
+    {
+        let author = Author {
+            problem: self.problem,
+            owner: self.number,
+        };
+        gate.at(u32::from(self.number), Point::Start);
+        let outcome = run_from(
+            self.stage,
             alloc,
-            self.problem,
+            &author,
+            book,
+            &mut self.seat,
+            cell,
+            gate,
             &mut self.filters,
             &mut self.domains,
             &mut self.undecided,
@@ -129,15 +246,23 @@ impl<'a, T: Trail> Worker<'a, T> {
             &mut self.untried,
             &mut self.choice,
             &mut self.root,
-        )
+        );
+        self.stage = stage_of(&outcome);
+        offer(alloc, self.problem, cell, &outcome);
+        outcome
     }
 
-    /// The account, which tells where the search stands and how often it failed.
-    pub fn into_account(self) -> Account
-        ensures { result ≡ self.entry.account }
+    /// The account, which tells where the search stands and how often it failed, the seat, and the keeper.
+    pub fn into_parts(self) -> (Account, S, K)
+        ensures account { result.0 ≡ self.entry.account }
+        ensures seat { result.1 ≡ self.entry.seat }
+        ensures keeper { result.2 ≡ self.entry.keeper }
     {
         let Worker {
             problem: _,
+            number: _,
+            seat,
+            keeper,
             filters: _,
             domains: _,
             undecided: _,
@@ -147,60 +272,161 @@ impl<'a, T: Trail> Worker<'a, T> {
             untried: _,
             choice: _,
             root: _,
+            stage: _,
         } = self;
-        account
+        (account, seat, keeper)
     }
 }
 
-/// What the search of one worker decides.
-#[derive(Drop)]
-pub enum Decided {
-    /// An embedding: the target vertex of each pattern vertex in order.
-    Found(Vec<u32>),
-    /// No embedding exists.
-    Refuted,
-    /// The budget is spent, and a further guess is due: the account that shows it.
-    Spent(Account),
-    /// Memory was refused.
-    NoMemory,
-}
-
-/// Decides the problem by one worker within the budget of fails. The seed is where its choices of values begin: with the same
-/// seed a run is the same, and with another it may need more fails or fewer.
-pub fn decide(alloc: Global, q: &Problem, seed: u64, budget: u64) -> Decided
-    requires { budget < 2 ^ 63 }
-    ensures { Decides result q.now budget }
+/// Takes up what the book has, as at a restart, and searches from the root.
+fn run_fresh<'a, T: Trail, B: Book, G: Gate>(
+    alloc: Global,
+    author: &Author,
+    book: &B,
+    seat: &mut B::Seat,
+    cell: Option<&AnswerCell<'a>>,
+    gate: &G,
+    filters: &mut Filters,
+    d: &mut Domains<T>,
+    undecided: &mut SparseSet,
+    account: &mut Account,
+    marks: &mut Vec<Moment>,
+    waiting: &mut [bool],
+    untried: &mut [u64],
+    choice: &mut ValueChoice,
+    root: &mut Moment,
+) -> Outcome<'a>
+    requires fits { B.fits book.now seat.old }
+    requires seat { IsSeatFor author.now.problem.now author.now.owner (B.Seat.shows seat.old) }
+    requires narrow { author.now.owner < 128 }
+    requires problem { filters.old.problem ≡ author.now.problem.now }
+    requires stands { NotBegun author.now.problem.now filters.old.nogoods d.old undecided.old account.old marks.old.items root.old }
+    requires long { length waiting.old ≡ size author.now.problem.now.pattern }
+    requires words { length untried.old ≡ words_for (size author.now.problem.now.target) }
+    requires choice { choice.old ≡ size author.now.problem.now.target }
+    requires room { size author.now.problem.now.pattern ≤ vec_capacity marks.old }
+    ensures fits { B.fits book.now seat.new }
+    ensures seat { IsSeatFor author.now.problem.now author.now.owner (B.Seat.shows seat.new) }
+    ensures ends { Ends result author.now.problem.now account.new }
+    ensures alone { cell.entry ≡ None → IsNotStopped result }
+    ensures budget { account.new.budget ≡ account.old.budget }
+    ensures begun { Leaves result (Begun author.now.problem.now filters.new.nogoods d.new undecided.new account.new marks.new.items root.new (B.Seat.shows seat.new)) }
+    ensures problem { filters.new.problem ≡ author.now.problem.now }
+    ensures long { length waiting.new ≡ size author.now.problem.now.pattern }
+    ensures words { length untried.new ≡ words_for (size author.now.problem.now.target) }
+    ensures choice { choice.new ≡ size author.now.problem.now.target }
+    ensures room { size author.now.problem.now.pattern ≤ vec_capacity marks.new }
 {
-    match root(alloc, q) {
-        Rooted::Quiet(domains, filters) => search_from(alloc, q, domains, filters, seed, budget),
-        Rooted::Failed => Decided::Refuted,
-        Rooted::NoMemory => Decided::NoMemory,
+    match take_up_book(
+        alloc,
+        author.problem,
+        book,
+        seat,
+        0,
+        filters,
+        d,
+        undecided,
+        account,
+        marks,
+        waiting,
+        root,
+    ) {
+        Err(_) => Outcome::NoMemory,
+        Ok(false) => Outcome::Refuted,
+        Ok(true) => run(
+            alloc, author, book, seat, cell, gate, filters, d, undecided, account, marks, waiting,
+            untried, choice, root,
+        ),
     }
 }
 
-/// Searches from the domains of the root, with what it worked with.
-fn search_from<'a>(
+/// Searches from where the worker stands: one that has not begun takes up what the book has, as at a restart.
+fn run_from<'a, T: Trail, B: Book, G: Gate>(
+    stage: Stage,
+    alloc: Global,
+    author: &Author,
+    book: &B,
+    seat: &mut B::Seat,
+    cell: Option<&AnswerCell<'a>>,
+    gate: &G,
+    filters: &mut Filters,
+    d: &mut Domains<T>,
+    undecided: &mut SparseSet,
+    account: &mut Account,
+    marks: &mut Vec<Moment>,
+    waiting: &mut [bool],
+    untried: &mut [u64],
+    choice: &mut ValueChoice,
+    root: &mut Moment,
+) -> Outcome<'a>
+    requires fits { B.fits book.now seat.old }
+    requires open { stage ≢ Stage.Over }
+    requires seat { IsSeatFor author.now.problem.now author.now.owner (B.Seat.shows seat.old) }
+    requires narrow { author.now.owner < 128 }
+    requires problem { filters.old.problem ≡ author.now.problem.now }
+    requires stands { AtStage stage author.now.problem.now filters.old.nogoods d.old undecided.old account.old marks.old.items root.old (B.Seat.shows seat.old) }
+    requires long { length waiting.old ≡ size author.now.problem.now.pattern }
+    requires words { length untried.old ≡ words_for (size author.now.problem.now.target) }
+    requires choice { choice.old ≡ size author.now.problem.now.target }
+    requires room { size author.now.problem.now.pattern ≤ vec_capacity marks.old }
+    ensures fits { B.fits book.now seat.new }
+    ensures seat { IsSeatFor author.now.problem.now author.now.owner (B.Seat.shows seat.new) }
+    ensures ends { Ends result author.now.problem.now account.new }
+    ensures alone { cell.entry ≡ None → IsNotStopped result }
+    ensures budget { account.new.budget ≡ account.old.budget }
+    ensures begun { Leaves result (Begun author.now.problem.now filters.new.nogoods d.new undecided.new account.new marks.new.items root.new (B.Seat.shows seat.new)) }
+    ensures problem { filters.new.problem ≡ author.now.problem.now }
+    ensures long { length waiting.new ≡ size author.now.problem.now.pattern }
+    ensures words { length untried.new ≡ words_for (size author.now.problem.now.target) }
+    ensures choice { choice.new ≡ size author.now.problem.now.target }
+    ensures room { size author.now.problem.now.pattern ≤ vec_capacity marks.new }
+{
+    match stage {
+        Stage::Over => unreachable!(),
+        Stage::Halfway => run(
+            alloc, author, book, seat, cell, gate, filters, d, undecided, account, marks, waiting,
+            untried, choice, root,
+        ),
+        Stage::Fresh => run_fresh(
+            alloc, author, book, seat, cell, gate, filters, d, undecided, account, marks, waiting,
+            untried, choice, root,
+        ),
+    }
+}
+
+/// Offers what was decided to the cell, if there is one.
+fn offer<'a>(
     alloc: Global,
     q: &'a Problem,
-    domains: Domains<WordTrail>,
-    filters: Filters<'a>,
-    seed: u64,
-    budget: u64,
-) -> Decided
-    requires is_of { IsOf q.now domains }
-    requires rest { AtRest q.now [] domains }
-    requires filters { filters ≡ unlearned q.now }
-    requires budget { budget < 2 ^ 63 }
-    ensures { Decides result q.entry.now budget }
+    cell: Option<&AnswerCell<'a>>,
+    outcome: &Outcome<'a>,
+)
+    requires { IsTrueFor q.now outcome.now }
 {
-    let mut worker = match Worker::new(alloc, q, domains, filters, seed, budget) {
-        Ok(worker) => worker,
-        Err(_) => return Decided::NoMemory,
+    let Some(cell) = cell else {
+        return;
     };
-    match worker.run(alloc) {
-        Ended::Found(map) => Decided::Found(map),
-        Ended::Refuted => Decided::Refuted,
-        Ended::Spent => Decided::Spent(worker.into_account()),
-        Ended::NoMemory => Decided::NoMemory,
+    match outcome {
+        Outcome::Found(map) => offer_map(alloc, q, cell, map),
+        Outcome::Refuted => give(alloc, cell, Answer::no_embedding(q)),
+        Outcome::Spent => (),
+        Outcome::Stopped(_) => (),
+        Outcome::NoMemory => (),
     }
+}
+
+/// Offers a copy of the embedding, if there is memory for it.
+fn offer_map<'a>(alloc: Global, q: &'a Problem, cell: &AnswerCell<'a>, map: &[u32])
+    requires { Embeds q.now map.now }
+{
+    match Vec::from_slice(alloc, map) {
+        Ok(copy) => give(alloc, cell, Answer::embedding(q, copy)),
+        Err(_) => (),
+    }
+}
+
+/// Gives an answer to the cell, which keeps it if it has none and there is memory for it.
+fn give<'a>(alloc: Global, cell: &AnswerCell<'a>, answer: Answer<'a>) {
+    let mut note = cell.note();
+    let _offered = cell.offer(alloc, &mut note, answer);
 }

@@ -1,4 +1,5 @@
-use Rattle.std.proofs.Common.{List, subst, arith}
+use Rattle.std.proofs.Common.{List, ap, subst, arith}
+use Rattle.search_theory.specs.Account.{Account}
 use Rattle.restart_search.specs.declared.search.Moment.{Moment}
 use Rattle.restart_search.specs.Searching.{Based}
 use Rattle.restart_search.specs.Acting.{WereActedOn}
@@ -35,3 +36,9 @@ pub returns-in-Some-clause-acting : goal.returns-in-Some-clause-acting
 returns-in-Some-clause-acting g c = λ n were.
     rw (c.undo_to.ensures.after)
     (acting_closed c.args.d.now n _ c.in-Some.moment c.args.root (subst (λ (ks : List Moment). WereActedOn c.args.d.now n ks c.args.root) c.in-Some.ensures.items were))
+
+pub returns-in-None-clause-run : goal.returns-in-None-clause-run
+returns-in-None-clause-run g c = ap (λ (a : Account). a.run) c.fail.ensures.failed.new_is
+
+pub returns-in-Some-clause-run : goal.returns-in-Some-clause-run
+returns-in-Some-clause-run g c = ap (λ (a : Account). a.run) c.fail.ensures.failed.new_is

@@ -1,11 +1,11 @@
-use Rattle.std.proofs.Common.{ℕ, ◌<◌, List, subst, sym, arith}
+use Rattle.std.proofs.Common.{ℕ, ◌<◌, List, ap, subst, sym, ◌∙◌, arith}
 use Rattle.graph_theory.specs.Path.{Dead}
 use Rattle.search_theory.specs.Account.{Account, Honest, path}
 use Rattle.restart_search.specs.declared.search.Moment.{Moment}
 use Rattle.restart_search.specs.Acting.{WereActedOn}
 use Rattle.propagation.proofs.Acting.{kept_assigned}
 use Rattle.restart_search.proofs.Moments.{were_guessed, acting_guessed}
-use Rattle.restart_search.proofs.Lasting.{last_moved}
+use Rattle.propagation.proofs.Holding.{same_moved}
 use Rattle.restart_search.proofs.Guessing.{ready_assigned, inside_assigned, dead_assigned, path_deepened}
 use Rattle.propagation.proofs.Past.{leaves_on}
 use Rattle.restart_search.proofs.Steps.{guessed_room, based_narrowed, sound_guessed}
@@ -74,8 +74,14 @@ returns-else-not-propagate-clause-acting g c =
     c.args.filters.now.nogoods c.propagate.new.filters.nogoods c.requires.sound.based.levels c.present-moment.ensures.domains_is c.assign.ensures.keeps c.if-not-propagate.ensures.propagated.0
     c.propagate.ensures.moved c.requires.acting c.if-not-propagate.ensures.in_force)
 
-pub returns-then-not-propagate-clause-last : goal.returns-then-not-propagate-clause-last
-returns-then-not-propagate-clause-last g c = last_moved c.assign.new.self c.args.filters.now.nogoods c.propagate.new.filters.nogoods c.propagate.ensures.moved
+pub returns-then-not-propagate-clause-kept : goal.returns-then-not-propagate-clause-kept
+returns-then-not-propagate-clause-kept g c = same_moved c.assign.new.self c.args.filters.now.nogoods c.propagate.new.filters.nogoods c.propagate.ensures.moved
 
-pub returns-else-not-propagate-clause-last : goal.returns-else-not-propagate-clause-last
-returns-else-not-propagate-clause-last g c = last_moved c.assign.new.self c.args.filters.now.nogoods c.propagate.new.filters.nogoods c.propagate.ensures.moved
+pub returns-else-not-propagate-clause-kept : goal.returns-else-not-propagate-clause-kept
+returns-else-not-propagate-clause-kept g c = same_moved c.assign.new.self c.args.filters.now.nogoods c.propagate.new.filters.nogoods c.propagate.ensures.moved
+
+pub returns-then-not-propagate-clause-run : goal.returns-then-not-propagate-clause-run
+returns-then-not-propagate-clause-run g c = c.close.ensures.run ∙ ap (λ (a : Account). a.run) c.deepen.ensures.deepened
+
+pub returns-else-not-propagate-clause-run : goal.returns-else-not-propagate-clause-run
+returns-else-not-propagate-clause-run g c = ap (λ (a : Account). a.run) c.deepen.ensures.deepened

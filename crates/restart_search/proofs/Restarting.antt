@@ -1,0 +1,124 @@
+-- The root between two runs, and how a run ends.
+
+use Rattle.std.proofs.Common.{◌≡◌, ℕ, ◌≤◌, Bool, true, false, List, [], ◌++◌, length, take, Option, Some, None, Result, Ok, Err, IfOk, refl, sym, ap, ◌∙◌, subst, arith}
+use Rattle.std.proofs.lemmas.List.{length-take-le, take-append-le}
+use Rattle.std.proofs.Math.Seq.{take-append_seam}
+use Rattle.graph_theory.specs.Embedding.{Problem, HasNone}
+use Rattle.search_theory.specs.Account.{Account, path, restarted, Honest}
+use Rattle.search_theory.specs.Claims.{Quiet}
+use Rattle.domain_bits.specs.Removals.{State, in_domain, undone}
+use Rattle.sparse_set.specs.Removals as sparse
+use Rattle.all_different.specs.Prefixes.{Balanced}
+use Rattle.nogood_watch.specs.Nogoods as watched
+use Rattle.nogood_book.specs.declared.row.Row.{Row}
+use Rattle.nogood_book.specs.Places.{StartsWith}
+use Rattle.nogood_book.specs.Facts.{Facts}
+use Rattle.propagation.specs.Propagation.{Narrows, LeavesPast}
+use Rattle.propagation.specs.Holding.{HoldsRows}
+use Rattle.propagation.specs.Acting.{AreActedOn}
+use Rattle.propagation.proofs.Narrowing.{is_of_narrowed}
+use Rattle.restart_search.specs.declared.search.Moment.{Moment}
+use Rattle.restart_search.specs.declared.outcome.Outcome.{Outcome}
+use Rattle.restart_search.specs.declared.outcome.Outcome.TheVariants.{Found, Refuted, Spent, Stopped, NoMemory}
+use Rattle.restart_search.specs.Acting.{Acting}
+use Rattle.restart_search.specs.Sharing.{KeepsUp}
+use Rattle.restart_search.specs.Searching.{Sound, IsNow, IsAtRoot, Begun, TookUp, BeganAgain, Ends, IsTrueFor, IsNotStopped, FoundOf, Leaves}
+use Rattle.restart_search.proofs.Beginning.{sound_fresh}
+use Rattle.restart_search.proofs.Closing.{sound_restarted, rest_again}
+use Rattle.restart_search.proofs.Moments.{acting_fresh}
+
+-- ---- the root
+
+-- undone to the root's moment, a search stands at the root
+pub at_root_restarted : (q : Problem) (d : State) (s : sparse.State) (a : Account) (marks : List Moment) (root : Moment) → Sound q d s a marks root → Honest q (restarted a)
+    → IsAtRoot q (undone d root.domains) (sparse.undone s root.past) (restarted a) [] root
+at_root_restarted q d s a marks root sound honest =
+    let told = sound_restarted q d s a marks root sound honest in
+    record {
+      is_of = told.1.based.is_of;
+      honest = honest;
+      no_path = refl;
+      no_marks = refl;
+      now = record {
+        domains_is = sym (length-take-le root.domains d.removed told.0.domains);
+        past_is = sym (length-take-le root.past s.removed told.0.past);
+      };
+      rest = told.1.here;
+      left = told.1.left;
+    }
+
+-- so it does after a propagation there, with a new moment
+pub at_root_again : (q : Problem) (d e : State) (s r : sparse.State) (a : Account) (marks : List Moment) (root now : Moment) → IsAtRoot q d s a marks root → Narrows q d e
+    → Quiet q (in_domain e) → Balanced e → LeavesPast q e r → IsNow e r now → IsAtRoot q e r a marks now
+at_root_again q d e s r a marks root now at n quiet balanced left is = record {
+  is_of = is_of_narrowed q d e n at.is_of;
+  honest = at.honest;
+  no_path = at.no_path;
+  no_marks = at.no_marks;
+  now = is;
+  rest = rest_again q d e at.rest n quiet balanced;
+  left = left;
+}
+
+-- a search begins there
+pub begun_at_root : (q : Problem) (n : Option watched.State) (d : State) (s : sparse.State) (a : Account) (marks : List Moment) (root : Moment) (f : Facts) → IsAtRoot q d s a marks root
+    → AreActedOn d n → HoldsRows f.seen n → KeepsUp f a.run → Begun q n d s a marks root f
+begun_at_root q n d s a marks root f at acted holds keeps = record {
+  sound = sound_fresh q d s a marks root at.no_marks at.honest at.no_path at.now at.is_of at.rest at.left;
+  acting = subst (λ (ks : List Moment). Acting d n ks root) (sym at.no_marks) (acting_fresh d n root at.now.domains_is acted);
+  holds = holds;
+  keeps = keeps;
+}
+
+-- what taking up the book has left, where the search keeps up
+pub began_again : {E : Type 0} (answer : Result Bool E) (q : Problem) (n : Option watched.State) (d : State) (s : sparse.State) (a : Account) (marks : List Moment) (root : Moment) (f : Facts)
+    → IfOk answer (λ some. TookUp some q n d s a marks root f.seen) → KeepsUp f a.run → IfOk answer (λ some. BeganAgain some q n d s a marks root f)
+began_again (Ok true) q n d s a marks root f h keeps = begun_at_root q n d s a marks root f h.0 h.1 h.2 keeps
+began_again (Ok false) q n d s a marks root f h keeps = h
+began_again (Err e) q n d s a marks root f h keeps = tt
+
+-- ---- rows that were seen, among more
+
+pub take_seen : (more rows : List Row) (k : ℕ) → StartsWith more rows → k ≤ length rows → take k more ≡ take k rows
+take_seen more rows k starts within = ap (take k) starts.1 ∙ take-append-le k rows starts.0 within
+
+pub take_all_seen : (more rows : List Row) (k : ℕ) → StartsWith more rows → k ≡ length rows → take k more ≡ rows
+take_all_seen more rows k starts is = ap (take k) starts.1 ∙ ap (λ (n : ℕ). take n (rows ++ starts.0)) is ∙ take-append_seam rows starts.0
+
+-- ---- endings
+
+-- what holds before an ending is left after it, unless nothing can go on
+pub leaves_of : (o : Outcome) (P : Type 0) → P → Leaves o P
+leaves_of (Found m) P p = p
+leaves_of Refuted P p = tt
+leaves_of Spent P p = p
+leaves_of (Stopped n) P p = p
+leaves_of NoMemory P p = tt
+
+pub leaves_map : (o : Outcome) (P Q : Type 0) → (P → Q) → Leaves o P → Leaves o Q
+leaves_map (Found m) P Q f p = f p
+leaves_map Refuted P Q f p = tt
+leaves_map Spent P Q f p = f p
+leaves_map (Stopped n) P Q f p = f p
+leaves_map NoMemory P Q f p = tt
+
+pub found_ends : (o : Outcome) (q : Problem) (a : Account) → FoundOf q o → Ends o q a
+found_ends (Found m) q a h = h
+found_ends Refuted q a h = absurd h
+found_ends Spent q a h = absurd h
+found_ends (Stopped n) q a h = absurd h
+found_ends NoMemory q a h = tt
+
+pub found_alone : (o : Outcome) (q : Problem) → FoundOf q o → IsNotStopped o
+found_alone (Found m) q h = tt
+found_alone Refuted q h = tt
+found_alone Spent q h = tt
+found_alone (Stopped n) q h = absurd h
+found_alone NoMemory q h = tt
+
+pub ends_true : (o : Outcome) (q : Problem) (a : Account) → Ends o q a → IsTrueFor q o
+ends_true (Found m) q a h = h
+ends_true Refuted q a h = h
+ends_true Spent q a h = tt
+ends_true (Stopped n) q a h = tt
+ends_true NoMemory q a h = tt

@@ -1,0 +1,17 @@
+use Rattle.std.proofs.Common.{◌≡◌, ℕ, ◌-◌, ◌*◌, ◌<◌, ◌≤◌, true, [], ◌∷◌, ◌++◌, length}
+use Rattle.domain_bits.specs.BitRows.{has}
+use Rattle.restart_search.specs.Sharing.{IsRowOf, Went}
+use Rattle.restart_search.proofs.sharing.publish_level.Given as goal
+
+abbrev pub invariant-loop-t : goal.invariant-loop-t
+invariant-loop-t g l = record {
+  fits : g.B.Book.fits l.book l.seat;
+  went : Went (g.B.Seat.RowSeat.shows l.fn.seat) (g.B.Seat.RowSeat.shows l.seat);
+  below : (u : ℕ) → u < l.t → has l.refuted u ≡ true
+      → IsRowOf l.author.owner (length (g.B.Seat.RowSeat.shows l.fn.seat).seen) (g.B.Seat.RowSeat.shows l.seat).seen (l.above ++ (l.p, u) ∷ []);
+  within : l.t ≤ 64 * length l.refuted;
+  member : l.t < 64 * length l.refuted → has l.refuted l.t ≡ true;
+}
+
+abbrev pub decreases-loop-t : goal.decreases-loop-t
+decreases-loop-t g l = 64 * length l.refuted - l.t

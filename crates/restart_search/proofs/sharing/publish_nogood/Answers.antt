@@ -1,0 +1,25 @@
+use Rattle.std.proofs.Common.{◌≤◌, length, refl, sym, subst}
+use Rattle.graph_theory.specs.Graph.{Graph, size}
+use Rattle.restart_search.proofs.Publishing.{may_publish, went_at, went_full, full_after, row_published}
+use Rattle.restart_search.proofs.sharing.publish_nogood.Goals as goal
+
+pub publish-requires-clause-owner : goal.publish-requires-clause-owner
+publish-requires-clause-owner g c = sym c.requires.seat.owner_is
+
+pub publish-requires-clause-row : goal.publish-requires-clause-row
+publish-requires-clause-row g c =
+    may_publish c.args.author.now.problem.now c.args.author.now.owner (g.B.Seat.RowSeat.shows c.args.seat.now) _ c.args.above.now c.requires.seat c.requires.parent c.requires.stands c.requires.dead c.requires.narrow
+    (subst (λ (h : Graph). size h ≤ 1024) c.pattern-pattern.ensures.pattern c.pattern-pattern.ensures.few)
+    (subst (λ (h : Graph). size h ≤ 8192) c.target-target.ensures.target c.target-target.ensures.few)
+
+pub returns-in-At-clause-went : goal.returns-in-At-clause-went
+returns-in-At-clause-went g c = went_at _ _ _ _ c.in-At.ensures.placed
+
+pub returns-in-Full-clause-went : goal.returns-in-Full-clause-went
+returns-in-Full-clause-went g c = went_full _ _ c.in-Full.ensures.placed
+
+pub returns-in-At-clause-row : goal.returns-in-At-clause-row
+returns-in-At-clause-row g c = λ yes. row_published _ _ c.args.author.now.owner _ _ c.args.above.now c.in-At.ensures.placed c.requires.parent refl refl
+
+pub returns-in-Full-clause-full : goal.returns-in-Full-clause-full
+returns-in-Full-clause-full g c = λ no. full_after _ _ c.in-Full.ensures.placed

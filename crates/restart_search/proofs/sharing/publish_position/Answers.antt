@@ -1,0 +1,87 @@
+use Rattle.std.proofs.Common.{◌≡◌, ℕ, ◌+◌, ◌<◌, ◌≤◌, Option, IfSome, length, take, refl, sym, ap, ◌∙◌, subst, arith}
+use Rattle.std.proofs.lemmas.List.{length-take-le}
+use Rattle.graph_theory.specs.Graph.{size}
+use Rattle.graph_theory.specs.Path.{NotOn, IsPath}
+use Rattle.search_theory.specs.Account.{path, InRange}
+use Rattle.nogood_book.specs.Rows.{Pairs}
+use Rattle.nogood_book.specs.Reaching.{Reaches}
+use Rattle.nogood_book.proofs.Reaching.{reaches_empty, reaches_more}
+use Rattle.restart_search.specs.Sharing.{IsRowOf}
+use Rattle.restart_search.proofs.Positions.{level_is, refuted_dead}
+use Rattle.restart_search.proofs.Publishing.{went_none, went_more, row_on, row_later, published_none, published_on, published_more, published_ended, published_all}
+use Rattle.restart_search.proofs.sharing.publish_position.Goals as goal
+
+pub returns-in_default-clause-all : goal.returns-in_default-clause-all
+returns-in_default-clause-all g c = λ yes.
+    published_ended c.args.account.now c.args.author.now.owner (length (g.B.Seat.RowSeat.shows c.args.seat.now).seen) (g.B.Seat.RowSeat.shows c.loop-i.seat).seen c.loop-i.i c.loop-i.invariant.published
+    (sym c.level-vertex.ensures.vertex ∙ c.in_default.is)
+
+pub slice_bounds-publish_level-end : goal.slice_bounds-publish_level-end
+slice_bounds-publish_level-end g c =
+    let level = level_is c.args.author.now.problem.now c.args.account.now c.loop-i.i c.in-Some.p c.requires.honest c.path-path.ensures.vertices c.path-path.ensures.in_range
+    (subst (λ (v : Option ℕ). IfSome v (λ r. (r < c.args.account.now.pattern) × NotOn (path c.args.account.now) r)) c.vertex-vertex.ensures.is c.vertex-vertex.ensures.off_path)
+    (sym c.level-vertex.ensures.vertex ∙ c.in-Some.is) in
+    let le : c.from-at.result ≤ length c.path-path.result.now = omega (arith, level.0, c.from-at.ensures, ap length c.path-path.ensures.is) in
+    sym (length-take-le c.from-at.result c.path-path.result.now le)
+
+pub publish_level-requires-clause-parent : goal.publish_level-requires-clause-parent
+publish_level-requires-clause-parent g c = rw c.from-at.ensures c.loop-i.invariant.parent
+
+pub publish_level-requires-clause-fresh : goal.publish_level-requires-clause-fresh
+publish_level-requires-clause-fresh g c =
+    let level = level_is c.args.author.now.problem.now c.args.account.now c.loop-i.i c.in-Some.p c.requires.honest c.path-path.ensures.vertices c.path-path.ensures.in_range
+    (subst (λ (v : Option ℕ). IfSome v (λ r. (r < c.args.account.now.pattern) × NotOn (path c.args.account.now) r)) c.vertex-vertex.ensures.is c.vertex-vertex.ensures.off_path)
+    (sym c.level-vertex.ensures.vertex ∙ c.in-Some.is) in
+    rw (c.from-at.ensures, c.path-path.ensures.is) level.1.off
+
+pub publish_level-requires-clause-vertex : goal.publish_level-requires-clause-vertex
+publish_level-requires-clause-vertex g c =
+    let level = level_is c.args.author.now.problem.now c.args.account.now c.loop-i.i c.in-Some.p c.requires.honest c.path-path.ensures.vertices c.path-path.ensures.in_range
+    (subst (λ (v : Option ℕ). IfSome v (λ r. (r < c.args.account.now.pattern) × NotOn (path c.args.account.now) r)) c.vertex-vertex.ensures.is c.vertex-vertex.ensures.off_path)
+    (sym c.level-vertex.ensures.vertex ∙ c.in-Some.is) in
+    level.1.vertex_in
+
+pub publish_level-requires-clause-refuted : goal.publish_level-requires-clause-refuted
+publish_level-requires-clause-refuted g c t here =
+    let level = level_is c.args.author.now.problem.now c.args.account.now c.loop-i.i c.in-Some.p c.requires.honest c.path-path.ensures.vertices c.path-path.ensures.in_range
+    (subst (λ (v : Option ℕ). IfSome v (λ r. (r < c.args.account.now.pattern) × NotOn (path c.args.account.now) r)) c.vertex-vertex.ensures.is c.vertex-vertex.ensures.off_path)
+    (sym c.level-vertex.ensures.vertex ∙ c.in-Some.is) in
+    rw (c.from-at.ensures, c.path-path.ensures.is)
+    (refuted_dead c.args.author.now.problem.now (take c.loop-i.i (path c.args.account.now)) c.in-Some.p t c.args.account.now.target _ c.level-vertex.result.1.now level.1 c.level-vertex.ensures.refuted
+    c.requires.honest.target_is c.level-vertex.ensures.others here)
+
+pub publish_guess-requires-clause-parent : goal.publish_guess-requires-clause-parent
+publish_guess-requires-clause-parent g c =
+    rw c.from-at.ensures (reaches_more _ _ c.loop-i.parent (take c.loop-i.i c.path-path.result.now) c.loop-i.invariant.parent c.publish_level.ensures.went.grew.seen)
+
+pub loop-i-preserved : goal.loop-i-preserved
+loop-i-preserved g c =
+    let first = g.B.Seat.RowSeat.shows c.args.seat.now in
+    let mid = g.B.Seat.RowSeat.shows c.loop-i.seat in
+    let next = g.B.Seat.RowSeat.shows c.publish_level.new.seat in
+    let last = g.B.Seat.RowSeat.shows c.publish_guess.new.seat in
+    let o = c.args.author.now.owner in
+    let K : Pairs → Type 0 = IsRowOf o (length first.seen) next.seen in
+    let above : take c.from-at.result c.path-path.result.now ≡ take c.loop-i.i (path c.args.account.now) = rw (c.from-at.ensures, c.path-path.ensures.is) refl in
+    let to_next = went_more first mid next c.loop-i.invariant.went c.publish_level.ensures.went in
+    let level = published_more c.args.account.now K c.loop-i.i c.in-Some.p c.level-vertex.result.1.now (take c.from-at.result c.path-path.result.now)
+    (published_on c.args.account.now (IsRowOf o (length first.seen) mid.seen) K c.loop-i.i
+    (λ xs. row_on o (length first.seen) (length first.seen) mid.seen next.seen xs c.publish_level.ensures.went.grew.seen (omega arith)) c.loop-i.invariant.published)
+    (sym c.level-vertex.ensures.vertex ∙ c.in-Some.is) c.level-vertex.ensures.refuted above
+    (λ t here. row_later o first mid next _ c.loop-i.invariant.went (c.if-not-publish_level.ensures.all refl t here)) in
+    record {
+      fits = c.publish_guess.ensures.fits;
+      went = went_more first next last to_next c.publish_guess.ensures.went;
+      parent = rw (sym c.from-at.ensures) (c.if-not-publish_guess.ensures.next refl);
+      published = published_on c.args.account.now K (IsRowOf o (length first.seen) last.seen) (c.loop-i.i + 1)
+          (λ xs. row_on o (length first.seen) (length first.seen) next.seen last.seen xs c.publish_guess.ensures.went.grew.seen (omega arith)) level;
+    }
+
+pub returns-clause-all : goal.returns-clause-all
+returns-clause-all g c = λ yes.
+    let end : c.loop-i.i ≡ c.size-i-end.result = omega (arith, c.loop-i.auto.i-end, c.loop-i-test.false) in
+    published_all c.args.author.now.problem.now c.args.account.now c.args.author.now.owner (length (g.B.Seat.RowSeat.shows c.args.seat.now).seen) (g.B.Seat.RowSeat.shows c.loop-i.seat).seen c.loop-i.i
+    (end ∙ c.size-i-end.ensures.size ∙ ap size c.pattern.ensures.pattern)
+    c.requires.honest c.path-path.ensures.vertices c.path-path.ensures.in_range
+    (subst (λ (v : Option ℕ). IfSome v (λ r. (r < c.args.account.now.pattern) × NotOn (path c.args.account.now) r)) c.vertex-vertex.ensures.is c.vertex-vertex.ensures.off_path)
+    c.loop-i.invariant.published
