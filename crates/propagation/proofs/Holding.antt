@@ -166,7 +166,7 @@ made_here : {A : Type 0} (f : RowKind → Pairs → ℕ → List A) (q : Problem
 made_here f q rows k r sound here = (
   made_from f (paths_after [] (take (k + 1) rows)) (drop (k + 1) rows),
   ap (made_from f []) (sym (take-append-drop (k + 1) rows)) ∙ made_from-append [] (take (k + 1) rows) (drop (k + 1) rows)
-  ∙ ap (λ zs. zs ++ made_from f (paths_after [] (take (k + 1) rows)) (drop (k + 1) rows)) (made_next f rows k r (stands_next q rows k r sound here)),
+      ∙ ap (λ zs. zs ++ made_from f (paths_after [] (take (k + 1) rows)) (drop (k + 1) rows)) (made_next f rows k r (stands_next q rows k r sound here)),
 )
   where
     made_from-append : (known : List Pairs) (xs ys : List Row) → made_from f known (xs ++ ys) ≡ made_from f known xs ++ made_from f (paths_after known xs) ys

@@ -1,11 +1,11 @@
 -- Rows in force, and that a worker keeps up with its book over restarts.
 
-use Rattle.std.proofs.Common.{◌≡◌, ℕ, zero, suc, ◌+◌, ◌<◌, ◌≤◌, ◌&&◌, cond, Bool, true, false, List, [], ◌∷◌, ◌++◌, length, take, drop, slice_index_or, Option, Some, None, IfSome, refl, sym, ap, ◌∙◌, subst, arith, append_assoc, length-append, ◌⊎◌, inl, inr}
+use Rattle.std.proofs.Common.{◌≡◌, ℕ, zero, suc, ◌+◌, ◌<◌, ◌≤◌, ◌&&◌, cond, Bool, true, false, List, [], ◌∷◌, ◌++◌, length, Option, Some, None, IfSome, refl, sym, ap, ◌∙◌, subst, arith, length-append, ◌⊎◌, inl, inr}
 use Rattle.std.specs.Prelude.{slice_get, ◌==◌}
 use Rattle.std.proofs.lemmas.Grind.{common_steps}
 use Rattle.graph_theory.specs.Embedding.{Problem}
 use Rattle.search_theory.specs.Bounds.{cutoff}
-use Rattle.search_theory.specs.Account.{Account, HasRefuted, Honest, restarted}
+use Rattle.search_theory.specs.Account.{Account, Honest, restarted}
 use Rattle.search_theory.proofs.Cutoffs.{refuted_at_cutoff}
 use Rattle.domain_bits.specs.Removals.{State, in_domain}
 use Rattle.nogood_watch.specs.Nogoods as watched
@@ -14,7 +14,7 @@ use Rattle.nogood_watch.specs.Watching.{IsAssigned, AllBut, forced_at}
 use Rattle.nogood_book.specs.declared.row.Row.{Row}
 use Rattle.nogood_book.specs.declared.row.RowKind.TheVariants.{Nogood}
 use Rattle.nogood_book.specs.Rows.{Pairs, path_at, Sound}
-use Rattle.nogood_book.specs.Places.{StartsWith, IsNogoodRow, is_nogood, nogoods_by}
+use Rattle.nogood_book.specs.Places.{StartsWith, is_nogood, nogoods_by}
 use Rattle.nogood_book.specs.Facts.{Facts, Grew, CaughtUp, one_more}
 use Rattle.nogood_book.proofs.Lists.{starts_length, get_split, nogoods_by-append}
 use Rattle.nogood_book.proofs.Reaching.{by_stays}

@@ -1,7 +1,6 @@
 -- Publishing what a position has refuted, a level after the other.
 
-use Rattle.std.proofs.Common.{◌≡◌, ℕ, zero, suc, ◌+◌, ◌*◌, ◌<◌, ◌≤◌, Bool, true, false, List, [], ◌∷◌, ◌++◌, length, take, slice_index_or, Contains, Option, Some, None, IfSome, refl, sym, ap, ◌∙◌, subst, arith, append_assoc, length-append, ◌⊎◌, inl, inr, add-one}
-use Rattle.std.specs.Prelude.{slice_get}
+use Rattle.std.proofs.Common.{◌≡◌, ℕ, zero, suc, ◌+◌, ◌*◌, ◌<◌, ◌≤◌, Bool, true, false, List, [], ◌∷◌, ◌++◌, length, take, slice_index_or, Contains, Option, Some, None, IfSome, refl, sym, ap, ◌∙◌, subst, arith, length-append, ◌⊎◌, inl, inr, add-one}
 use Rattle.std.proofs.lemmas.Bool.{cases_lt, cases_eq}
 use Rattle.std.proofs.lemmas.List.{length-take-le}
 use Rattle.std.proofs.Math.Seq.{take-suc}
@@ -15,14 +14,12 @@ use Rattle.domain_bits.proofs.Rows.{has_past}
 use Rattle.fail_account.proofs.Distinct.{path_fewer}
 use Rattle.nogood_book.specs.declared.row.Row.{Row}
 use Rattle.nogood_book.specs.declared.row.RowKind.TheVariants.{Nogood}
-use Rattle.nogood_book.specs.declared.row.Published.{Published}
-use Rattle.nogood_book.specs.declared.row.Published.TheVariants.{At, Full}
-use Rattle.nogood_book.specs.Rows.{Pairs, path_at, Sound, DeadFor, MayFollow}
+use Rattle.nogood_book.specs.Rows.{Pairs, Sound, DeadFor, MayFollow}
 use Rattle.nogood_book.specs.Places.{StartsWith}
 use Rattle.nogood_book.specs.Facts.{Facts, StandsAt, IsFull}
 use Rattle.nogood_book.specs.Reaching.{Reaches, MayStand}
 use Rattle.nogood_book.proofs.Lists.{starts_same, starts_on}
-use Rattle.nogood_book.proofs.Reaching.{reaches_more, row_of_more, may_follow, row_placed}
+use Rattle.nogood_book.proofs.Reaching.{row_of_more, may_follow, row_placed}
 use Rattle.restart_search.specs.Sharing.{IsSeatFor, IsRowOf, IsPublished, Went}
 use Rattle.restart_search.proofs.Positions.{level_is, member_passes}
 

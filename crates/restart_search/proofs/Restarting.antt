@@ -1,16 +1,17 @@
 -- The root between two runs, and how a run ends.
 
-use Rattle.std.proofs.Common.{◌≡◌, ℕ, ◌≤◌, Bool, true, false, List, [], ◌++◌, length, take, Option, Some, None, Result, Ok, Err, IfOk, refl, sym, ap, ◌∙◌, subst, arith}
+use Rattle.std.proofs.Common.{◌≡◌, ℕ, ◌≤◌, Bool, true, false, List, [], ◌++◌, length, take, Option, Result, Ok, Err, IfOk, refl, sym, ap, ◌∙◌, subst}
 use Rattle.std.proofs.lemmas.List.{length-take-le, take-append-le}
 use Rattle.std.proofs.Math.Seq.{take-append_seam}
-use Rattle.graph_theory.specs.Embedding.{Problem, HasNone}
-use Rattle.search_theory.specs.Account.{Account, path, restarted, Honest}
+use Rattle.graph_theory.specs.Embedding.{Problem}
+use Rattle.search_theory.specs.Account.{Account, restarted, Honest}
 use Rattle.search_theory.specs.Claims.{Quiet}
 use Rattle.domain_bits.specs.Removals.{State, in_domain, undone}
 use Rattle.sparse_set.specs.Removals as sparse
 use Rattle.all_different.specs.Prefixes.{Balanced}
 use Rattle.nogood_watch.specs.Nogoods as watched
 use Rattle.nogood_book.specs.declared.row.Row.{Row}
+use Rattle.nogood_book.specs.Rows as book
 use Rattle.nogood_book.specs.Places.{StartsWith}
 use Rattle.nogood_book.specs.Facts.{Facts}
 use Rattle.propagation.specs.Propagation.{Narrows, LeavesPast}
@@ -22,10 +23,12 @@ use Rattle.restart_search.specs.declared.outcome.Outcome.{Outcome}
 use Rattle.restart_search.specs.declared.outcome.Outcome.TheVariants.{Found, Refuted, Spent, Stopped, NoMemory}
 use Rattle.restart_search.specs.Acting.{Acting}
 use Rattle.restart_search.specs.Sharing.{KeepsUp}
-use Rattle.restart_search.specs.Searching.{Sound, IsNow, IsAtRoot, Begun, TookUp, BeganAgain, Ends, IsTrueFor, IsNotStopped, FoundOf, Leaves}
+use Rattle.restart_search.specs.Searching.{Sound, IsNow, IsAtRoot, Begun, TookUp, BeganAgain, Ends, IsTrueFor, IsNotStopped, FoundOf, Leaves, Search, IsPaused}
 use Rattle.restart_search.proofs.Beginning.{sound_fresh}
 use Rattle.restart_search.proofs.Closing.{sound_restarted, rest_again}
 use Rattle.restart_search.proofs.Moments.{acting_fresh}
+use Rattle.restart_search.proofs.KeepingUp.{rows_in_force}
+use Rattle.propagation.proofs.Acting.{nothing_left}
 
 -- ---- the root
 
@@ -62,10 +65,11 @@ at_root_again q d e s r a marks root now at n quiet balanced left is = record {
 
 -- a search begins there
 pub begun_at_root : (q : Problem) (n : Option watched.State) (d : State) (s : sparse.State) (a : Account) (marks : List Moment) (root : Moment) (f : Facts) → IsAtRoot q d s a marks root
-    → AreActedOn d n → HoldsRows f.seen n → KeepsUp f a.run → Begun q n d s a marks root f
-begun_at_root q n d s a marks root f at acted holds keeps = record {
+    → AreActedOn d n → book.Sound q f.seen → HoldsRows f.seen n → KeepsUp f a.run → Begun q n d s a marks root f
+begun_at_root q n d s a marks root f at acted rows holds keeps = record {
   sound = sound_fresh q d s a marks root at.no_marks at.honest at.no_path at.now at.is_of at.rest at.left;
   acting = subst (λ (ks : List Moment). Acting d n ks root) (sym at.no_marks) (acting_fresh d n root at.now.domains_is acted);
+  rows = rows;
   holds = holds;
   keeps = keeps;
 }
@@ -73,9 +77,15 @@ begun_at_root q n d s a marks root f at acted holds keeps = record {
 -- what taking up the book has left, where the search keeps up
 pub began_again : {E : Type 0} (answer : Result Bool E) (q : Problem) (n : Option watched.State) (d : State) (s : sparse.State) (a : Account) (marks : List Moment) (root : Moment) (f : Facts)
     → IfOk answer (λ some. TookUp some q n d s a marks root f.seen) → KeepsUp f a.run → IfOk answer (λ some. BeganAgain some q n d s a marks root f)
-began_again (Ok true) q n d s a marks root f h keeps = begun_at_root q n d s a marks root f h.0 h.1 h.2 keeps
+began_again (Ok true) q n d s a marks root f h keeps = begun_at_root q n d s a marks root f h.0 h.1 h.2 h.3 keeps
 began_again (Ok false) q n d s a marks root f h keeps = h
 began_again (Err e) q n d s a marks root f h keeps = tt
+
+-- the same, where embeddings are left
+pub began : (b : Bool) (q : Problem) (n : Option watched.State) (d : State) (s : sparse.State) (a : Account) (marks : List Moment) (root : Moment) (f : Facts)
+    → b ≡ true → TookUp b q n d s a marks root f.seen → KeepsUp f a.run → Begun q n d s a marks root f
+began true q n d s a marks root f is h keeps = begun_at_root q n d s a marks root f h.0 h.1 h.2 h.3 keeps
+began false q n d s a marks root f is h keeps = cc
 
 -- ---- rows that were seen, among more
 
@@ -122,3 +132,15 @@ ends_true Refuted q a h = h
 ends_true Spent q a h = tt
 ends_true (Stopped n) q a h = tt
 ends_true NoMemory q a h = tt
+
+-- a search that has paused
+pub paused_of : {S K : Type 0} (w : Search S K) (o : Outcome) (n : Option watched.State) (s : sparse.State) (marks : List Moment) (root : Moment)
+    → Leaves o (Begun w.problem n w.domains s w.account marks root w.facts) → Leaves o (IsPaused w)
+paused_of w o n s marks root left = leaves_map o (Begun w.problem n w.domains s w.account marks root w.facts) (IsPaused w) paused left
+  where
+    paused : Begun w.problem n w.domains s w.account marks root w.facts → IsPaused w
+    paused b = record {
+      rest = b.sound.here;
+      in_force = rows_in_force w.problem w.domains w.facts.seen n b.rows b.holds (nothing_left w.domains n b.acting.here);
+      keeps = b.keeps;
+    }

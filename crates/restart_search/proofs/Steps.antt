@@ -7,7 +7,7 @@ use Rattle.graph_theory.specs.Neighbours.{members}
 use Rattle.graph_theory.specs.Path.{NotOn}
 use Rattle.graph_theory.specs.Embedding.{Problem}
 use Rattle.search_theory.specs.Claims.{Single, Pins, Quiet}
-use Rattle.search_theory.specs.Account.{Account, Step, Event, Deepen, Fail, Restart, Happens, Leads, Spends, Honest, deepened, path, path_of, level_at, level_among, IsAt, NotAmong}
+use Rattle.search_theory.specs.Account.{Account, Step, Honest, deepened, path, path_of, level_at, level_among, IsAt, NotAmong}
 use Rattle.search_theory.specs.Bounds.{enough}
 use Rattle.domain_bits.specs.Changes as changes
 use Rattle.domain_bits.specs.BitRows.{has}

@@ -14,6 +14,7 @@ use Rattle.nogood_watch.specs.Nogoods as watched
 use Rattle.propagation.specs.Propagation.{IsOf, LeavesPast, Narrows, waits_at, HasTwo, HasValue}
 use Rattle.propagation.specs.Learning.{Filtering}
 use Rattle.propagation.specs.Holding.{HoldsRows}
+use Rattle.nogood_book.specs.Rows as book
 use Rattle.nogood_book.specs.Facts.{Facts}
 use Rattle.worker_gate.specs.Answers.{AnswerView, NoteView}
 use Rattle.nogood_book.specs.declared.row.Row.{Row}
@@ -197,16 +198,17 @@ pub record NotBegun (q : Problem) (nogoods : Option watched.State) (d : State) (
   pub none : nogoods ≡ None
   pub first : a.run ≡ 1
 
--- What holds of a search before each step: it is sound, the nogoods that are kept are those of all rows that were seen, nothing is left to follow from them, and the search keeps up with its book.
+-- What holds of a search before each step: it is sound, and so are the rows that were seen, whose nogoods are kept; nothing is left to follow from them, and the search keeps up with its book.
 pub record Begun (q : Problem) (nogoods : Option watched.State) (d : State) (s : sparse.State) (a : Account) (marks : List Moment) (root : Moment) (f : Facts) : Type 0 where
   pub sound : Sound q d s a marks root
   pub acting : Acting d nogoods marks root
+  pub rows : book.Sound q f.seen
   pub holds : HoldsRows f.seen nogoods
   pub keeps : KeepsUp f a.run
 
 -- What taking up the book leaves at the root: all nogoods that were seen are kept and nothing is left to follow from them, or no embedding exists.
 abbrev pub TookUp : Bool → Problem → Option watched.State → State → sparse.State → Account → List Moment → Moment → List Row → Type 0
-TookUp true q nogoods d s a marks root rows = IsAtRoot q d s a marks root × AreActedOn d nogoods × HoldsRows rows nogoods
+TookUp true q nogoods d s a marks root rows = IsAtRoot q d s a marks root × AreActedOn d nogoods × book.Sound q rows × HoldsRows rows nogoods
 TookUp false q nogoods d s a marks root rows = HasNone q
 
 -- What beginning again leaves: a search that goes on, or no embedding exists.

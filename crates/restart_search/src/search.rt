@@ -365,11 +365,7 @@ fn found<'a, T: Trail>(alloc: Global, q: &Problem, d: &Domains<T>) -> Outcome<'a
 
 /// A note of the cell that knows an answer to the problem, if the cell has one. Where it has an answer to another problem, it is
 /// looked at no more. Cost: one load while the cell is empty; once there is an answer, that of `Problem::same`.
-fn stop_at<'a>(
-    cell: Option<&AnswerCell<'a>>,
-    asks: &mut bool,
-    q: &Problem,
-) -> Option<Note<'a>>
+fn stop_at<'a>(cell: Option<&AnswerCell<'a>>, asks: &mut bool, q: &Problem) -> Option<Note<'a>>
     ensures knows { IfSome result (Knows q.now) }
     ensures alone { cell.entry ≡ None → result ≡ None }
 {

@@ -28,12 +28,7 @@ impl Model for ValueChoice {
 impl ValueChoice {
     /// The choice of the worker of this number, from 1, whose stream is that of the seed after as many jumps as there are workers before
     /// it. Cost: one step for each target vertex, and for each jump some hundred.
-    pub fn new(
-        alloc: Global,
-        q: &Problem,
-        seed: u64,
-        worker: u8,
-    ) -> Result<ValueChoice, AllocError>
+    pub fn new(alloc: Global, q: &Problem, seed: u64, worker: u8) -> Result<ValueChoice, AllocError>
         requires { 1 ≤ worker }
         ensures { IfOk result (λ v. v ≡ size q.now.target) }
     {

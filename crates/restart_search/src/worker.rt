@@ -161,7 +161,7 @@ impl<'a, S: RowSeat + Drop, T: Trail, K: Drop> Worker<'a, S, T, K> {
         ensures facts { result.facts ≡ S.shows seat }
         ensures keeper { result.keeper ≡ keeper }
         ensures account { result.account ≡ equipment.entry.account }
-        ensures stage { result.stage ≡ result.stage.Fresh }
+        ensures stage { result.stage ≡ Stage.Fresh }
     {
         let Equipment {
             problem,
@@ -395,12 +395,7 @@ fn run_from<'a, T: Trail, B: Book, G: Gate>(
 }
 
 /// Offers what was decided to the cell, if there is one.
-fn offer<'a>(
-    alloc: Global,
-    q: &'a Problem,
-    cell: Option<&AnswerCell<'a>>,
-    outcome: &Outcome<'a>,
-)
+fn offer<'a>(alloc: Global, q: &'a Problem, cell: Option<&AnswerCell<'a>>, outcome: &Outcome<'a>)
     requires { IsTrueFor q.now outcome.now }
 {
     let Some(cell) = cell else {

@@ -1,4 +1,4 @@
-use Rattle.std.proofs.Common.{◌≡◌, List, length, IfOk, sym, ap, subst, ◌∙◌, arith}
+use Rattle.std.proofs.Common.{List, length, IfOk, sym, ap, subst, ◌∙◌, arith}
 use Rattle.search_theory.specs.Account.{Account}
 use Rattle.nogood_book.specs.declared.row.Row.{Row}
 use Rattle.nogood_book.proofs.Lists.{starts_length}

@@ -1,6 +1,5 @@
 use Rattle.std.proofs.Common.{ℕ, ◌<◌, length, sym, ap, ◌∙◌, refl, subst, arith}
 use Rattle.std.proofs.lemmas.Bool.{eqb-true}
-use Rattle.search_theory.specs.Account.{Account}
 use Rattle.restart_search.specs.Sharing.{KeepsUp}
 use Rattle.propagation.proofs.Holding.{holds_same}
 use Rattle.restart_search.proofs.Closing.{dead_where_all_refuted, none_where_dead, may_guess, spends_where_due}
@@ -70,6 +69,7 @@ loop-p-preserved-then-not-has_value g c =
       begun = record {
         sound = c.close.ensures.sound;
         acting = c.close.ensures.acting c.loop-p.filters.nogoods begun.acting.past;
+        rows = begun.rows;
         holds = begun.holds;
         keeps = subst (λ (n : ℕ). KeepsUp (g.B.Seat.RowSeat.shows c.loop-p.seat) n) (sym c.close.ensures.run) begun.keeps;
       };
@@ -88,6 +88,7 @@ loop-p-preserved g c =
       begun = record {
         sound = c.guess.ensures.sound;
         acting = c.guess.ensures.acting;
+        rows = begun.rows;
         holds = holds_same (g.B.Seat.RowSeat.shows c.loop-p.seat).seen c.loop-p.filters.nogoods c.guess.new.filters.nogoods c.guess.ensures.kept begun.holds;
         keeps = subst (λ (n : ℕ). KeepsUp (g.B.Seat.RowSeat.shows c.loop-p.seat) n) (sym c.guess.ensures.run) begun.keeps;
       };

@@ -1,4 +1,4 @@
-use Rattle.std.proofs.Common.{◌≡◌, ◌≤◌, List, length, sym, ap, subst, ◌∙◌, arith}
+use Rattle.std.proofs.Common.{◌≤◌, List, length, sym, ap, subst, ◌∙◌, arith}
 use Rattle.graph_theory.specs.Embedding.{Problem}
 use Rattle.nogood_book.specs.declared.row.Row.{Row}
 use Rattle.nogood_book.specs.Rows.{Sound}
@@ -34,6 +34,7 @@ returns-clause-took g c =
       at_root_again c.args.q.now c.args.d.now c.propagate_again.new.d c.args.undecided.now c.propagate_again.new.undecided c.args.account.now c.args.marks.now c.args.root.now c.present.result
           c.requires.at_root told.0 told.1 told.2 c.if-not-propagate_again.ensures.left c.present.ensures,
       c.if-not-propagate_again.ensures.acted,
+      subst (λ (p : Problem). Sound p (g.B.Seat.RowSeat.shows c.catch_up.new.seat).seen) (c.catch_up.ensures.caught.grew.problem ∙ c.requires.seat) c.rows.ensures.sound,
       holds_same (g.B.Seat.RowSeat.shows c.catch_up.new.seat).seen c.take_rows.new.self.nogoods c.propagate_again.new.filters.nogoods
           (same_moved c.args.d.now c.take_rows.new.self.nogoods c.propagate_again.new.filters.nogoods c.propagate_again.ensures.moved)
           (subst (λ (rows : List Row). HoldsRows rows c.take_rows.new.self.nogoods) c.rows.ensures.seen c.in_ok-take_rows.ensures.holds),

@@ -1,8 +1,7 @@
-use Rattle.std.proofs.Common.{ℕ, List, length, refl, arith}
-use Rattle.nogood_book.specs.Rows.{Pairs}
+use Rattle.std.proofs.Common.{length, refl, arith}
 use Rattle.nogood_book.proofs.Reaching.{reaches_more}
 use Rattle.restart_search.specs.Sharing.{IsRowOf}
-use Rattle.restart_search.proofs.Publishing.{went_more, row_on, row_later, level_before, level_more, level_all}
+use Rattle.restart_search.proofs.Publishing.{went_more, row_on, row_later, level_more}
 use Rattle.restart_search.proofs.sharing.publish_level.Goals as goal
 
 pub publish_nogood-requires-clause-parent : goal.publish_nogood-requires-clause-parent

@@ -1,4 +1,4 @@
-use Rattle.std.proofs.Common.{◌≤◌, length, refl, sym, subst}
+use Rattle.std.proofs.Common.{◌≤◌, refl, sym, subst}
 use Rattle.graph_theory.specs.Graph.{Graph, size}
 use Rattle.restart_search.proofs.Publishing.{may_publish, went_at, went_full, full_after, row_published}
 use Rattle.restart_search.proofs.sharing.publish_nogood.Goals as goal

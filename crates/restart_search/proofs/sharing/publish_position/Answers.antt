@@ -1,14 +1,13 @@
 use Rattle.std.proofs.Common.{◌≡◌, ℕ, ◌+◌, ◌<◌, ◌≤◌, Option, IfSome, length, take, refl, sym, ap, ◌∙◌, subst, arith}
 use Rattle.std.proofs.lemmas.List.{length-take-le}
 use Rattle.graph_theory.specs.Graph.{size}
-use Rattle.graph_theory.specs.Path.{NotOn, IsPath}
-use Rattle.search_theory.specs.Account.{path, InRange}
+use Rattle.graph_theory.specs.Path.{NotOn}
+use Rattle.search_theory.specs.Account.{path}
 use Rattle.nogood_book.specs.Rows.{Pairs}
-use Rattle.nogood_book.specs.Reaching.{Reaches}
-use Rattle.nogood_book.proofs.Reaching.{reaches_empty, reaches_more}
+use Rattle.nogood_book.proofs.Reaching.{reaches_more}
 use Rattle.restart_search.specs.Sharing.{IsRowOf}
 use Rattle.restart_search.proofs.Positions.{level_is, refuted_dead}
-use Rattle.restart_search.proofs.Publishing.{went_none, went_more, row_on, row_later, published_none, published_on, published_more, published_ended, published_all}
+use Rattle.restart_search.proofs.Publishing.{went_more, row_on, row_later, published_on, published_more, published_ended, published_all}
 use Rattle.restart_search.proofs.sharing.publish_position.Goals as goal
 
 pub returns-in_default-clause-all : goal.returns-in_default-clause-all
