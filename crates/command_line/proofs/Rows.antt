@@ -29,9 +29,9 @@ wrong_count = refl
 pub unknown_words : list_all is_refused (
     codes "subgraph help" ∷ codes "subgraph --help" ∷ codes "subgraph -h" ∷ codes "subgraph solve -h" ∷ codes "subgraph solve p t --help"
     ∷ codes "subgraph --version" ∷ codes "subgraph -V" ∷ codes "subgraph sol p t" ∷ codes "subgraph SOLVE p t" ∷ codes "subgraph p t"
-    ∷ codes "subgraph solve p t --bud 4" ∷ codes "subgraph solve p t --induce" ∷ codes "subgraph solve p t --threads 65"
+    ∷ codes "subgraph solve p t --bud 4" ∷ codes "subgraph solve p t --induce" ∷ codes "subgraph solve p t --thread 4"
     ∷ codes "subgraph verify p t m --seed 1" ∷ codes "subgraph solve p t --prove e" ∷ codes "subgraph verify p t m --budget 4"
-    ∷ codes "subgraph demo 7 --threads 4" ∷ codes "subgraph --induced solve p t"
+    ∷ codes "subgraph demo 7 --book 4" ∷ codes "subgraph verify p t m --threads 4" ∷ codes "subgraph --induced solve p t"
     ∷ codes "subgraph -- solve p t" ∷ codes "subgraph solve -p t" ∷ codes "subgraph solve p -1" ∷ []) ≡ true
 unfolding command grammar answering solve_grammar verify_grammar encode_grammar check_grammar reading demo_grammar with_graphs with_kind with_mapping with_search clap_on_literals
 unknown_words = refl
@@ -46,7 +46,10 @@ pub wrong_values : list_all is_refused (
     ∷ codes "subgraph solve p t --seed 18446744073709551616" ∷ codes "subgraph solve p t --seed=" ∷ codes "subgraph solve p t --seed -1"
     ∷ codes "subgraph solve p t --format=" ∷ codes "subgraph verify p t m --format labelledlad"
     ∷ codes "subgraph demo +7" ∷ codes "subgraph demo -7" ∷ codes "subgraph demo 7x" ∷ codes "subgraph demo 18446744073709551616"
-    ∷ codes "subgraph demo 7 --budget 0" ∷ codes "subgraph demo 7 --budget 9223372036854775808" ∷ []) ≡ true
+    ∷ codes "subgraph demo 7 --budget 0" ∷ codes "subgraph demo 7 --budget 9223372036854775808"
+    ∷ codes "subgraph solve p t --threads 0" ∷ codes "subgraph solve p t --threads 65" ∷ codes "subgraph solve p t --threads +4"
+    ∷ codes "subgraph solve p t --threads 4294967297" ∷ codes "subgraph solve p t --book 4194305" ∷ codes "subgraph solve p t --book -1"
+    ∷ codes "subgraph demo 7 --threads 0" ∷ codes "subgraph demo 7 --threads 65" ∷ []) ≡ true
 unfolding command grammar answering solve_grammar verify_grammar encode_grammar check_grammar reading demo_grammar with_graphs with_kind with_mapping with_search clap_on_literals
 wrong_values = refl
 
@@ -54,15 +57,18 @@ wrong_values = refl
 pub solves : map (λ (text : List ℕ). command (words text)) (
     codes "subgraph solve p t" ∷ codes "any solve same same --induced" ∷ codes "subgraph solve --budget 4 p --format vertexlabelledlad t"
     ∷ codes "subgraph solve p t --budget=004" ∷ codes "subgraph solve --format=lad -- p --induced" ∷ codes "subgraph solve - solve"
-    ∷ codes "subgraph solve p t --seed 18446744073709551615" ∷ codes "subgraph solve --budget 4 --seed=00 p t" ∷ [])
-    ≡ Some (Solve (record { pattern = codes "p"; target = codes "t"; induced = false; format = Lad; seed = 0; budget = 9223372036854775807 }))
-    ∷ Some (Solve (record { pattern = codes "same"; target = codes "same"; induced = true; format = Lad; seed = 0; budget = 9223372036854775807 }))
-    ∷ Some (Solve (record { pattern = codes "p"; target = codes "t"; induced = false; format = VertexLabelledLad; seed = 0; budget = 4 }))
-    ∷ Some (Solve (record { pattern = codes "p"; target = codes "t"; induced = false; format = Lad; seed = 0; budget = 4 }))
-    ∷ Some (Solve (record { pattern = codes "p"; target = codes "--induced"; induced = false; format = Lad; seed = 0; budget = 9223372036854775807 }))
-    ∷ Some (Solve (record { pattern = codes "-"; target = codes "solve"; induced = false; format = Lad; seed = 0; budget = 9223372036854775807 }))
-    ∷ Some (Solve (record { pattern = codes "p"; target = codes "t"; induced = false; format = Lad; seed = 18446744073709551615; budget = 9223372036854775807 }))
-    ∷ Some (Solve (record { pattern = codes "p"; target = codes "t"; induced = false; format = Lad; seed = 0; budget = 4 }))
+    ∷ codes "subgraph solve p t --seed 18446744073709551615" ∷ codes "subgraph solve --budget 4 --seed=00 p t"
+    ∷ codes "subgraph solve p t --threads 64 --book 4194304" ∷ codes "subgraph solve --book=0 p --threads=008 t" ∷ [])
+    ≡ Some (Solve (record { pattern = codes "p"; target = codes "t"; induced = false; format = Lad; threads = 1; seed = 0; budget = 9223372036854775807; book = 65536 }))
+    ∷ Some (Solve (record { pattern = codes "same"; target = codes "same"; induced = true; format = Lad; threads = 1; seed = 0; budget = 9223372036854775807; book = 65536 }))
+    ∷ Some (Solve (record { pattern = codes "p"; target = codes "t"; induced = false; format = VertexLabelledLad; threads = 1; seed = 0; budget = 4; book = 65536 }))
+    ∷ Some (Solve (record { pattern = codes "p"; target = codes "t"; induced = false; format = Lad; threads = 1; seed = 0; budget = 4; book = 65536 }))
+    ∷ Some (Solve (record { pattern = codes "p"; target = codes "--induced"; induced = false; format = Lad; threads = 1; seed = 0; budget = 9223372036854775807; book = 65536 }))
+    ∷ Some (Solve (record { pattern = codes "-"; target = codes "solve"; induced = false; format = Lad; threads = 1; seed = 0; budget = 9223372036854775807; book = 65536 }))
+    ∷ Some (Solve (record { pattern = codes "p"; target = codes "t"; induced = false; format = Lad; threads = 1; seed = 18446744073709551615; budget = 9223372036854775807; book = 65536 }))
+    ∷ Some (Solve (record { pattern = codes "p"; target = codes "t"; induced = false; format = Lad; threads = 1; seed = 0; budget = 4; book = 65536 }))
+    ∷ Some (Solve (record { pattern = codes "p"; target = codes "t"; induced = false; format = Lad; threads = 64; seed = 0; budget = 9223372036854775807; book = 4194304 }))
+    ∷ Some (Solve (record { pattern = codes "p"; target = codes "t"; induced = false; format = Lad; threads = 8; seed = 0; budget = 9223372036854775807; book = 0 }))
     ∷ []
 unfolding command grammar answering solve_grammar verify_grammar encode_grammar check_grammar reading demo_grammar with_graphs with_kind with_mapping with_search clap_on_literals
 solves = refl
@@ -92,15 +98,15 @@ unfolding command grammar answering solve_grammar verify_grammar encode_grammar 
 checks = refl
 
 -- demos
-pub demos : map (λ (text : List ℕ). command (words text)) (codes "subgraph demo 7" ∷ codes "subgraph demo --budget 4 18446744073709551615" ∷ codes "subgraph demo 007 --budget=1" ∷ [])
-    ≡ Some (Demo (record { seed = 7; budget = 9223372036854775807 })) ∷ Some (Demo (record { seed = 18446744073709551615; budget = 4 }))
-    ∷ Some (Demo (record { seed = 7; budget = 1 })) ∷ []
+pub demos : map (λ (text : List ℕ). command (words text)) (codes "subgraph demo 7" ∷ codes "subgraph demo --budget 4 18446744073709551615" ∷ codes "subgraph demo 007 --budget=1 --threads 4" ∷ [])
+    ≡ Some (Demo (record { seed = 7; threads = 1; budget = 9223372036854775807 })) ∷ Some (Demo (record { seed = 18446744073709551615; threads = 1; budget = 4 }))
+    ∷ Some (Demo (record { seed = 7; threads = 4; budget = 1 })) ∷ []
 unfolding command grammar answering solve_grammar verify_grammar encode_grammar check_grammar reading demo_grammar with_graphs with_kind with_mapping with_search clap_on_literals
 demos = refl
 
 -- an empty word is a name, and no words at all are no command
 pub empty_words : (command (codes "subgraph" ∷ codes "solve" ∷ [] ∷ codes "t" ∷ [])
-    ≡ Some (Solve (record { pattern = []; target = codes "t"; induced = false; format = Lad; seed = 0; budget = 9223372036854775807 })))
+    ≡ Some (Solve (record { pattern = []; target = codes "t"; induced = false; format = Lad; threads = 1; seed = 0; budget = 9223372036854775807; book = 65536 })))
     × (command [] ≡ None)
 unfolding command grammar answering solve_grammar verify_grammar encode_grammar check_grammar reading demo_grammar with_graphs with_kind with_mapping with_search clap_on_literals
 empty_words = (refl, refl)

@@ -7,7 +7,7 @@ use Rattle.clap.specs.Words.{Row, Text, first_of, fault_of, subcommand_of}
 use Rattle.clap.specs.Walk.{is_empty}
 use Rattle.graph_theory.specs.declared.lad_text.LadKind.{LadKind}
 use Rattle.graph_theory.specs.declared.lad_text.LadKind.TheVariants.{Lad}
-use Rattle.command_line.specs.Words.{file_name, budget, seed, format}
+use Rattle.command_line.specs.Words.{file_name, threads, budget, seed, book, format}
 use Rattle.command_line.specs.Grammar.{grammar}
 use Rattle.command_line.specs.declared.commands.Command.{Command}
 use Rattle.command_line.specs.declared.commands.Command.TheVariants.{Solve, Verify, Encode, Check, Demo}
@@ -42,11 +42,27 @@ budget_at rows = or_default 9223372036854775807 budget (first_of (codes "budget"
 abbrev pub seed_at : List Row → Option ℕ
 seed_at rows = or_default 0 seed (first_of (codes "seed") rows)
 
+-- How many workers search, 1 where no number is named.
+abbrev pub threads_at : List Row → Option ℕ
+threads_at rows = or_default 1 threads (first_of (codes "threads") rows)
+
+-- How many rows the workers share, 65,536 where no number is named.
+abbrev pub book_at : List Row → Option ℕ
+book_at rows = or_default 65536 book (first_of (codes "book") rows)
+
 -- A solve, where each of its words is good.
-abbrev pub solve_from : Option Text → Option Text → Bool → Option LadKind → Option ℕ → Option ℕ → Option Command
-solve_from (Some p) (Some t) induced (Some f) (Some s) (Some b) =
-    Some (Solve (record { pattern = p; target = t; induced = induced; format = f; seed = s; budget = b }))
-solve_from _ _ _ _ _ _ = None
+abbrev pub solve_from : Option Text → Option Text → Bool → Option LadKind → Option ℕ → Option ℕ → Option ℕ → Option ℕ → Option Command
+solve_from (Some p) (Some t) induced (Some f) (Some n) (Some s) (Some b) (Some k) = Some (Solve (record {
+  pattern = p;
+  target = t;
+  induced = induced;
+  format = f;
+  threads = n;
+  seed = s;
+  budget = b;
+  book = k;
+}))
+solve_from _ _ _ _ _ _ _ _ = None
 
 -- A verify, where each of its words is good.
 abbrev pub verify_from : Option Text → Option Text → Option Text → Bool → Option LadKind → Option Command
@@ -65,14 +81,14 @@ check_from (Some e) (Some l) = Some (Check (record { encoding = e; log = l }))
 check_from _ _ = None
 
 -- A demo, where both of its numbers are good.
-abbrev pub demo_from : Option ℕ → Option ℕ → Option Command
-demo_from (Some s) (Some b) = Some (Demo (record { seed = s; budget = b }))
-demo_from _ _ = None
+abbrev pub demo_from : Option ℕ → Option ℕ → Option ℕ → Option Command
+demo_from (Some s) (Some n) (Some b) = Some (Demo (record { seed = s; threads = n; budget = b }))
+demo_from _ _ _ = None
 
 -- The solve that the words after `solve` are.
 abbrev pub solve_of : List Row → Option Command
 solve_of rows = solve_from (name_at (codes "pattern") rows) (name_at (codes "target") rows)
-    (flag_at (codes "induced") rows) (format_at rows) (seed_at rows) (budget_at rows)
+    (flag_at (codes "induced") rows) (format_at rows) (threads_at rows) (seed_at rows) (budget_at rows) (book_at rows)
 
 -- The verify that the words after `verify` are.
 abbrev pub verify_of : List Row → Option Command
@@ -89,7 +105,7 @@ check_of rows = check_from (name_at (codes "encoding") rows) (name_at (codes "lo
 
 -- The demo that the words after `demo` are; its seed is the first of them.
 abbrev pub demo_of : List Row → Option Command
-demo_of rows = demo_from (option_and_then seed (first_of (codes "seed") rows)) (budget_at rows)
+demo_of rows = demo_from (option_and_then seed (first_of (codes "seed") rows)) (threads_at rows) (budget_at rows)
 
 -- The command of this name, with what was found for it.
 abbrev pub named_command : Text → List Row → Option Command
@@ -111,8 +127,11 @@ command words = if is_empty (fault_of grammar words) then entered_command (subco
 pub record IsSolveInRange (w : SolveWords) : Type 0 where
   pub pattern : length w.pattern ≤ 4095
   pub target : length w.target ≤ 4095
+  pub some : 1 ≤ w.threads
+  pub few : w.threads ≤ 64
   pub least : 1 ≤ w.budget
   pub most : w.budget < 2 ^ 63
+  pub book : w.book ≤ 4194304
 
 pub record IsVerifyInRange (w : VerifyWords) : Type 0 where
   pub pattern : length w.pattern ≤ 4095
@@ -128,6 +147,8 @@ pub record IsCheckInRange (w : CheckWords) : Type 0 where
   pub log : length w.log ≤ 4095
 
 pub record IsDemoInRange (w : DemoWords) : Type 0 where
+  pub some : 1 ≤ w.threads
+  pub few : w.threads ≤ 64
   pub least : 1 ≤ w.budget
   pub most : w.budget < 2 ^ 63
 

@@ -31,11 +31,11 @@ with_mapping a = with_rule a (positional (codes "mapping"))
 
 -- What steers the search and bounds it.
 unfoldable pub with_search : App → App
-with_search a = with_rule (with_rule a (option (codes "seed"))) (option (codes "budget"))
+with_search a = with_rule (with_rule (with_rule a (option (codes "threads"))) (option (codes "seed"))) (option (codes "budget"))
 
--- `solve P T [--induced] [--format F] [--seed N] [--budget N]`
+-- `solve P T [--induced] [--format F] [--threads N] [--seed N] [--budget N] [--book N]`
 unfoldable pub solve_grammar : App
-solve_grammar = with_search (with_kind (with_graphs (new_app (codes "solve"))))
+solve_grammar = with_rule (with_search (with_kind (with_graphs (new_app (codes "solve"))))) (option (codes "book"))
 
 -- `verify P T MAP [--induced] [--format F]`
 unfoldable pub verify_grammar : App
@@ -49,9 +49,10 @@ encode_grammar = with_kind (with_graphs (new_app (codes "encode")))
 unfoldable pub check_grammar : App
 check_grammar = with_rule (with_rule (new_app (codes "check")) (positional (codes "encoding"))) (positional (codes "log"))
 
--- `demo K [--budget N]`
+-- `demo K [--threads N] [--budget N]`
 unfoldable pub demo_grammar : App
-demo_grammar = with_rule (with_rule (new_app (codes "demo")) (positional (codes "seed"))) (option (codes "budget"))
+demo_grammar = with_rule (with_rule (with_rule (new_app (codes "demo")) (positional (codes "seed"))) (option (codes "threads")))
+    (option (codes "budget"))
 
 -- A command without help flag, help command and version flag; its subcommands have none either.
 abbrev pub quiet : App → App

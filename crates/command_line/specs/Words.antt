@@ -24,6 +24,14 @@ budget = number_within 1 9223372036854775807
 abbrev pub seed : List ℕ → Option ℕ
 seed = number_within 0 18446744073709551615
 
+-- How many workers search is a number from 1 to 64.
+abbrev pub threads : List ℕ → Option ℕ
+threads = number_within 1 64
+
+-- How many rows of nogoods the workers share is a number from 0 to 4,194,304.
+abbrev pub book : List ℕ → Option ℕ
+book = number_within 0 4194304
+
 -- The format that a word names.
 abbrev pub format : List ℕ → Option LadKind
 format text = if bytes_eq text (codes "lad") then Some Lad

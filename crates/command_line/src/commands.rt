@@ -29,10 +29,14 @@ pub struct SolveWords<'a> {
     pub induced: bool,
     /// The format of both graphs.
     pub format: LadKind,
+    /// How many workers search beside each other, from 1 to 64.
+    pub threads: u32,
     /// Where the choices of values begin, from 0 to 2^64 - 1.
     pub seed: u64,
-    /// How many fails may be spent, from 1 to 2^63 - 1.
+    /// How many fails each worker may spend, from 1 to 2^63 - 1.
     pub budget: u64,
+    /// How many rows of nogoods the workers share, up to 4,194,304.
+    pub book: u32,
 }
 
 /// What the words of `verify` tell.
@@ -77,6 +81,8 @@ pub struct CheckWords<'a> {
 pub struct DemoWords {
     /// The seed of both problems and of the choices of values, from 0 to 2^64 - 1.
     pub seed: u64,
-    /// How many fails may be spent on each, from 1 to 2^63 - 1.
+    /// How many workers search beside each other for each, from 1 to 64.
+    pub threads: u32,
+    /// How many fails each worker may spend on each, from 1 to 2^63 - 1.
     pub budget: u64,
 }

@@ -76,11 +76,12 @@ fn add_search<'a>(alloc: Global, command: Command<'a>) -> Result<Command<'a>, Al
     ensures app { IfOk result (λ c. app_of c ≡ spec.with_search (app_of command.entry)) }
     ensures local { IfOk result (λ c. (fields_of c).has_globals ≡ (fields_of command.entry).has_globals) }
 {
-    let with_seed = add(command, option(alloc, "seed"))?;
+    let with_threads = add(command, option(alloc, "threads"))?;
+    let with_seed = add(with_threads, option(alloc, "seed"))?;
     add(with_seed, option(alloc, "budget"))
 }
 
-/// `solve P T [--induced] [--format F] [--seed N] [--budget N]`
+/// `solve P T [--induced] [--format F] [--threads N] [--seed N] [--budget N] [--book N]`
 #[tactic(auto, unfolding(crate::specs::Grammar::solve_grammar))]
 fn solve_command<'a>(alloc: Global) -> Result<Command<'a>, AllocError>
     ensures app { IfOk result (λ c. app_of c ≡ spec.solve_grammar) }
@@ -88,7 +89,8 @@ fn solve_command<'a>(alloc: Global) -> Result<Command<'a>, AllocError>
 {
     let with_graphs = add_graphs(alloc, Command::new(alloc, "solve"))?;
     let with_kind = add_kind(alloc, with_graphs)?;
-    add_search(alloc, with_kind)
+    let with_search = add_search(alloc, with_kind)?;
+    add(with_search, option(alloc, "book"))
 }
 
 /// `verify P T MAP [--induced] [--format F]`
@@ -122,14 +124,15 @@ fn check_command<'a>(alloc: Global) -> Result<Command<'a>, AllocError>
     add(with_encoding, positional(alloc, "log"))
 }
 
-/// `demo K [--budget N]`
+/// `demo K [--threads N] [--budget N]`
 #[tactic(auto, unfolding(crate::specs::Grammar::demo_grammar))]
 fn demo_command<'a>(alloc: Global) -> Result<Command<'a>, AllocError>
     ensures app { IfOk result (λ c. app_of c ≡ spec.demo_grammar) }
     ensures local { IfOk result (λ c. (fields_of c).has_globals ≡ false) }
 {
     let with_seed = add(Command::new(alloc, "demo"), positional(alloc, "seed"))?;
-    add(with_seed, option(alloc, "budget"))
+    let with_threads = add(with_seed, option(alloc, "threads"))?;
+    add(with_threads, option(alloc, "budget"))
 }
 
 /// The command without help and version, which its subcommands take from it.

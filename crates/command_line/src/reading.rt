@@ -26,6 +26,15 @@ const LARGEST_SEED: u64 = 18_446_744_073_709_551_615;
 /// The largest budget, which is the default too.
 const MOST_FAILS: u64 = 9_223_372_036_854_775_807;
 
+/// The most workers.
+const MOST_THREADS: u32 = 64;
+
+/// The most rows that the workers share.
+const MOST_ROWS: u32 = 4_194_304;
+
+/// How many rows the workers share where no number is named.
+const ROWS: u32 = 65_536;
+
 /// Why there is no command.
 #[derive(Clone, Copy, PartialEq, Eq, Debug)]
 pub enum Refusal {
@@ -70,6 +79,17 @@ fn number_of(text: &str, least: u64, most: u64) -> Option<u64>
         return None;
     }
     Some(number)
+}
+
+/// The same of a number that is written with at most 32 bits.
+fn small_number_of(text: &str, least: u32, most: u32) -> Option<u32>
+    ensures value { result ≡ number_within least most text.now }
+    ensures range { IfSome result (λ n. (least ≤ n) × (n ≤ most)) }
+{
+    match number_of(text, u64::from(least), u64::from(most)) {
+        Some(number) => Some(number as u32),
+        None => None,
+    }
 }
 
 /// The format that a word names.
@@ -153,6 +173,28 @@ fn budget_at(matches: &ArgMatches) -> Option<u64>
     }
 }
 
+/// How many workers search.
+fn threads_at(matches: &ArgMatches) -> Option<u32>
+    ensures value { result ≡ line.threads_at (rows_of (found_of matches.now)) }
+    ensures range { IfSome result (λ n. (1 ≤ n) × (n ≤ 64)) }
+{
+    match word_at(matches, "threads") {
+        Some(text) => small_number_of(text, 1, MOST_THREADS),
+        None => Some(1),
+    }
+}
+
+/// How many rows the workers share.
+fn book_at(matches: &ArgMatches) -> Option<u32>
+    ensures value { result ≡ line.book_at (rows_of (found_of matches.now)) }
+    ensures range { IfSome result (λ n. n ≤ 4194304) }
+{
+    match word_at(matches, "book") {
+        Some(text) => small_number_of(text, 0, MOST_ROWS),
+        None => Some(ROWS),
+    }
+}
+
 /// The solve that was found.
 fn solve_words<'a>(matches: &ArgMatches<'a>) -> Option<Command<'a>>
     ensures words { result ≡ line.solve_of (rows_of (found_of matches.now)) }
@@ -162,15 +204,19 @@ fn solve_words<'a>(matches: &ArgMatches<'a>) -> Option<Command<'a>>
     let target = name_at(matches, "target")?;
     let induced = flag_at(matches, "induced");
     let format = format_at(matches)?;
+    let threads = threads_at(matches)?;
     let seed = seed_at(matches)?;
     let budget = budget_at(matches)?;
+    let book = book_at(matches)?;
     Some(Command::Solve(SolveWords {
         pattern,
         target,
         induced,
         format,
+        threads,
         seed,
         budget,
+        book,
     }))
 }
 
@@ -224,8 +270,13 @@ fn demo_words<'a>(matches: &ArgMatches<'a>) -> Option<Command<'a>>
     ensures ranges { IfSome result line.IsInRange }
 {
     let seed = given_seed(matches)?;
+    let threads = threads_at(matches)?;
     let budget = budget_at(matches)?;
-    Some(Command::Demo(DemoWords { seed, budget }))
+    Some(Command::Demo(DemoWords {
+        seed,
+        threads,
+        budget,
+    }))
 }
 
 /// The command of this name, with what was found for it.

@@ -17,13 +17,15 @@ fn words_of(alloc: Global, line: &str) -> Result<Vec<String>, AllocError> {
 fn told(alloc: Global, command: &Command) -> Result<String, AllocError> {
     match command {
         Command::Solve(words) => format!(in alloc;
-            "solve {} {} {} {:?} {} {}",
+            "solve {} {} {} {:?} {} {} {} {}",
             words.pattern.as_str(),
             words.target.as_str(),
             words.induced,
             words.format,
+            words.threads,
             words.seed,
-            words.budget
+            words.budget,
+            words.book
         ),
         Command::Verify(words) => format!(in alloc;
             "verify {} {} {} {} {:?}",
@@ -38,7 +40,10 @@ fn told(alloc: Global, command: &Command) -> Result<String, AllocError> {
             words.encoding.as_str(),
             words.log.as_str()
         ),
-        Command::Demo(words) => format!(in alloc; "demo {} {}", words.seed, words.budget),
+        Command::Demo(words) => format!(in alloc;
+            "demo {} {} {}",
+            words.seed, words.threads, words.budget
+        ),
         Command::Encode(words) => format!(in alloc;
             "encode {} {} {} {:?}",
             words.pattern.as_str(),
@@ -59,34 +64,42 @@ fn answer(alloc: Global, line: &str) -> Result<String, AllocError> {
 }
 
 /// Lines, and what they come to.
-static ROWS: [(&str, &str); 29] = [
+static ROWS: [(&str, &str); 16] = [
     (
         "subgraph solve p t",
-        "solve p t false Lad 0 9223372036854775807",
+        "solve p t false Lad 1 0 9223372036854775807 65536",
     ),
     (
         "subgraph solve p p --induced",
-        "solve p p true Lad 0 9223372036854775807",
+        "solve p p true Lad 1 0 9223372036854775807 65536",
     ),
     (
         "subgraph solve --budget 4 p --format vertexlabelledlad t",
-        "solve p t false VertexLabelledLad 0 4",
+        "solve p t false VertexLabelledLad 1 0 4 65536",
     ),
     (
         "subgraph solve p t --budget=09223372036854775807",
-        "solve p t false Lad 0 9223372036854775807",
+        "solve p t false Lad 1 0 9223372036854775807 65536",
     ),
     (
         "subgraph solve -- --induced t",
-        "solve --induced t false Lad 0 9223372036854775807",
+        "solve --induced t false Lad 1 0 9223372036854775807 65536",
     ),
     (
         "subgraph solve  t",
-        "solve  t false Lad 0 9223372036854775807",
+        "solve  t false Lad 1 0 9223372036854775807 65536",
     ),
     (
         "subgraph solve p t --seed 18446744073709551615 --budget 4",
-        "solve p t false Lad 18446744073709551615 4",
+        "solve p t false Lad 1 18446744073709551615 4 65536",
+    ),
+    (
+        "subgraph solve p t --threads 64 --book 4194304",
+        "solve p t false Lad 64 0 9223372036854775807 4194304",
+    ),
+    (
+        "subgraph solve --book 0 --threads 008 p t",
+        "solve p t false Lad 8 0 9223372036854775807 0",
     ),
     ("subgraph verify p t m", "verify p t m false Lad"),
     (
@@ -98,33 +111,47 @@ static ROWS: [(&str, &str); 29] = [
         "subgraph encode --format vertexlabelledlad p t --induced",
         "encode p t true VertexLabelledLad",
     ),
-    ("subgraph encode p t --budget 4", "NotACommand"),
     ("subgraph check e l", "check e l"),
-    ("subgraph check e", "NotACommand"),
-    ("subgraph check e l --induced", "NotACommand"),
-    ("subgraph demo 7", "demo 7 9223372036854775807"),
-    ("subgraph demo 7 --budget 4", "demo 7 4"),
-    ("subgraph demo", "NotACommand"),
-    ("subgraph demo +7", "NotACommand"),
-    ("", "NotACommand"),
-    ("subgraph solve p", "NotACommand"),
-    ("subgraph verify p t", "NotACommand"),
-    ("subgraph solve p t --budget 0", "NotACommand"),
-    (
-        "subgraph solve p t --budget 9223372036854775808",
-        "NotACommand",
-    ),
-    (
-        "subgraph solve p t --budget 99999999999999999999",
-        "NotACommand",
-    ),
-    (
-        "subgraph solve p t --seed 18446744073709551616",
-        "NotACommand",
-    ),
-    ("subgraph verify p t m --seed 4", "NotACommand"),
-    ("subgraph solve p t --format foo", "NotACommand"),
-    ("subgraph --help", "NotACommand"),
+    ("subgraph demo 7", "demo 7 1 9223372036854775807"),
+    ("subgraph demo 7 --budget 4 --threads 2", "demo 7 2 4"),
+];
+
+/// Lines that are no command.
+static REFUSED: [&str; 34] = [
+    "",
+    "subgraph solve p",
+    "subgraph solve p t m",
+    "subgraph verify p t",
+    "subgraph check e",
+    "subgraph demo",
+    "subgraph demo +7",
+    "subgraph solve p t --threads 0",
+    "subgraph solve p t --threads 65",
+    "subgraph solve p t --threads +4",
+    "subgraph solve p t --threads 4294967297",
+    "subgraph solve p t --book 4194305",
+    "subgraph demo 7 --threads 65",
+    "subgraph demo 7 --book 4",
+    "subgraph verify p t m --threads 2",
+    "subgraph solve p t --budget 0",
+    "subgraph solve p t --budget 9223372036854775808",
+    "subgraph solve p t --budget 99999999999999999999",
+    "subgraph solve p t --seed 18446744073709551616",
+    "subgraph encode p t --budget 4",
+    "subgraph check e l --induced",
+    "subgraph verify p t m --seed 4",
+    "subgraph solve p t --format foo",
+    "subgraph solve p t --seed 1 --seed 1",
+    "subgraph solve p t --induced --induced",
+    "subgraph solve p t --induced=true",
+    "subgraph solve p t --bud 4",
+    "subgraph sol p t",
+    "subgraph --help",
+    "subgraph help",
+    "subgraph -V",
+    "subgraph --version",
+    "subgraph solve --help",
+    "subgraph solve p t -h",
 ];
 
 #[test]
@@ -132,6 +159,15 @@ fn lines_come_to_their_commands(rt: HostRuntime) -> Result<(), Fail> {
     for (line, expected) in ROWS {
         let came_to = answer(rt.alloc(), line)?;
         assert_eq!(rt; came_to.as_str(), expected, "{line}");
+    }
+    Ok(())
+}
+
+#[test]
+fn other_lines_are_no_command(rt: HostRuntime) -> Result<(), Fail> {
+    for line in REFUSED {
+        let came_to = answer(rt.alloc(), line)?;
+        assert_eq!(rt; came_to.as_str(), "NotACommand", "{line}");
     }
     Ok(())
 }

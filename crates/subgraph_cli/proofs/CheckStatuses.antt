@@ -10,6 +10,7 @@ use Rattle.log_theory.specs.declared.step.Verdict.TheVariants as verdict
 use Rattle.log_theory.specs.Verdicts.{verdict_of}
 use Rattle.search_theory.specs.Account.{Account}
 use Rattle.subgraph_cli.specs.Lines.{refusal_text, log_text}
+use Rattle.subgraph_cli.specs.Disk.{Disk}
 use Rattle.subgraph_cli.specs.Streams.{Stream, IsAsBefore, Got, GotFront, Tells}
 use Rattle.subgraph_cli.specs.Outcomes.{outcome}
 use Rattle.subgraph_cli.specs.Stops.{SparesOutput, IsOfFiles}
@@ -107,15 +108,15 @@ refused_says (Err FilesFault) e l out err says told is = absurd (omega arith)
 refused_says (Err OutputFault) e l out err says told is = absurd (omega arith)
 refused_says (Err NoMemory) e l out err says told is = absurd (omega arith)
 
-fault_says : (r : Result Checked Stop) (e l : Option (List ℕ)) (out : Stream) (before after : ℕ) → CheckSays r e l out
-    → IfErr r (λ (s : Stop). SparesOutput s before after out) → check_status r ≡ 5
+fault_says : (r : Result Checked Stop) (e l : Option (List ℕ)) (out : Stream) → CheckSays r e l out
+    → IfErr r (λ (s : Stop). SparesOutput s out) → check_status r ≡ 5
     → IsAsBefore out ⊎ ((claim : Claim) × IsAccepted claim e l × GotFront out (claim_text claim))
-fault_says (Err FilesFault) e l out before after says spares is = inl spares
-fault_says (Err OutputFault) e l out before after says spares is = inr says
-fault_says (Ok (Accepted claim)) e l out before after says spares is = absurd (omega arith)
-fault_says (Ok (NotAccepted line cause)) e l out before after says spares is = absurd (omega arith)
-fault_says (Err (Refused role fault)) e l out before after says spares is = absurd (omega arith)
-fault_says (Err NoMemory) e l out before after says spares is = absurd (omega arith)
+fault_says (Err FilesFault) e l out says spares is = inl spares
+fault_says (Err OutputFault) e l out says spares is = inr says
+fault_says (Ok (Accepted claim)) e l out says spares is = absurd (omega arith)
+fault_says (Ok (NotAccepted line cause)) e l out says spares is = absurd (omega arith)
+fault_says (Err (Refused role fault)) e l out says spares is = absurd (omega arith)
+fault_says (Err NoMemory) e l out says spares is = absurd (omega arith)
 
 accepted_leads : (r : Result Checked Stop) (e l : Option (List ℕ)) (out : Stream) → CheckSays r e l out
     → (m : OpbModel) (text : List ℕ) (claim : Claim) → Holds e l m text → verdict_of m.variables m.constraints text ≡ verdict_of_claim claim → IsOrStops 0 (check_status r)
@@ -147,22 +148,20 @@ refused_leads (Err OutputFault) e l out says role fault refused = inr (inl refl)
 refused_leads (Err NoMemory) e l out says role fault refused = inr (inr refl)
 
 -- The status of a check says what its end says.
-pub check_status_says : (r : Result Checked Stop) (e l : Option (List ℕ)) (accounts : List Account) (out err : Stream) (before after status : ℕ)
-    → CheckSays r e l out → IfErr r (λ (s : Stop). SparesOutput s before after out) → TellsChecked r err → status ≡ check_status r
-    → CheckStatus (outcome status accounts out err) e l
-check_status_says r e l accounts out err before after status says spares told is =
-    let at_end : CheckStatus (outcome (check_status r) accounts out err) e l = record {
-      accepted = accepted_says r e l out says;
-      refused_log = refused_log_says r e l out err says told;
-      refused = refused_says r e l out err says told;
-      fault = fault_says r e l out before after says spares;
-      leads = record {
-        accepted = accepted_leads r e l out says;
-        refused_log = refused_log_leads r e l out says;
-        refused = refused_leads r e l out says;
-      };
-    } in
-    subst (λ (n : ℕ). CheckStatus (outcome n accounts out err) e l) (sym is) at_end
+pub check_status_says : (r : Result Checked Stop) (e l : Option (List ℕ)) (accounts : List Account) (d : Disk) (out err : Stream)
+    → CheckSays r e l out → IfErr r (λ (s : Stop). SparesOutput s out) → TellsChecked r err
+    → CheckStatus (outcome (check_status r) accounts d out err) e l
+check_status_says r e l accounts d out err says spares told = record {
+  accepted = accepted_says r e l out says;
+  refused_log = refused_log_says r e l out err says told;
+  refused = refused_says r e l out err says told;
+  fault = fault_says r e l out says spares;
+  leads = record {
+    accepted = accepted_leads r e l out says;
+    refused_log = refused_log_leads r e l out says;
+    refused = refused_leads r e l out says;
+  };
+}
 
 -- ---- the parts of a check
 
@@ -199,14 +198,14 @@ verdict_stops (Refused role fault) m text e l out says = absurd says
 pub told_says : (checked : Checked) (m : OpbModel) (text : List ℕ) (e l : Option (List ℕ)) (out : Stream)
     → VerdictSays (Ok checked) m text → Holds e l m text → ToldSays (Ok tt) checked out → CheckSays (Ok checked) e l out
 told_says (Accepted claim) m text e l out says held told =
-    (record { model = m; text = text; holds = held; verdict = says.0; claim_holds = says.1 }, told)
-told_says (NotAccepted line cause) m text e l out says held told = record { model = m; text = text; holds = held; verdict = says }
+    (record { model = m; text = text; holds = held; verdict = says.0; accepts = says.1; claim_holds = says.2 }, told)
+told_says (NotAccepted line cause) m text e l out says held told = record { model = m; text = text; holds = held; verdict = says.0; refuses = says.1 }
 
 -- The output's fault while the claim is told.
 pub untold_says : (s : Stop) (checked : Checked) (m : OpbModel) (text : List ℕ) (e l : Option (List ℕ)) (out : Stream)
     → VerdictSays (Ok checked) m text → Holds e l m text → ToldSays (Err s) checked out → CheckSays (Err s) e l out
 untold_says OutputFault (Accepted claim) m text e l out says held told =
-    (claim, record { model = m; text = text; holds = held; verdict = says.0; claim_holds = says.1 }, told)
+    (claim, record { model = m; text = text; holds = held; verdict = says.0; accepts = says.1; claim_holds = says.2 }, told)
 untold_says OutputFault (NotAccepted line cause) m text e l out says held told = absurd told
 untold_says FilesFault (Accepted claim) m text e l out says held told = absurd told
 untold_says FilesFault (NotAccepted line cause) m text e l out says held told = absurd told

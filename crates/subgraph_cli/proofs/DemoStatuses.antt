@@ -1,36 +1,41 @@
 -- What the status of a demo says, by the cases of its end.
 
-use Rattle.std.specs.Prelude.{◌≡◌, ℕ, ◌⊎◌, Bool, true, false, ◌&&◌, List, [], ◌∷◌, ◌++◌, Result, Ok, Err, IfOk, IfErr, refl}
+use Rattle.std.specs.Prelude.{◌≡◌, ℕ, ◌⊎◌, Bool, true, false, ◌&&◌, List, [], ◌++◌, Result, Ok, Err, IfOk, refl}
 use Rattle.std.proofs.Common.{sym, ap, subst, ◌∙◌, inl, inr, arith}
 use Rattle.graph_theory.specs.Embedding.{Problem}
 use Rattle.search_theory.specs.Account.{Account}
-use Rattle.outer_io.specs.Faults.{Rose}
 use Rattle.demo_instances.specs.SeedProblems.{IsPlanted, IsCycle}
 use Rattle.command_line.specs.declared.commands.DemoWords.{DemoWords}
-use Rattle.subgraph_cli.specs.Lines.{output_fault_text}
-use Rattle.subgraph_cli.specs.Streams.{Stream, Got, GotFront, Tells}
+use Rattle.subgraph_cli.specs.Disk.{Disk}
+use Rattle.subgraph_cli.specs.Streams.{Stream, Got, GotFront}
 use Rattle.subgraph_cli.specs.Outcomes.{outcome}
-use Rattle.subgraph_cli.specs.Stops.{TellsStop, SparesOutput}
 use Rattle.subgraph_cli.specs.Solving.{IsOrStops}
 use Rattle.subgraph_cli.specs.Demonstrating.{IsSpentOn, ShowsOne, AreLeft, DemoSays, DemoStatus, IsEnoughFor, shown_text, shown_status, demo_status}
 use Rattle.subgraph_cli.specs.declared.demo.Shown.{Shown}
 use Rattle.subgraph_cli.specs.declared.stop.Stop.{Stop}
 use Rattle.subgraph_cli.specs.declared.stop.Stop.TheVariants.{Refused, FilesFault, OutputFault, NoMemory}
 
--- An account that was kept is left over.
-pub kept_shows : (r : Result Bool Stop) (description : Problem → Type 0) (budget : ℕ) (a : Account) (old new : List Account)
-    → IfOk r (λ (decided : Bool). (decided ≡ false) × (new ≡ old ++ a ∷ [])) → IsSpentOn description budget a → ShowsOne r description budget old new
-kept_shows (Ok true) description budget a old new kept spent = let e : true ≡ false = kept.0 in cc
-kept_shows (Ok false) description budget a old new kept spent = (a, spent, kept.1)
-kept_shows (Err stop) description budget a old new kept spent = tt
+-- Accounts that were kept are left over.
+pub kept_shows : (r : Result Bool Stop) (description : Problem → Type 0) (w : DemoWords) (more old new : List Account)
+    → IfOk r (λ (decided : Bool). (decided ≡ false) × (new ≡ old ++ more)) → IsSpentOn description w more → ShowsOne r description w old new
+kept_shows (Ok true) description w more old new kept spent = let e : true ≡ false = kept.0 in cc
+kept_shows (Ok false) description w more old new kept spent = (more, spent, kept.1)
+kept_shows (Err stop) description w more old new kept spent = tt
+
+-- A list behind none is that list.
+behind_none : (old new more : List Account) → old ≡ [] → new ≡ old ++ more → more ≡ new
+behind_none old new more empty e = sym (e ∙ ap (λ (xs : List Account). xs ++ more) empty)
 
 -- The accounts of the two problems, one after the other.
 pub left : (planted cycle : Bool) (w : DemoWords) (old middle new : List Account) → old ≡ []
-    → ShowsOne (Ok planted) (IsPlanted w.seed) w.budget old middle → ShowsOne (Ok cycle) (IsCycle w.seed) w.budget middle new → AreLeft planted cycle w new
+    → ShowsOne (Ok planted) (IsPlanted w.seed) w old middle → ShowsOne (Ok cycle) (IsCycle w.seed) w middle new → AreLeft planted cycle w new
 left true true w old middle new empty p c = c ∙ p ∙ empty
-left false true w old middle new empty p c = (p.0, p.1, c ∙ p.2 ∙ ap (λ (xs : List Account). xs ++ p.0 ∷ []) empty)
-left true false w old middle new empty p c = (c.0, c.1, c.2 ∙ ap (λ (xs : List Account). xs ++ c.0 ∷ []) (p ∙ empty))
-left false false w old middle new empty p c = (p.0, c.0, p.1, c.1, c.2 ∙ ap (λ (xs : List Account). xs ++ c.0 ∷ []) (p.2 ∙ ap (λ (xs : List Account). xs ++ p.0 ∷ []) empty))
+left false true w old middle new empty p c =
+    subst (λ (xs : List Account). IsSpentOn (IsPlanted w.seed) w xs) (behind_none old middle p.0 empty p.2 ∙ sym c) p.1
+left true false w old middle new empty p c =
+    subst (λ (xs : List Account). IsSpentOn (IsCycle w.seed) w xs) (behind_none middle new c.0 (p ∙ empty) c.2) c.1
+left false false w old middle new empty p c =
+    (p.0, c.0, p.1, c.1, c.2 ∙ ap (λ (xs : List Account). xs ++ c.0) (sym (behind_none old middle p.0 empty p.2)))
 
 decided_by : (p c : Bool) (w : DemoWords) (accounts : List Account) (out : Stream) → AreLeft p c w accounts × Got out (shown_text p c) → shown_status p c ≡ 0 → AreLeft true true w accounts × Got out (shown_text true true)
 decided_by true true w accounts out says e = says
@@ -87,42 +92,25 @@ answers (Err FilesFault) w accounts out says = absurd says
 answers (Err OutputFault) w accounts out says = inr (inr (inl refl))
 answers (Err NoMemory) w accounts out says = inr (inr (inr refl))
 
-less : (description : Problem → Type 0) (budget : ℕ) (a : Account) → IsSpentOn description budget a → IsEnoughFor description budget → ⊥
-less description budget a spent most =
+less : (description : Problem → Type 0) (w : DemoWords) (accounts : List Account) → IsSpentOn description w accounts → IsEnoughFor description w.budget → ⊥
+less description w accounts spent most =
     let h = most spent.problem spent.is_described in
-    let k = spent.not_enough in
+    let k = spent.spent.not_enough in
     omega (arith, h, k)
 
 both_less : (p c : Bool) (w : DemoWords) (accounts : List Account) → p && c ≡ false → AreLeft p c w accounts → IsEnoughFor (IsPlanted w.seed) w.budget → IsEnoughFor (IsCycle w.seed) w.budget → ⊥
 both_less true true w accounts e left most more = cc
-both_less false true w accounts e left most more = less (IsPlanted w.seed) w.budget left.0 left.1 most
-both_less true false w accounts e left most more = less (IsCycle w.seed) w.budget left.0 left.1 more
-both_less false false w accounts e left most more = less (IsPlanted w.seed) w.budget left.0 left.2 most
+both_less false true w accounts e left most more = less (IsPlanted w.seed) w accounts left most
+both_less true false w accounts e left most more = less (IsCycle w.seed) w accounts left more
+both_less false false w accounts e left most more = less (IsPlanted w.seed) w left.0 left.2 most
 
 -- The status of a demo says what its end says.
-pub demo_status_says : (r : Result Shown Stop) (w : DemoWords) (accounts : List Account) (out err : Stream) (status : ℕ)
-    → DemoSays r w accounts out → status ≡ demo_status r → DemoStatus (outcome status accounts out err) w
-demo_status_says r w accounts out err status says is =
-    let at_end : DemoStatus (outcome (demo_status r) accounts out err) w = record {
-      decided = decided_says r w accounts out says;
-      unknown = unknown_says r w accounts out says;
-      fault = fault_says r w accounts out says;
-      answered = answers r w accounts out says;
-      enough = λ most more e. let u = unknown_says r w accounts out says e in both_less u.0 u.1 w accounts u.2 u.3 most more;
-    } in
-    subst (λ (n : ℕ). DemoStatus (outcome n accounts out err) w) (sym is) at_end
-
--- The statuses of a demo.
-pub demo_statuses : (r : Result Shown Stop) (w : DemoWords) (accounts : List Account) (out : Stream) → DemoSays r w accounts out
-    → (demo_status r ≡ 0) ⊎ ((demo_status r ≡ 2) ⊎ ((demo_status r ≡ 5) ⊎ (demo_status r ≡ 6)))
-demo_statuses r w accounts out says = answers r w accounts out says
-
--- A demo stops for a fault of the output alone, of which the error stream is told.
-pub demo_fault : (r : Result Shown Stop) (w : DemoWords) (accounts : List Account) (out err : Stream) (before after : ℕ)
-    → DemoSays r w accounts out → IfErr r (λ (s : Stop). SparesOutput s before after out) → TellsStop r err → demo_status r ≡ 5
-    → Rose before after × Tells err output_fault_text
-demo_fault (Ok shown) w accounts out err before after says spares line e = absurd (no_fault_status shown.planted shown.cycle e)
-demo_fault (Err (Refused role fault)) w accounts out err before after says spares line e = absurd says
-demo_fault (Err FilesFault) w accounts out err before after says spares line e = absurd says
-demo_fault (Err OutputFault) w accounts out err before after says spares line e = (spares, line)
-demo_fault (Err NoMemory) w accounts out err before after says spares line e = absurd (omega arith)
+pub demo_status_says : (r : Result Shown Stop) (w : DemoWords) (accounts : List Account) (d : Disk) (out err : Stream)
+    → DemoSays r w accounts out → DemoStatus (outcome (demo_status r) accounts d out err) w
+demo_status_says r w accounts d out err says = record {
+  decided = decided_says r w accounts out says;
+  unknown = unknown_says r w accounts out says;
+  fault = fault_says r w accounts out says;
+  answered = answers r w accounts out says;
+  enough = λ most more e. let u = unknown_says r w accounts out says e in both_less u.0 u.1 w accounts u.2 u.3 most more;
+}

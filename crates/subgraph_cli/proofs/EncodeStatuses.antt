@@ -7,6 +7,7 @@ use Rattle.graph_theory.specs.LadFault.{TextLaws}
 use Rattle.search_theory.specs.Account.{Account}
 use Rattle.command_line.specs.declared.commands.EncodeWords.{EncodeWords}
 use Rattle.subgraph_cli.specs.Lines.{refusal_text}
+use Rattle.subgraph_cli.specs.Disk.{Disk}
 use Rattle.subgraph_cli.specs.Streams.{Stream, IsAsBefore, Tells}
 use Rattle.subgraph_cli.specs.Outcomes.{outcome}
 use Rattle.subgraph_cli.specs.Questions.{Asks, IsFirstRefused}
@@ -20,11 +21,11 @@ use Rattle.subgraph_cli.specs.declared.stop.Stop.TheVariants.{Refused, FilesFaul
 use Rattle.subgraph_cli.proofs.OneProblem.{asks_not_refused}
 
 -- A stop while loading leaves an output that nothing was put to.
-pub loading_spares_parts : (s : Stop) (before after : ℕ) (out : Stream) → IsOfFiles s → IsAsBefore out → SparesInParts s before after out
-loading_spares_parts FilesFault before after out of_files kept = kept
-loading_spares_parts OutputFault before after out of_files kept = absurd of_files
-loading_spares_parts (Refused role fault) before after out of_files kept = kept
-loading_spares_parts NoMemory before after out of_files kept = tt
+pub loading_spares_parts : (s : Stop) (out : Stream) → IsOfFiles s → IsAsBefore out → SparesInParts s out
+loading_spares_parts FilesFault out of_files kept = kept
+loading_spares_parts OutputFault out of_files kept = absurd of_files
+loading_spares_parts (Refused role fault) out of_files kept = kept
+loading_spares_parts NoMemory out of_files kept = tt
 
 -- What writing the encoding of the problem that the files ask says is what an encode says.
 pub writing_says : (r : Result Unit Stop) (q : Problem) (w : EncodeWords) (p t : Option (List ℕ)) (out : Stream)
@@ -56,14 +57,14 @@ refused_says (Err OutputFault) w p t out err says line e = absurd (omega arith)
 refused_says (Err NoMemory) w p t out err says line e = absurd (omega arith)
 
 -- Status 5 is that of a fault: of the files, where nothing was written, or of the output within the text.
-fault_says : (r : Result Unit Stop) (w : EncodeWords) (p t : Option (List ℕ)) (out : Stream) (before after : ℕ)
-    → EncodeSays r w p t out → IfErr r (λ (s : Stop). SparesInParts s before after out) → encode_status r ≡ 5
+fault_says : (r : Result Unit Stop) (w : EncodeWords) (p t : Option (List ℕ)) (out : Stream)
+    → EncodeSays r w p t out → IfErr r (λ (s : Stop). SparesInParts s out) → encode_status r ≡ 5
     → IsAsBefore out ⊎ StopsInEncoding w p t out
-fault_says (Err FilesFault) w p t out before after says spares e = inl spares
-fault_says (Err OutputFault) w p t out before after says spares e = inr says
-fault_says (Ok done) w p t out before after says spares e = absurd (omega arith)
-fault_says (Err (Refused role fault)) w p t out before after says spares e = absurd (omega arith)
-fault_says (Err NoMemory) w p t out before after says spares e = absurd (omega arith)
+fault_says (Err FilesFault) w p t out says spares e = inl spares
+fault_says (Err OutputFault) w p t out says spares e = inr says
+fault_says (Ok done) w p t out says spares e = absurd (omega arith)
+fault_says (Err (Refused role fault)) w p t out says spares e = absurd (omega arith)
+fault_says (Err NoMemory) w p t out says spares e = absurd (omega arith)
 
 -- Status 6 is that of want of memory, before the text or within it.
 no_memory_says : (r : Result Unit Stop) (w : EncodeWords) (p t : Option (List ℕ)) (out : Stream)
@@ -93,18 +94,16 @@ refused_leads laws (Err OutputFault) w p t out says role fault refused = inr (in
 refused_leads laws (Err NoMemory) w p t out says role fault refused = inr (inr refl)
 
 -- The status of an encode says what its end says.
-pub encode_status_says : TextLaws → (r : Result Unit Stop) (w : EncodeWords) (p t : Option (List ℕ)) (accounts : List Account) (out err : Stream) (before after status : ℕ)
-    → EncodeSays r w p t out → IfErr r (λ (s : Stop). SparesInParts s before after out) → TellsStop r err → status ≡ encode_status r
-    → EncodeStatus (outcome status accounts out err) w p t
-encode_status_says laws r w p t accounts out err before after status says spares line is =
-    let at_end : EncodeStatus (outcome (encode_status r) accounts out err) w p t = record {
-      encoded = encoded_says r w p t out says;
-      refused = refused_says r w p t out err says line;
-      fault = fault_says r w p t out before after says spares;
-      no_memory = no_memory_says r w p t out says;
-      leads = record {
-        encoded = encoded_leads laws r w p t out says;
-        refused = refused_leads laws r w p t out says;
-      };
-    } in
-    subst (λ (n : ℕ). EncodeStatus (outcome n accounts out err) w p t) (sym is) at_end
+pub encode_status_says : TextLaws → (r : Result Unit Stop) (w : EncodeWords) (p t : Option (List ℕ)) (accounts : List Account) (d : Disk) (out err : Stream)
+    → EncodeSays r w p t out → IfErr r (λ (s : Stop). SparesInParts s out) → TellsStop r err
+    → EncodeStatus (outcome (encode_status r) accounts d out err) w p t
+encode_status_says laws r w p t accounts d out err says spares line = record {
+  encoded = encoded_says r w p t out says;
+  refused = refused_says r w p t out err says line;
+  fault = fault_says r w p t out says spares;
+  no_memory = no_memory_says r w p t out says;
+  leads = record {
+    encoded = encoded_leads laws r w p t out says;
+    refused = refused_leads laws r w p t out says;
+  };
+}

@@ -5,4 +5,6 @@ pub mod VerifyStatuses
 pub mod EncodeStatuses
 pub mod CheckStatuses
 pub mod DemoStatuses
+pub mod Ends
 pub mod Complete
+pub mod Runs

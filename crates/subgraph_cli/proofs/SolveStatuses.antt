@@ -9,6 +9,7 @@ use Rattle.search_theory.specs.Bounds.{enough}
 use Rattle.search_theory.specs.Account.{Account}
 use Rattle.command_line.specs.declared.commands.SolveWords.{SolveWords}
 use Rattle.subgraph_cli.specs.Lines.{refusal_text}
+use Rattle.subgraph_cli.specs.Disk.{Disk}
 use Rattle.subgraph_cli.specs.Streams.{Stream, IsAsBefore, Tells}
 use Rattle.subgraph_cli.specs.Outcomes.{outcome}
 use Rattle.subgraph_cli.specs.Questions.{Asks, IsFirstRefused}
@@ -68,16 +69,16 @@ refused_says (Err OutputFault) w p t accounts out err says line e = absurd (omeg
 refused_says (Err NoMemory) w p t accounts out err says line e = absurd (omega arith)
 
 -- Status 5 is that of a fault: of the files, where nothing was written, or of the output within an answer.
-fault_says : (r : Result Decision Stop) (w : SolveWords) (p t : Option (List ℕ)) (accounts : List Account) (out : Stream) (before after : ℕ)
-    → SolveSays r w p t accounts out → IfErr r (λ (s : Stop). SparesOutput s before after out) → solve_status r ≡ 5
+fault_says : (r : Result Decision Stop) (w : SolveWords) (p t : Option (List ℕ)) (accounts : List Account) (out : Stream)
+    → SolveSays r w p t accounts out → IfErr r (λ (s : Stop). SparesOutput s out) → solve_status r ≡ 5
     → IsAsBefore out ⊎ StopsInAnswer w p t accounts out
-fault_says (Err FilesFault) w p t accounts out before after says spares e = inl spares
-fault_says (Err OutputFault) w p t accounts out before after says spares e = inr says
-fault_says (Ok Yes) w p t accounts out before after says spares e = absurd (omega arith)
-fault_says (Ok Nothing) w p t accounts out before after says spares e = absurd (omega arith)
-fault_says (Ok Unknown) w p t accounts out before after says spares e = absurd (omega arith)
-fault_says (Err (Refused role fault)) w p t accounts out before after says spares e = absurd (omega arith)
-fault_says (Err NoMemory) w p t accounts out before after says spares e = absurd (omega arith)
+fault_says (Err FilesFault) w p t accounts out says spares e = inl spares
+fault_says (Err OutputFault) w p t accounts out says spares e = inr says
+fault_says (Ok Yes) w p t accounts out says spares e = absurd (omega arith)
+fault_says (Ok Nothing) w p t accounts out says spares e = absurd (omega arith)
+fault_says (Ok Unknown) w p t accounts out says spares e = absurd (omega arith)
+fault_says (Err (Refused role fault)) w p t accounts out says spares e = absurd (omega arith)
+fault_says (Err NoMemory) w p t accounts out says spares e = absurd (omega arith)
 
 -- A problem is answered.
 answered_leads : TextLaws → (r : Result Decision Stop) (w : SolveWords) (p t : Option (List ℕ)) (accounts : List Account) (out : Stream)
@@ -147,22 +148,20 @@ refused_leads laws (Err OutputFault) w p t accounts out says role fault refused 
 refused_leads laws (Err NoMemory) w p t accounts out says role fault refused = inr (inr refl)
 
 -- The status of a solve says what its end says.
-pub solve_status_says : TextLaws → (r : Result Decision Stop) (w : SolveWords) (p t : Option (List ℕ)) (accounts : List Account) (out err : Stream) (before after status : ℕ)
-    → SolveSays r w p t accounts out → IfErr r (λ (s : Stop). SparesOutput s before after out) → TellsStop r err → status ≡ solve_status r
-    → SolveStatus (outcome status accounts out err) w p t
-solve_status_says laws r w p t accounts out err before after status says spares line is =
-    let at_end : SolveStatus (outcome (solve_status r) accounts out err) w p t = record {
-      yes = yes_says r w p t accounts out says;
-      none = none_says r w p t accounts out says;
-      unknown = unknown_says r w p t accounts out says;
-      refused = refused_says r w p t accounts out err says line;
-      fault = fault_says r w p t accounts out before after says spares;
-      leads = record {
-        answered = answered_leads laws r w p t accounts out says;
-        found = found_leads laws r w p t accounts out says;
-        refuted = refuted_leads laws r w p t accounts out says;
-        enough = enough_leads laws r w p t accounts out says;
-        refused = refused_leads laws r w p t accounts out says;
-      };
-    } in
-    subst (λ (n : ℕ). SolveStatus (outcome n accounts out err) w p t) (sym is) at_end
+pub solve_status_says : TextLaws → (r : Result Decision Stop) (w : SolveWords) (p t : Option (List ℕ)) (accounts : List Account) (d : Disk) (out err : Stream)
+    → SolveSays r w p t accounts out → IfErr r (λ (s : Stop). SparesOutput s out) → TellsStop r err
+    → SolveStatus (outcome (solve_status r) accounts d out err) w p t
+solve_status_says laws r w p t accounts d out err says spares line = record {
+  yes = yes_says r w p t accounts out says;
+  none = none_says r w p t accounts out says;
+  unknown = unknown_says r w p t accounts out says;
+  refused = refused_says r w p t accounts out err says line;
+  fault = fault_says r w p t accounts out says spares;
+  leads = record {
+    answered = answered_leads laws r w p t accounts out says;
+    found = found_leads laws r w p t accounts out says;
+    refuted = refuted_leads laws r w p t accounts out says;
+    enough = enough_leads laws r w p t accounts out says;
+    refused = refused_leads laws r w p t accounts out says;
+  };
+}

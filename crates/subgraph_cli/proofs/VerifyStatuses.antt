@@ -8,6 +8,7 @@ use Rattle.graph_theory.specs.Mapping.{MappingLaws}
 use Rattle.search_theory.specs.Account.{Account}
 use Rattle.command_line.specs.declared.commands.VerifyWords.{VerifyWords}
 use Rattle.subgraph_cli.specs.Lines.{refusal_text, embedding_text, no_embedding_text}
+use Rattle.subgraph_cli.specs.Disk.{Disk}
 use Rattle.subgraph_cli.specs.Streams.{Stream, IsAsBefore, Got, GotFront, Tells}
 use Rattle.subgraph_cli.specs.Outcomes.{outcome}
 use Rattle.subgraph_cli.specs.Stops.{SparesOutput}
@@ -53,15 +54,15 @@ refused_says (Err OutputFault) w p t m out err says line e = absurd (omega arith
 refused_says (Err NoMemory) w p t m out err says line e = absurd (omega arith)
 
 -- Status 5 is that of a fault: of the files, where nothing was written, or of the output within the answer.
-fault_says : (r : Result Tested Stop) (w : VerifyWords) (p t m : Option (List ℕ)) (out : Stream) (before after : ℕ)
-    → VerifySays r w p t m out → IfErr r (λ (s : Stop). SparesOutput s before after out) → verify_status r ≡ 5
+fault_says : (r : Result Tested Stop) (w : VerifyWords) (p t m : Option (List ℕ)) (out : Stream)
+    → VerifySays r w p t m out → IfErr r (λ (s : Stop). SparesOutput s out) → verify_status r ≡ 5
     → IsAsBefore out ⊎ (IsGood w p t m × GotFront out embedding_text)
-fault_says (Err FilesFault) w p t m out before after says spares e = inl spares
-fault_says (Err OutputFault) w p t m out before after says spares e = inr says
-fault_says (Ok Embedding) w p t m out before after says spares e = absurd (omega arith)
-fault_says (Ok NotAnEmbedding) w p t m out before after says spares e = absurd (omega arith)
-fault_says (Err (Refused role fault)) w p t m out before after says spares e = absurd (omega arith)
-fault_says (Err NoMemory) w p t m out before after says spares e = absurd (omega arith)
+fault_says (Err FilesFault) w p t m out says spares e = inl spares
+fault_says (Err OutputFault) w p t m out says spares e = inr says
+fault_says (Ok Embedding) w p t m out says spares e = absurd (omega arith)
+fault_says (Ok NotAnEmbedding) w p t m out says spares e = absurd (omega arith)
+fault_says (Err (Refused role fault)) w p t m out says spares e = absurd (omega arith)
+fault_says (Err NoMemory) w p t m out says spares e = absurd (omega arith)
 
 -- A mapping is tested.
 tested_leads : TextLaws → MappingLaws → (r : Result Tested Stop) (w : VerifyWords) (p t m : Option (List ℕ)) (out : Stream)
@@ -116,20 +117,18 @@ refused_leads texts maps (Err OutputFault) w p t m out says role fault refused =
 refused_leads texts maps (Err NoMemory) w p t m out says role fault refused = inr (inr refl)
 
 -- The status of a verify says what its end says.
-pub verify_status_says : TextLaws → MappingLaws → (r : Result Tested Stop) (w : VerifyWords) (p t m : Option (List ℕ)) (accounts : List Account) (out err : Stream) (before after status : ℕ)
-    → VerifySays r w p t m out → IfErr r (λ (s : Stop). SparesOutput s before after out) → TellsTested r err → status ≡ verify_status r
-    → VerifyStatus (outcome status accounts out err) w p t m
-verify_status_says texts maps r w p t m accounts out err before after status says spares line is =
-    let at_end : VerifyStatus (outcome (verify_status r) accounts out err) w p t m = record {
-      embedding = good_says r w p t m out says;
-      not_embedding = bad_says r w p t m out err says line;
-      refused = refused_says r w p t m out err says line;
-      fault = fault_says r w p t m out before after says spares;
-      leads = record {
-        tested = tested_leads texts maps r w p t m out says;
-        embedding = good_leads texts maps r w p t m out says;
-        not_embedding = bad_leads texts maps r w p t m out says;
-        refused = refused_leads texts maps r w p t m out says;
-      };
-    } in
-    subst (λ (n : ℕ). VerifyStatus (outcome n accounts out err) w p t m) (sym is) at_end
+pub verify_status_says : TextLaws → MappingLaws → (r : Result Tested Stop) (w : VerifyWords) (p t m : Option (List ℕ)) (accounts : List Account) (d : Disk) (out err : Stream)
+    → VerifySays r w p t m out → IfErr r (λ (s : Stop). SparesOutput s out) → TellsTested r err
+    → VerifyStatus (outcome (verify_status r) accounts d out err) w p t m
+verify_status_says texts maps r w p t m accounts d out err says spares line = record {
+  embedding = good_says r w p t m out says;
+  not_embedding = bad_says r w p t m out err says line;
+  refused = refused_says r w p t m out err says line;
+  fault = fault_says r w p t m out says spares;
+  leads = record {
+    tested = tested_leads texts maps r w p t m out says;
+    embedding = good_leads texts maps r w p t m out says;
+    not_embedding = bad_leads texts maps r w p t m out says;
+    refused = refused_leads texts maps r w p t m out says;
+  };
+}

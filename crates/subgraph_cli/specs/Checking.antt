@@ -1,6 +1,6 @@
 -- What a `check` answers.
 
-use Rattle.std.specs.Prelude.{◌≡◌, ℕ, ◌<◌, ◌≤◌, ◌^◌, ◌⊎◌, List, length, Bool, Option, Some, Result, Ok, Err, codes, Vec}
+use Rattle.std.specs.Prelude.{◌≡◌, ℕ, ◌<◌, ◌≤◌, ◌^◌, ◌⊎◌, IsTrue, List, length, Bool, Option, Some, Result, Ok, Err, codes, Vec}
 use Rattle.std.specs.Global.{Global}
 use Rattle.proof_theory.specs.Forms.{IsSolution, HasNoSolution}
 use Rattle.log_theory.specs.OpbText.{OpbModel}
@@ -9,6 +9,9 @@ use Rattle.log_theory.specs.declared.step.Cause.{Cause}
 use Rattle.log_theory.specs.declared.step.Verdict.{Verdict}
 use Rattle.log_theory.specs.declared.step.Verdict.TheVariants as verdict
 use Rattle.log_theory.specs.Verdicts.{verdict_of}
+use Rattle.log_theory.specs.Acceptance.{Accepts, Refuses}
+use Rattle.command_line.specs.declared.commands.CheckWords.{CheckWords}
+use Rattle.subgraph_cli.specs.Disk.{Disk, IsReadingOf}
 use Rattle.subgraph_cli.specs.Lines.{line_of, log_text, refusal_text, stop_text, stop_status}
 use Rattle.subgraph_cli.specs.Streams.{Stream, IsAsBefore, Got, GotFront, Tells}
 use Rattle.subgraph_cli.specs.Outcomes.{Outcome}
@@ -75,6 +78,11 @@ IsFirstOfCheck encoding log Pattern fault = ⊥
 IsFirstOfCheck encoding log Target fault = ⊥
 IsFirstOfCheck encoding log Mapping fault = ⊥
 
+-- The last fault was one of reading the encoding's file, or of reading the log's where the encoding's holds a model.
+abbrev pub IsFaultOfCheck : CheckWords → Disk → Type 0
+IsFaultOfCheck w d =
+    IsReadingOf w.encoding d ⊎ (IsReadingOf w.log d × (IsTrue d.tells → (m : OpbModel) × HoldsModel (d.content w.encoding) m))
+
 -- The claim of a last line, as a verdict.
 abbrev pub verdict_of_claim : Claim → Verdict
 verdict_of_claim Unsatisfiable = verdict.Unsatisfiable
@@ -99,6 +107,7 @@ pub record IsAccepted (claim : Claim) (encoding log : Option (List ℕ)) : Type 
   pub text : List ℕ
   pub holds : Holds encoding log model text
   pub verdict : verdict_of model.variables model.constraints text ≡ verdict_of_claim claim
+  pub accepts : Accepts model.variables model.constraints text (verdict_of_claim claim)
   pub claim_holds : ClaimHolds claim model
 
 -- It is refused at this line, for this cause.
@@ -107,6 +116,7 @@ pub record IsRefusedLog (line : ℕ) (cause : Cause) (encoding log : Option (Lis
   pub text : List ℕ
   pub holds : Holds encoding log model text
   pub verdict : verdict_of model.variables model.constraints text ≡ verdict.Refused line cause
+  pub refuses : Refuses model.variables model.constraints text line cause
 
 -- What a check says: what the log claims, which is written, or why it is refused; or why it stopped.
 abbrev pub CheckSays : Result Checked Stop → Option (List ℕ) → Option (List ℕ) → Stream → Type 0
@@ -172,8 +182,10 @@ LogSays (Err NoMemory) content = Unit {0}
 
 -- What the verdict of a log says, as the program tells it.
 abbrev pub VerdictSays : Result Checked Stop → OpbModel → List ℕ → Type 0
-VerdictSays (Ok (Accepted claim)) m log = (verdict_of m.variables m.constraints log ≡ verdict_of_claim claim) × ClaimHolds claim m
-VerdictSays (Ok (NotAccepted line cause)) m log = verdict_of m.variables m.constraints log ≡ verdict.Refused line cause
+VerdictSays (Ok (Accepted claim)) m log = (verdict_of m.variables m.constraints log ≡ verdict_of_claim claim)
+    × Accepts m.variables m.constraints log (verdict_of_claim claim) × ClaimHolds claim m
+VerdictSays (Ok (NotAccepted line cause)) m log = (verdict_of m.variables m.constraints log ≡ verdict.Refused line cause)
+    × Refuses m.variables m.constraints log line cause
 VerdictSays (Err NoMemory) m log = Unit {0}
 VerdictSays (Err FilesFault) m log = ⊥
 VerdictSays (Err OutputFault) m log = ⊥

@@ -1,6 +1,6 @@
 -- What a run comes to where no call on the files or the output failed: the answer that its files ask for, or memory was refused.
 
-use Rattle.std.specs.Prelude.{◌≡◌, ℕ, ◌≤◌, ◌⊎◌, List, Option}
+use Rattle.std.specs.Prelude.{◌≡◌, ℕ, ◌≤◌, ◌⊎◌, IsTrue, List, Option}
 use Rattle.graph_theory.specs.Graph.{size}
 use Rattle.graph_theory.specs.Embedding.{Problem, Embeds, HasNone}
 use Rattle.search_theory.specs.Bounds.{enough}
@@ -16,6 +16,8 @@ use Rattle.command_line.specs.declared.commands.VerifyWords.{VerifyWords}
 use Rattle.command_line.specs.declared.commands.EncodeWords.{EncodeWords}
 use Rattle.command_line.specs.declared.commands.DemoWords.{DemoWords}
 use Rattle.demo_instances.specs.SeedProblems.{IsPlanted, IsCycle}
+use Rattle.subgraph_cli.specs.Streams.{Failed}
+use Rattle.subgraph_cli.specs.Outcomes.{Outcome}
 use Rattle.subgraph_cli.specs.Questions.{Asks}
 use Rattle.subgraph_cli.specs.Verifying.{AsksOf}
 use Rattle.subgraph_cli.specs.Checking.{Holds, verdict_of_claim}
@@ -23,9 +25,9 @@ use Rattle.subgraph_cli.specs.declared.check.Claim.{Claim}
 use Rattle.subgraph_cli.specs.Demonstrating.{IsEnoughFor}
 
 -- Neither the count of the files' faults nor that of the output's has risen.
-pub record HasNoFault (before after out_before out_after : ℕ) : Type 0 where
-  pub files : Rose before after → ⊥
-  pub output : Rose out_before out_after → ⊥
+pub record HasNoFault (o : Outcome) : Type 0 where
+  pub files : Rose o.disk.faults_before o.disk.faults_after → ⊥
+  pub output : Failed o.out → ⊥
 
 -- The status is this one, or memory was refused.
 abbrev pub IsOrNoMemory : ℕ → ℕ → Type 0
@@ -58,10 +60,11 @@ pub record IsShown (status : ℕ) (w : DemoWords) : Type 0 where
   pub answered : (status ≡ 0) ⊎ IsOrNoMemory 2 status
   pub decided : IsEnoughFor (IsPlanted w.seed) w.budget → IsEnoughFor (IsCycle w.seed) w.budget → IsOrNoMemory 0 status
 
--- The run ends as the files ask for.
-abbrev pub IsComplete : Command → ℕ → (List ℕ → Option (List ℕ)) → Type 0
-IsComplete (Solve w) status content = IsSolved status w (content w.pattern) (content w.target)
-IsComplete (Verify w) status content = IsVerified status w (content w.pattern) (content w.target) (content w.mapping)
-IsComplete (Encode w) status content = IsEncodedWhole status w (content w.pattern) (content w.target)
-IsComplete (Check w) status content = IsChecked status (content w.encoding) (content w.log)
-IsComplete (Demo w) status content = IsShown status w
+-- The run ends as its files ask for, where they tell what they hold; a demo has none.
+abbrev pub IsComplete : Command → Outcome → Type 0
+IsComplete (Solve w) o = IsTrue o.disk.tells → IsSolved o.status w (o.disk.content w.pattern) (o.disk.content w.target)
+IsComplete (Verify w) o =
+    IsTrue o.disk.tells → IsVerified o.status w (o.disk.content w.pattern) (o.disk.content w.target) (o.disk.content w.mapping)
+IsComplete (Encode w) o = IsTrue o.disk.tells → IsEncodedWhole o.status w (o.disk.content w.pattern) (o.disk.content w.target)
+IsComplete (Check w) o = IsTrue o.disk.tells → IsChecked o.status (o.disk.content w.encoding) (o.disk.content w.log)
+IsComplete (Demo w) o = IsShown o.status w

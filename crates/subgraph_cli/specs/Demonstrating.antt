@@ -1,10 +1,11 @@
 -- What a `demo` answers.
 
-use Rattle.std.specs.Prelude.{◌≡◌, ℕ, ◌<◌, ◌≤◌, ◌⊎◌, Bool, true, false, ◌&&◌, List, [], ◌∷◌, ◌++◌, Result, Ok, Err, codes}
+use Rattle.std.specs.Prelude.{◌≡◌, ℕ, ◌≤◌, ◌⊎◌, Bool, true, false, ◌&&◌, List, [], ◌++◌, Result, Ok, Err, codes}
 use Rattle.graph_theory.specs.Graph.{size}
 use Rattle.graph_theory.specs.Embedding.{Problem}
 use Rattle.search_theory.specs.Bounds.{enough}
-use Rattle.search_theory.specs.Account.{Account, Spends}
+use Rattle.search_theory.specs.Account.{Account}
+use Rattle.parallel_solve.specs.Solving.{AreSpent}
 use Rattle.demo_instances.specs.SeedProblems.{IsPlanted, IsCycle}
 use Rattle.command_line.specs.declared.commands.DemoWords.{DemoWords}
 use Rattle.subgraph_cli.specs.Lines.{line_of, stop_status}
@@ -29,25 +30,25 @@ cycle_text false = line_of (codes "cycle unknown")
 abbrev pub shown_text : Bool → Bool → List ℕ
 shown_text planted cycle = planted_text planted ++ cycle_text cycle
 
--- The budget is spent on the problem of this description, as the account shows, and is less than enough for it.
-pub record IsSpentOn (description : Problem → Type 0) (budget : ℕ) (account : Account) : Type 0 where
+-- Each worker of the demo spent the budget on the problem of this description, as their accounts show.
+pub record IsSpentOn (description : Problem → Type 0) (w : DemoWords) (accounts : List Account) : Type 0 where
   pub problem : Problem
   pub is_described : description problem
-  pub spends : Spends problem budget account
-  pub not_enough : budget < enough (size problem.pattern) (size problem.target)
+  pub spent : AreSpent problem w.threads w.budget accounts
 
--- What deciding one of the two leaves of the accounts: all as they were where it was decided, and one more where it was not.
-abbrev pub ShowsOne : Result Bool Stop → (Problem → Type 0) → ℕ → List Account → List Account → Type 0
-ShowsOne (Ok true) description budget old new = new ≡ old
-ShowsOne (Ok false) description budget old new = (a : Account) × IsSpentOn description budget a × (new ≡ old ++ a ∷ [])
-ShowsOne (Err stop) description budget old new = Unit {0}
+-- What deciding one of the two leaves of the accounts: all as they were where it was decided, and its workers' accounts after them where it was not.
+abbrev pub ShowsOne : Result Bool Stop → (Problem → Type 0) → DemoWords → List Account → List Account → Type 0
+ShowsOne (Ok true) description w old new = new ≡ old
+ShowsOne (Ok false) description w old new = (more : List Account) × IsSpentOn description w more × (new ≡ old ++ more)
+ShowsOne (Err stop) description w old new = Unit {0}
 
 -- The accounts of the problems that were not decided, in order.
 abbrev pub AreLeft : Bool → Bool → DemoWords → List Account → Type 0
 AreLeft true true w accounts = accounts ≡ []
-AreLeft false true w accounts = (a : Account) × IsSpentOn (IsPlanted w.seed) w.budget a × (accounts ≡ a ∷ [])
-AreLeft true false w accounts = (a : Account) × IsSpentOn (IsCycle w.seed) w.budget a × (accounts ≡ a ∷ [])
-AreLeft false false w accounts = (a b : Account) × IsSpentOn (IsPlanted w.seed) w.budget a × IsSpentOn (IsCycle w.seed) w.budget b × (accounts ≡ a ∷ b ∷ [])
+AreLeft false true w accounts = IsSpentOn (IsPlanted w.seed) w accounts
+AreLeft true false w accounts = IsSpentOn (IsCycle w.seed) w accounts
+AreLeft false false w accounts = (first : List Account) × (second : List Account)
+    × IsSpentOn (IsPlanted w.seed) w first × IsSpentOn (IsCycle w.seed) w second × (accounts ≡ first ++ second)
 
 -- What a demo says: which of the two problems of the seed were decided, or why it stopped.
 abbrev pub DemoSays : Result Shown Stop → DemoWords → List Account → Stream → Type 0

@@ -1,4 +1,5 @@
 pub mod Lines
+pub mod Disk
 pub mod Streams
 pub mod Outcomes
 pub mod Stops
@@ -9,5 +10,5 @@ pub mod Verifying
 pub mod Encoded
 pub mod Checking
 pub mod Demonstrating
-pub mod Running
 pub mod Completeness
+pub mod Running

@@ -1,12 +1,13 @@
 -- The problem that two files ask, and which of the files is refused first.
 
-use Rattle.std.specs.Prelude.{◌≡◌, ℕ, Bool, List, Option, Some, Result, Ok, Err}
+use Rattle.std.specs.Prelude.{◌≡◌, ℕ, ◌⊎◌, Bool, IsTrue, List, Option, Some, Result, Ok, Err}
 use Rattle.graph_theory.specs.Graph.{Graph}
 use Rattle.graph_theory.specs.Embedding.{Problem}
 use Rattle.graph_theory.specs.declared.lad_text.LadKind.{LadKind}
 use Rattle.graph_files.specs.declared.graph_file.GraphFault.{GraphFault}
 use Rattle.graph_files.specs.declared.graph_file.GraphFault.TheVariants as graph
 use Rattle.graph_files.specs.GraphFile.{IsGraphFile, IsRefusedFor}
+use Rattle.subgraph_cli.specs.Disk.{Disk, IsReadingOf}
 use Rattle.subgraph_cli.specs.declared.stop.Stop.{Stop}
 use Rattle.subgraph_cli.specs.declared.stop.Stop.TheVariants.{Refused, FilesFault, OutputFault, NoMemory}
 use Rattle.subgraph_cli.specs.declared.stop.Role.{Role}
@@ -52,6 +53,11 @@ IsFirstRefused pattern target kind Target fault = LacksTarget pattern target kin
 IsFirstRefused pattern target kind Mapping fault = ⊥
 IsFirstRefused pattern target kind Encoding fault = ⊥
 IsFirstRefused pattern target kind Log fault = ⊥
+
+-- The last fault was one of reading the pattern's file, or of reading the target's where the pattern's is good.
+abbrev pub IsFaultOfTwo : List ℕ → List ℕ → LadKind → Disk → Type 0
+IsFaultOfTwo pattern target kind d =
+    IsReadingOf pattern d ⊎ (IsReadingOf target d × (IsTrue d.tells → (g : Graph) × HoldsGraph (d.content pattern) kind 1024 g))
 
 -- What loading the two files answers: their problem, or why it stopped.
 abbrev pub AskSays : Result Problem Stop → Option (List ℕ) → Option (List ℕ) → LadKind → Bool → Type 0

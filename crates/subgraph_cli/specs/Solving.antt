@@ -1,11 +1,12 @@
 -- What a `solve` answers.
 
-use Rattle.std.specs.Prelude.{◌≡◌, ℕ, ◌<◌, ◌≤◌, ◌⊎◌, List, [], ◌∷◌, Option, Result, Ok, Err}
+use Rattle.std.specs.Prelude.{◌≡◌, ℕ, ◌≤◌, ◌⊎◌, List, Option, Result, Ok, Err}
 use Rattle.graph_theory.specs.Graph.{size}
 use Rattle.graph_theory.specs.Embedding.{Problem, Embeds, HasNone}
 use Rattle.graph_theory.specs.Mapping.{yes_text}
 use Rattle.search_theory.specs.Bounds.{enough}
-use Rattle.search_theory.specs.Account.{Account, Spends}
+use Rattle.search_theory.specs.Account.{Account}
+use Rattle.parallel_solve.specs.Solving.{AreSpent}
 use Rattle.command_line.specs.declared.commands.SolveWords.{SolveWords}
 use Rattle.subgraph_cli.specs.Lines.{none_text, unknown_text, refusal_text, stop_status}
 use Rattle.subgraph_cli.specs.Streams.{Stream, Got, GotFront, IsAsBefore, Tells}
@@ -18,24 +19,17 @@ use Rattle.subgraph_cli.specs.declared.stop.Stop.TheVariants.{Refused, FilesFaul
 use Rattle.subgraph_cli.specs.declared.solve.Decision.{Decision}
 use Rattle.subgraph_cli.specs.declared.solve.Decision.TheVariants.{Yes, Nothing, Unknown}
 
--- The one worker spent its budget, which is less than enough, where a guess was due; its account is kept.
-pub record IsUndecided (q : Problem) (budget : ℕ) (accounts : List Account) : Type 0 where
-  pub account : Account
-  pub accounts_are : accounts ≡ account ∷ []
-  pub spends : Spends q budget account
-  pub not_enough : budget < enough (size q.pattern) (size q.target)
-
--- The text of each decision: an embedding, that none exists, or that the budget is spent.
-abbrev pub IsAnswer : Decision → Problem → ℕ → List Account → List ℕ → Type 0
-IsAnswer Yes q budget accounts text = (m : List ℕ) × Embeds q m × (text ≡ yes_text m)
-IsAnswer Nothing q budget accounts text = HasNone q × (text ≡ none_text)
-IsAnswer Unknown q budget accounts text = IsUndecided q budget accounts × (text ≡ unknown_text)
+-- The text of each decision: an embedding, that none exists, or that each of so many workers spent the budget, as their accounts show.
+abbrev pub IsAnswer : Decision → Problem → ℕ → ℕ → List Account → List ℕ → Type 0
+IsAnswer Yes q workers budget accounts text = (m : List ℕ) × Embeds q m × (text ≡ yes_text m)
+IsAnswer Nothing q workers budget accounts text = HasNone q × (text ≡ none_text)
+IsAnswer Unknown q workers budget accounts text = AreSpent q workers budget accounts × (text ≡ unknown_text)
 
 -- The files ask a problem, and this is the text of the decision on it.
 pub record Answers (decision : Decision) (w : SolveWords) (pattern target : Option (List ℕ)) (accounts : List Account) (text : List ℕ) : Type 0 where
   pub problem : Problem
   pub asks : Asks pattern target w.format w.induced problem
-  pub is_answer : IsAnswer decision problem w.budget accounts text
+  pub is_answer : IsAnswer decision problem w.threads w.budget accounts text
 
 -- The decision is right, and its text was written.
 pub record IsWritten (decision : Decision) (w : SolveWords) (pattern target : Option (List ℕ)) (accounts : List Account) (out : Stream) : Type 0 where
@@ -93,7 +87,7 @@ pub record SolveStatus (o : Outcome) (w : SolveWords) (pattern target : Option (
 abbrev pub IsDecided : ℕ → Type 0
 IsDecided status = (status ≡ 0) ⊎ (status ≡ 1)
 
--- Two runs over the same files with the same options that choose the problem, whatever their budgets: where both decide, they decide alike.
+-- Two runs over the same files with the same options that choose the problem, whatever their threads, seeds, budgets and books: where both decide, they decide alike.
 abbrev pub OneVerdict : Type 0
 OneVerdict = (v w : SolveWords) (pattern target : Option (List ℕ)) (o u : Outcome) → v.format ≡ w.format → v.induced ≡ w.induced
     → SolveStatus o v pattern target → SolveStatus u w pattern target → IsDecided o.status → IsDecided u.status → o.status ≡ u.status

@@ -1,6 +1,6 @@
 -- What a `verify` answers.
 
-use Rattle.std.specs.Prelude.{◌≡◌, ℕ, ◌<◌, ◌≤◌, ◌⊎◌, List, length, Option, Some, Result, Ok, Err, Vec}
+use Rattle.std.specs.Prelude.{◌≡◌, ℕ, ◌<◌, ◌≤◌, ◌⊎◌, IsTrue, List, length, Option, Some, Result, Ok, Err, Vec}
 use Rattle.std.specs.Global.{Global}
 use Rattle.graph_theory.specs.Embedding.{Problem, Embeds}
 use Rattle.graph_theory.specs.Mapping.{IsMapping, FaultyLine}
@@ -9,7 +9,8 @@ use Rattle.subgraph_cli.specs.Lines.{embedding_text, no_embedding_text, refusal_
 use Rattle.subgraph_cli.specs.Streams.{Stream, IsAsBefore, Got, GotFront, Tells}
 use Rattle.subgraph_cli.specs.Outcomes.{Outcome}
 use Rattle.subgraph_cli.specs.Solving.{IsOrStops}
-use Rattle.subgraph_cli.specs.Questions.{Asks, IsFirstRefused}
+use Rattle.subgraph_cli.specs.Questions.{Asks, IsFirstRefused, IsFaultOfTwo}
+use Rattle.subgraph_cli.specs.Disk.{Disk, IsReadingOf}
 use Rattle.subgraph_cli.specs.declared.stop.Role.{Role}
 use Rattle.subgraph_cli.specs.declared.stop.Role.TheVariants.{Pattern, Target, Mapping, Encoding, Log}
 use Rattle.subgraph_cli.specs.declared.stop.TextFault.{TextFault}
@@ -57,6 +58,11 @@ IsFirstOfThree w pattern target mapping Target fault = IsFirstRefused pattern ta
 IsFirstOfThree w pattern target mapping Mapping fault = AsksNone w pattern target mapping fault
 IsFirstOfThree w pattern target mapping Encoding fault = ⊥
 IsFirstOfThree w pattern target mapping Log fault = ⊥
+
+-- The last fault was one of reading the graphs' files, or of reading the mapping's where these ask a problem.
+abbrev pub IsFaultOfThree : VerifyWords → Disk → Type 0
+IsFaultOfThree w d = IsFaultOfTwo w.pattern w.target w.format d
+    ⊎ (IsReadingOf w.mapping d × (IsTrue d.tells → (q : Problem) × Asks (d.content w.pattern) (d.content w.target) w.format w.induced q))
 
 -- The mapping that the third file holds is an embedding for the problem of the first two.
 pub record IsGood (w : VerifyWords) (pattern target mapping : Option (List ℕ)) : Type 0 where

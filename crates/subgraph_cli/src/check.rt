@@ -1,8 +1,8 @@
 //! The command `check`. It knows nothing of graphs: a model, a log, and the verdict of one over the other.
 
-ghost use Rattle.std.specs.Prelude.{◌≡◌, ◌≤◌, ◌∷◌, ◌⊎◌, [], IsTrue, IfErr, IsErrOf};
-ghost use Rattle.outer_io.specs.NamedFiles.{SameFiles};
-ghost use Rattle.subgraph_cli.specs.Checking.{CheckSays, ModelSays, LogSays, VerdictSays, ToldSays, KeepsWhenRefused, claim_text};
+ghost use Rattle.std.specs.Prelude.{◌≡◌, ◌⊎◌, IsTrue, IfErr, IsErrOf};
+ghost use Rattle.subgraph_cli.specs.Disk.{disk, IsReadingOf, KeepsFiles};
+ghost use Rattle.subgraph_cli.specs.Checking.{CheckSays, ModelSays, LogSays, VerdictSays, ToldSays, KeepsWhenRefused, IsFaultOfCheck, claim_text};
 ghost use Rattle.subgraph_cli.specs.Stops.{HasCause, IsOfFiles, SparesOutput};
 ghost use Rattle.subgraph_cli.specs.Streams.{stream, IsSameSink};
 
@@ -50,11 +50,10 @@ fn refused(role: Role, fault: TextFault) -> Stop
 fn load_model<F: Files>(alloc: Global, files: &mut F, name: &FileName) -> Result<Model, Stop>
     ensures says { IsTrue (F.tells files.old) → ModelSays result (F.content files.old name.now) }
     ensures loading { IfErr result IsOfFiles }
-    ensures cause { IfErr result (λ stop. HasCause stop (name.now ∷ []) (F.faults files.old) (F.faults files.new) (F.fault_at files.new)) }
+    ensures cause { IfErr result (λ stop. HasCause stop (IsReadingOf name.now)
+        (disk F.tells F.content F.faults F.fault_at files.old files.new)) }
     ensures quiet { IsErrOf result Stop.FilesFault ⊎ (F.faults files.new ≡ F.faults files.old) }
-    ensures later { F.faults files.old ≤ F.faults files.new }
-    ensures same { SameFiles (F.content files.old) (F.content files.new) }
-    ensures tells { F.tells files.new ≡ F.tells files.old }
+    ensures files { KeepsFiles F.tells F.content F.faults files.old files.new }
 {
     let bytes = match load(alloc, files, name.as_str(), PROOF_LIMIT) {
         Ok(bytes) => bytes,
@@ -75,11 +74,10 @@ fn load_model<F: Files>(alloc: Global, files: &mut F, name: &FileName) -> Result
 fn load_log<F: Files>(alloc: Global, files: &mut F, name: &FileName) -> Result<Vec<u8>, Stop>
     ensures says { IsTrue (F.tells files.old) → LogSays result (F.content files.old name.now) }
     ensures loading { IfErr result IsOfFiles }
-    ensures cause { IfErr result (λ stop. HasCause stop (name.now ∷ []) (F.faults files.old) (F.faults files.new) (F.fault_at files.new)) }
+    ensures cause { IfErr result (λ stop. HasCause stop (IsReadingOf name.now)
+        (disk F.tells F.content F.faults F.fault_at files.old files.new)) }
     ensures quiet { IsErrOf result Stop.FilesFault ⊎ (F.faults files.new ≡ F.faults files.old) }
-    ensures later { F.faults files.old ≤ F.faults files.new }
-    ensures same { SameFiles (F.content files.old) (F.content files.new) }
-    ensures tells { F.tells files.new ≡ F.tells files.old }
+    ensures files { KeepsFiles F.tells F.content F.faults files.old files.new }
 {
     match load(alloc, files, name.as_str(), PROOF_LIMIT) {
         Ok(bytes) => Ok(bytes),
@@ -121,9 +119,8 @@ fn claim_line(claim: Claim) -> &'static [u8]
 
 /// Writes what an accepted log claims.
 fn tell_claim<O: Sink>(checked: Checked, out: &mut O) -> Result<(), Stop>
-    ensures says { ToldSays result checked (stream O.spot O.contents out.old out.new) }
-    ensures spares { IfErr result (λ stop. SparesOutput stop (O.faults out.old) (O.faults out.new)
-        (stream O.spot O.contents out.old out.new)) }
+    ensures says { ToldSays result checked (stream O.spot O.contents O.faults out.old out.new) }
+    ensures spares { IfErr result (λ stop. SparesOutput stop (stream O.spot O.contents O.faults out.old out.new)) }
     ensures quiet { IsErrOf result Stop.OutputFault ⊎ (O.faults out.new ≡ O.faults out.old) }
     ensures sink { IsSameSink O.spot O.rest O.faults out.old out.new }
 {
@@ -146,17 +143,14 @@ pub fn check<F: Files, O: Sink>(
     out: &mut O,
 ) -> Result<Checked, Stop>
     ensures says { IsTrue (F.tells files.old) → CheckSays result (F.content files.old words.now.encoding)
-        (F.content files.old words.now.log) (stream O.spot O.contents out.old out.new) }
-    ensures cause { IfErr result (λ stop. HasCause stop (words.now.encoding ∷ words.now.log ∷ [])
-        (F.faults files.old) (F.faults files.new) (F.fault_at files.new)) }
-    ensures spares { IfErr result (λ stop. SparesOutput stop (O.faults out.old) (O.faults out.new)
-        (stream O.spot O.contents out.old out.new)) }
-    ensures refused { KeepsWhenRefused result (stream O.spot O.contents out.old out.new) }
+        (F.content files.old words.now.log) (stream O.spot O.contents O.faults out.old out.new) }
+    ensures cause { IfErr result (λ stop. HasCause stop (IsFaultOfCheck words.now)
+        (disk F.tells F.content F.faults F.fault_at files.old files.new)) }
+    ensures spares { IfErr result (λ stop. SparesOutput stop (stream O.spot O.contents O.faults out.old out.new)) }
+    ensures refused { KeepsWhenRefused result (stream O.spot O.contents O.faults out.old out.new) }
     ensures quiet { IsErrOf result Stop.FilesFault ⊎ (F.faults files.new ≡ F.faults files.old) }
     ensures quiet_output { IsErrOf result Stop.OutputFault ⊎ (O.faults out.new ≡ O.faults out.old) }
-    ensures later { F.faults files.old ≤ F.faults files.new }
-    ensures tells { F.tells files.new ≡ F.tells files.old }
-    ensures same { SameFiles (F.content files.old) (F.content files.new) }
+    ensures files { KeepsFiles F.tells F.content F.faults files.old files.new }
     ensures sink { IsSameSink O.spot O.rest O.faults out.old out.new }
 {
     let model = load_model(alloc, files, &words.encoding)?;

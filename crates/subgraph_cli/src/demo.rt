@@ -1,18 +1,24 @@
 //! The command `demo`.
 
-ghost use Rattle.std.specs.Prelude.{◌≡◌, ◌<◌, ◌^◌, ◌∷◌, ◌++◌, ◌⊎◌, false, [], IfOk, IfErr, IsErrOf};
+ghost use Rattle.std.specs.Prelude.{◌≡◌, ◌++◌, ◌⊎◌, false, [], IfOk, IfErr, IsErrOf};
+ghost use Rattle.command_line.specs.CommandLine.{IsDemoInRange};
 ghost use Rattle.demo_instances.specs.SeedProblems.{IsPlanted, IsCycle};
-ghost use Rattle.subgraph_cli.specs.Demonstrating.{IsSpentOn, ShowsOne, DemoSays, shown_text};
+ghost use Rattle.subgraph_cli.specs.Demonstrating.{ShowsOne, DemoSays, shown_text};
 ghost use Rattle.subgraph_cli.specs.Stops.{SparesOutput};
 ghost use Rattle.subgraph_cli.specs.Streams.{stream, IsSameSink};
 
+use crate::kept::keep;
 use crate::stop::Stop;
 use command_line::DemoWords;
 use demo_instances::{Words, cycle_has_none, cycle_problem, planted_embeds, planted_problem};
 use fail_account::account::Account;
 use outer_io::sink::Sink;
-use restart_search::worker::{Decided, decide};
+use parallel_solve::{Settings, Solved, solve};
 use std::alloc::Global;
+use std::thread::Threads;
+
+/// How many rows of nogoods the workers of a demo share.
+const ROWS: u32 = 65_536;
 
 /// Which of the two problems were decided.
 #[derive(Clone, Copy, PartialEq, Eq, Debug)]
@@ -23,70 +29,86 @@ pub struct Shown {
     pub cycle: bool,
 }
 
-/// Keeps the account of a search that ended undecided.
-fn keep(account: Account, spent: &mut Vec<Account>) -> Result<bool, Stop>
-    ensures kept { IfOk result (λ decided. (decided ≡ false) × (spent.new.items ≡ spent.old.items ++ account ∷ [])) }
+/// Keeps the accounts of a problem that ended undecided.
+fn keep_undecided(accounts: Vec<Account>, spent: &mut Vec<Account>) -> Result<bool, Stop>
+    ensures kept { IfOk result (λ decided. (decided ≡ false) × (spent.new.items ≡ spent.old.items ++ accounts.items)) }
     ensures memory { IfErr result (λ stop. stop ≡ Stop.NoMemory) }
 {
-    match spent.push(account) {
+    match keep(accounts, spent) {
         Ok(()) => Ok(false),
         Err(_) => Err(Stop::NoMemory),
     }
 }
 
+/// How the workers of a demo decide each of the two.
+fn settings_of(asked: &DemoWords) -> Settings
+    ensures threads { result.threads ≡ asked.now.threads }
+    ensures budget { result.budget ≡ asked.now.budget }
+    ensures rows { result.rows ≡ ROWS }
+{
+    Settings {
+        threads: asked.threads,
+        seed: asked.seed,
+        budget: asked.budget,
+        rows: ROWS,
+    }
+}
+
 /// Decides the planted problem, and says whether it was decided within the budget. It embeds, so that no other answer can
 /// come. A mapping is tested before it counts.
-fn show_planted(
+fn show_planted<R: Threads + Sync>(
+    rt: &R,
     alloc: Global,
     words: &Words,
     asked: &DemoWords,
     spent: &mut Vec<Account>,
 ) -> Result<bool, Stop>
-    requires budget { asked.now.budget < 2 ^ 63 }
+    requires ranges { IsDemoInRange asked.now }
     requires words { words.now ≡ asked.now.seed }
-    ensures shows { ShowsOne result (IsPlanted asked.now.seed) asked.now.budget spent.old.items spent.new.items }
+    ensures shows { ShowsOne result (IsPlanted asked.now.seed) asked.now spent.old.items spent.new.items }
     ensures memory { IfErr result (λ stop. stop ≡ Stop.NoMemory) }
 {
     planted_embeds();
     let Ok(q) = planted_problem(alloc, words) else {
         return Err(Stop::NoMemory);
     };
-    match decide(alloc, &q, asked.seed, asked.budget) {
-        Decided::Found(map) => {
+    match solve(rt, alloc, &q, &settings_of(asked)) {
+        Solved::Yes(map) => {
             if q.is_embedding(&map) {
                 Ok(true)
             } else {
                 unreachable!()
             }
         }
-        Decided::Refuted => unreachable!(),
-        Decided::Spent(account) => keep(account, spent),
-        Decided::NoMemory => Err(Stop::NoMemory),
+        Solved::NoEmbedding(_) => unreachable!(),
+        Solved::Unknown(accounts) => keep_undecided(accounts, spent),
+        Solved::NoMemory => Err(Stop::NoMemory),
     }
 }
 
 /// Decides the cycle's problem, and says whether it was decided within the budget. It does not embed, so that no other
 /// answer can come.
-fn show_cycle(
+fn show_cycle<R: Threads + Sync>(
+    rt: &R,
     alloc: Global,
     words: &Words,
     asked: &DemoWords,
     spent: &mut Vec<Account>,
 ) -> Result<bool, Stop>
-    requires budget { asked.now.budget < 2 ^ 63 }
+    requires ranges { IsDemoInRange asked.now }
     requires words { words.now ≡ asked.now.seed }
-    ensures shows { ShowsOne result (IsCycle asked.now.seed) asked.now.budget spent.old.items spent.new.items }
+    ensures shows { ShowsOne result (IsCycle asked.now.seed) asked.now spent.old.items spent.new.items }
     ensures memory { IfErr result (λ stop. stop ≡ Stop.NoMemory) }
 {
     cycle_has_none();
     let Ok(q) = cycle_problem(alloc, words) else {
         return Err(Stop::NoMemory);
     };
-    match decide(alloc, &q, asked.seed, asked.budget) {
-        Decided::Found(_) => unreachable!(),
-        Decided::Refuted => Ok(true),
-        Decided::Spent(account) => keep(account, spent),
-        Decided::NoMemory => Err(Stop::NoMemory),
+    match solve(rt, alloc, &q, &settings_of(asked)) {
+        Solved::Yes(_) => unreachable!(),
+        Solved::NoEmbedding(_) => Ok(true),
+        Solved::Unknown(accounts) => keep_undecided(accounts, spent),
+        Solved::NoMemory => Err(Stop::NoMemory),
     }
 }
 
@@ -102,27 +124,27 @@ fn lines_of(shown: Shown) -> &'static [u8]
     }
 }
 
-/// Decides the two problems of a seed, and then writes of each whether it was decided. An undecided account goes to
-/// `spent`, before anything is written.
-pub fn demo<O: Sink>(
+/// Decides the two problems of a seed, and then writes of each whether it was decided. The accounts of those that were not
+/// go to `spent`, before anything is written.
+pub fn demo<R: Threads + Sync, O: Sink>(
+    rt: &R,
     alloc: Global,
     asked: &DemoWords,
     out: &mut O,
     spent: &mut Vec<Account>,
 ) -> Result<Shown, Stop>
-    requires budget { asked.now.budget < 2 ^ 63 }
+    requires ranges { IsDemoInRange asked.now }
     requires empty { spent.old.items ≡ [] }
-    ensures says { DemoSays result asked.now spent.new.items (stream O.spot O.contents out.old out.new) }
-    ensures spares { IfErr result (λ stop. SparesOutput stop (O.faults out.old) (O.faults out.new)
-        (stream O.spot O.contents out.old out.new)) }
+    ensures says { DemoSays result asked.now spent.new.items (stream O.spot O.contents O.faults out.old out.new) }
+    ensures spares { IfErr result (λ stop. SparesOutput stop (stream O.spot O.contents O.faults out.old out.new)) }
     ensures quiet { IsErrOf result Stop.OutputFault ⊎ (O.faults out.new ≡ O.faults out.old) }
     ensures sink { IsSameSink O.spot O.rest O.faults out.old out.new }
 {
     let Ok(words) = Words::new(alloc, asked.seed) else {
         return Err(Stop::NoMemory);
     };
-    let planted = show_planted(alloc, &words, asked, spent)?;
-    let cycle = show_cycle(alloc, &words, asked, spent)?;
+    let planted = show_planted(rt, alloc, &words, asked, spent)?;
+    let cycle = show_cycle(rt, alloc, &words, asked, spent)?;
     let shown = Shown { planted, cycle };
     match out.put(lines_of(shown)) {
         Ok(()) => Ok(shown),

@@ -1,8 +1,9 @@
 //! The command `encode`.
 
-ghost use Rattle.std.specs.Prelude.{◌≡◌, ◌≤◌, ◌∷◌, ◌⊎◌, [], IsTrue, IfErr, IsErrOf};
-ghost use Rattle.outer_io.specs.NamedFiles.{SameFiles};
+ghost use Rattle.std.specs.Prelude.{◌≡◌, ◌⊎◌, IsTrue, IfErr, IsErrOf};
+ghost use Rattle.subgraph_cli.specs.Disk.{disk, KeepsFiles};
 ghost use Rattle.subgraph_cli.specs.Encoded.{EncodeSays, WritingSays};
+ghost use Rattle.subgraph_cli.specs.Questions.{IsFaultOfTwo};
 ghost use Rattle.subgraph_cli.specs.Stops.{HasCause, SparesInParts};
 ghost use Rattle.subgraph_cli.specs.Streams.{stream, IsSameSink};
 
@@ -18,9 +19,8 @@ use std::alloc::Global;
 
 /// Writes the encoding of a problem, a line at a time.
 fn write_encoding<O: Sink>(alloc: Global, q: &Problem, out: &mut O) -> Result<(), Stop>
-    ensures says { WritingSays result q.now (stream O.spot O.contents out.old out.new) }
-    ensures spares { IfErr result (λ stop. SparesInParts stop (O.faults out.old) (O.faults out.new)
-        (stream O.spot O.contents out.old out.new)) }
+    ensures says { WritingSays result q.now (stream O.spot O.contents O.faults out.old out.new) }
+    ensures spares { IfErr result (λ stop. SparesInParts stop (stream O.spot O.contents O.faults out.old out.new)) }
     ensures quiet { IsErrOf result Stop.OutputFault ⊎ (O.faults out.new ≡ O.faults out.old) }
     ensures sink { IsSameSink O.spot O.rest O.faults out.old out.new }
 {
@@ -43,16 +43,13 @@ pub fn encode<F: Files, O: Sink>(
     out: &mut O,
 ) -> Result<(), Stop>
     ensures says { IsTrue (F.tells files.old) → EncodeSays result words.now (F.content files.old words.now.pattern)
-        (F.content files.old words.now.target) (stream O.spot O.contents out.old out.new) }
-    ensures cause { IfErr result (λ stop. HasCause stop (words.now.pattern ∷ words.now.target ∷ [])
-        (F.faults files.old) (F.faults files.new) (F.fault_at files.new)) }
-    ensures spares { IfErr result (λ stop. SparesInParts stop (O.faults out.old) (O.faults out.new)
-        (stream O.spot O.contents out.old out.new)) }
+        (F.content files.old words.now.target) (stream O.spot O.contents O.faults out.old out.new) }
+    ensures cause { IfErr result (λ stop. HasCause stop (IsFaultOfTwo words.now.pattern words.now.target words.now.format)
+        (disk F.tells F.content F.faults F.fault_at files.old files.new)) }
+    ensures spares { IfErr result (λ stop. SparesInParts stop (stream O.spot O.contents O.faults out.old out.new)) }
     ensures quiet { IsErrOf result Stop.FilesFault ⊎ (F.faults files.new ≡ F.faults files.old) }
     ensures quiet_output { IsErrOf result Stop.OutputFault ⊎ (O.faults out.new ≡ O.faults out.old) }
-    ensures later { F.faults files.old ≤ F.faults files.new }
-    ensures tells { F.tells files.new ≡ F.tells files.old }
-    ensures same { SameFiles (F.content files.old) (F.content files.new) }
+    ensures files { KeepsFiles F.tells F.content F.faults files.old files.new }
     ensures sink { IsSameSink O.spot O.rest O.faults out.old out.new }
 {
     let q = load_problem(

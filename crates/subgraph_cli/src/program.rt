@@ -1,22 +1,13 @@
 //! The whole program, over any files and sinks.
 
-ghost use Rattle.std.specs.Prelude.{◌≡◌, ◌≤◌, ◌<◌, ◌^◌, ◌∷◌, [], ◌⊎◌, true, false, List, None, Some, IsTrue, map, string_bytes};
-ghost use Rattle.outer_io.specs.Faults.{Rose};
-ghost use Rattle.outer_io.specs.NamedFiles.{SameFiles};
+ghost use Rattle.std.specs.Prelude.{◌≡◌, [], List, None, Some, map, string_bytes};
 ghost use Rattle.search_theory.specs.Account.{Account as TheAccount};
 ghost use Rattle.command_line.specs.CommandLine as line;
 ghost use Rattle.command_line.specs.declared.commands.Command.{Command as TheCommand};
-ghost use Rattle.subgraph_cli.specs.Outcomes.{outcome, TellsStatus, KeepsOutput};
-ghost use Rattle.subgraph_cli.specs.Running.{files_of, writes_in_parts, StatusSays, IsStatusOf};
-ghost use Rattle.subgraph_cli.specs.Solving.{SolveStatus};
-ghost use Rattle.subgraph_cli.specs.Verifying.{VerifyStatus};
-ghost use Rattle.subgraph_cli.specs.Encoded.{EncodeStatus};
-ghost use Rattle.subgraph_cli.specs.Checking.{CheckStatus};
-ghost use Rattle.subgraph_cli.specs.Demonstrating.{DemoStatus};
-ghost use Rattle.subgraph_cli.specs.Lines.{output_fault_text};
-ghost use Rattle.subgraph_cli.specs.Stops.{TellsFault};
-ghost use Rattle.subgraph_cli.specs.Completeness.{HasNoFault, IsComplete};
-ghost use Rattle.subgraph_cli.specs.Streams.{stream, IsSameSink, Tells};
+ghost use Rattle.subgraph_cli.specs.Disk.{Disk, disk, KeepsFiles};
+ghost use Rattle.subgraph_cli.specs.Outcomes.{outcome};
+ghost use Rattle.subgraph_cli.specs.Running.{Ran, EndsWithout};
+ghost use Rattle.subgraph_cli.specs.Streams.{stream, IsSameSink};
 
 use crate::check::check;
 use crate::demo::demo;
@@ -36,22 +27,23 @@ use graph_theory::mapping_text::mapping_laws;
 use outer_io::files::Files;
 use outer_io::sink::Sink;
 use std::alloc::Global;
+use std::thread::Threads;
 
 /// The program: reads the words, the program's name first among them, does what they say, and answers the status to
-/// end with. Where a search ends undecided, its account is left in `spent`.
+/// end with. Where a search ends undecided, the accounts of its workers are left in `spent`, in their order.
 ///
 /// | status | what it means |
 /// |---|---|
 /// | 0 | `solve` wrote `yes` and an embedding; `verify` wrote `embedding`; `encode` wrote the encoding; `check` wrote what the log claims; `demo` wrote that both problems are decided |
 /// | 1 | `solve` wrote `none`: no embedding exists |
-/// | 2 | `solve` wrote `unknown`: the budget is spent; `demo` wrote `unknown` of one of its problems or both |
+/// | 2 | `solve` wrote `unknown`: each worker spent its budget; `demo` wrote `unknown` of one of its problems or both |
 /// | 3 | the words are no command |
 /// | 4 | a text is refused |
 /// | 5 | a call on the files or the output failed |
 /// | 6 | memory was refused |
 /// | 7 | the mapping is no embedding; the log is not accepted |
-pub fn run<R, F: Files, O: Sink, E: Sink>(
-    _rt: &R,
+pub fn run<R: Threads + Sync, F: Files, O: Sink, E: Sink>(
+    rt: &R,
     alloc: Global,
     words: &[String],
     files: &mut F,
@@ -63,48 +55,59 @@ pub fn run<R, F: Files, O: Sink, E: Sink>(
 
     // Status 3 comes exactly where the words are no command, unless memory was refused.
     ensures words { result ≡ 3 → line.command (map string_bytes words.now) ≡ None }
-    ensures no_command { line.command (map string_bytes words.now) ≡ None → (result ≡ 3) ⊎ (result ≡ 6) }
-    // What the other statuses say of the files that the command names.
-    ensures says { (c : TheCommand) → line.command (map string_bytes words.now) ≡ Some c → IsTrue (F.tells files.old)
-        → StatusSays c (outcome result spent.new.items (stream O.spot O.contents out.old out.new)
-        (stream E.spot E.contents err.old err.new)) (F.content files.old) }
-    ensures statuses { (c : TheCommand) → line.command (map string_bytes words.now) ≡ Some c → IsStatusOf c result }
-    // Status 5 has its cause.
-    ensures fault { (c : TheCommand) → line.command (map string_bytes words.now) ≡ Some c → result ≡ 5
-        → TellsFault (files_of c) (F.faults files.old) (F.faults files.new) (F.fault_at files.new)
-        (O.faults out.old) (O.faults out.new) (stream O.spot O.contents out.old out.new)
-        (stream E.spot E.contents err.old err.new) }
+    ensures no_command { line.command (map string_bytes words.now) ≡ None → EndsWithout (outcome result spent.new.items
+        (disk F.tells F.content F.faults F.fault_at files.old files.new)
+        (stream O.spot O.contents O.faults out.old out.new)
+        (stream E.spot E.contents E.faults err.old err.new)) }
+    // What a run of the words' command says, by its status, and that it is complete without a fault.
+    ensures ran { (c : TheCommand) → line.command (map string_bytes words.now) ≡ Some c → Ran c (outcome result spent.new.items
+        (disk F.tells F.content F.faults F.fault_at files.old files.new)
+        (stream O.spot O.contents O.faults out.old out.new)
+        (stream E.spot E.contents E.faults err.old err.new)) }
 
-    // Without a fault the run ends as the files ask for, or memory was refused.
-    ensures complete { (c : TheCommand) → line.command (map string_bytes words.now) ≡ Some c → IsTrue (F.tells files.old)
-        → HasNoFault (F.faults files.old) (F.faults files.new) (O.faults out.old) (O.faults out.new)
-        → IsComplete c result (F.content files.old) }
-
-    ensures told { TellsStatus (outcome result spent.new.items (stream O.spot O.contents out.old out.new)
-        (stream E.spot E.contents err.old err.new)) }
-    ensures kept { KeepsOutput (writes_in_parts (line.command (map string_bytes words.now))) (outcome result
-        spent.new.items (stream O.spot O.contents out.old out.new) (stream E.spot E.contents err.old err.new)) }
-
-    ensures quiet { (result ≡ 5) ⊎ ((F.faults files.new ≡ F.faults files.old) × (O.faults out.new ≡ O.faults out.old)) }
-    ensures tells { F.tells files.new ≡ F.tells files.old }
-    ensures same { SameFiles (F.content files.old) (F.content files.new) }
-    ensures later { F.faults files.old ≤ F.faults files.new }
+    ensures files { KeepsFiles F.tells F.content F.faults files.old files.new }
     ensures output { IsSameSink O.spot O.rest O.faults out.old out.new }
     ensures error { IsSameSink E.spot E.rest E.faults err.old err.new }
 {
     match command_of(alloc, words) {
-        Ok(Command::Solve(asked)) => run_solve(alloc, &asked, files, out, err, spent),
-        Ok(Command::Verify(asked)) => run_verify(alloc, &asked, files, out, err),
-        Ok(Command::Encode(asked)) => run_encode(alloc, &asked, files, out, err),
-        Ok(Command::Check(asked)) => run_check(alloc, &asked, files, out, err),
-        Ok(Command::Demo(asked)) => run_demo(alloc, &asked, out, err, spent),
+        Ok(command) => run_command(rt, alloc, &command, files, out, err, spent),
         Err(Refusal::NotACommand) => tell_no_command(err),
         Err(Refusal::NoMemory) => tell_stop(Stop::NoMemory, err),
     }
 }
 
+/// Runs a command.
+fn run_command<R: Threads + Sync, F: Files, O: Sink, E: Sink>(
+    rt: &R,
+    alloc: Global,
+    command: &Command,
+    files: &mut F,
+    out: &mut O,
+    err: &mut E,
+    spent: &mut Vec<Account>,
+) -> u8
+    requires ranges { line.IsInRange command.now }
+    requires empty { spent.old.items ≡ [] }
+    ensures ran { Ran command.now (outcome result spent.new.items
+        (disk F.tells F.content F.faults F.fault_at files.old files.new)
+        (stream O.spot O.contents O.faults out.old out.new)
+        (stream E.spot E.contents E.faults err.old err.new)) }
+    ensures files { KeepsFiles F.tells F.content F.faults files.old files.new }
+    ensures output { IsSameSink O.spot O.rest O.faults out.old out.new }
+    ensures error { IsSameSink E.spot E.rest E.faults err.old err.new }
+{
+    match command {
+        Command::Solve(asked) => run_solve(rt, alloc, asked, files, out, err, spent),
+        Command::Verify(asked) => run_verify(alloc, asked, files, out, err),
+        Command::Encode(asked) => run_encode(alloc, asked, files, out, err),
+        Command::Check(asked) => run_check(alloc, asked, files, out, err),
+        Command::Demo(asked) => run_demo(rt, alloc, asked, out, err, spent),
+    }
+}
+
 /// Solves, and tells where that stopped.
-fn run_solve<F: Files, O: Sink, E: Sink>(
+fn run_solve<R: Threads + Sync, F: Files, O: Sink, E: Sink>(
+    rt: &R,
     alloc: Global,
     asked: &SolveWords,
     files: &mut F,
@@ -112,28 +115,18 @@ fn run_solve<F: Files, O: Sink, E: Sink>(
     err: &mut E,
     spent: &mut Vec<Account>,
 ) -> u8
-    requires budget { asked.now.budget < 2 ^ 63 }
+    requires ranges { line.IsSolveInRange asked.now }
     requires empty { spent.old.items ≡ [] }
-    ensures says { IsTrue (F.tells files.old) → SolveStatus (outcome result spent.new.items
-        (stream O.spot O.contents out.old out.new) (stream E.spot E.contents err.old err.new))
-        asked.now (F.content files.old asked.now.pattern) (F.content files.old asked.now.target) }
-    ensures statuses { IsStatusOf (TheCommand.Solve asked.now) result }
-    ensures fault { result ≡ 5 → TellsFault (files_of (TheCommand.Solve asked.now)) (F.faults files.old) (F.faults files.new)
-        (F.fault_at files.new) (O.faults out.old) (O.faults out.new) (stream O.spot O.contents out.old out.new)
-        (stream E.spot E.contents err.old err.new) }
-    ensures told { TellsStatus (outcome result spent.new.items (stream O.spot O.contents out.old out.new)
-        (stream E.spot E.contents err.old err.new)) }
-    ensures kept { KeepsOutput false (outcome result spent.new.items (stream O.spot O.contents out.old out.new)
-        (stream E.spot E.contents err.old err.new)) }
-    ensures quiet { (result ≡ 5) ⊎ ((F.faults files.new ≡ F.faults files.old) × (O.faults out.new ≡ O.faults out.old)) }
-    ensures tells { F.tells files.new ≡ F.tells files.old }
-    ensures same { SameFiles (F.content files.old) (F.content files.new) }
-    ensures later { F.faults files.old ≤ F.faults files.new }
+    ensures ran { Ran (TheCommand.Solve asked.now) (outcome result spent.new.items
+        (disk F.tells F.content F.faults F.fault_at files.old files.new)
+        (stream O.spot O.contents O.faults out.old out.new)
+        (stream E.spot E.contents E.faults err.old err.new)) }
+    ensures files { KeepsFiles F.tells F.content F.faults files.old files.new }
     ensures output { IsSameSink O.spot O.rest O.faults out.old out.new }
     ensures error { IsSameSink E.spot E.rest E.faults err.old err.new }
 {
     text_laws();
-    let ended = solve(alloc, asked, files, out, spent);
+    let ended = solve(rt, alloc, asked, files, out, spent);
     end_solve(ended, err)
 }
 
@@ -145,22 +138,11 @@ fn run_verify<F: Files, O: Sink, E: Sink>(
     out: &mut O,
     err: &mut E,
 ) -> u8
-    ensures says { (accounts : List TheAccount) → IsTrue (F.tells files.old) → VerifyStatus (outcome result accounts
-        (stream O.spot O.contents out.old out.new) (stream E.spot E.contents err.old err.new))
-        asked.now (F.content files.old asked.now.pattern) (F.content files.old asked.now.target)
-        (F.content files.old asked.now.mapping) }
-    ensures statuses { IsStatusOf (TheCommand.Verify asked.now) result }
-    ensures fault { result ≡ 5 → TellsFault (files_of (TheCommand.Verify asked.now)) (F.faults files.old) (F.faults files.new)
-        (F.fault_at files.new) (O.faults out.old) (O.faults out.new) (stream O.spot O.contents out.old out.new)
-        (stream E.spot E.contents err.old err.new) }
-    ensures told { (accounts : List TheAccount) → TellsStatus (outcome result accounts
-        (stream O.spot O.contents out.old out.new) (stream E.spot E.contents err.old err.new)) }
-    ensures kept { (accounts : List TheAccount) → KeepsOutput false (outcome result accounts
-        (stream O.spot O.contents out.old out.new) (stream E.spot E.contents err.old err.new)) }
-    ensures quiet { (result ≡ 5) ⊎ ((F.faults files.new ≡ F.faults files.old) × (O.faults out.new ≡ O.faults out.old)) }
-    ensures tells { F.tells files.new ≡ F.tells files.old }
-    ensures same { SameFiles (F.content files.old) (F.content files.new) }
-    ensures later { F.faults files.old ≤ F.faults files.new }
+    ensures ran { (accounts : List TheAccount) → Ran (TheCommand.Verify asked.now) (outcome result accounts
+        (disk F.tells F.content F.faults F.fault_at files.old files.new)
+        (stream O.spot O.contents O.faults out.old out.new)
+        (stream E.spot E.contents E.faults err.old err.new)) }
+    ensures files { KeepsFiles F.tells F.content F.faults files.old files.new }
     ensures output { IsSameSink O.spot O.rest O.faults out.old out.new }
     ensures error { IsSameSink E.spot E.rest E.faults err.old err.new }
 {
@@ -178,21 +160,11 @@ fn run_encode<F: Files, O: Sink, E: Sink>(
     out: &mut O,
     err: &mut E,
 ) -> u8
-    ensures says { (accounts : List TheAccount) → IsTrue (F.tells files.old) → EncodeStatus (outcome result accounts
-        (stream O.spot O.contents out.old out.new) (stream E.spot E.contents err.old err.new))
-        asked.now (F.content files.old asked.now.pattern) (F.content files.old asked.now.target) }
-    ensures statuses { IsStatusOf (TheCommand.Encode asked.now) result }
-    ensures fault { result ≡ 5 → TellsFault (files_of (TheCommand.Encode asked.now)) (F.faults files.old) (F.faults files.new)
-        (F.fault_at files.new) (O.faults out.old) (O.faults out.new) (stream O.spot O.contents out.old out.new)
-        (stream E.spot E.contents err.old err.new) }
-    ensures told { (accounts : List TheAccount) → TellsStatus (outcome result accounts
-        (stream O.spot O.contents out.old out.new) (stream E.spot E.contents err.old err.new)) }
-    ensures kept { (accounts : List TheAccount) → KeepsOutput true (outcome result accounts
-        (stream O.spot O.contents out.old out.new) (stream E.spot E.contents err.old err.new)) }
-    ensures quiet { (result ≡ 5) ⊎ ((F.faults files.new ≡ F.faults files.old) × (O.faults out.new ≡ O.faults out.old)) }
-    ensures tells { F.tells files.new ≡ F.tells files.old }
-    ensures same { SameFiles (F.content files.old) (F.content files.new) }
-    ensures later { F.faults files.old ≤ F.faults files.new }
+    ensures ran { (accounts : List TheAccount) → Ran (TheCommand.Encode asked.now) (outcome result accounts
+        (disk F.tells F.content F.faults F.fault_at files.old files.new)
+        (stream O.spot O.contents O.faults out.old out.new)
+        (stream E.spot E.contents E.faults err.old err.new)) }
+    ensures files { KeepsFiles F.tells F.content F.faults files.old files.new }
     ensures output { IsSameSink O.spot O.rest O.faults out.old out.new }
     ensures error { IsSameSink E.spot E.rest E.faults err.old err.new }
 {
@@ -209,21 +181,11 @@ fn run_check<F: Files, O: Sink, E: Sink>(
     out: &mut O,
     err: &mut E,
 ) -> u8
-    ensures says { (accounts : List TheAccount) → IsTrue (F.tells files.old) → CheckStatus (outcome result accounts
-        (stream O.spot O.contents out.old out.new) (stream E.spot E.contents err.old err.new))
-        (F.content files.old asked.now.encoding) (F.content files.old asked.now.log) }
-    ensures statuses { IsStatusOf (TheCommand.Check asked.now) result }
-    ensures fault { result ≡ 5 → TellsFault (files_of (TheCommand.Check asked.now)) (F.faults files.old) (F.faults files.new)
-        (F.fault_at files.new) (O.faults out.old) (O.faults out.new) (stream O.spot O.contents out.old out.new)
-        (stream E.spot E.contents err.old err.new) }
-    ensures told { (accounts : List TheAccount) → TellsStatus (outcome result accounts
-        (stream O.spot O.contents out.old out.new) (stream E.spot E.contents err.old err.new)) }
-    ensures kept { (accounts : List TheAccount) → KeepsOutput false (outcome result accounts
-        (stream O.spot O.contents out.old out.new) (stream E.spot E.contents err.old err.new)) }
-    ensures quiet { (result ≡ 5) ⊎ ((F.faults files.new ≡ F.faults files.old) × (O.faults out.new ≡ O.faults out.old)) }
-    ensures tells { F.tells files.new ≡ F.tells files.old }
-    ensures same { SameFiles (F.content files.old) (F.content files.new) }
-    ensures later { F.faults files.old ≤ F.faults files.new }
+    ensures ran { (accounts : List TheAccount) → Ran (TheCommand.Check asked.now) (outcome result accounts
+        (disk F.tells F.content F.faults F.fault_at files.old files.new)
+        (stream O.spot O.contents O.faults out.old out.new)
+        (stream E.spot E.contents E.faults err.old err.new)) }
+    ensures files { KeepsFiles F.tells F.content F.faults files.old files.new }
     ensures output { IsSameSink O.spot O.rest O.faults out.old out.new }
     ensures error { IsSameSink E.spot E.rest E.faults err.old err.new }
 {
@@ -231,29 +193,24 @@ fn run_check<F: Files, O: Sink, E: Sink>(
     end_check(ended, err)
 }
 
-/// Decides the two problems of a seed, and tells where that stopped.
-fn run_demo<O: Sink, E: Sink>(
+/// Decides the two problems of a seed, and tells where that stopped. It looks at no file.
+fn run_demo<R: Threads + Sync, O: Sink, E: Sink>(
+    rt: &R,
     alloc: Global,
     asked: &DemoWords,
     out: &mut O,
     err: &mut E,
     spent: &mut Vec<Account>,
 ) -> u8
-    requires budget { asked.now.budget < 2 ^ 63 }
+    requires ranges { line.IsDemoInRange asked.now }
     requires empty { spent.old.items ≡ [] }
-    ensures says { DemoStatus (outcome result spent.new.items
-        (stream O.spot O.contents out.old out.new) (stream E.spot E.contents err.old err.new)) asked.now }
-    ensures statuses { IsStatusOf (TheCommand.Demo asked.now) result }
-    ensures fault { result ≡ 5 → Rose (O.faults out.old) (O.faults out.new)
-        × Tells (stream E.spot E.contents err.old err.new) output_fault_text }
-    ensures told { TellsStatus (outcome result spent.new.items (stream O.spot O.contents out.old out.new)
-        (stream E.spot E.contents err.old err.new)) }
-    ensures kept { KeepsOutput false (outcome result spent.new.items (stream O.spot O.contents out.old out.new)
-        (stream E.spot E.contents err.old err.new)) }
-    ensures quiet { (result ≡ 5) ⊎ (O.faults out.new ≡ O.faults out.old) }
+    ensures ran { (d : Disk) → d.faults_after ≡ d.faults_before → Ran (TheCommand.Demo asked.now)
+        (outcome result spent.new.items d
+        (stream O.spot O.contents O.faults out.old out.new)
+        (stream E.spot E.contents E.faults err.old err.new)) }
     ensures output { IsSameSink O.spot O.rest O.faults out.old out.new }
     ensures error { IsSameSink E.spot E.rest E.faults err.old err.new }
 {
-    let ended = demo(alloc, asked, out, spent);
+    let ended = demo(rt, alloc, asked, out, spent);
     end_demo(ended, err)
 }

@@ -1,9 +1,9 @@
 //! The problem that the files ask.
 
-ghost use Rattle.std.specs.Prelude.{◌≡◌, ◌≤◌, ◌∷◌, ◌⊎◌, [], IsTrue, IfOk, IfErr, IsErrOf};
+ghost use Rattle.std.specs.Prelude.{◌≡◌, ◌≤◌, ◌⊎◌, IsTrue, IfOk, IfErr, IsErrOf};
 ghost use Rattle.graph_theory.specs.Graph.{size};
-ghost use Rattle.outer_io.specs.NamedFiles.{SameFiles};
-ghost use Rattle.subgraph_cli.specs.Questions.{AskSays, RoleSays, stop_of_graph};
+ghost use Rattle.subgraph_cli.specs.Disk.{disk, IsReadingOf, KeepsFiles};
+ghost use Rattle.subgraph_cli.specs.Questions.{AskSays, RoleSays, IsFaultOfTwo, stop_of_graph};
 ghost use Rattle.subgraph_cli.specs.Stops.{HasCause, IsOfFiles};
 
 use crate::stop::{Role, Stop, TextFault};
@@ -52,11 +52,10 @@ fn graph_of<F: Files>(
     ensures says { IsTrue (F.tells files.old) → RoleSays result role (F.content files.old name.now) kind most }
     ensures few { IfOk result (λ g. size g ≤ most) }
     ensures loading { IfErr result IsOfFiles }
-    ensures cause { IfErr result (λ stop. HasCause stop (name.now ∷ []) (F.faults files.old) (F.faults files.new) (F.fault_at files.new)) }
+    ensures cause { IfErr result (λ stop. HasCause stop (IsReadingOf name.now)
+        (disk F.tells F.content F.faults F.fault_at files.old files.new)) }
     ensures quiet { IsErrOf result Stop.FilesFault ⊎ (F.faults files.new ≡ F.faults files.old) }
-    ensures later { F.faults files.old ≤ F.faults files.new }
-    ensures same { SameFiles (F.content files.old) (F.content files.new) }
-    ensures tells { F.tells files.new ≡ F.tells files.old }
+    ensures files { KeepsFiles F.tells F.content F.faults files.old files.new }
 {
     match load_graph(alloc, files, name.as_str(), kind, most) {
         Ok(graph) => Ok(graph),
@@ -76,12 +75,10 @@ pub fn load_problem<F: Files>(
     ensures says { IsTrue (F.tells files.old)
         → AskSays result (F.content files.old pattern.now) (F.content files.old target.now) kind induced }
     ensures loading { IfErr result IsOfFiles }
-    ensures cause { IfErr result (λ stop. HasCause stop (pattern.now ∷ target.now ∷ [])
-        (F.faults files.old) (F.faults files.new) (F.fault_at files.new)) }
+    ensures cause { IfErr result (λ stop. HasCause stop (IsFaultOfTwo pattern.now target.now kind)
+        (disk F.tells F.content F.faults F.fault_at files.old files.new)) }
     ensures quiet { IsErrOf result Stop.FilesFault ⊎ (F.faults files.new ≡ F.faults files.old) }
-    ensures later { F.faults files.old ≤ F.faults files.new }
-    ensures same { SameFiles (F.content files.old) (F.content files.new) }
-    ensures tells { F.tells files.new ≡ F.tells files.old }
+    ensures files { KeepsFiles F.tells F.content F.faults files.old files.new }
 {
     let pattern = graph_of(alloc, files, pattern, kind, Role::Pattern, PATTERN_LIMIT)?;
     let target = graph_of(alloc, files, target, kind, Role::Target, TARGET_LIMIT)?;

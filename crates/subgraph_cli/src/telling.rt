@@ -157,7 +157,7 @@ fn status_of(stop: Stop) -> u8
 /// Tells why a command stopped, and answers the status. A fault of the error stream changes nothing.
 pub fn tell_stop<E: Sink>(stop: Stop, err: &mut E) -> u8
     ensures status { result ≡ stop_status stop }
-    ensures line { Tells (stream E.spot E.contents err.old err.new) (stop_text stop) }
+    ensures line { Tells (stream E.spot E.contents E.faults err.old err.new) (stop_text stop) }
     ensures sink { IsSameSink E.spot E.rest E.faults err.old err.new }
 {
     let _ = put_stop(stop, err);
@@ -167,7 +167,7 @@ pub fn tell_stop<E: Sink>(stop: Stop, err: &mut E) -> u8
 /// Tells that the words are no command, and answers the status.
 pub fn tell_no_command<E: Sink>(err: &mut E) -> u8
     ensures status { result ≡ 3 }
-    ensures line { Tells (stream E.spot E.contents err.old err.new) no_command_text }
+    ensures line { Tells (stream E.spot E.contents E.faults err.old err.new) no_command_text }
     ensures sink { IsSameSink E.spot E.rest E.faults err.old err.new }
 {
     let _ = err.put(b"words: not a command\n");
@@ -177,7 +177,7 @@ pub fn tell_no_command<E: Sink>(err: &mut E) -> u8
 /// The status of a solve; where it stopped the error stream is told.
 pub fn end_solve<E: Sink>(ended: Result<Decision, Stop>, err: &mut E) -> u8
     ensures status { result ≡ solve_status ended }
-    ensures line { TellsStop ended (stream E.spot E.contents err.old err.new) }
+    ensures line { TellsStop ended (stream E.spot E.contents E.faults err.old err.new) }
     ensures sink { IsSameSink E.spot E.rest E.faults err.old err.new }
 {
     match ended {
@@ -191,7 +191,7 @@ pub fn end_solve<E: Sink>(ended: Result<Decision, Stop>, err: &mut E) -> u8
 /// The status of a verify; where the mapping is no embedding, and where it stopped, the error stream is told.
 pub fn end_verify<E: Sink>(ended: Result<Tested, Stop>, err: &mut E) -> u8
     ensures status { result ≡ verify_status ended }
-    ensures line { TellsTested ended (stream E.spot E.contents err.old err.new) }
+    ensures line { TellsTested ended (stream E.spot E.contents E.faults err.old err.new) }
     ensures sink { IsSameSink E.spot E.rest E.faults err.old err.new }
 {
     match ended {
@@ -207,7 +207,7 @@ pub fn end_verify<E: Sink>(ended: Result<Tested, Stop>, err: &mut E) -> u8
 /// The status of an encode; where it stopped the error stream is told.
 pub fn end_encode<E: Sink>(ended: Result<(), Stop>, err: &mut E) -> u8
     ensures status { result ≡ encode_status ended }
-    ensures line { TellsStop ended (stream E.spot E.contents err.old err.new) }
+    ensures line { TellsStop ended (stream E.spot E.contents E.faults err.old err.new) }
     ensures sink { IsSameSink E.spot E.rest E.faults err.old err.new }
 {
     match ended {
@@ -219,7 +219,7 @@ pub fn end_encode<E: Sink>(ended: Result<(), Stop>, err: &mut E) -> u8
 /// The status of a demo; where it stopped the error stream is told.
 pub fn end_demo<E: Sink>(ended: Result<Shown, Stop>, err: &mut E) -> u8
     ensures status { result ≡ demo_status ended }
-    ensures line { TellsStop ended (stream E.spot E.contents err.old err.new) }
+    ensures line { TellsStop ended (stream E.spot E.contents E.faults err.old err.new) }
     ensures sink { IsSameSink E.spot E.rest E.faults err.old err.new }
 {
     match ended {
@@ -241,7 +241,7 @@ fn status_of_shown(shown: Shown) -> u8
 /// The status of a check; where the log is not accepted, and where it stopped, the error stream is told.
 pub fn end_check<E: Sink>(ended: Result<Checked, Stop>, err: &mut E) -> u8
     ensures status { result ≡ check_status ended }
-    ensures line { TellsChecked ended (stream E.spot E.contents err.old err.new) }
+    ensures line { TellsChecked ended (stream E.spot E.contents E.faults err.old err.new) }
     ensures sink { IsSameSink E.spot E.rest E.faults err.old err.new }
 {
     match ended {

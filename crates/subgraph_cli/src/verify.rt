@@ -1,8 +1,8 @@
 //! The command `verify`.
 
-ghost use Rattle.std.specs.Prelude.{◌≡◌, ◌≤◌, ◌∷◌, ◌⊎◌, [], IsTrue, IfErr, IsErrOf};
-ghost use Rattle.outer_io.specs.NamedFiles.{SameFiles};
-ghost use Rattle.subgraph_cli.specs.Verifying.{VerifySays, MappingSays, KeepsWhenBad};
+ghost use Rattle.std.specs.Prelude.{◌≡◌, ◌⊎◌, IsTrue, IfErr, IsErrOf};
+ghost use Rattle.subgraph_cli.specs.Disk.{disk, IsReadingOf, KeepsFiles};
+ghost use Rattle.subgraph_cli.specs.Verifying.{VerifySays, MappingSays, IsFaultOfThree, KeepsWhenBad};
 ghost use Rattle.subgraph_cli.specs.Stops.{HasCause, IsOfFiles, SparesOutput};
 ghost use Rattle.subgraph_cli.specs.Streams.{stream, IsSameSink};
 
@@ -41,11 +41,10 @@ fn refused(fault: TextFault) -> Stop
 fn load_map<F: Files>(alloc: Global, files: &mut F, name: &FileName) -> Result<Vec<u32>, Stop>
     ensures says { IsTrue (F.tells files.old) → MappingSays result (F.content files.old name.now) }
     ensures loading { IfErr result IsOfFiles }
-    ensures cause { IfErr result (λ stop. HasCause stop (name.now ∷ []) (F.faults files.old) (F.faults files.new) (F.fault_at files.new)) }
+    ensures cause { IfErr result (λ stop. HasCause stop (IsReadingOf name.now)
+        (disk F.tells F.content F.faults F.fault_at files.old files.new)) }
     ensures quiet { IsErrOf result Stop.FilesFault ⊎ (F.faults files.new ≡ F.faults files.old) }
-    ensures later { F.faults files.old ≤ F.faults files.new }
-    ensures same { SameFiles (F.content files.old) (F.content files.new) }
-    ensures tells { F.tells files.new ≡ F.tells files.old }
+    ensures files { KeepsFiles F.tells F.content F.faults files.old files.new }
 {
     let bytes = match load(alloc, files, name.as_str(), FILE_LIMIT) {
         Ok(bytes) => bytes,
@@ -70,17 +69,14 @@ pub fn verify<F: Files, O: Sink>(
 ) -> Result<Tested, Stop>
     ensures says { IsTrue (F.tells files.old) → VerifySays result words.now (F.content files.old words.now.pattern)
         (F.content files.old words.now.target) (F.content files.old words.now.mapping)
-        (stream O.spot O.contents out.old out.new) }
-    ensures cause { IfErr result (λ stop. HasCause stop (words.now.pattern ∷ words.now.target ∷ words.now.mapping ∷ [])
-        (F.faults files.old) (F.faults files.new) (F.fault_at files.new)) }
-    ensures spares { IfErr result (λ stop. SparesOutput stop (O.faults out.old) (O.faults out.new)
-        (stream O.spot O.contents out.old out.new)) }
-    ensures bad { KeepsWhenBad result (stream O.spot O.contents out.old out.new) }
+        (stream O.spot O.contents O.faults out.old out.new) }
+    ensures cause { IfErr result (λ stop. HasCause stop (IsFaultOfThree words.now)
+        (disk F.tells F.content F.faults F.fault_at files.old files.new)) }
+    ensures spares { IfErr result (λ stop. SparesOutput stop (stream O.spot O.contents O.faults out.old out.new)) }
+    ensures bad { KeepsWhenBad result (stream O.spot O.contents O.faults out.old out.new) }
     ensures quiet { IsErrOf result Stop.FilesFault ⊎ (F.faults files.new ≡ F.faults files.old) }
     ensures quiet_output { IsErrOf result Stop.OutputFault ⊎ (O.faults out.new ≡ O.faults out.old) }
-    ensures later { F.faults files.old ≤ F.faults files.new }
-    ensures tells { F.tells files.new ≡ F.tells files.old }
-    ensures same { SameFiles (F.content files.old) (F.content files.new) }
+    ensures files { KeepsFiles F.tells F.content F.faults files.old files.new }
     ensures sink { IsSameSink O.spot O.rest O.faults out.old out.new }
 {
     let q = load_problem(

@@ -1,4 +1,4 @@
--- No other answer can come, and a spent budget is shown by its account.
+-- No other answer can come, and spent budgets are shown by their accounts.
 
 use Rattle.std.proofs.Common.{ℕ, subst}
 use Rattle.demo_instances.specs.SeedProblems.{IsCycle}
@@ -6,13 +6,13 @@ use Rattle.subgraph_cli.proofs.DemoStatuses.{kept_shows}
 use Rattle.subgraph_cli.proofs.demo.show_cycle.Goals as goal
 
 pub unreachable-requires : goal.unreachable-requires
-unreachable-requires c = c.cycle_has_none.ensures c.args.words.now c.in-Ok.q c.in-Ok.ensures c.in-Found.field-0.items c.in-Found.ensures
+unreachable-requires g c = c.cycle_has_none.ensures c.args.words.now c.in-Ok.q c.in-Ok.ensures c.in-Yes.field-0.items c.in-Yes.ensures
 
-pub returns-in-Spent-clause-shows : goal.returns-in-Spent-clause-shows
-returns-in-Spent-clause-shows c =
-    kept_shows c.keep.result (IsCycle c.args.asked.now.seed) c.args.asked.now.budget c.in-Spent.account c.args.spent.now.items c.keep.new.spent.items c.keep.ensures.kept record {
+pub returns-in-Unknown-clause-shows : goal.returns-in-Unknown-clause-shows
+returns-in-Unknown-clause-shows g c =
+    kept_shows c.keep_undecided.result (IsCycle c.args.asked.now.seed) c.args.asked.now c.in-Unknown.accounts.items c.args.spent.now.items
+    c.keep_undecided.new.spent.items c.keep_undecided.ensures.kept record {
       problem = c.in-Ok.q;
       is_described = subst (λ (seed : ℕ). IsCycle seed c.in-Ok.q) c.requires.words c.in-Ok.ensures;
-      spends = c.in-Spent.ensures.0;
-      not_enough = c.in-Spent.ensures.1;
+      spent = rw (c.settings_of.ensures.threads, c.settings_of.ensures.budget) at c.in-Unknown.ensures;
     }

@@ -8,12 +8,12 @@ use Rattle.subgraph_cli.proofs.encode.write_encoding.Goals as goal
 
 pub returns-in-Ok-write-clause-says : goal.returns-in-Ok-write-clause-says
 returns-in-Ok-write-clause-says g c =
-    subst (λ (q : Problem). Got (stream g.O.Sink.spot g.O.Sink.contents c.args.out.now c.write.new.sink) (encoding_text q)) c.in-Ok.ensures c.in-Ok-write.ensures.text
+    subst (λ (q : Problem). Got (stream g.O.Sink.spot g.O.Sink.contents g.O.Sink.faults c.args.out.now c.write.new.sink) (encoding_text q)) c.in-Ok.ensures c.in-Ok-write.ensures.text
 
 pub returns-in-Err-Failed-clause-says : goal.returns-in-Err-Failed-clause-says
 returns-in-Err-Failed-clause-says g c =
-    subst (λ (q : Problem). GotFront (stream g.O.Sink.spot g.O.Sink.contents c.args.out.now c.write.new.sink) (encoding_text q)) c.in-Ok.ensures c.in-Err-Failed.ensures.text
+    subst (λ (q : Problem). GotFront (stream g.O.Sink.spot g.O.Sink.contents g.O.Sink.faults c.args.out.now c.write.new.sink) (encoding_text q)) c.in-Ok.ensures c.in-Err-Failed.ensures.text
 
 pub returns-clause-says : goal.returns-clause-says
 returns-clause-says g c =
-    inr (subst (λ (q : Problem). GotFront (stream g.O.Sink.spot g.O.Sink.contents c.args.out.now c.write.new.sink) (encoding_text q)) c.in-Ok.ensures c.in-Err-NoMemory.ensures.text)
+    inr (subst (λ (q : Problem). GotFront (stream g.O.Sink.spot g.O.Sink.contents g.O.Sink.faults c.args.out.now c.write.new.sink) (encoding_text q)) c.in-Ok.ensures c.in-Err-NoMemory.ensures.text)

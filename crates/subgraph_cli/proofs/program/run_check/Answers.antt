@@ -1,9 +1,9 @@
--- What the end of a check says is what its status says.
+-- What check came to is what its run says.
 
-use Rattle.subgraph_cli.proofs.CheckStatuses.{check_status_says}
+use Rattle.subgraph_cli.proofs.Runs.{check_ran}
 use Rattle.subgraph_cli.proofs.program.run_check.Goals as goal
 
-pub returns-clause-says : goal.returns-clause-says
-returns-clause-says g c accounts told =
-    check_status_says c.check-ended.result _ _ accounts _ _ _ _ _
-    (c.check-ended.ensures.says told) c.check-ended.ensures.spares c.end_check.ensures.line c.end_check.ensures.status
+pub returns-clause-ran : goal.returns-clause-ran
+returns-clause-ran g c accounts =
+    check_ran c.check-ended.result _ accounts _ _ _ _ c.check-ended.ensures.says c.check-ended.ensures.cause
+    c.check-ended.ensures.spares c.check-ended.ensures.refused c.check-ended.ensures.quiet c.check-ended.ensures.quiet_output c.end_check.ensures.line c.end_check.ensures.status

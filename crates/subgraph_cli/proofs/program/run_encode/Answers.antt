@@ -1,9 +1,9 @@
--- What the end of an encode says is what its status says.
+-- What encode came to is what its run says.
 
-use Rattle.subgraph_cli.proofs.EncodeStatuses.{encode_status_says}
+use Rattle.subgraph_cli.proofs.Runs.{encode_ran}
 use Rattle.subgraph_cli.proofs.program.run_encode.Goals as goal
 
-pub returns-clause-says : goal.returns-clause-says
-returns-clause-says g c accounts told =
-    encode_status_says c.text_laws.ensures c.encode-ended.result _ _ _ accounts _ _ _ _ _
-    (c.encode-ended.ensures.says told) c.encode-ended.ensures.spares c.end_encode.ensures.line c.end_encode.ensures.status
+pub returns-clause-ran : goal.returns-clause-ran
+returns-clause-ran g c accounts =
+    encode_ran c.text_laws.ensures c.encode-ended.result _ accounts _ _ _ _ c.encode-ended.ensures.says c.encode-ended.ensures.cause
+    c.encode-ended.ensures.spares c.encode-ended.ensures.quiet c.encode-ended.ensures.quiet_output c.end_encode.ensures.line c.end_encode.ensures.status

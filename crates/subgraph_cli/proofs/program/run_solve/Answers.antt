@@ -1,9 +1,9 @@
--- What the end of a solve says is what its status says.
+-- What solve came to is what its run says.
 
-use Rattle.subgraph_cli.proofs.SolveStatuses.{solve_status_says}
+use Rattle.subgraph_cli.proofs.Runs.{solve_ran}
 use Rattle.subgraph_cli.proofs.program.run_solve.Goals as goal
 
-pub returns-clause-says : goal.returns-clause-says
-returns-clause-says g c told =
-    solve_status_says c.text_laws.ensures c.solve-ended.result _ _ _ _ _ _ _ _ _
-    (c.solve-ended.ensures.says told) c.solve-ended.ensures.spares c.end_solve.ensures.line c.end_solve.ensures.status
+pub returns-clause-ran : goal.returns-clause-ran
+returns-clause-ran g c =
+    solve_ran c.text_laws.ensures c.solve-ended.result _ _ _ _ _ _ c.solve-ended.ensures.says c.solve-ended.ensures.cause
+    c.solve-ended.ensures.spares c.solve-ended.ensures.quiet c.solve-ended.ensures.quiet_output c.end_solve.ensures.line c.end_solve.ensures.status

@@ -1,9 +1,9 @@
--- What the end of a verify says is what its status says.
+-- What verify came to is what its run says.
 
-use Rattle.subgraph_cli.proofs.VerifyStatuses.{verify_status_says}
+use Rattle.subgraph_cli.proofs.Runs.{verify_ran}
 use Rattle.subgraph_cli.proofs.program.run_verify.Goals as goal
 
-pub returns-clause-says : goal.returns-clause-says
-returns-clause-says g c accounts told =
-    verify_status_says c.text_laws.ensures c.mapping_laws.ensures c.verify-ended.result _ _ _ _ accounts _ _ _ _ _
-    (c.verify-ended.ensures.says told) c.verify-ended.ensures.spares c.end_verify.ensures.line c.end_verify.ensures.status
+pub returns-clause-ran : goal.returns-clause-ran
+returns-clause-ran g c accounts =
+    verify_ran c.text_laws.ensures c.mapping_laws.ensures c.verify-ended.result _ accounts _ _ _ _ c.verify-ended.ensures.says c.verify-ended.ensures.cause
+    c.verify-ended.ensures.spares c.verify-ended.ensures.bad c.verify-ended.ensures.quiet c.verify-ended.ensures.quiet_output c.end_verify.ensures.line c.end_verify.ensures.status

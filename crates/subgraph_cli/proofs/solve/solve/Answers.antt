@@ -8,8 +8,9 @@ use Rattle.subgraph_cli.proofs.solve.solve.Goals as goal
 pub returns-in_err-q-clause-spares : goal.returns-in_err-q-clause-spares
 returns-in_err-q-clause-spares g c =
     let p = err_from_is_err_and c.from_residual.result c.from_residual.ensures.1 in
-    rw (p.1, p.2) (loading_spares _ _ _ _ c.in_err-q.ensures.loading refl)
+    rw (p.1, p.2) (loading_spares _ _ c.in_err-q.ensures.loading refl)
 
 pub returns-clause-says : goal.returns-clause-says
 returns-clause-says g c told =
-    telling_says c.tell.result _ _ _ _ _ _ _ _ c.tell.ensures.says (c.in_ok-q.ensures.says told) c.decide-decided.ensures c.requires.empty
+    let ends = rw (c.settings_of.ensures.threads, c.settings_of.ensures.budget) at c.solve-solved.ensures in
+    telling_says c.tell.result _ _ _ _ _ _ _ _ c.tell.ensures.says (c.in_ok-q.ensures.says told) ends c.requires.empty
