@@ -33,7 +33,7 @@ row_back r h =
       owner = s.3 i;
       parent = (ap parent_of s.2 ∙ parent_back r.parent) i;
       vertex = s.1 i;
-      value = s.0 i
+      value = s.0 i;
     }
 
 pub word_some : (r : Row) → (word_of r == 0) ≡ false

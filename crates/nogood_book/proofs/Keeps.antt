@@ -26,26 +26,33 @@ use Rattle.nogood_book.proofs.Steps.{shown_of, after_load, row_there, knows_load
 
 pub opens : (q : Problem) (most : ℕ) (words cells : List ℕ) → words ≡ 0 ∷ cells → length cells ≡ most → AreZero cells → Rule q most (opening words [] (first_view q))
 opens q most words cells w n z = record {
-    rows = [];
-    cells = cells;
-    made = 0 ∷ [];
-    words_are = w;
-    size = n;
-    filled = z;
-    sound = tt;
-    owned = tt;
-    each = each;
-    alone = alone;
-    somewhere = somewhere
-  }
+  rows = [];
+  cells = cells;
+  made = 0 ∷ [];
+  words_are = w;
+  size = n;
+  filled = z;
+  sound = tt;
+  owned = tt;
+  each = each;
+  alone = alone;
+  somewhere = somewhere;
+}
   where
     is_first : (i : ℕ) (v : View) → get_elem? (first_view q ∷ []) i ≡ some v → (i ≡ 0) × (first_view q ≡ v)
     is_first i v e = elim (at_snoc [] (first_view q) v i e) [ inl h ↦ absurd (omega (arith, h.0)) | inr h ↦ h ]
 
     knows : Knows q [] (0 ∷ []) 0 (first_view q)
     knows = record {
-        problem = λ e. refl; seen = ([], refl); other = ([], refl); told = (refl, tt); all_told = (refl, tt); apart = ((λ h. h), tt); all_made = (inl refl, tt); first = λ e. (refl, refl)
-      }
+      problem = λ e. refl;
+      seen = ([], refl);
+      other = ([], refl);
+      told = (refl, tt);
+      all_told = (refl, tt);
+      apart = ((λ h. h), tt);
+      all_made = (inl refl, tt);
+      first = λ e. (refl, refl);
+    }
 
     each : (i : ℕ) (v : View) → get_elem? (first_view q ∷ []) i ≡ some v → Knows q [] (0 ∷ []) i v
     each i v e =
@@ -67,7 +74,7 @@ each_set : (q : Problem) (rows : List Row) (made : List ℕ) (views : List View)
     → ((i : ℕ) (v : View) → get_elem? views i ≡ some v → (i ≡ id → ⊥) → Knows q rows made i v) → Knows q rows made id w
     → (i : ℕ) (v : View) → get_elem? (slice_set views id w) i ≡ some v → Knows q rows made i v
 each_set q rows made views id w each k i v e = elim (at_set views id i w v e) [
-  inl h ↦ (let P : ℕ → Type 0 = λ z. Knows q rows made z v in let Q : View → Type 0 = λ u. Knows q rows made id u in subst P (sym h.0) (subst Q h.1 k))
+  | inl h ↦ (let P : ℕ → Type 0 = λ z. Knows q rows made z v in let Q : View → Type 0 = λ u. Knows q rows made id u in subst P (sym h.0) (subst Q h.1 k))
   | inr h ↦ each i v h.1 h.0
 ]
 
@@ -75,18 +82,18 @@ each_set q rows made views id w each k i v e = elim (at_set views id i w v e) [
 same_words : (q : Problem) (most : ℕ) (words : List ℕ) (views : List View) (id : ℕ) (v w : View) (b : IsBook q most words views) → get_elem? views id ≡ some v → SameOwners v w
     → Knows q b.rows b.made id w → IsBook q most words (slice_set views id w)
 same_words q most words views id v w b at same k = record {
-    rows = b.rows;
-    cells = b.cells;
-    made = b.made;
-    words_are = b.words_are;
-    size = b.size;
-    filled = b.filled;
-    sound = b.sound;
-    owned = b.owned;
-    each = each_set q b.rows b.made views id w (λ i u e n. b.each i u e) k;
-    alone = alone_set views id v w at same b.alone;
-    somewhere = somewhere_set b.made views id v w at same b.somewhere
-  }
+  rows = b.rows;
+  cells = b.cells;
+  made = b.made;
+  words_are = b.words_are;
+  size = b.size;
+  filled = b.filled;
+  sound = b.sound;
+  owned = b.owned;
+  each = each_set q b.rows b.made views id w (λ i u e n. b.each i u e) k;
+  alone = alone_set views id v w at same b.alone;
+  somewhere = somewhere_set b.made views id v w at same b.somewhere;
+}
 
 -- ---- a load of the next word
 
@@ -134,7 +141,7 @@ written q most s id v i r b live at few own may there all =
         each = each_set q (b.rows ++ r ∷ []) b.made s.views id (added v r)
             (λ j u e n. knows_other q b.rows b.made j u r (λ h. n (b.alone j id u v r.owner e there h mine)) (b.each j u e)) k';
         alone = alone_set s.views id v (added v r) there (same_added v r live) b.alone;
-        somewhere = somewhere_set b.made s.views id v (added v r) there (same_added v r live) b.somewhere
+        somewhere = somewhere_set b.made s.views id v (added v r) there (same_added v r live) b.somewhere;
       },
       shown_of q (b.rows ++ r ∷ []) b.made id (added v r) live sound' owned' k',
     )
@@ -209,7 +216,7 @@ splits q most id v o live first new_ s b there =
       owned = owned_more o b.made b.rows b.owned;
       each = each' fresh;
       alone = alone_snoc views' (newcomer o v) (alone_set s.views id v (maker o v) there same b.alone) (apart fresh);
-      somewhere = somewhere_snoc o b.made views' (newcomer o v) (inl refl) (somewhere_set b.made s.views id v (maker o v) there same b.somewhere)
+      somewhere = somewhere_snoc o b.made views' (newcomer o v) (inl refl) (somewhere_set b.made s.views id v (maker o v) there same b.somewhere);
     }
   where
     later : (i : ℕ) (u : View) → get_elem? s.views i ≡ some u → (i ≡ id → ⊥) → u.first ≡ false
@@ -225,7 +232,7 @@ splits q most id v o live first new_ s b there =
 
     each' : (HasNumber o b.made → ⊥) → (i : ℕ) (u : View) → get_elem? (slice_set s.views id (maker o v) ++ newcomer o v ∷ []) i ≡ some u → Knows q b.rows (o ∷ b.made) i u
     each' fresh i u e = elim (at_snoc (slice_set s.views id (maker o v)) (newcomer o v) u i e) [
-      inl h ↦ front i u h.1
+      | inl h ↦ front i u h.1
       | inr h ↦ (let P : View → Type 0 = λ z. Knows q b.rows (o ∷ b.made) i z in subst P h.1 (knows_newcomer q b.rows b.made id i v o live b.owned fresh (b.each id v there)))
     ]
 
@@ -234,15 +241,15 @@ splits q most id v o live first new_ s b there =
         let P : ℕ → Type 0 = λ z. HasPart z (parts u) in
         let mine : HasPart o (parts u) = subst P (sym same) h in
         elim (at_set s.views id i (maker o v) u e) [
-          inl m ↦ fresh (made_has b.made (parts v) o (b.each id v there).all_made (subst (Answers o) (sym m.1) mine))
+          | inl m ↦ fresh (made_has b.made (parts v) o (b.each id v there).all_made (subst (Answers o) (sym m.1) mine))
           | inr m ↦ fresh (made_has b.made (parts u) o (b.each i u m.1).all_made mine)
         ]
     apart fresh i u p e h (inr none_) = none_
 
 -- ---- a join
 
-pub joins : (q : Problem) (most id : ℕ) (v : View) (other : ℕ) (w : View) → v.spent ≡ false → w.first ≡ false → Joins (Rule q most) id v other w (gathers v w) nobody
-joins q most id v other w live second s b there apart at =
+pub joins : (q : Problem) (most id : ℕ) (v : View) (other : ℕ) (w : View) → v.spent ≡ false → Joins (Rule q most) id v other w (gathers v w) nobody
+joins q most id v other w live s b there apart at =
     let at' : get_elem? s.views other ≡ some w = sym (set_else s.views id other (gathers v w) apart) ∙ at in
     let takes = takes_gathers v w live in record {
       rows = b.rows;
@@ -255,8 +262,8 @@ joins q most id v other w live second s b there apart at =
       owned = b.owned;
       each = each_set q b.rows b.made (slice_set s.views id (gathers v w)) other nobody
           (λ i u e n. each_set q b.rows b.made s.views id (gathers v w) (λ j x f m. b.each j x f)
-              (knows_gathers q b.rows b.made id other v w live (λ o h k. apart (sym (b.alone id other v w o there at' h k))) (b.each id v there) (b.each other w at')) i u e)
+          (knows_gathers q b.rows b.made id other v w live (λ o h k. apart (sym (b.alone id other v w o there at' h k))) (b.each id v there) (b.each other w at')) i u e)
           (knows_nobody q b.rows b.made other);
       alone = alone_join s.views id other v w (gathers v w) nobody there at' apart takes b.alone;
-      somewhere = somewhere_join b.made s.views id other v w (gathers v w) nobody there at' apart takes b.somewhere
+      somewhere = somewhere_join b.made s.views id other v w (gathers v w) nobody there at' apart takes b.somewhere;
     }

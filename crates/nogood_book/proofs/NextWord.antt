@@ -20,7 +20,7 @@ next_cell : (cells : List ℕ) (rows seen : List Row) → Cells cells rows → S
 next_cell cells rows seen h s l =
     let P : List Row → Type 0 = Cells cells in
     elim (cell_at cells seen s.0 (subst P s.1 h) l) [
-      inl e ↦ inl (e.0, s.1 ∙ (ap (λ z. seen ++ z) e.1 ∙ append_nil seen))
+      | inl e ↦ inl (e.0, s.1 ∙ (ap (λ z. seen ++ z) e.1 ∙ append_nil seen))
       | inr e ↦ inr (e.0, e.3, (e.1, s.1 ∙ (ap (λ z. seen ++ z) e.2 ∙ sym (append_assoc seen (e.0 ∷ []) e.1))))
     ]
 
@@ -29,7 +29,7 @@ pub next_word : (words cells : List ℕ) (rows seen : List Row) (i : ℕ) → wo
     → Next rows seen (slice_index words i)
 next_word words cells rows seen i w h s l e =
     let at : slice_index words i ≡ slice_index cells (length seen) =
-        (let f : i ≡ suc (length seen) = omega arith in ap (λ z. slice_index z i) w ∙ ap (slice_index (0 ∷ cells)) f) in
+    (let f : i ≡ suc (length seen) = omega arith in ap (λ z. slice_index z i) w ∙ ap (slice_index (0 ∷ cells)) f) in
     subst (Next rows seen) (sym at) (next_cell cells rows seen h s l)
 
 cell_set : (cells : List ℕ) (rows : List Row) (r : Row) → Cells cells rows → length rows < length cells → Cells (slice_set cells (length rows) (word_of r)) (rows ++ r ∷ [])

@@ -14,9 +14,9 @@ use Rattle.nogood_book.specs.Seats.{SeatName, BookName, IsSeatOf, IsSeat}
 
 pub of_inside : (s t : SeatName) (b d : BookName) → s ≡ t → d ≡ b → IsSeatOf b t → IsSeatOf d s
 of_inside s t b d e f h = record {
-    table = ap (λ (z : SeatName). z.table) e ∙ (h.table ∙ sym (ap (λ (z : BookName). z.table) f));
-    problem = ap (λ (z : SeatName). z.view.problem) e ∙ (h.problem ∙ sym (ap (λ (z : BookName). z.problem) f))
-  }
+  table = ap (λ (z : SeatName). z.table) e ∙ (h.table ∙ sym (ap (λ (z : BookName). z.table) f));
+  problem = ap (λ (z : SeatName). z.view.problem) e ∙ (h.problem ∙ sym (ap (λ (z : BookName). z.problem) f));
+}
 
 pub more_inside : (s t : SeatName) (b d : BookName) → s ≡ t → d ≡ b → length t.view.seen < b.size → length s.view.seen < d.size
 more_inside s t b d e f h = omega (arith, ap (λ (z : SeatName). length z.view.seen) e, ap (λ (z : BookName). z.size) f)
@@ -51,7 +51,7 @@ seat_maker table table' me me' rows capacity most owner o e f h =
       owner_is = h.owner_is;
       live = h.live;
       few = h.few;
-      shown = shown_maker me.0 o h.shown
+      shown = shown_maker me.0 o h.shown;
     }))
 
 -- and what the new seat keeps
@@ -69,7 +69,7 @@ seat_newcomer table table' v me' rows capacity most o e f rows_are room words li
       owner_is = refl;
       live = refl;
       few = omega (arith, ap length rows_are);
-      shown = shown_newcomer v o first new_ shown
+      shown = shown_newcomer v o first new_ shown;
     }))
 
 pub new_inside : (o p : ℕ) (s t : SeatName) → o ≡ p → s ≡ t → (HasNumber o t.view.made → ⊥) → HasNumber p s.view.made → ⊥

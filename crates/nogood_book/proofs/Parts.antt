@@ -7,7 +7,7 @@ use Rattle.nogood_book.specs.declared.row.Row.{Row}
 use Rattle.nogood_book.specs.declared.view.View.{View}
 use Rattle.nogood_book.specs.Places.{StartsWith, place_or, places, places_from}
 use Rattle.nogood_book.specs.Views.{Part, parts, Told, HasPart, HasNumber, Owned, AllMade, Apart}
-use Rattle.nogood_book.proofs.Lists.{places-append, places_from-append}
+use Rattle.nogood_book.proofs.Lists.{places-append, places_from-append, places_other, places_own}
 
 -- a view that is not spent answers for its owner and for those gathered
 pub parts_live : (v : View) → v.spent ≡ false → parts v ≡ (v.owner, v.mine) ∷ v.gathered
@@ -22,8 +22,13 @@ places_between : (o : ℕ) (a b c : List Row) → places o (a ++ (b ++ c)) ≡ p
 places_between o a b c e =
     let s : places o a ++ places_from (length a) o (b ++ c) ≡ places o a = sym (places-append o a (b ++ c)) ∙ e in
     let none : length (places_from (length a) o b) ≡ 0 =
-        omega (arith, ap length s, length-append (places o a) (places_from (length a) o (b ++ c)), ap length (places_from-append (length a) o b c),
-            length-append (places_from (length a) o b) (places_from (length a + length b) o c)) in
+    omega (
+      arith,
+      ap length s,
+      length-append (places o a) (places_from (length a) o (b ++ c)),
+      ap length (places_from-append (length a) o b c),
+      length-append (places_from (length a) o b) (places_from (length a + length b) o c),
+    ) in
     places-append o a b ∙ (ap (λ z. places o a ++ z) (empty_of (places_from (length a) o b) none) ∙ append_nil (places o a))
 
 -- what is so of what was seen and of all rows is so of what lies between
@@ -36,16 +41,6 @@ told_mid seen mid rows ps s t h k =
     let whole : rows ≡ seen ++ (s.0 ++ t.0) = t.1 ∙ (ap (λ z. z ++ t.0) s.1 ∙ append_assoc seen s.0 t.0) in
     let P : List Row → Type 0 = λ z. Told z ps in
     subst P (sym s.1) (told_between seen s.0 t.0 ps h (subst P whole k))
-
-places_snoc : (o : ℕ) (rows : List Row) (r : Row) → places o (rows ++ r ∷ []) ≡ places o rows ++ place_or (r.owner == o) (length rows) []
-places_snoc o rows r = places-append o rows (r ∷ [])
-
-places_other : (o : ℕ) (rows : List Row) (r : Row) → (r.owner ≡ o → ⊥) → places o (rows ++ r ∷ []) ≡ places o rows
-places_other o rows r n =
-    places_snoc o rows r ∙ (ap (λ b. places o rows ++ place_or b (length rows) []) (ne_eqb r.owner o n) ∙ append_nil (places o rows))
-
-places_own : (o : ℕ) (rows : List Row) (r : Row) → r.owner ≡ o → places o (rows ++ r ∷ []) ≡ places o rows ++ length rows ∷ []
-places_own o rows r e = places_snoc o rows r ∙ ap (λ b. places o rows ++ place_or b (length rows) []) (eq-eqb r.owner o e)
 
 -- a row of another owner changes no places
 pub told_other : (rows : List Row) (r : Row) (ps : List Part) → (HasPart r.owner ps → ⊥) → Told rows ps → Told (rows ++ r ∷ []) ps

@@ -26,7 +26,7 @@ shown_of q rows made i v live sound owned k =
     let R : List Row → Type 0 = Owned made in record {
       sound = subst Q (sym (k.problem live)) (sound_front q v.seen k.seen.0 (subst P whole sound));
       told = k.told;
-      owned = λ first. let S : List ℕ → Type 0 = λ z. Owned z v.seen in subst S (sym (k.first first).1) (owned_front made v.seen k.seen.0 (subst R whole owned))
+      owned = λ first. let S : List ℕ → Type 0 = λ z. Owned z v.seen in subst S (sym (k.first first).1) (owned_front made v.seen k.seen.0 (subst R whole owned));
     }
 
 -- ---- a load
@@ -37,21 +37,28 @@ after_load v n = if n == 0 then looked v else sees v (row_of n)
 
 knows_looked : (q : Problem) (rows : List Row) (made : List ℕ) (i : ℕ) (v : View) → Knows q rows made i v → Knows q rows made i (looked v)
 knows_looked q rows made i v k = record {
-    problem = k.problem; seen = k.seen; other = k.other; told = k.told; all_told = k.all_told; apart = k.apart; all_made = k.all_made; first = k.first
-  }
+  problem = k.problem;
+  seen = k.seen;
+  other = k.other;
+  told = k.told;
+  all_told = k.all_told;
+  apart = k.apart;
+  all_made = k.all_made;
+  first = k.first;
+}
 
 -- a view that saw the row that stands there
 pub knows_sees : (q : Problem) (rows : List Row) (made : List ℕ) (i : ℕ) (v : View) (r : Row) → StartsWith rows (v.seen ++ r ∷ []) → Knows q rows made i v → Knows q rows made i (sees v r)
 knows_sees q rows made i v r s k = record {
-    problem = k.problem;
-    seen = s;
-    other = k.other;
-    told = told_mid v.seen (v.seen ++ r ∷ []) rows (parts v) (r ∷ [], refl) s k.told k.all_told;
-    all_told = k.all_told;
-    apart = k.apart;
-    all_made = k.all_made;
-    first = k.first
-  }
+  problem = k.problem;
+  seen = s;
+  other = k.other;
+  told = told_mid v.seen (v.seen ++ r ∷ []) rows (parts v) (r ∷ [], refl) s k.told k.all_told;
+  all_told = k.all_told;
+  apart = k.apart;
+  all_made = k.all_made;
+  first = k.first;
+}
 
 -- the row that a word says is the one that stands there
 pub row_there : (q : Problem) (rows seen : List Row) (r : Row) (n : ℕ) → Sound q rows → n ≡ word_of r → StartsWith rows (seen ++ r ∷ []) → (row_of n ≡ r) × ((n == 0) ≡ false)
@@ -96,15 +103,15 @@ live_load v n e = by (n == 0)
 -- what another view knows as a row comes that is none of its owners'
 pub knows_other : (q : Problem) (rows : List Row) (made : List ℕ) (i : ℕ) (v : View) (r : Row) → (HasPart r.owner (parts v) → ⊥) → Knows q rows made i v → Knows q (rows ++ r ∷ []) made i v
 knows_other q rows made i v r n k = record {
-    problem = k.problem;
-    seen = starts_more v.seen rows (r ∷ []) k.seen;
-    other = starts_more v.other rows (r ∷ []) k.other;
-    told = k.told;
-    all_told = told_other rows r (parts v) n k.all_told;
-    apart = k.apart;
-    all_made = k.all_made;
-    first = k.first
-  }
+  problem = k.problem;
+  seen = starts_more v.seen rows (r ∷ []) k.seen;
+  other = starts_more v.other rows (r ∷ []) k.other;
+  told = k.told;
+  all_told = told_other rows r (parts v) n k.all_told;
+  apart = k.apart;
+  all_made = k.all_made;
+  first = k.first;
+}
 
 parts_added : (v : View) (r : Row) → v.spent ≡ false → parts (added v r) ≡ (v.owner, v.mine ++ length v.seen ∷ []) ∷ v.gathered
 parts_added v r e = parts_live (added v r) e
@@ -121,8 +128,8 @@ knows_added q rows made i v r live all own k =
     let apart = subst A old k.apart in
     let made_ = subst M old k.all_made in
     let told : Told (v.seen ++ r ∷ []) (parts (added v r)) =
-        (let Q : List Part → Type 0 = λ z. Told (v.seen ++ r ∷ []) z in
-        subst Q (sym new_) (told_own v.seen r v.owner v.mine v.gathered own apart (subst T old k.told))) in
+    (let Q : List Part → Type 0 = λ z. Told (v.seen ++ r ∷ []) z in
+    subst Q (sym new_) (told_own v.seen r v.owner v.mine v.gathered own apart (subst T old k.told))) in
     let same : rows ++ r ∷ [] ≡ v.seen ++ r ∷ [] = ap (λ z. z ++ r ∷ []) all in
     let W : List Row → Type 0 = λ z. Told z (parts (added v r)) in record {
       problem = k.problem;
@@ -132,40 +139,40 @@ knows_added q rows made i v r live all own k =
       all_told = subst W (sym same) told;
       apart = subst A (sym new_) apart;
       all_made = subst M (sym new_) made_;
-      first = k.first
+      first = k.first;
     }
 
 pub same_added : (v : View) (r : Row) → v.spent ≡ false → SameOwners v (added v r)
 same_added v r live = record {
-    there = λ o h. (let P : List Part → Type 0 = HasPart o in subst P (sym (parts_added v r live)) (subst P (parts_live v live) h));
-    back = λ o h. (let P : List Part → Type 0 = HasPart o in subst P (sym (parts_live v live)) (subst P (parts_added v r live) h))
-  }
+  there = λ o h. (let P : List Part → Type 0 = HasPart o in subst P (sym (parts_added v r live)) (subst P (parts_live v live) h));
+  back = λ o h. (let P : List Part → Type 0 = HasPart o in subst P (sym (parts_live v live)) (subst P (parts_added v r live) h));
+}
 
 -- ---- a new owner
 
 pub knows_made : (q : Problem) (rows : List Row) (made : List ℕ) (i : ℕ) (v : View) (o : ℕ) → v.first ≡ false → Knows q rows made i v → Knows q rows (o ∷ made) i v
 knows_made q rows made i v o later k = record {
-    problem = k.problem;
-    seen = k.seen;
-    other = k.other;
-    told = k.told;
-    all_told = k.all_told;
-    apart = k.apart;
-    all_made = made_more o made (parts v) k.all_made;
-    first = λ e. (let no : true ≡ false = sym e ∙ later in cc)
-  }
+  problem = k.problem;
+  seen = k.seen;
+  other = k.other;
+  told = k.told;
+  all_told = k.all_told;
+  apart = k.apart;
+  all_made = made_more o made (parts v) k.all_made;
+  first = λ e. (let no : true ≡ false = sym e ∙ later in cc);
+}
 
 pub knows_maker : (q : Problem) (rows : List Row) (made : List ℕ) (i : ℕ) (v : View) (o : ℕ) → Knows q rows made i v → Knows q rows (o ∷ made) i (maker o v)
 knows_maker q rows made i v o k = record {
-    problem = k.problem;
-    seen = k.seen;
-    other = k.other;
-    told = k.told;
-    all_told = k.all_told;
-    apart = k.apart;
-    all_made = made_more o made (parts v) k.all_made;
-    first = λ e. ((k.first e).0, ap (λ z. o ∷ z) (k.first e).1)
-  }
+  problem = k.problem;
+  seen = k.seen;
+  other = k.other;
+  told = k.told;
+  all_told = k.all_told;
+  apart = k.apart;
+  all_made = made_more o made (parts v) k.all_made;
+  first = λ e. ((k.first e).0, ap (λ z. o ∷ z) (k.first e).1);
+}
 
 pub same_maker : (v : View) (o : ℕ) → SameOwners v (maker o v)
 same_maker v o = record { there = λ p h. h; back = λ p h. h }
@@ -182,7 +189,7 @@ knows_newcomer q rows made i j v o live owned new_ k =
       all_told = (none_of_owner o made rows owned new_, tt);
       apart = ((λ h. h), tt);
       all_made = (inl refl, tt);
-      first = λ e. cc
+      first = λ e. cc;
     }
 
 -- the first seat's view shows no less once it has made an owner
@@ -192,8 +199,10 @@ shown_maker v o s = record { sound = s.sound; told = s.told; owned = λ e. owned
 -- and the new seat's shows what that one has seen
 pub shown_newcomer : (v : View) (o : ℕ) → v.first ≡ true → (HasNumber o v.made → ⊥) → Shown v → Shown (newcomer o v)
 shown_newcomer v o first new_ s = record {
-    sound = s.sound; told = (none_of_owner o v.made v.seen (s.owned first) new_, tt); owned = λ e. cc
-  }
+  sound = s.sound;
+  told = (none_of_owner o v.made v.seen (s.owned first) new_, tt);
+  owned = λ e. cc;
+}
 
 -- ---- a join
 
@@ -246,13 +255,20 @@ knows_gathers q rows made i j v w live apart k m =
       all_told = subst R (sym e) (told_append rows (parts v) (parts w) k.all_told m.all_told);
       apart = subst A (sym e) (apart_append (parts v) (parts w) k.apart m.apart apart);
       all_made = subst M (sym e) (made_append made (parts v) (parts w) k.all_made m.all_made);
-      first = k.first
+      first = k.first;
     }
 
 pub knows_nobody : (q : Problem) (rows : List Row) (made : List ℕ) (i : ℕ) → Knows q rows made i nobody
 knows_nobody q rows made i = record {
-    problem = λ e. cc; seen = (rows, refl); other = (rows, refl); told = tt; all_told = tt; apart = tt; all_made = tt; first = λ e. cc
-  }
+  problem = λ e. cc;
+  seen = (rows, refl);
+  other = (rows, refl);
+  told = tt;
+  all_told = tt;
+  apart = tt;
+  all_made = tt;
+  first = λ e. cc;
+}
 
 pub takes_gathers : (v w : View) → v.spent ≡ false → TakesIn v w (gathers v w) nobody
 takes_gathers v w live =
@@ -260,5 +276,5 @@ takes_gathers v w live =
       there = λ o h. (let P : List Part → Type 0 = HasPart o in subst P (sym e) (part_left o (parts v) (parts w) h));
       from_other = λ o h. (let P : List Part → Type 0 = HasPart o in subst P (sym e) (part_right o (parts v) (parts w) h));
       back = λ o h. (let P : List Part → Type 0 = HasPart o in part_either o (parts v) (parts w) (subst P e h));
-      none = λ o h. h
+      none = λ o h. h;
     }

@@ -38,8 +38,8 @@ pub placed_by_add : (s t u : SeatName) (r : Row) (at : ℕ) → SawMore s t → 
 placed_by_add s t u r at h same e now here inside =
     let seen : u.view.seen ≡ t.view.seen ++ r ∷ [] = ap (λ (v : View). v.seen) e in
     let view : u.view ≡ record s.view { seen = u.view.seen; mine = s.view.mine ++ at ∷ [] } =
-        e ∙ (ap (λ (v : View). added v r) h.same.view
-            ∙ (λ i. record s.view { seen = sym seen i; mine = s.view.mine ++ sym here i ∷ [] })) in
+    e ∙ (ap (λ (v : View). added v r) h.same.view
+    ∙ (λ i. record s.view { seen = sym seen i; mine = s.view.mine ++ sym here i ∷ [] })) in
     let more : StartsWith u.view.seen s.view.seen = starts_on s.view.seen t.view.seen u.view.seen h.more (r ∷ [], seen) in
     let table = same.table ∙ h.same.table in
     let owner = ap (λ (v : View). v.owner) view in (
@@ -52,7 +52,7 @@ placed_by_add s t u r at h same e now here inside =
         mine = ap (λ z. places z u.view.seen) (sym owner)
             ∙ (own_places u.view (ap (λ (v : View). v.spent) view ∙ h.live) now
             ∙ (ap (λ (v : View). v.mine) view ∙ ap (λ z. z ++ at ∷ []) (sym (own_places s.view h.live h.before))));
-        looks = ap (λ (v : View). Some v.looks) view
+        looks = ap (λ (v : View). Some v.looks) view;
       },
       record { table = table; id = same.id ∙ h.same.id; view = view },
     )

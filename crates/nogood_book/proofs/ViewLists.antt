@@ -47,7 +47,7 @@ module _ {A : Type 0} where
 before_set : (views : List View) (id : ℕ) (v w : View) → get_elem? views id ≡ some v → SameOwners v w → (j : ℕ) (u : View) (o : ℕ) → get_elem? (slice_set views id w) j ≡ some u → HasPart o (parts u)
     → (u' : View) × (get_elem? views j ≡ some u') × HasPart o (parts u')
 before_set views id v w at same j u o e h = elim (at_set views id j w u e) [
-  inl k ↦ (v, ap (get_elem? views) k.0 ∙ at, same.back o (subst (Answers o) (sym k.1) h))
+  | inl k ↦ (v, ap (get_elem? views) k.0 ∙ at, same.back o (subst (Answers o) (sym k.1) h))
   | inr k ↦ (u, k.1, h)
 ]
 
@@ -61,10 +61,10 @@ pub somewhere_set : (made : List ℕ) (views : List View) (id : ℕ) (v w : View
 somewhere_set made views id v w at same stands o h =
     let s = stands o h in
     dite (ℕ_discrete s.0 id)
-      (λ e.
-        let is : s.1 ≡ v = some-injective s.1 v (sym s.2 ∙ (ap (get_elem? views) e ∙ at)) in
-        (id, w, set_here views id w (at_within views id v at), same.there o (subst (Answers o) is s.3)))
-      (λ n. (s.0, s.1, set_else views id s.0 w n ∙ s.2, s.3))
+    (λ e.
+    let is : s.1 ≡ v = some-injective s.1 v (sym s.2 ∙ (ap (get_elem? views) e ∙ at)) in
+    (id, w, set_here views id w (at_within views id v at), same.there o (subst (Answers o) is s.3)))
+    (λ n. (s.0, s.1, set_else views id s.0 w n ∙ s.2, s.3))
 
 -- ---- a view is added, for a new owner
 
@@ -101,9 +101,9 @@ data Place (views : List View) (id other j : ℕ) (o : ℕ) : Type 0 where
 place : (views : List View) (id other : ℕ) (v w both spent : View) → get_elem? views id ≡ some v → get_elem? views other ≡ some w → other ≢ id → TakesIn v w both spent
     → (j : ℕ) (u : View) (o : ℕ) → get_elem? (slice_set (slice_set views id both) other spent) j ≡ some u → HasPart o (parts u) → Place views id other j o
 place views id other v w both spent at at' apart takes j u o e h = elim (at_set (slice_set views id both) other j spent u e) [
-  inl k ↦ absurd (takes.none o (subst (Answers o) (sym k.1) h))
+  | inl k ↦ absurd (takes.none o (subst (Answers o) (sym k.1) h))
   | inr k ↦ elim (at_set views id j both u k.1) [
-    inl m ↦ elim (takes.back o (subst (Answers o) (sym m.1) h)) [ inl g ↦ here m.0 v at g | inr g ↦ there m.0 w at' g ]
+    | inl m ↦ elim (takes.back o (subst (Answers o) (sym m.1) h)) [ inl g ↦ here m.0 v at g | inr g ↦ there m.0 w at' g ]
     | inr m ↦ else_ k.0 u m.1 h
   ]
 ]
@@ -134,7 +134,7 @@ somewhere_join made views id other v w both spent at at' apart takes stands o h 
     find : (i : ℕ) × (u : View) × (get_elem? views i ≡ some u) × HasPart o (parts u)
         → (i : ℕ) × (u : View) × (get_elem? (slice_set (slice_set views id both) other spent) i ≡ some u) × HasPart o (parts u)
     find s = dite (ℕ_discrete s.0 id)
-      (λ e. (id, both, taken, takes.there o (subst (Answers o) (some-injective s.1 v (sym s.2 ∙ (ap (get_elem? views) e ∙ at))) s.3)))
-      (λ n. dite (ℕ_discrete s.0 other)
+        (λ e. (id, both, taken, takes.there o (subst (Answers o) (some-injective s.1 v (sym s.2 ∙ (ap (get_elem? views) e ∙ at))) s.3)))
+        (λ n. dite (ℕ_discrete s.0 other)
         (λ e. (id, both, taken, takes.from_other o (subst (Answers o) (some-injective s.1 w (sym s.2 ∙ (ap (get_elem? views) e ∙ at'))) s.3)))
         (λ m. (s.0, s.1, set_else (slice_set views id both) other s.0 spent m ∙ (set_else views id s.0 both n ∙ s.2), s.3)))

@@ -33,8 +33,12 @@ pub record IsSeatOf (b : BookName) (s : SeatName) : Type 0 where
 -- What a seat shows: the looks are told.
 abbrev pub facts_of : SeatName → Facts
 facts_of s = record {
-    problem = s.view.problem; owner = s.view.owner; size = s.table.words - 1; seen = s.view.seen; looks = Some s.view.looks
-  }
+  problem = s.view.problem;
+  owner = s.view.owner;
+  size = s.table.words - 1;
+  seen = s.view.seen;
+  looks = Some s.view.looks;
+}
 
 -- The invariant of a seat: the copy of the rows is what its view has seen, and there is room for all rows of the book.
 pub record IsSeat (table : TableId) (me : Me ℕ View) (rows : List Row) (capacity most owner : ℕ) : Type 0 where

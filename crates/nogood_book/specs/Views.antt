@@ -84,8 +84,17 @@ Rule q most s = IsBook q most s.words s.views
 -- The first seat, of owner 0.
 abbrev pub first_view : Problem → View
 first_view q = record {
-    problem = q; first = true; spent = false; owner = 0; seen = []; mine = []; gathered = []; made = 0 ∷ []; looks = []; other = []
-  }
+  problem = q;
+  first = true;
+  spent = false;
+  owner = 0;
+  seen = [];
+  mine = [];
+  gathered = [];
+  made = 0 ∷ [];
+  looks = [];
+  other = [];
+}
 
 -- A row that was there.
 abbrev pub sees : View → Row → View
@@ -106,8 +115,17 @@ maker o v = record v { made = o ∷ v.made }
 -- The seat of that owner.
 abbrev pub newcomer : ℕ → View → View
 newcomer o v = record {
-    problem = v.problem; first = false; spent = false; owner = o; seen = v.seen; mine = []; gathered = []; made = []; looks = []; other = []
-  }
+  problem = v.problem;
+  first = false;
+  spent = false;
+  owner = o;
+  seen = v.seen;
+  mine = [];
+  gathered = [];
+  made = [];
+  looks = [];
+  other = [];
+}
 
 abbrev pub longer : List Row → List Row → List Row
 longer xs ys = if nat_le (length xs) (length ys) then ys else xs
@@ -126,5 +144,14 @@ no_problem = record { pattern = record { labels = []; rows = [] }; target = reco
 -- What is left of a seat that was taken in.
 abbrev pub nobody : View
 nobody = record {
-    problem = no_problem; first = false; spent = true; owner = 0; seen = []; mine = []; gathered = []; made = []; looks = []; other = []
-  }
+  problem = no_problem;
+  first = false;
+  spent = true;
+  owner = 0;
+  seen = [];
+  mine = [];
+  gathered = [];
+  made = [];
+  looks = [];
+  other = [];
+}

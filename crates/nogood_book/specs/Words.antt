@@ -26,12 +26,12 @@ parent_of (suc k) = Some k
 -- The row that a word says.
 abbrev pub row_of : ℕ → Row
 row_of w = record {
-    kind = kind_of (w / 2 ^ 54 % 2);
-    owner = w / 2 ^ 47 % 2 ^ 7;
-    parent = parent_of (w / 2 ^ 23 % 2 ^ 24);
-    vertex = w / 2 ^ 13 % 2 ^ 10;
-    value = w % 2 ^ 13
-  }
+  kind = kind_of (w / 2 ^ 54 % 2);
+  owner = w / 2 ^ 47 % 2 ^ 7;
+  parent = parent_of (w / 2 ^ 23 % 2 ^ 24);
+  vertex = w / 2 ^ 13 % 2 ^ 10;
+  value = w % 2 ^ 13;
+}
 
 -- The words of a book say these rows: used words come first, and each says its row.
 abbrev pub AreZero : List ℕ → Type 0

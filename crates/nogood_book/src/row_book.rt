@@ -4,7 +4,7 @@
 //! exchange with 0; where another was faster, the exchange shows the other's row, which the seat then has seen. So each try of a
 //! write ends with the row in its place or with one row more in sight.
 
-ghost use Rattle.std.specs.Prelude.{◌≡◌, ◌<◌, ◌≤◌, ◌+◌, false, true, length, IfOk, MatchBool, MatchResult, vec_capacity};
+ghost use Rattle.std.specs.Prelude.{◌≡◌, ◌<◌, ◌≤◌, ◌+◌, true, length, IfOk, MatchBool, MatchResult, vec_capacity};
 ghost use Rattle.nogood_book.specs.declared.row.Row.{Row as TheRow};
 ghost use Rattle.nogood_book.specs.Rows.{MayFollow};
 ghost use Rattle.nogood_book.specs.Facts.{CaughtUp, IsPlaced};
@@ -107,7 +107,6 @@ impl RowBook {
     pub fn gather(&self, into: &mut BookSeat, from: BookSeat)
         requires into { IsSeatOf self.now into.old }
         requires from { IsSeatOf self.now from }
-        requires second { from.view.first ≡ false }
         ensures same { IsSeatWith into.old into.new into.new.view }
         ensures gathered { Gathered into.old.view from.view into.new.view }
     {
@@ -205,3 +204,6 @@ impl Book for RowBook {
         Published::Full
     }
 }
+
+#[cfg(test)]
+mod tests;

@@ -26,6 +26,6 @@ invariant_of-result g c =
     let seen = ap (λ (z : SeatName). z.view.seen) c.seat.view_is in
     let words : c.seat.inside.seat.table_id.words ≡ c.self.inside.rows + 1 = ap (λ (z : TableId). z.words) of.table ∙ c.self.invariant.0 in
     seat_newcomer c.seat.inside.seat.table_id _ c.seat.inside.seat.me.0 _ _ _ _ c.args.owner e.3 (e.4 ∙ ap (λ (o : ℕ). (newcomer o c.seat.inside.seat.me.0, [])) (sym c.requires.name)) (c.requires.rows ∙ sym seen)
-        (omega (arith, c.requires.room, ap (λ (z : BookName). z.size) c.self.view_is)) words c.self.invariant.2 (omega (arith, i.few, ap length i.rows_are, words, i.words))
-        (ap (λ (z : SeatName). z.view.first) c.seat.view_is ∙ c.requires.first)
-        (new_inside _ _ _ _ refl c.seat.view_is c.requires.new_) i.shown
+    (omega (arith, c.requires.room, ap (λ (z : BookName). z.size) c.self.view_is)) words c.self.invariant.2 (omega (arith, i.few, ap length i.rows_are, words, i.words))
+    (ap (λ (z : SeatName). z.view.first) c.seat.view_is ∙ c.requires.first)
+    (new_inside _ _ _ _ refl c.seat.view_is c.requires.new_) i.shown

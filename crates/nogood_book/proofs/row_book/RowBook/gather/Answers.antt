@@ -11,8 +11,7 @@ pub join_seat-requires : goal.join_seat-requires
 join_seat-requires c =
     let into = of_inside _ _ _ _ c.into.view_is c.self.view_is c.requires.into in
     let from = of_inside _ _ _ _ c.from.view_is c.self.view_is c.requires.from in
-    let second = ap (λ (z : SeatName). z.view.first) c.from.view_is ∙ c.requires.second in
-    (into.table, from.table, c.from.invariant.no_slots, omega (arith, c.self.invariant.0), joins _ _ _ c.into.inside.seat.me.0 _ c.from.inside.seat.me.0 c.into.invariant.live second)
+    (into.table, from.table, c.from.invariant.no_slots, omega (arith, c.self.invariant.0), joins _ _ _ c.into.inside.seat.me.0 _ c.from.inside.seat.me.0 c.into.invariant.live)
 
 pub load-requires : goal.load-requires
 load-requires c =

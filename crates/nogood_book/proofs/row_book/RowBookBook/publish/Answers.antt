@@ -12,4 +12,4 @@ pub returns-then-add-clause-placed : goal.returns-then-add-clause-placed
 returns-then-add-clause-placed c =
     let words = ap (λ (z : TableId). z.words) (c.requires.of.table ∙ sym (ap (λ (b : BookName). b.table) c.self.view_is)) ∙ c.self.invariant.0 in
     (placed_by_add c.args.seat.now c.loop-at.seat c.add.new.seat c.args.row c.loop-at.at c.loop-at.invariant.0 c.add.ensures.same c.if-add.ensures.told c.add.ensures.shown (sym c.loop-at.invariant.1)
-        (omega (arith, words, c.loop-at-test.true))).0
+    (omega (arith, words, c.loop-at-test.true))).0
