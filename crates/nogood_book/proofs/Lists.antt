@@ -1,6 +1,7 @@
 -- Lists by place, and the places of an owner's rows as rows follow.
-use Rattle.std.proofs.Common.{◌⊎◌, inl, inr, append-nil as append_nil, ◌≡◌, ℕ, zero, suc, ◌+◌, ◌<◌, ◌≤◌, Bool, true, false, List, [], ◌∷◌, ◌++◌, length, refl, sym, ap, subst, ◌∙◌, append_assoc, length-append, arith}
+use Rattle.std.proofs.Common.{◌≢◌, eqb, eq-eqb, ne_eqb, ◌⊎◌, inl, inr, append-nil as append_nil, ◌≡◌, ℕ, zero, suc, ◌+◌, ◌<◌, ◌≤◌, Bool, true, false, List, [], ◌∷◌, ◌++◌, length, refl, sym, ap, subst, ◌∙◌, append_assoc, length-append, arith}
 use Rattle.std.specs.Prelude.{Some, slice_get, ◌==◌}
+use Rattle.std.specs.List.{All}
 use Rattle.nogood_book.specs.declared.row.Row.{Row}
 use Rattle.nogood_book.specs.Places.{StartsWith, place_or, places, places_from, nogoods_by}
 
@@ -63,7 +64,8 @@ place_or-append : (b : Bool) (at : ℕ) (xs ys : List ℕ) → place_or b at (xs
 place_or-append false at xs ys = refl
 place_or-append true at xs ys = refl
 
-places_from-append : (at o : ℕ) (xs ys : List Row) → places_from at o (xs ++ ys) ≡ places_from at o xs ++ places_from (at + length xs) o ys
+-- the same from any place on
+pub places_from-append : (at o : ℕ) (xs ys : List Row) → places_from at o (xs ++ ys) ≡ places_from at o xs ++ places_from (at + length xs) o ys
 places_from-append at o [] ys = let e : at ≡ at + 0 = omega arith in ap (λ n. places_from n o ys) e
 places_from-append at o (x ∷ xs) ys =
     let e : (at + 1) + length xs ≡ at + length (x ∷ xs) = omega arith in
@@ -74,6 +76,23 @@ places_from-append at o (x ∷ xs) ys =
 pub places-append : (o : ℕ) (xs ys : List Row) → places o (xs ++ ys) ≡ places o xs ++ places_from (length xs) o ys
 places-append o xs ys =
     let e : 0 + length xs ≡ length xs = omega arith in places_from-append 0 o xs ys ∙ ap (λ n. places o xs ++ places_from n o ys) e
+
+places_snoc : (o : ℕ) (rows : List Row) (r : Row) → places o (rows ++ r ∷ []) ≡ places o rows ++ place_or (r.owner == o) (length rows) []
+places_snoc o rows r = places-append o rows (r ∷ [])
+
+-- a row of another owner changes no places
+pub places_other : (o : ℕ) (rows : List Row) (r : Row) → (r.owner ≡ o → ⊥) → places o (rows ++ r ∷ []) ≡ places o rows
+places_other o rows r n =
+    places_snoc o rows r ∙ (ap (λ b. places o rows ++ place_or b (length rows) []) (ne_eqb r.owner o n) ∙ append_nil (places o rows))
+
+-- one of the owner's is one more
+pub places_own : (o : ℕ) (rows : List Row) (r : Row) → r.owner ≡ o → places o (rows ++ r ∷ []) ≡ places o rows ++ length rows ∷ []
+places_own o rows r e = places_snoc o rows r ∙ ap (λ b. places o rows ++ place_or b (length rows) []) (eq-eqb r.owner o e)
+
+-- rows of others have no places of an owner's
+pub none_of_others : (o at : ℕ) (rows : List Row) → All (λ r. r.owner ≢ o) rows → places_from at o rows ≡ []
+none_of_others o at [] h = refl
+none_of_others o at (r ∷ rs) h = ap (λ b. place_or b at (places_from (at + 1) o rs)) (ne_eqb r.owner o (h 0 r (omega arith))) ∙ none_of_others o (at + 1) rs (λ k d lt. h (suc k) d (omega arith))
 
 -- nogoods of an owner add up
 pub nogoods_by-append : (o : ℕ) (xs ys : List Row) → nogoods_by o (xs ++ ys) ≡ nogoods_by o xs + nogoods_by o ys

@@ -1,0 +1,44 @@
+-- A book under a lock, and its seats.
+
+use Rattle.std.specs.Prelude.{◌≡◌, ◌≢◌, ℕ, ◌≤◌, List, [], ◌∷◌, ◌++◌, drop, length, Option, None}
+use Rattle.std.specs.List.{All}
+use Rattle.graph_theory.specs.Embedding.{Problem}
+use Rattle.nogood_book.specs.declared.row.Row.{Row}
+use Rattle.nogood_book.specs.Rows.{Sound}
+use Rattle.nogood_book.specs.Places.{StartsWith}
+use Rattle.nogood_book.specs.Facts.{Facts}
+
+-- The rows under the lock, and the problem that they are about.
+pub record Held : Type 0 where
+  pub problem : Problem
+  pub rows : List Row
+
+-- A book: its problem, and how many rows it has room for.
+pub record ShelfName : Type 0 where
+  pub problem : Problem
+  pub size : ℕ
+
+-- A seat: its problem, its owner, how many rows its book has room for, and what it has seen.
+pub record ShelfView : Type 0 where
+  pub problem : Problem
+  pub owner : ℕ
+  pub most : ℕ
+  pub seen : List Row
+
+-- What a seat shows; a book under a lock tells no looks.
+abbrev pub facts_of : ShelfView → Facts
+facts_of s = record { problem = s.problem; owner = s.owner; size = s.most; seen = s.seen; looks = None }
+
+-- What a seat keeps.
+pub record IsKept (s : ShelfView) : Type 0 where
+  pub sound : Sound s.problem s.seen
+  pub few : length s.seen ≤ s.most
+  pub limit : s.most ≤ 4194304
+
+-- The rows under the lock serve the seat: they are about its problem, are no more than its book has room for, begin with what it has
+-- seen, and none of those behind is of its owner.
+pub record Serves (h : Held) (s : ShelfView) : Type 0 where
+  pub problem : h.problem ≡ s.problem
+  pub few : length h.rows ≤ s.most
+  pub seen : StartsWith h.rows s.seen
+  pub others : All (λ r. r.owner ≢ s.owner) (drop (length s.seen) h.rows)
