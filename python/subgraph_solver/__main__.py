@@ -18,8 +18,8 @@ BAD_INPUT = 3
 def _words() -> argparse.ArgumentParser:
     words = argparse.ArgumentParser(
         prog="python -m subgraph_solver",
-        description="Does a pattern occur in a target? Graphs are files (GraphML, GML, edge lists, LAD, SMILES by their "
-        "endings), or molecules as smiles:CCO.",
+        description="Does a pattern occur in a target? Graphs are files (GraphML, GML, edge lists, LAD, SMILES "
+        "by their endings), or molecules as smiles:CCO.",
         epilog="The status is the program's: 0 yes, 1 none, 2 unknown, and above these what went wrong.",
     )
     commands = words.add_subparsers(dest="command", required=True)
@@ -43,9 +43,11 @@ def _graphs(words: argparse.ArgumentParser, name: str) -> None:
         words.add_argument("mapping")
     if name in ("encode", "draw"):
         words.add_argument("out", help="the file to write")
-    words.add_argument("--induced", action="store_true", help="images of vertices without an edge have none either")
+    apart = "images of vertices without an edge have none either"
+    words.add_argument("--induced", action="store_true", help=apart)
     words.add_argument("--kind", help="what both files are, whatever their endings say")
-    words.add_argument("--label", action="append", metavar="NAME", help="an attribute that images share; may be repeated")
+    shared = "an attribute that images share; may be repeated"
+    words.add_argument("--label", action="append", metavar="NAME", help=shared)
     if name in ("find", "draw"):
         words.add_argument("--seed", type=int)
         words.add_argument("--budget", type=int, help="the most fails")

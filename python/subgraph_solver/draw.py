@@ -27,9 +27,11 @@ HEAD = 56.0
 GAP = 24.0
 #: The width and height of a molecule.
 MOLECULE = 420
-#: The height of a line of the list of images, and the width of one of its columns.
+#: The height of a line of the list of images.
 LINE = 20.0
-COLUMN = 150.0
+
+#: Where a text beside a vertex may stand, the best place first, in radii from its middle.
+SIDES = ((0.8, -0.8), (0.8, 0.8), (-0.8, -0.8), (-0.8, 0.8), (1.1, 0.0), (-1.1, 0.0), (0.0, -1.3), (0.0, 1.3))
 
 Box = Tuple[float, float, float, float]
 
@@ -115,8 +117,9 @@ def _graphs(pattern: Graph, target: Graph, mapping: Mapping[Name, Name], said: s
         _place(panel, places, high)
     width = panels[1].left + panels[1].width
     drawn = [_panel_text(panel) for panel in panels]
-    listed = _images_text(pattern, target, images, width, HEAD + high) if any(panel.unnamed for panel in panels) else ""
-    below = LINE * (_lines_of(images, width) + 1) if listed else 0.0
+    listed, below = "", 0.0
+    if any(panel.unnamed for panel in panels):
+        listed, below = _images_text(pattern, target, images, width, HEAD + high)
     parts = [_opening(width, HEAD + high + below), _head(panels[1].left - GAP / 2, width, high, said)]
     return "\n".join([*parts, *drawn, *[listed] * bool(listed), "</svg>\n"])
 
@@ -196,7 +199,8 @@ def _radius(places: Sequence[Point]) -> float:
 
 def _opening(width: float, height: float) -> str:
     size = f'viewBox="0 0 {width:g} {height:g}" width="{width:g}" height="{height:g}"'
-    return f'<svg xmlns="http://www.w3.org/2000/svg" {size} style="{STYLE}">\n<rect width="100%" height="100%" fill="#ffffff"/>'
+    paper = '<rect width="100%" height="100%" fill="#ffffff"/>'
+    return f'<svg xmlns="http://www.w3.org/2000/svg" {size} style="{STYLE}">\n{paper}'
 
 
 def _text(x: float, y: float, size: float, text: str, more: str = "") -> str:
@@ -294,7 +298,7 @@ def _beside(panel: _Panel, v: int, text: str, taken: List[Box]) -> str:
     r = panel.size_of(v)
     size = 11.0 if r > 7 else 10.0
     wide = 0.58 * size * len(text)
-    for dx, dy in ((0.8, -0.8), (0.8, 0.8), (-0.8, -0.8), (-0.8, 0.8), (1.1, 0.0), (-1.1, 0.0), (0.0, -1.3), (0.0, 1.3)):
+    for dx, dy in SIDES:
         middle_y = y + dy * (r + 0.4 * size)
         left = x + dx * r + 2 if dx > 0 else x + dx * r - 2 - wide if dx < 0 else x - wide / 2
         box = (left, middle_y - 0.45 * size, left + wide, middle_y + 0.45 * size)
@@ -306,19 +310,19 @@ def _beside(panel: _Panel, v: int, text: str, taken: List[Box]) -> str:
     return ""
 
 
-def _lines_of(images: Mapping[int, int], width: float) -> int:
-    return -(-len(images) // max(1, int((width - 32) // COLUMN)))
-
-
-def _images_text(pattern: Graph, target: Graph, images: Mapping[int, int], width: float, top: float) -> str:
-    """The list of images below the picture, for targets whose vertices are too small for names."""
-    columns = max(1, int((width - 32) // COLUMN))
+def _images_text(
+    pattern: Graph, target: Graph, images: Mapping[int, int], width: float, top: float
+) -> Tuple[str, float]:
+    """The list of images below the picture, and its height."""
+    texts = {p: _short(f"{pattern.names[p]} → {target.names[t]}", 60) for p, t in images.items()}
+    column = max(90.0, 6.3 * max(map(len, texts.values()), default=0) + 30)
+    columns = max(1, int((width - 22) // column))
     lines = []
-    for place, (p, t) in enumerate(images.items()):
-        x, y = 22 + COLUMN * (place % columns), top + LINE * (place // columns + 0.5)
+    for place, (p, text) in enumerate(texts.items()):
+        x, y = 22 + column * (place % columns), top + LINE * (place // columns + 0.5)
         lines.append(f'<circle cx="{x:.1f}" cy="{y:.1f}" r="5" fill="{_colour(p)}"/>')
-        lines.append(_text(x + 10, y + 4, 11, _short(f"{pattern.names[p]} → {target.names[t]}"), f'fill="{INK}"'))
-    return "\n".join(lines)
+        lines.append(_text(x + 10, y + 4, 11, text, f'fill="{INK}"'))
+    return "\n".join(lines), LINE * (-(-len(texts) // columns) + 1)
 
 
 def _molecules(pattern: Any, target: Any, mapping: Mapping[Name, Name], said: str) -> str:

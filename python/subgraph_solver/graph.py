@@ -141,12 +141,12 @@ def as_graph(source: Any, node_label: NodeLabel = None) -> Graph:
     Parameters
     ----------
     source : Graph, networkx.Graph, igraph.Graph, rdkit Mol, dict of neighbours, or iterable of pairs
-        The vertices keep their names: networkx's nodes, igraph's ``name`` where there is one and else its index, RDKit's
-        atom indices.
+        The vertices keep their names: networkx's nodes, igraph's ``name`` where there is one and else its index,
+        RDKit's atom indices.
     node_label : str, sequence of str, or callable, optional
         The attribute (or attributes) that images must share, or a function of a vertex's name and attributes. Without
-        it networkx's and igraph's vertices have no labels, and atoms have the label ``element``. An atom's attributes are
-        ``element`` (its atomic number), ``charge``, ``aromatic`` and ``isotope``.
+        it networkx's and igraph's vertices have no labels, and atoms have the label ``element``. An atom's attributes
+        are ``element`` (its atomic number), ``charge``, ``aromatic`` and ``isotope``.
 
     Returns
     -------

@@ -68,8 +68,11 @@ def _laid_part(neighbours: Sequence[Set[int]], part: List[int]) -> List[Point]:
     pairs = []
     for v in part:
         steps = _steps_from(neighbours, v)
-        others = part if len(part) <= DENSE else [*chance.sample(part, DENSE), *neighbours[v]]
-        pairs += [(place[v], place[u], float(steps[u])) for u in others if place[u] < place[v] or (len(part) > DENSE and u != v)]
+        if len(part) <= DENSE:
+            others = [u for u in part if u < v]
+        else:
+            others = [u for u in (*chance.sample(part, DENSE), *sorted(neighbours[v])) if u != v]
+        pairs += [(place[v], place[u], float(steps[u])) for u in others]
     x = [chance.random() for _ in part]
     y = [chance.random() for _ in part]
     farthest = max((d for _, _, d in pairs), default=1.0)
@@ -102,8 +105,7 @@ def _straight(points: List[Point]) -> List[Point]:
     xy = sum((x - middle_x) * (y - middle_y) for x, y in points)
     turn = -math.atan2(2 * xy, xx - yy) / 2
     cos, sin = math.cos(turn), math.sin(turn)
-    turned = [(cos * (x - middle_x) - sin * (y - middle_y), sin * (x - middle_x) + cos * (y - middle_y)) for x, y in points]
-    return turned
+    return [(cos * x - sin * y, sin * x + cos * y) for x, y in _middled(points)]
 
 
 def _packed(boxes: List[Tuple[List[int], List[Point]]], shape: float) -> List[Tuple[List[int], List[Point]]]:

@@ -159,4 +159,5 @@ class Teller:
             return
         spent = f"{sum(it.spent):,} fails spent" if it.spent else "nothing spent yet"
         text = f"{it.seconds:8.1f} s  slice {it.slice} of {it.budget:,} fails  {spent}"
-        print(f"\r{text}" if on_terminal else text, end="" if not it.ended and on_terminal else "\n", file=sys.stderr, flush=True)
+        head, end = ("\r", "" if not it.ended else "\n") if on_terminal else ("", "\n")
+        print(head + text, end=end, file=sys.stderr, flush=True)

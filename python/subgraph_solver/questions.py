@@ -137,7 +137,10 @@ def find(
         if proof is not None:
             options += ["--prove", str(proof.encoding), "--log", str(proof.log)]
         words = [*options, *files.words]
-        answer = _in_slices(asked, words, budget, threads, progress) if progress else _solve(asked, words, budget, threads)
+        if progress:
+            answer = _in_slices(asked, words, budget, threads, progress)
+        else:
+            answer = _solve(asked, words, budget, threads)
         if answer is not None:
             return _images(files, answer)
         return None if proof is None else _kept(asked, proof, prove)

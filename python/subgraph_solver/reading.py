@@ -19,7 +19,7 @@ def read_graph(word: str, kind: Optional[str] = None) -> Any:
     word : str
         A file, or ``smiles:`` and a molecule.
     kind : str, optional
-        ``graphml``, ``gml``, ``edges``, ``lad``, ``vertexlabelledlad`` or ``smi``; without it the file's ending says it.
+        ``graphml``, ``gml``, ``edges``, ``lad``, ``vertexlabelledlad`` or ``smi``; without it the ending says it.
         An edge list has two names a line, a lone name is a vertex, and ``#`` begins a comment. Of a file of SMILES the
         first word is read.
 

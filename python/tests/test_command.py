@@ -13,9 +13,8 @@ HERE = os.path.dirname(os.path.dirname(os.path.abspath(__file__)))
 def ask(*words: str, cwd: str) -> "tuple":
     """The status and the two streams of a command."""
     environment = {**os.environ, "PYTHONPATH": HERE}
-    done = subprocess.run(
-        [sys.executable, "-m", "subgraph_solver", *words], cwd=cwd, env=environment, capture_output=True, text=True, timeout=60
-    )
+    whole = [sys.executable, "-m", "subgraph_solver", *words]
+    done = subprocess.run(whole, cwd=cwd, env=environment, capture_output=True, text=True, timeout=60)
     return done.returncode, done.stdout, done.stderr
 
 
@@ -40,7 +39,8 @@ class Command(unittest.TestCase):
         self.assertEqual({line.split(" -> ")[1] for line in out.splitlines()[1:]}, {"x", "y", "z"})
         self.assertTrue(os.path.getsize(os.path.join(self.folder, "it.svg")) > 500)
         self.assertEqual(ask("find", "path.edges", "triangle.edges", "--induced", cwd=self.folder)[:2], (1, "none\n"))
-        self.assertEqual(ask("find", "triangle.edges", "cycle.lad", "--budget", "3", cwd=self.folder)[:2], (2, "unknown\n"))
+        spent = ask("find", "triangle.edges", "cycle.lad", "--budget", "3", cwd=self.folder)
+        self.assertEqual(spent[:2], (2, "unknown\n"))
 
     def test_verify_encode_draw(self) -> None:
         self.write("good.txt", "yes\na -> z\nb -> x\nc -> y\n")
