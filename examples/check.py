@@ -1,5 +1,5 @@
 #!/usr/bin/env python3
-"""Compares each answer in the pages of the examples with what the program prints today.
+"""Compares each answer in the pages of the examples, of the formats and of Python with what the program prints today.
 
     examples/check.py [--program PROGRAM] [--write] [PAGE ..]
 
@@ -23,6 +23,8 @@ from typing import List, Optional, Tuple
 TOP = Path(__file__).resolve().parent.parent
 INDENT = "    "
 COMMAND = f"{INDENT}$ "
+#: Further pages with commands.
+PAGES = ("docs/FORMATS.md", "python/README.md")
 LIBRARIES = {".smi": "rdkit", ".gml": "networkx", ".graphml": "networkx"}
 
 
@@ -107,7 +109,7 @@ def main() -> int:
         print(f"{asked.program} is not there: build it by ./subgraph", file=sys.stderr)
         return 2
     counts = [0, 0, 0]
-    for page in asked.pages or sorted((TOP / "examples").rglob("*.md")):
+    for page in asked.pages or [*sorted((TOP / "examples").rglob("*.md")), *(TOP / it for it in PAGES)]:
         found = Page(page.resolve(), os.path.abspath(asked.program))
         counts = [a + b for a, b in zip(counts, found.counts)]
         if asked.write:

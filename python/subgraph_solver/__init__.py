@@ -1,8 +1,10 @@
 """Does a pattern graph occur in a target graph? The proved program ``subgraph``, asked from Python.
 
 >>> from subgraph_solver import find
->>> find([("a", "b"), ("b", "c")], [(1, 2), (2, 3), (3, 1)])
-{'a': 1, 'b': 2, 'c': 3}
+>>> find([("a", "b"), ("b", "c")], [(1, 2), (2, 3)])["b"]
+2
+>>> print(find([("a", "b"), ("b", "c"), ("c", "a")], [(1, 2), (2, 3)]))
+None
 
 ``find`` answers the images of the pattern's vertices, or ``None`` where no embedding exists, and raises ``Undecided``
 where the budget is spent. Graphs come from networkx, igraph and RDKit, or as plain lists of edges, and the answer is in

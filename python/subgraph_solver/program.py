@@ -16,7 +16,7 @@ from .errors import ProgramMissing
 VARIABLE = "SUBGRAPH_PROGRAM"
 HOW_TO_BUILD = (
     "the program `subgraph` is not here. At the top of its repository, `./subgraph demo 7` builds it and "
-    f"`./install PREFIX` puts it on the path; or name it by program=.. or in the variable {VARIABLE}"
+    f"`make install PREFIX=..` puts it on the path; or name it by program=.. or in the variable {VARIABLE}"
 )
 
 
