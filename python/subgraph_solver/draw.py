@@ -167,7 +167,8 @@ def _scale(panel: _Panel, places: Sequence[Point], high: float) -> float:
     left, top, right, bottom = _extent(places)
     across = (panel.width - 2 * panel.margin()) / max(right - left, 1e-9)
     down = (high - 2 * MARGIN) / max(bottom - top, 1e-9)
-    return min(across, down, 100.0)
+    wide = max(right - left, bottom - top, 1e-9)
+    return min(across, down, max(100.0, 90.0 * len(places) ** 0.5 / wide))
 
 
 def _height(panel: _Panel, places: Sequence[Point]) -> float:
@@ -230,7 +231,8 @@ def _panel_text(panel: _Panel) -> str:
 def _edge(panel: _Panel, a: int, b: int, is_bold: bool) -> str:
     (x, y), (u, v) = panel.places[a], panel.places[b]
     if is_bold:
-        colour, width = INK, max(1.8, 0.22 * panel.radius)
+        crowded = len(panel.bold) > 2 * len(panel.colours)
+        colour, width = INK, 1.6 if crowded else max(1.8, 0.22 * panel.radius)
     else:
         colour, width = QUIET_EDGE if panel.colours else QUIET_LINE, 1.3 if panel.radius > 7 else 0.7
     paint = f'stroke="{colour}" stroke-width="{width:.1f}"'

@@ -7,13 +7,15 @@ import tempfile
 from contextlib import contextmanager
 from dataclasses import dataclass
 from pathlib import Path
-from typing import Any, Callable, Dict, Iterator, List, Mapping, Optional, Tuple, Union
+from typing import Any, Callable, Dict, Iterator, List, Literal, Mapping, Optional, Tuple, Union, overload
 
 from .errors import NotAvailable, SubgraphError, Undecided, error_of
 from .graph import Graph, Name, NodeLabel, as_graph, label_numbers, lad_text
 from .program import Progress, Teller, find_program, run
 
 StrPath = Union[str, "os.PathLike[str]"]
+#: Is progress told, and to whom?
+Told = Union[bool, Callable[[Progress], None]]
 #: The budget where none is named: the greatest that the program takes.
 GREATEST_BUDGET = (1 << 63) - 1
 #: The first slice of budget where progress is told; each later one is twice as large.
@@ -76,6 +78,39 @@ def _images(files: _Files, out: str) -> Dict[Name, Name]:
     return images
 
 
+@overload
+def find(
+    pattern: Any,
+    target: Any,
+    induced: bool = ...,
+    node_label: NodeLabel = ...,
+    edge_label: Optional[str] = ...,
+    seed: Optional[int] = ...,
+    budget: Optional[int] = ...,
+    threads: Optional[int] = ...,
+    prove: Literal[False] = ...,
+    progress: Told = ...,
+    program: Optional[StrPath] = ...,
+) -> Optional[Dict[Name, Name]]: ...
+
+
+@overload
+def find(
+    pattern: Any,
+    target: Any,
+    induced: bool = ...,
+    node_label: NodeLabel = ...,
+    edge_label: Optional[str] = ...,
+    seed: Optional[int] = ...,
+    budget: Optional[int] = ...,
+    threads: Optional[int] = ...,
+    *,
+    prove: Union[Literal[True], StrPath],
+    progress: Told = ...,
+    program: Optional[StrPath] = ...,
+) -> Union[Dict[Name, Name], Proof]: ...
+
+
 def find(
     pattern: Any,
     target: Any,
@@ -86,7 +121,7 @@ def find(
     budget: Optional[int] = None,
     threads: Optional[int] = None,
     prove: Union[bool, StrPath] = False,
-    progress: Union[bool, Callable[[Progress], None]] = False,
+    progress: Told = False,
     program: Optional[StrPath] = None,
 ) -> Union[Dict[Name, Name], None, Proof]:
     """Finds where the pattern occurs in the target.
@@ -174,7 +209,7 @@ def _in_slices(
     words: List[str],
     budget: Optional[int],
     threads: Optional[int],
-    progress: Union[bool, Callable[[Progress], None]],
+    progress: Told,
 ) -> Optional[str]:
     """As `_solve`, by budgets that double up to the whole one."""
     whole = GREATEST_BUDGET if budget is None else budget

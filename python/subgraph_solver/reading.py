@@ -52,9 +52,13 @@ def _module(why: str, *names: str) -> Any:
 def _by_library(kind: str) -> Callable[[str], Any]:
     def read(path: str) -> Any:
         library = _module(kind, "networkx", "igraph")
-        if library.__name__ == "igraph":
-            return library.Graph.Read(path, format=kind)
-        return getattr(library, f"read_{kind}")(path)
+        if library.__name__ == "networkx":
+            return getattr(library, f"read_{kind}")(path)
+        graph = library.Graph.Read(path, format=kind)
+        named = [it for it in ("name", "label", "id") if it in graph.vs.attributes()]
+        if named:
+            graph.vs["name"] = graph.vs[named[0]]
+        return graph
 
     return read
 

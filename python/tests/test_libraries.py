@@ -1,8 +1,10 @@
 """Graphs of networkx and igraph and molecules of RDKit: that they are read, and that answers agree with theirs."""
 import os
 import random
+import sys
 import tempfile
 import unittest
+from unittest import mock
 
 from subgraph_solver import NotAvailable, as_graph, draw, find, read_graph, verify
 from subgraph_solver.graph import lad_text
@@ -102,6 +104,15 @@ class OfIgraph(unittest.TestCase):
             as_graph(igraph.Graph(2, [(0, 1)], directed=True))
         with self.assertRaisesRegex(NotAvailable, "parallel"):
             as_graph(igraph.Graph(2, [(0, 1), (0, 1)]))
+
+    def test_files_without_networkx(self) -> None:
+        lines = ("graph [", 'node [ id 0 label "a" kind "x" ]', 'node [ id 1 label "b" kind "y" ]', "edge [ source 0 target 1 ]", "]")
+        with tempfile.TemporaryDirectory() as folder, mock.patch.dict(sys.modules, {"networkx": None}):
+            path = os.path.join(folder, "g.gml")
+            with open(path, "w", encoding="utf-8") as file:
+                file.write("\n".join(lines) + "\n")
+            made = as_graph(read_graph(path), "kind")
+        self.assertEqual((made.names, made.labels, made.edges()), (["a", "b"], ["x", "y"], [(0, 1)]))
 
     @needs_program
     def test_agrees(self) -> None:
