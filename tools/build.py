@@ -203,14 +203,12 @@ class Build:
 
     def _build_program(self) -> None:
         """Builds the program and has it answer something, so that what stands there is what was built now."""
-        out = CRATES / self.program / "out"
         try:
             self._call(self.program, CRATES / self.program, ["rt", "run", "--", *self.trial])
         except BaseException:
             self.stop()
-            (out / self.program).unlink(missing_ok=True)
             raise
-        if not os.access(out / self.program, os.X_OK):
+        if not os.access(CRATES / self.program / "out" / self.program, os.X_OK):
             raise Failed(f"{self.program}: nothing was built:\n{tail(ROOM / f'{self.program}.log')}")
 
 
@@ -262,18 +260,21 @@ def main() -> int:
     asked = words.parse_args()
     signal.signal(signal.SIGTERM, lambda number, _: sys.exit(128 + number))
     ROOM.mkdir(parents=True, exist_ok=True)
-    program = CRATES / asked.crate / "out" / asked.crate
-    program.unlink(missing_ok=True)
     with open(ROOM / "lock", "w") as lock:
         fcntl.flock(lock, fcntl.LOCK_EX)
+        built = False
         try:
             Build(asked.crate, asked.at_once, asked.trial.split()).run()
+            built = True
         except (Failed, OSError, subprocess.CalledProcessError) as error:
             say(f"the program could not be built. {error}")
             return 1
         except KeyboardInterrupt:
             say("interrupted; what is proved by now is kept")
             return 130
+        finally:
+            if not built:
+                (CRATES / asked.crate / "out" / asked.crate).unlink(missing_ok=True)
     return 0
 
 

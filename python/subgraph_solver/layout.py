@@ -2,8 +2,9 @@
 
 The stress of a layout is the weighted sum of squares by which the distances on paper miss the numbers of steps between
 vertices; it is made small by moving pairs, one by one in a mixed order, with steps that shrink (Zheng, Pawar, Goodman,
-2018). The same graph is always laid out the same. A layout of n vertices takes some 15 n^2 moves, up to `DENSE`
-vertices, and past that as many as `DENSE` neighbours each would take.
+2018). The same graph is always laid out the same. Up to `DENSE` vertices each pair is moved `ROUNDS` times; past that
+there are as many pairs as that many vertices have, with at least 20 for each vertex: its neighbours, and some vertices to
+which all hold.
 """
 from __future__ import annotations
 
@@ -65,14 +66,15 @@ def _steps_from(neighbours: Sequence[Set[int]], start: int) -> Dict[int, int]:
 def _laid_part(neighbours: Sequence[Set[int]], part: List[int]) -> List[Point]:
     chance = random.Random(len(part))
     place = {v: i for i, v in enumerate(part)}
-    pairs = []
-    for v in part:
+    if len(part) <= DENSE:
+        fixed = part
+        pairs = []
+    else:
+        fixed = chance.sample(part, max(20, DENSE * DENSE // len(part)))
+        pairs = [(place[v], place[u], 1.0) for v in part for u in sorted(neighbours[v]) if u < v]
+    for v in fixed:
         steps = _steps_from(neighbours, v)
-        if len(part) <= DENSE:
-            others = [u for u in part if u < v]
-        else:
-            others = [u for u in (*chance.sample(part, DENSE), *sorted(neighbours[v])) if u != v]
-        pairs += [(place[v], place[u], float(steps[u])) for u in others]
+        pairs += [(place[v], place[u], float(steps[u])) for u in part if u < v or (u != v and fixed is not part)]
     x = [chance.random() for _ in part]
     y = [chance.random() for _ in part]
     farthest = max((d for _, _, d in pairs), default=1.0)

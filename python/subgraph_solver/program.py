@@ -84,6 +84,8 @@ def run(
 ) -> Tuple[int, str, str]:
     """Runs the program and answers its status, its output and its error line.
 
+    Whatever ends this call, an interrupt too, the program has ended with it.
+
     Parameters
     ----------
     program : str
@@ -94,8 +96,6 @@ def run(
     watcher : callable, optional
         Called each time that `every` seconds have passed.
     every : float
-
-    Whatever ends this call, an interrupt too, the program has ended with it.
     """
     whole: List[str] = [program, *words]
     with subprocess.Popen(
