@@ -1,0 +1,44 @@
+# What stands beside the proofs: installing, tests of the Python package, pages and pictures. The proofs are `rt ci`'s.
+#
+#   make install PREFIX=/usr/local    the program (proved and built first), its manual page and the Python package
+#   make uninstall PREFIX=..          takes them away again
+#   make test                         the package's tests, each answer that a page tells, and what is made from other files
+#   make docs                         makes the manual page and the picture of the crates anew
+
+PREFIX ?= /usr/local
+DESTDIR ?=
+PYTHON ?= python3
+# Another program may be named, and is then taken as it is.
+PROGRAM ?= crates/subgraph/out/subgraph
+
+MODULES = $(wildcard python/subgraph_solver/*.py) python/subgraph_solver/py.typed
+FOLDER := $(shell $(PYTHON) tools/package_folder.py $(PREFIX) 2>/dev/null)
+PACKAGES = $(DESTDIR)$(or $(FOLDER),$(error $(PYTHON) does not run))/subgraph_solver
+
+.PHONY: build install uninstall test docs
+
+build:
+ifeq ($(PROGRAM),crates/subgraph/out/subgraph)
+	./subgraph demo 7 >/dev/null
+endif
+
+install: build
+	install -d $(DESTDIR)$(PREFIX)/bin $(DESTDIR)$(PREFIX)/share/man/man1 $(PACKAGES)
+	install -m 755 $(PROGRAM) $(DESTDIR)$(PREFIX)/bin/subgraph
+	install -m 644 docs/subgraph.1 $(DESTDIR)$(PREFIX)/share/man/man1/subgraph.1
+	install -m 644 $(MODULES) $(PACKAGES)
+	@$(PYTHON) tools/package_folder.py $(PREFIX) >/dev/null
+
+uninstall:
+	rm -f $(DESTDIR)$(PREFIX)/bin/subgraph $(DESTDIR)$(PREFIX)/share/man/man1/subgraph.1
+	rm -rf $(PACKAGES)
+
+test: build
+	cd python && SUBGRAPH_PROGRAM=$(abspath $(PROGRAM)) $(PYTHON) -m unittest
+	$(PYTHON) examples/check.py --program $(PROGRAM)
+	$(PYTHON) tools/man.py --check
+	$(PYTHON) docs/crates.py --check
+
+docs:
+	$(PYTHON) tools/man.py
+	$(PYTHON) docs/crates.py

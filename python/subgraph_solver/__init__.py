@@ -1,0 +1,56 @@
+"""Does a pattern graph occur in a target graph? The proved program ``subgraph``, asked from Python.
+
+>>> from subgraph_solver import find
+>>> find([("a", "b"), ("b", "c")], [(1, 2), (2, 3)])["b"]
+2
+>>> print(find([("a", "b"), ("b", "c"), ("c", "a")], [(1, 2), (2, 3)]))
+None
+
+``find`` answers the images of the pattern's vertices, or ``None`` where no embedding exists, and raises ``Undecided``
+where the budget is spent. Graphs come from networkx, igraph and RDKit, or as plain lists of edges, and the answer is in
+their own names. What the answers are worth is what the program proves of itself; this package only writes its
+questions and reads its answers, and is tested, not proved.
+"""
+from .errors import (
+    Fault,
+    LogRefused,
+    NotACommand,
+    NotAvailable,
+    OutOfMemory,
+    ProgramFailed,
+    ProgramMissing,
+    SubgraphError,
+    TextRefused,
+    Undecided,
+)
+from .graph import Graph, as_graph
+from .matcher import GraphMatcher
+from .program import Progress
+from .questions import Proof, check, encode, find, verify
+from .draw import draw
+from .reading import read_graph
+
+__all__ = [
+    "Fault",
+    "Graph",
+    "GraphMatcher",
+    "LogRefused",
+    "NotACommand",
+    "NotAvailable",
+    "OutOfMemory",
+    "ProgramFailed",
+    "ProgramMissing",
+    "Progress",
+    "Proof",
+    "SubgraphError",
+    "TextRefused",
+    "Undecided",
+    "as_graph",
+    "check",
+    "draw",
+    "encode",
+    "find",
+    "read_graph",
+    "verify",
+]
+__version__ = "0.1"

@@ -1,0 +1,139 @@
+"""``python -m subgraph_solver``: a question about two files, answered in their own names."""
+from __future__ import annotations
+
+import argparse
+import os
+import sys
+from typing import Any, List, Optional
+
+from .draw import draw
+from .errors import SubgraphError, Undecided
+from .questions import Proof, check, encode, find, verify
+from .reading import read_graph
+
+#: The status where the words or the files are at fault, before the program is asked.
+BAD_INPUT = 3
+
+
+def _words() -> argparse.ArgumentParser:
+    words = argparse.ArgumentParser(
+        prog="python -m subgraph_solver",
+        description="Does a pattern occur in a target? Graphs are files (GraphML, GML, edge lists, LAD, SMILES "
+        "by their endings), or molecules as smiles:CCO.",
+        epilog="The status is the program's: 0 yes, 1 none, 2 unknown, and above these what went wrong.",
+    )
+    commands = words.add_subparsers(dest="command", required=True)
+    for name, what in (
+        ("find", "print the images of the pattern's vertices"),
+        ("verify", "test a mapping: a file of lines NAME -> NAME"),
+        ("encode", "write the question as pseudo-Boolean constraints"),
+        ("draw", "draw the two graphs, with an embedding where one is found"),
+    ):
+        _graphs(commands.add_parser(name, help=what), name)
+    of_check = commands.add_parser("check", help="judge a proof log over an encoding")
+    of_check.add_argument("encoding")
+    of_check.add_argument("log")
+    return words
+
+
+def _graphs(words: argparse.ArgumentParser, name: str) -> None:
+    words.add_argument("pattern")
+    words.add_argument("target")
+    if name == "verify":
+        words.add_argument("mapping")
+    if name in ("encode", "draw"):
+        words.add_argument("out", help="the file to write")
+    apart = "images of vertices without an edge have none either"
+    words.add_argument("--induced", action="store_true", help=apart)
+    words.add_argument("--kind", help="what both files are, whatever their endings say")
+    shared = "an attribute that images share; may be repeated"
+    words.add_argument("--label", action="append", metavar="NAME", help=shared)
+    if name in ("find", "draw"):
+        words.add_argument("--seed", type=int)
+        words.add_argument("--budget", type=int, help="the most fails")
+        words.add_argument("--threads", type=int)
+        words.add_argument("--progress", action="store_true", help="tell how long it takes and what is spent")
+    if name == "find":
+        words.add_argument("--prove", metavar="FOLDER", help="where there is none, put a proof there")
+        words.add_argument("--draw", metavar="FILE", help="draw the answer")
+
+
+def _read_mapping(path: str, pattern: Any, target: Any) -> dict:
+    """The mapping of lines ``NAME -> NAME``, by the texts of the graphs' names."""
+    from .graph import as_graph
+
+    of_pattern = {str(name): name for name in as_graph(pattern).names}
+    of_target = {str(name): name for name in as_graph(target).names}
+    mapping = {}
+    with open(path, encoding="utf-8") as file:
+        for line in file:
+            p, found, t = line.strip().partition(" -> ")
+            if found:
+                mapping[of_pattern.get(p, p)] = of_target.get(t, t)
+    return mapping
+
+
+def _label(names: Optional[List[str]]) -> Any:
+    return names[0] if names and len(names) == 1 else names
+
+
+def _find(asked: argparse.Namespace, how: dict, pattern: Any, target: Any) -> int:
+    searching = {"seed": asked.seed, "budget": asked.budget, "threads": asked.threads, "progress": asked.progress}
+    prove = getattr(asked, "prove", None)
+    to = asked.out if asked.command == "draw" else asked.draw
+    answer, status, said = None, 1, "none"
+    try:
+        answer = find(pattern, target, prove=prove or False, **searching, **how)
+    except Undecided:
+        status, said = 2, "unknown"
+    if isinstance(answer, dict):
+        status, said = 0, "yes"
+    print(said)
+    for p, t in (answer or {}).items() if status == 0 else ():
+        print(f"{p} -> {t}")
+    if isinstance(answer, Proof):
+        print(f"proof: {answer.encoding} {answer.log}", file=sys.stderr)
+    if to:
+        draw(pattern, target, answer or None, to, answer=said, node_label=how["node_label"])
+    return status
+
+
+def _answer(asked: argparse.Namespace) -> int:
+    if asked.command == "check":
+        print(f"accepted {check(asked.encoding, asked.log)}")
+        return 0
+    pattern = read_graph(asked.pattern, asked.kind)
+    target = read_graph(asked.target, asked.kind)
+    how = {"induced": asked.induced, "node_label": _label(asked.label)}
+    if asked.command in ("find", "draw"):
+        return _find(asked, how, pattern, target)
+    if asked.command == "encode":
+        variables, constraints = encode(pattern, target, asked.out, **how)
+        print(f"{variables} variables, {constraints} constraints")
+        return 0
+    is_embedding = verify(pattern, target, _read_mapping(asked.mapping, pattern, target), **how)
+    print("embedding" if is_embedding else "not an embedding")
+    return 0 if is_embedding else 7
+
+
+def main(words: Optional[List[str]] = None) -> int:
+    """Answers the command of these words, and gives the status to end with."""
+    asked = _words().parse_args(words)
+    try:
+        return _answer(asked)
+    except SubgraphError as error:
+        print(f"subgraph_solver: {error}", file=sys.stderr)
+        return error.status if error.status and error.status > 0 else BAD_INPUT
+    except (ValueError, ImportError, OSError) as error:
+        print(f"subgraph_solver: {error}", file=sys.stderr)
+        return BAD_INPUT
+    except BrokenPipeError:
+        os.close(sys.stdout.fileno())
+        return 5
+    except KeyboardInterrupt:
+        print("subgraph_solver: interrupted", file=sys.stderr)
+        return 130
+
+
+if __name__ == "__main__":
+    sys.exit(main())

@@ -1,0 +1,142 @@
+"""An exception for each way in which the program ends without an answer."""
+from __future__ import annotations
+
+import re
+from typing import List, Optional, Sequence, Tuple
+
+
+class SubgraphError(Exception):
+    """What all exceptions of this package are.
+
+    Attributes
+    ----------
+    status : int or None
+        The status that the program ended with, ``None`` where it did not run.
+    line : str
+        The line of its error stream, empty where there is none.
+    """
+
+    def __init__(self, message: str, status: Optional[int] = None, line: str = "") -> None:
+        super().__init__(message)
+        self.status = status
+        self.line = line
+
+
+class ProgramMissing(SubgraphError):
+    """There is no program to ask. The message says how it is built."""
+
+
+class NotAvailable(SubgraphError, NotImplementedError):
+    """The question is of a kind that the program does not decide yet."""
+
+
+class Undecided(SubgraphError):
+    """The budget is spent, and whether an embedding exists is open (status 2).
+
+    Attributes
+    ----------
+    spent : int
+        The fails that each thread of the last run counted, which is its budget.
+    threads : int
+        The threads of that run.
+    slices : list of int
+        What each run spent, where there were several.
+    """
+
+    def __init__(self, spent: int, threads: int = 1, slices: Sequence[int] = ()) -> None:
+        of_each = "" if threads == 1 else f" by each of {threads} threads"
+        super().__init__(f"undecided: {spent} fails were spent{of_each}", 2)
+        self.spent = spent
+        self.threads = threads
+        self.slices: List[int] = list(slices) or [spent]
+
+
+class NotACommand(SubgraphError, ValueError):
+    """The program does not know these words (status 3).
+
+    A number out of its range is a reason, and an option that this build of the program does not have yet.
+
+    Attributes
+    ----------
+    words : list of str
+        The words of the command, without the program's name.
+    """
+
+    def __init__(self, line: str, words: Sequence[str]) -> None:
+        newer = [it for it in ("--threads", "--prove") if it in words]
+        hint = f" (this build of the program may not know {' or '.join(newer)})" if newer else ""
+        super().__init__(f"{line}: {' '.join(words)}{hint}", 3, line)
+        self.words = list(words)
+
+
+class TextRefused(SubgraphError, ValueError):
+    """A graph, mapping, encoding or log is not of its form, or too large (status 4).
+
+    Attributes
+    ----------
+    who : str
+        ``pattern``, ``target``, ``mapping``, ``encoding`` or ``log``.
+    place : tuple of (str, int), or None
+        ``("word", number)`` or ``("line", number)``, from 1, of the first fault; ``None`` where the text is too long.
+    cause : str
+        The fault's name, as ``TooMany``.
+    """
+
+    def __init__(self, line: str) -> None:
+        super().__init__(line, 4, line)
+        self.who, _, rest = line.partition(": ")
+        found = re.fullmatch(r"(word|line) (\d+): (\w+)", rest)
+        self.place: Optional[Tuple[str, int]] = (found[1], int(found[2])) if found else None
+        self.cause = found[3] if found else rest
+
+
+class Fault(SubgraphError, OSError):
+    """A file or the output failed while the program ran (status 5)."""
+
+    def __init__(self, line: str) -> None:
+        SubgraphError.__init__(self, line, 5, line)
+
+
+class OutOfMemory(SubgraphError, MemoryError):
+    """The program was refused memory (status 6)."""
+
+    def __init__(self, line: str) -> None:
+        super().__init__(line, 6, line)
+
+
+class LogRefused(SubgraphError):
+    """A log is of its form up to a line that does not follow (status 7 of ``check``).
+
+    Attributes
+    ----------
+    number : int
+        The first faulty line, from 1.
+    cause : str
+        The fault's name, as ``NoConflict``.
+    """
+
+    def __init__(self, line: str) -> None:
+        super().__init__(line, 7, line)
+        found = re.fullmatch(r"log: line (\d+): (\w+)", line)
+        self.number = int(found[1]) if found else 0
+        self.cause = found[2] if found else line
+
+
+class ProgramFailed(SubgraphError):
+    """The program was stopped from outside, or ended in a way that it does not promise."""
+
+
+def error_of(status: int, line: str, words: Sequence[str]) -> SubgraphError:
+    """The exception for a status that is no answer."""
+    if status == 3:
+        return NotACommand(line, words)
+    if status == 4:
+        return TextRefused(line)
+    if status == 5:
+        return Fault(line)
+    if status == 6:
+        return OutOfMemory(line)
+    if status == 7 and line.startswith("log: "):
+        return LogRefused(line)
+    how = f"was stopped by signal {-status}" if status < 0 else f"ended with status {status}"
+    return ProgramFailed(f"the program {how}{': ' if line else ''}{line}", status, line)

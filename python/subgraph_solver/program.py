@@ -1,0 +1,163 @@
+"""The program itself: where it is, a run of it, and what a caller sees of a long one."""
+from __future__ import annotations
+
+import os
+import shutil
+import subprocess
+import sys
+import time
+from dataclasses import dataclass
+from pathlib import Path
+from typing import IO, Callable, List, Optional, Sequence, Tuple, Union
+
+from .errors import ProgramMissing
+
+#: The environment's variable that names the program.
+VARIABLE = "SUBGRAPH_PROGRAM"
+HOW_TO_BUILD = (
+    "the program `subgraph` is not here. At the top of its repository, `./subgraph demo 7` builds it and "
+    f"`make install PREFIX=..` puts it on the path; or name it by program=.. or in the variable {VARIABLE}"
+)
+
+
+@dataclass(frozen=True)
+class Progress:
+    """How far a long question is.
+
+    Attributes
+    ----------
+    seconds : float
+        The time since the question was asked.
+    slice : int
+        The number of the run that goes on or has just ended, from 1.
+    budget : int
+        The fails that this run may spend.
+    spent : list of int
+        What each run that ended undecided has spent.
+    ended : bool
+        Has this run just ended, undecided?
+    """
+
+    seconds: float
+    slice: int
+    budget: int
+    spent: Tuple[int, ...]
+    ended: bool
+
+
+Watcher = Callable[[], None]
+
+
+def find_program(program: Optional[Union[str, os.PathLike]] = None) -> str:
+    """The path of the program.
+
+    The argument comes first, then the environment's ``SUBGRAPH_PROGRAM``, then the build of the repository that this
+    package lies in, then ``subgraph`` on the path.
+
+    Raises
+    ------
+    ProgramMissing
+        There is none; the message says how it is built.
+    """
+    named = program or os.environ.get(VARIABLE)
+    if named:
+        found = shutil.which(os.fspath(named))
+        if found is None:
+            raise ProgramMissing(f"{os.fspath(named)} is no program. {HOW_TO_BUILD}")
+        return found
+    top = Path(__file__).resolve().parents[2]
+    built = top / "crates" / "subgraph" / "out" / "subgraph"
+    if (top / "crates.txt").is_file() and os.access(built, os.X_OK):
+        return str(built)
+    found = shutil.which("subgraph")
+    if found is None:
+        raise ProgramMissing(HOW_TO_BUILD)
+    return found
+
+
+def run(
+    program: str,
+    words: Sequence[str],
+    out: Optional[IO[bytes]] = None,
+    watcher: Optional[Watcher] = None,
+    every: float = 0.5,
+) -> Tuple[int, str, str]:
+    """Runs the program and answers its status, its output and its error line.
+
+    Whatever ends this call, an interrupt too, the program has ended with it.
+
+    Parameters
+    ----------
+    program : str
+    words : sequence of str
+        The words behind the program's name.
+    out : file, optional
+        Takes the output, which then is not answered.
+    watcher : callable, optional
+        Called each time that `every` seconds have passed.
+    every : float
+    """
+    whole: List[str] = [program, *words]
+    with subprocess.Popen(
+        whole,
+        stdin=subprocess.DEVNULL,
+        stdout=subprocess.PIPE if out is None else out,
+        stderr=subprocess.PIPE,
+    ) as process:
+        try:
+            while True:
+                try:
+                    told, error = process.communicate(timeout=every if watcher else None)
+                    break
+                except subprocess.TimeoutExpired:
+                    if watcher:
+                        watcher()
+        except BaseException:
+            process.kill()
+            process.wait()
+            raise
+    return process.returncode, (told or b"").decode("ascii", "replace"), _line(error)
+
+
+def _line(error: bytes) -> str:
+    return error.decode("utf-8", "replace").strip()
+
+
+class Teller:
+    """Tells of a question's progress: on standard error, or to a function of the caller's."""
+
+    def __init__(self, to: Union[bool, Callable[[Progress], None]]) -> None:
+        self.to = self._write if to is True else to
+        self.begun = time.monotonic()
+        self.spent: List[int] = []
+        self.slice = 0
+        self.budget = 0
+
+    def begin(self, budget: int) -> None:
+        """A run begins."""
+        self.slice += 1
+        self.budget = budget
+
+    def going(self) -> None:
+        """The run goes on."""
+        self._tell(False)
+
+    def ended(self) -> None:
+        """The run ended undecided."""
+        self.spent.append(self.budget)
+        self._tell(True)
+
+    def _tell(self, ended: bool) -> None:
+        if callable(self.to):
+            seconds = time.monotonic() - self.begun
+            self.to(Progress(seconds, self.slice, self.budget, tuple(self.spent), ended))
+
+    @staticmethod
+    def _write(it: Progress) -> None:
+        on_terminal = sys.stderr.isatty()
+        if not it.ended and not on_terminal:
+            return
+        spent = f"{sum(it.spent):,} fails spent" if it.spent else "nothing spent yet"
+        text = f"{it.seconds:8.1f} s  slice {it.slice} of {it.budget:,} fails  {spent}"
+        head, end = ("\r", "" if not it.ended else "\n") if on_terminal else ("", "\n")
+        print(head + text, end=end, file=sys.stderr, flush=True)

@@ -1,0 +1,353 @@
+"""The questions: find an embedding, test one, write the question as constraints, judge a proof."""
+from __future__ import annotations
+
+import os
+import shutil
+import tempfile
+from contextlib import contextmanager
+from dataclasses import dataclass
+from pathlib import Path
+from typing import Any, Callable, Dict, Iterator, List, Literal, Mapping, Optional, Tuple, Union, overload
+
+from .errors import NotAvailable, SubgraphError, Undecided, error_of
+from .graph import Graph, Name, NodeLabel, as_graph, label_numbers, lad_text
+from .program import Progress, Teller, find_program, run
+
+StrPath = Union[str, "os.PathLike[str]"]
+#: Is progress told, and to whom?
+Told = Union[bool, Callable[[Progress], None]]
+#: The budget where none is named: the greatest that the program takes.
+GREATEST_BUDGET = (1 << 63) - 1
+#: The first slice of budget where progress is told; each later one is twice as large.
+FIRST_SLICE = 1 << 12
+
+
+@dataclass(frozen=True)
+class Proof:
+    """A proof that no embedding exists, which the program's checker has accepted.
+
+    It counts as false, so that ``if find(..)`` reads the same with a proof and without.
+
+    Attributes
+    ----------
+    encoding : Path
+        The question as pseudo-Boolean constraints; its solutions are the embeddings.
+    log : Path
+        The steps from them to a contradiction.
+    """
+
+    encoding: Path
+    log: Path
+
+    def __bool__(self) -> bool:
+        return False
+
+
+class _Files:
+    """Two graphs as files of a folder, and the words that name them to the program."""
+
+    def __init__(self, folder: str, pattern: Graph, target: Graph, induced: bool) -> None:
+        self.folder = folder
+        self.pattern = pattern
+        self.target = target
+        numbers = label_numbers(pattern, target)
+        paths = []
+        for name, graph in (("pattern", pattern), ("target", target)):
+            paths.append(os.path.join(folder, f"{name}.lad"))
+            with open(paths[-1], "w", encoding="ascii", newline="\n") as file:
+                file.write(lad_text(graph, numbers))
+        options = ["--induced"] * bool(induced)
+        if numbers is not None:
+            options += ["--format", "vertexlabelledlad"]
+        self.words = [*options, *paths]
+
+
+@contextmanager
+def _files(pattern: Any, target: Any, induced: bool, node_label: NodeLabel, edge_label: Any) -> Iterator[_Files]:
+    if edge_label is not None:
+        raise NotAvailable("the program has no edge labels yet: leave edge_label out, and edges of all kinds are alike")
+    with tempfile.TemporaryDirectory(prefix="subgraph-") as folder:
+        yield _Files(folder, as_graph(pattern, node_label), as_graph(target, node_label), induced)
+
+
+def _images(files: _Files, out: str) -> Dict[Name, Name]:
+    images: Dict[Name, Name] = {}
+    for line in out.splitlines()[1:]:
+        p, t = line.split(" -> ")
+        images[files.pattern.names[int(p)]] = files.target.names[int(t)]
+    return images
+
+
+@overload
+def find(
+    pattern: Any,
+    target: Any,
+    induced: bool = ...,
+    node_label: NodeLabel = ...,
+    edge_label: Optional[str] = ...,
+    seed: Optional[int] = ...,
+    budget: Optional[int] = ...,
+    threads: Optional[int] = ...,
+    prove: Literal[False] = ...,
+    progress: Told = ...,
+    program: Optional[StrPath] = ...,
+) -> Optional[Dict[Name, Name]]: ...
+
+
+@overload
+def find(
+    pattern: Any,
+    target: Any,
+    induced: bool = ...,
+    node_label: NodeLabel = ...,
+    edge_label: Optional[str] = ...,
+    seed: Optional[int] = ...,
+    budget: Optional[int] = ...,
+    threads: Optional[int] = ...,
+    *,
+    prove: Union[Literal[True], StrPath],
+    progress: Told = ...,
+    program: Optional[StrPath] = ...,
+) -> Union[Dict[Name, Name], Proof]: ...
+
+
+def find(
+    pattern: Any,
+    target: Any,
+    induced: bool = False,
+    node_label: NodeLabel = None,
+    edge_label: Optional[str] = None,
+    seed: Optional[int] = None,
+    budget: Optional[int] = None,
+    threads: Optional[int] = None,
+    prove: Union[bool, StrPath] = False,
+    progress: Told = False,
+    program: Optional[StrPath] = None,
+) -> Union[Dict[Name, Name], None, Proof]:
+    """Finds where the pattern occurs in the target.
+
+    Parameters
+    ----------
+    pattern, target : graphs
+        Whatever `as_graph` takes: graphs of networkx or igraph, molecules of RDKit, pairs of names.
+    induced : bool
+        Are images of vertices without an edge to have none either? (networkx calls the two kinds
+        ``subgraph_is_isomorphic`` and ``subgraph_is_monomorphic``.)
+    node_label : str, sequence of str, or callable, optional
+        What vertices and their images share; `as_graph` says more.
+    edge_label : str, optional
+        Not there yet: raises `NotAvailable`.
+    seed : int, optional
+        Where choices begin; the same seed gives the same search.
+    budget : int, optional
+        The most fails that each thread may spend. Without it the search goes on until it knows.
+    threads : int, optional
+        How many searches share the work, from 1 to 64.
+    prove : bool or path
+        Where no embedding exists, answer a `Proof` in place of ``None``, checked before this returns. Its two files
+        lie in the folder that is named, or in a new one.
+    progress : bool or callable
+        Tell how long it takes and, after each slice of budget, what was spent: on standard error, or to a function that
+        gets a `Progress`. The search then is run with budgets that double, from its beginning each time; so it takes up
+        to twice as long, and the answer is the one that it gives without.
+    program : path, optional
+        The program to ask; `find_program` says which is taken otherwise.
+
+    Returns
+    -------
+    dict, None or Proof
+        For each of the pattern's vertices its image; ``None`` where no embedding exists, or its proof.
+
+    Raises
+    ------
+    Undecided
+        The budget is spent.
+    SubgraphError
+        Anything else; each status of the program has an exception of its own.
+    """
+    asked = find_program(program)
+    with _files(pattern, target, induced, node_label, edge_label) as files:
+        options = _options(seed=seed, threads=threads)
+        proof = _proof_paths(prove, files.folder)
+        if proof is not None:
+            options += ["--prove", str(proof.encoding), "--log", str(proof.log)]
+        words = [*options, *files.words]
+        if progress:
+            answer = _in_slices(asked, words, budget, threads, progress)
+        else:
+            answer = _solve(asked, words, budget, threads)
+        if answer is not None:
+            return _images(files, answer)
+        return None if proof is None else _kept(asked, proof, prove)
+
+
+def _options(**numbers: Optional[int]) -> List[str]:
+    return [word for name, it in numbers.items() if it is not None for word in (f"--{name}", str(int(it)))]
+
+
+def _solve(
+    program: str,
+    words: List[str],
+    budget: Optional[int],
+    threads: Optional[int],
+    teller: Optional[Teller] = None,
+) -> Optional[str]:
+    """The output where an embedding was found, ``None`` where none exists."""
+    whole = ["solve", *_options(budget=budget), *words]
+    status, out, line = run(program, whole, watcher=teller.going if teller else None)
+    if status == 0 and out.startswith("yes\n"):
+        return out
+    if status == 1 and out == "none\n":
+        return None
+    if status == 2 and out == "unknown\n":
+        raise Undecided(GREATEST_BUDGET if budget is None else budget, threads or 1)
+    raise error_of(status, line, whole)
+
+
+def _in_slices(
+    program: str,
+    words: List[str],
+    budget: Optional[int],
+    threads: Optional[int],
+    progress: Told,
+) -> Optional[str]:
+    """As `_solve`, by budgets that double up to the whole one."""
+    whole = GREATEST_BUDGET if budget is None else budget
+    teller = Teller(progress)
+    part = min(FIRST_SLICE, whole)
+    while True:
+        teller.begin(part)
+        try:
+            return _solve(program, words, part, threads, teller)
+        except Undecided:
+            teller.ended()
+            if part == whole:
+                raise Undecided(whole, threads or 1, teller.spent) from None
+        part = min(2 * part, whole)
+
+
+def _proof_paths(prove: Union[bool, StrPath], folder: str) -> Optional[Proof]:
+    if prove is False:
+        return None
+    here = Path(folder if prove is True else prove)
+    here.mkdir(parents=True, exist_ok=True)
+    return Proof(here / "encoding.opb", here / "proof.log")
+
+
+def _kept(program: str, proof: Proof, prove: Union[bool, StrPath]) -> Proof:
+    """The proof, accepted by the checker, in a folder that stays."""
+    verdict = check(proof.encoding, proof.log, program=program)
+    if verdict != "unsatisfiable":
+        raise SubgraphError(f"the log of a search that found nothing is accepted {verdict}")
+    if prove is not True:
+        return proof
+    folder = Path(tempfile.mkdtemp(prefix="subgraph-proof-"))
+    moved = [Path(shutil.move(str(it), str(folder / it.name))) for it in (proof.encoding, proof.log)]
+    return Proof(*moved)
+
+
+def verify(
+    pattern: Any,
+    target: Any,
+    mapping: Mapping[Name, Name],
+    induced: bool = False,
+    node_label: NodeLabel = None,
+    edge_label: Optional[str] = None,
+    program: Optional[StrPath] = None,
+) -> bool:
+    """Is the mapping an embedding of the pattern into the target?
+
+    Parameters
+    ----------
+    pattern, target, induced, node_label, edge_label, program
+        As `find` has them.
+    mapping : mapping from the pattern's names to the target's
+        Whoever made it. One that leaves out a vertex of the pattern is no embedding.
+
+    Raises
+    ------
+    ValueError
+        It names a vertex that the pattern or the target does not have.
+    """
+    asked = find_program(program)
+    with _files(pattern, target, induced, node_label, edge_label) as files:
+        for names, graph, which in ((mapping, files.pattern, "pattern"), (mapping.values(), files.target, "target")):
+            strange = [name for name in names if name not in graph.number]
+            if strange:
+                raise ValueError(f"the {which} has no vertex {strange[0]!r}")
+        if len(mapping) < len(files.pattern):
+            return False
+        path = os.path.join(files.folder, "mapping.txt")
+        with open(path, "w", encoding="ascii", newline="\n") as file:
+            file.write("yes\n")
+            for p, name in enumerate(files.pattern.names):
+                file.write(f"{p} -> {files.target.number[mapping[name]]}\n")
+        words = ["verify", *files.words, path]
+        status, out, line = run(asked, words)
+    if status == 0 and out == "embedding\n":
+        return True
+    if status == 7 and line == "mapping: not an embedding":
+        return False
+    raise error_of(status, line, words)
+
+
+def encode(
+    pattern: Any,
+    target: Any,
+    path: StrPath,
+    induced: bool = False,
+    node_label: NodeLabel = None,
+    edge_label: Optional[str] = None,
+    program: Optional[StrPath] = None,
+) -> Tuple[int, int]:
+    """Writes the question as pseudo-Boolean constraints, whose solutions are the embeddings.
+
+    Parameters
+    ----------
+    pattern, target, induced, node_label, edge_label, program
+        As `find` has them.
+    path : path
+        The file that gets the OPB text.
+
+    Returns
+    -------
+    variables, constraints : int
+        How many there are. Variable ``p * len(target) + t + 1`` says that `t` is the image of `p`, where both are
+        places in the order of the graphs' names.
+    """
+    asked = find_program(program)
+    with _files(pattern, target, induced, node_label, edge_label) as files:
+        words = ["encode", *files.words]
+        with open(path, "wb") as file:
+            status, _, line = run(asked, words, out=file)
+    if status != 0:
+        raise error_of(status, line, words)
+    with open(path, "rb") as file:
+        head = file.readline().split()
+    return int(head[2]), int(head[4])
+
+
+def check(encoding: StrPath, log: StrPath, program: Optional[StrPath] = None) -> str:
+    """Judges a proof log over an encoding, both of any origin.
+
+    Parameters
+    ----------
+    encoding, log : paths
+    program : path, optional
+
+    Returns
+    -------
+    str
+        ``"unsatisfiable"``, ``"satisfiable"`` or ``"undecided"``: what an accepted log shows of the encoding.
+
+    Raises
+    ------
+    LogRefused
+        The log has a faulty line.
+    """
+    words = ["check", os.fspath(encoding), os.fspath(log)]
+    status, out, line = run(find_program(program), words)
+    head, _, verdict = out.strip().partition(" ")
+    if status == 0 and head == "accepted":
+        return verdict
+    raise error_of(status, line, words)
