@@ -288,7 +288,7 @@ words_ops (Times n ∷ os) h = let k : n < 2 ^ 63 = h.0 in (IsWord-decimal n (om
 words_ops (Divide n ∷ os) h = let k : n < 2 ^ 63 = h.0 in (IsWord-decimal n (omega arith), (sign 100 (omega arith) (omega arith), words_ops os h.1))
 words_ops (Saturate ∷ os) h = (sign 115 (omega arith) (omega arith), words_ops os h.1)
 
-words_step : (s : Step) → IsStep s → AreWords (step_words s)
+pub words_step : (s : Step) → IsStep s → AreWords (step_words s)
 words_step Head h = (record { some = refl; bytes = AllBetween-tested 33 126 (codes "embedding") refl }, (record { some = refl; bytes = AllBetween-tested 33 126 (codes "proof") refl }, (sign 49 (omega arith) (omega arith), tt)))
 words_step (Model m) h = (sign 109 (omega arith) (omega arith), (IsWord-decimal m (omega arith), tt))
 words_step (P name ops) h = (sign 112 (omega arith) (omega arith), (word_name name h.0, AreWords-append (op_words ops) (codes ";" ∷ []) (words_ops ops h.1) (sign 59 (omega arith) (omega arith), tt)))

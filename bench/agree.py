@@ -1,0 +1,155 @@
+#!/usr/bin/env python3
+"""Runs `solve` on random problems with one thread and with several, and holds all answers against each other.
+
+usage: python3 bench/agree.py PROGRAM [--runs N] [--jobs J] [--seed S] [--hard PERCENT]
+
+PROGRAM is the built program (crates/subgraph/out/subgraph). A small problem (a pattern of at most 6 vertices, a target of at most 9,
+labels, loops and the induced kind among them) is decided by brute force too; a hard one (12 to 16 vertices into 24 to 36, near the
+point where half the patterns occur, so that searches restart and share what they have refuted) is decided by one thread, whose answer
+all others must give. Each mapping that is printed is tested here. Ends with status 1 at the first disagreement, and tells it.
+"""
+import argparse
+import concurrent.futures
+import os
+import random
+import subprocess
+import sys
+import tempfile
+
+
+def random_graph(rng, size, density, loops, labels):
+    """Labels, and a set of ordered pairs with an edge in both directions; a loop is a pair of a vertex with itself."""
+    edges = set()
+    for a in range(size):
+        if loops and rng.random() < 0.2:
+            edges.add((a, a))
+        for b in range(a):
+            if rng.random() < density:
+                edges.add((a, b))
+                edges.add((b, a))
+    return [rng.randrange(labels) for _ in range(size)], edges
+
+
+def text_of(graph, labelled):
+    labels, edges = graph
+    lines = [str(len(labels))]
+    for a in range(len(labels)):
+        near = [b for b in range(len(labels)) if (a, b) in edges]
+        words = ([labels[a]] if labelled else []) + [len(near)] + near
+        lines.append(" ".join(map(str, words)))
+    return "\n".join(lines) + "\n"
+
+
+def goes(pattern, target, induced, image, p, t):
+    """Whether t may stand for p beside the images of the vertices before it."""
+    if pattern[0][p] != target[0][t] or t in image:
+        return False
+    for q, u in enumerate(image + [t]):
+        there = (p, q) in pattern[1]
+        here = (t, u) in target[1]
+        if there and not here or induced and here and not there:
+            return False
+    return True
+
+
+def occurs(pattern, target, induced, image):
+    """Brute force: whether the images so far can be completed."""
+    p = len(image)
+    if p == len(pattern[0]):
+        return True
+    return any(
+        goes(pattern, target, induced, image, p, t) and occurs(pattern, target, induced, image + [t])
+        for t in range(len(target[0]))
+    )
+
+
+def is_embedding(pattern, target, induced, image):
+    return len(image) == len(pattern[0]) and all(
+        0 <= t < len(target[0]) and goes(pattern, target, induced, image[:p], p, t) for p, t in enumerate(image)
+    )
+
+
+def solve(program, files, options, pattern, target, induced):
+    """The answer of one run: 'yes' with a mapping that was tested, or 'none'."""
+    done = subprocess.run([program, "solve", *options, *files], capture_output=True, text=True, timeout=600)
+    if done.returncode == 1 and done.stdout == "none\n":
+        return "none"
+    if done.returncode == 0 and done.stdout.startswith("yes\n"):
+        lines = done.stdout.splitlines()[1:]
+        image = [int(line.split(" -> ")[1]) for line in lines]
+        if [line.split(" -> ")[0] for line in lines] == [str(p) for p in range(len(lines))] and is_embedding(
+            pattern, target, induced, image
+        ):
+            return "yes"
+        return "a wrong mapping: " + done.stdout
+    return f"status {done.returncode}: {done.stdout}{done.stderr}"
+
+
+def one(program, seed, hard):
+    """One problem: how many runs it took, and what disagreed."""
+    rng = random.Random(seed)
+    induced = rng.random() < 0.5
+    labelled = rng.random() < 0.4
+    labels = rng.choice([1, 2, 3]) if labelled else 1
+    if hard:
+        labelled, labels = False, 1
+        target = random_graph(rng, rng.randint(24, 36), rng.uniform(0.3, 0.6), False, 1)
+        pattern = random_graph(rng, rng.randint(12, 16), rng.uniform(0.3, 0.6), False, 1)
+    else:
+        loops = rng.random() < 0.3
+        target = random_graph(rng, rng.randint(0, 9), rng.random(), loops, labels)
+        pattern = random_graph(rng, rng.randint(0, 6), rng.random(), loops, labels)
+    with tempfile.TemporaryDirectory() as folder:
+        files = [os.path.join(folder, name) for name in ("p.lad", "t.lad")]
+        for name, graph in zip(files, (pattern, target)):
+            with open(name, "w", encoding="ascii") as f:
+                f.write(text_of(graph, labelled))
+        common = (["--induced"] if induced else []) + (["--format", "vertexlabelledlad"] if labelled else [])
+        if hard:
+            alone = solve(program, files, common + ["--budget", "20000"], pattern, target, induced)
+            if alone.startswith("status 2"):
+                return 1, None
+            wanted = alone
+        else:
+            wanted = "yes" if occurs(pattern, target, induced, []) else "none"
+            alone = solve(program, files, common, pattern, target, induced)
+        runs = 1
+        if alone != wanted or alone not in ("yes", "none"):
+            return runs, f"seed {seed}: one thread answers {alone}, wanted {wanted}"
+        for _ in range(3):
+            options = common + ["--threads", str(rng.randint(2, 8)), "--seed", str(rng.randrange(2**64))]
+            if rng.random() < 0.3:
+                options += ["--book", str(rng.choice([0, 1, 5, 100]))]
+            answer = solve(program, files, options, pattern, target, induced)
+            runs += 1
+            if answer != wanted:
+                return runs, f"seed {seed}: {' '.join(options)} answers {answer}, wanted {wanted}"
+    return runs, None
+
+
+def main():
+    parser = argparse.ArgumentParser()
+    parser.add_argument("program")
+    parser.add_argument("--runs", type=int, default=10000)
+    parser.add_argument("--jobs", type=int, default=2)
+    parser.add_argument("--seed", type=int, default=0)
+    parser.add_argument("--hard", type=float, default=10.0, help="how many of a hundred problems are hard")
+    words = parser.parse_args()
+    runs = problems = 0
+    seed = words.seed
+    with concurrent.futures.ThreadPoolExecutor(words.jobs) as pool:
+        while runs < words.runs:
+            batch = range(seed, seed + 50 * words.jobs)
+            seed += len(batch)
+            hard = [random.Random(-s - 1).random() * 100 < words.hard for s in batch]
+            for count, wrong in pool.map(one, [words.program] * len(batch), batch, hard):
+                runs += count
+                problems += 1
+                if wrong:
+                    print(wrong)
+                    sys.exit(1)
+    print(f"{problems} problems, {runs} runs, no two answers differ")
+
+
+if __name__ == "__main__":
+    main()

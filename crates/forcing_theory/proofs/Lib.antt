@@ -1,0 +1,3 @@
+pub mod Uniting
+pub mod Chaining
+pub mod Summing

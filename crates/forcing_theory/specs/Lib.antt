@@ -1,0 +1,4 @@
+pub mod Units
+pub mod Sums
+pub mod Chains
+pub mod Laws

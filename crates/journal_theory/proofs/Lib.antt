@@ -1,0 +1,6 @@
+mod Placing
+mod Agreeing
+mod Writing
+mod Growing
+mod Merging
+mod Accepting

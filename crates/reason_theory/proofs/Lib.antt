@@ -1,0 +1,4 @@
+pub mod Giving
+pub mod Forcing
+pub mod SetCounting
+pub mod Explaining
