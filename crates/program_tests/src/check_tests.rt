@@ -114,7 +114,7 @@ static ROWS: [(&str, &str, u8, &str, &str); 16] = [
 fn each_log_has_its_answer(rt: HostRuntime) -> Result<(), Fail> {
     for (encoding, log, status, out, err) in ROWS {
         let files = parts(rt.alloc(), &[("e", encoding), ("l", log)])?;
-        let ran = run_over(rt.alloc(), "subgraph check e l", files, CLEAN)?;
+        let ran = run_over(&rt, rt.alloc(), "subgraph check e l", files, CLEAN)?;
         assert!(rt; ran.gave(status, out, err), "{encoding}{log}");
     }
     Ok(())
@@ -123,10 +123,10 @@ fn each_log_has_its_answer(rt: HostRuntime) -> Result<(), Fail> {
 #[test]
 fn a_missing_log_is_a_fault(rt: HostRuntime) -> Result<(), Fail> {
     let files = parts(rt.alloc(), &[("e", BOTH_WAYS)])?;
-    let ran = run_over(rt.alloc(), "subgraph check e l", files, CLEAN)?;
+    let ran = run_over(&rt, rt.alloc(), "subgraph check e l", files, CLEAN)?;
     assert!(rt; ran.gave(5, "", "files: fault\n"));
     let files = parts(rt.alloc(), &[("e", "x"), ("l", "")])?;
-    let ran = run_over(rt.alloc(), "subgraph check e absent", files, CLEAN)?;
+    let ran = run_over(&rt, rt.alloc(), "subgraph check e absent", files, CLEAN)?;
     assert!(rt; ran.gave(4, "", "encoding: line 1: Header\n"));
     Ok(())
 }

@@ -88,7 +88,7 @@ static ROWS: [(&str, &str, &str, u8, &str, &str); 8] = [
 #[test]
 fn each_problem_has_its_text(rt: HostRuntime) -> Result<(), Fail> {
     for (line, pattern, target, status, out, err) in ROWS {
-        let ran = run_pair(rt.alloc(), line, pattern, target)?;
+        let ran = run_pair(&rt, rt.alloc(), line, pattern, target)?;
         assert!(rt; ran.gave(status, out, err), "{line}: {pattern}");
     }
     Ok(())

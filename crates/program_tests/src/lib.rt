@@ -19,3 +19,5 @@ mod running;
 mod solve_tests;
 #[cfg(test)]
 mod verify_tests;
+#[cfg(test)]
+mod whole_tests;

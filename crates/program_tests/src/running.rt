@@ -2,6 +2,7 @@
 
 use outer_io::{MemoryFiles, MemoryPart, MemorySink};
 use std::alloc::{AllocError, Global};
+use std::thread::Threads;
 use subgraph_cli::run;
 
 /// A triangle.
@@ -14,7 +15,7 @@ pub const FOUR_CYCLE: &str = "4\n2 1 3\n2 0 2\n2 1 3\n2 0 2\n";
 pub const EDGE: &str = "2\n1 1\n1 0\n";
 
 /// The bytes that a sink has room for.
-const ROOM: u64 = 4096;
+const ROOM: u64 = 65536;
 
 /// The numbers of the calls that are to fail, 0 for none.
 #[derive(Clone, Copy)]
@@ -88,7 +89,8 @@ fn calls(alloc: Global, number: u64) -> Result<Vec<u64>, AllocError> {
 }
 
 /// Runs the program on the words of a line, over these files.
-pub fn run_over(
+pub fn run_over<R: Threads + Sync>(
+    rt: &R,
     alloc: Global,
     line: &str,
     files: Vec<MemoryPart>,
@@ -100,13 +102,7 @@ pub fn run_over(
     let mut err = MemorySink::new(alloc, ROOM, calls(alloc, failing.err)?)?;
     let mut spent = Vec::new(alloc);
     let status = run(
-        &(),
-        alloc,
-        &words,
-        &mut files,
-        &mut out,
-        &mut err,
-        &mut spent,
+        rt, alloc, &words, &mut files, &mut out, &mut err, &mut spent,
     );
     Ok(Ran {
         status,
@@ -117,8 +113,15 @@ pub fn run_over(
 }
 
 /// Runs the program over a pattern in the file `p` and a target in the file `t`.
-pub fn run_pair(alloc: Global, line: &str, pattern: &str, target: &str) -> Result<Ran, AllocError> {
+pub fn run_pair<R: Threads + Sync>(
+    rt: &R,
+    alloc: Global,
+    line: &str,
+    pattern: &str,
+    target: &str,
+) -> Result<Ran, AllocError> {
     run_over(
+        rt,
         alloc,
         line,
         parts(alloc, &[("p", pattern), ("t", target)])?,
@@ -127,7 +130,8 @@ pub fn run_pair(alloc: Global, line: &str, pattern: &str, target: &str) -> Resul
 }
 
 /// Runs the program over such files and a mapping in the file `m`.
-pub fn run_three(
+pub fn run_three<R: Threads + Sync>(
+    rt: &R,
     alloc: Global,
     line: &str,
     pattern: &str,
@@ -136,5 +140,5 @@ pub fn run_three(
 ) -> Result<Ran, AllocError> {
     let mut files = parts(alloc, &[("p", pattern), ("t", target)])?;
     files.push(part(alloc, "m", mapping)?)?;
-    run_over(alloc, line, files, CLEAN)
+    run_over(rt, alloc, line, files, CLEAN)
 }

@@ -181,7 +181,7 @@ static ROWS: [(&str, &str, &str, &str, u8, &str, &str); 19] = [
 #[test]
 fn each_mapping_has_its_answer(rt: HostRuntime) -> Result<(), Fail> {
     for (line, pattern, target, mapping, status, out, err) in ROWS {
-        let ran = run_three(rt.alloc(), line, pattern, target, mapping.as_bytes())?;
+        let ran = run_three(&rt, rt.alloc(), line, pattern, target, mapping.as_bytes())?;
         assert!(rt; ran.gave(status, out, err), "{line}: {mapping}");
     }
     Ok(())

@@ -13,6 +13,7 @@ use std::env;
 use std::io::ErrorKind;
 use std::process::ExitCode;
 use std::rt::Env;
+use std::thread::Threads;
 use subgraph_cli::run;
 use subgraph_cli::stop::Stop;
 use subgraph_cli::telling::tell_stop;
@@ -29,8 +30,8 @@ fn words_of<R: Env + AllocGlobal>(rt: &R) -> Result<Vec<String>, AllocError> {
     }
 }
 
-/// The status of the run.
-fn status_of(rt: &HostRuntime) -> Result<u8, AllocError> {
+/// The status of the run, which starts its threads by the first handle.
+fn status_of<R: Threads + Sync>(threads: &R, rt: &HostRuntime) -> Result<u8, AllocError> {
     let alloc: Global = rt.alloc();
     let words = words_of(rt)?;
     let mut files = RealFiles::new(alloc, rt)?;
@@ -38,12 +39,12 @@ fn status_of(rt: &HostRuntime) -> Result<u8, AllocError> {
     let mut err = RealSink::new(rt.stderr());
     let mut spent = Vec::new(alloc);
     Ok(run(
-        rt, alloc, &words, &mut files, &mut out, &mut err, &mut spent,
+        threads, alloc, &words, &mut files, &mut out, &mut err, &mut spent,
     ))
 }
 
 fn main(rt: HostRuntime) -> ExitCode {
-    let status = match status_of(&rt) {
+    let status = match status_of(&rt, &rt) {
         Ok(status) => status,
         Err(_) => tell_stop(Stop::NoMemory, &mut RealSink::new(rt.stderr())),
     };

@@ -19,7 +19,7 @@ use Rattle.subgraph_cli.specs.Checking.{HoldsModel, HoldsNoModel, HoldsLog, Hold
 use Rattle.subgraph_cli.specs.declared.stop.Role.{Role}
 use Rattle.subgraph_cli.specs.declared.stop.Role.TheVariants.{Pattern, Target, Mapping, Encoding, Log}
 use Rattle.subgraph_cli.specs.declared.stop.TextFault.{TextFault}
-use Rattle.subgraph_cli.specs.declared.stop.TextFault.TheVariants.{TooLong, Word, Line, Opb}
+use Rattle.subgraph_cli.specs.declared.stop.TextFault.TheVariants.{TooLong, Opb}
 use Rattle.subgraph_cli.specs.declared.stop.Stop.{Stop}
 use Rattle.subgraph_cli.specs.declared.stop.Stop.TheVariants.{Refused, FilesFault, OutputFault, NoMemory}
 use Rattle.subgraph_cli.specs.declared.check.Claim.{Claim}
@@ -49,10 +49,9 @@ model_not_refused : (content : Option (List ℕ)) (m : OpbModel) (fault : TextFa
 model_not_refused content m TooLong a b =
     let e = ap length (same_bytes content a.bytes b.bytes a.there b.there) in
     omega (arith, e, a.short, b.is)
-model_not_refused content m (Word w cause) a b = b.is
-model_not_refused content m (Line n) a b = b.is
 model_not_refused content m (Opb n cause) a b =
     no_ok_and_err (opb_answer b.bytes) m (n, cause) (subst (λ (bytes : List ℕ). opb_answer bytes ≡ Ok m) (same_bytes content a.bytes b.bytes a.there b.there) a.is) b.is.1
+model_not_refused content m _ a b = b.is
 
 log_not_refused : (content : Option (List ℕ)) (text : List ℕ) (fault : TextFault) → HoldsLog content text → HoldsNoLog content fault → ⊥
 log_not_refused content text fault a b =
@@ -63,9 +62,7 @@ held_not_refused : (encoding log : Option (List ℕ)) (m : OpbModel) (text : Lis
     → Holds encoding log m text → IsFirstOfCheck encoding log role fault → ⊥
 held_not_refused encoding log m text Encoding fault h r = model_not_refused encoding m fault h.model_is r
 held_not_refused encoding log m text Log fault h r = log_not_refused log text fault h.log_is r.log_is
-held_not_refused encoding log m text Pattern fault h r = r
-held_not_refused encoding log m text Target fault h r = r
-held_not_refused encoding log m text Mapping fault h r = r
+held_not_refused encoding log m text _ fault h r = r
 
 -- The verdict over what the files hold is the one over any model and log that they hold.
 same_verdict : (encoding log : Option (List ℕ)) (m n : OpbModel) (a b : List ℕ) → Holds encoding log m a → Holds encoding log n b

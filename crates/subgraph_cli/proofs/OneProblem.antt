@@ -11,9 +11,9 @@ use Rattle.graph_theory.specs.Embedding.{Problem}
 use Rattle.graph_theory.specs.declared.lad_text.LadKind.{LadKind}
 use Rattle.command_line.specs.declared.commands.VerifyWords.{VerifyWords}
 use Rattle.subgraph_cli.specs.declared.stop.Role.{Role}
-use Rattle.subgraph_cli.specs.declared.stop.Role.TheVariants.{Pattern, Target, Mapping, Encoding, Log}
+use Rattle.subgraph_cli.specs.declared.stop.Role.TheVariants.{Pattern, Target, Mapping}
 use Rattle.subgraph_cli.specs.declared.stop.TextFault.{TextFault}
-use Rattle.subgraph_cli.specs.declared.stop.TextFault.TheVariants.{TooLong, Word, Line, Opb}
+use Rattle.subgraph_cli.specs.declared.stop.TextFault.TheVariants.{TooLong, Word, Line}
 use Rattle.subgraph_cli.specs.Questions.{HoldsGraph, HoldsNoGraph, Asks, IsFirstRefused}
 use Rattle.subgraph_cli.specs.Verifying.{HoldsMapping, HoldsNoMapping, AsksOf, IsFirstOfThree}
 
@@ -42,8 +42,7 @@ not_refused laws content kind most g (Word w cause) x y =
     let same = bytes_same content y.bytes x.bytes y.there x.there in
     let fault : Fault (words x.bytes) kind most w cause = subst (λ (b : List ℕ). Fault (words b) kind most w cause) same y.is.1 in
     laws.no_fault _ kind most _ w cause x.is.reads.reads fault
-not_refused laws content kind most g (Line n) x y = y.is
-not_refused laws content kind most g (Opb n cause) x y = y.is
+not_refused laws content kind most g _ x y = y.is
 
 -- A problem of three parts.
 abbrev made : Graph → Graph → Bool → Problem
@@ -66,9 +65,7 @@ pub asks_not_refused : TextLaws → (pattern target : Option (List ℕ)) (kind :
     → Asks pattern target kind induced q → IsFirstRefused pattern target kind role fault → ⊥
 asks_not_refused laws pattern target kind induced q Pattern fault x y = not_refused laws pattern kind 1024 q.pattern fault x.pattern_is y
 asks_not_refused laws pattern target kind induced q Target fault x y = not_refused laws target kind 8192 q.target fault x.target_is y.target_is
-asks_not_refused laws pattern target kind induced q Mapping fault x y = y
-asks_not_refused laws pattern target kind induced q Encoding fault x y = y
-asks_not_refused laws pattern target kind induced q Log fault x y = y
+asks_not_refused laws pattern target kind induced q _ fault x y = y
 
 -- A content is the text of one mapping.
 pub one_mapping : MappingLaws → (content : Option (List ℕ)) (m n : List ℕ) → HoldsMapping content m → HoldsMapping content n → m ≡ n
@@ -84,11 +81,10 @@ mapping_not_refused laws content m TooLong x y =
     let long : 67108864 < length x.bytes = subst (λ (b : List ℕ). 67108864 < length b) same y.is in
     let short : length x.bytes ≤ 67108864 = x.short in
     omega arith
-mapping_not_refused laws content m (Word w cause) x y = y.is
-mapping_not_refused laws content m (Opb n cause) x y = y.is
 mapping_not_refused laws content m (Line n) x y =
     let same = bytes_same content y.bytes x.bytes y.there x.there in
     laws.no_fault x.bytes m n x.is (subst (λ (b : List ℕ). FaultyLine b n) same y.is.1)
+mapping_not_refused laws content m _ x y = y.is
 
 -- Files that ask a problem and hold a mapping are not refused.
 pub asked_not_refused : TextLaws → MappingLaws → (w : VerifyWords) (pattern target mapping : Option (List ℕ)) (q : Problem) (m : List ℕ) (role : Role) (fault : TextFault)
@@ -99,5 +95,4 @@ asked_not_refused texts maps w pattern target mapping q m Target fault x y =
     asks_not_refused texts pattern target w.format w.induced q Target fault x.problem_is y
 asked_not_refused texts maps w pattern target mapping q m Mapping fault x y =
     mapping_not_refused maps mapping m fault x.mapping_is y.is
-asked_not_refused texts maps w pattern target mapping q m Encoding fault x y = y
-asked_not_refused texts maps w pattern target mapping q m Log fault x y = y
+asked_not_refused texts maps w pattern target mapping q m _ fault x y = y

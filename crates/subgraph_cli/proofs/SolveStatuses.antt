@@ -10,11 +10,11 @@ use Rattle.search_theory.specs.Account.{Account}
 use Rattle.command_line.specs.declared.commands.SolveWords.{SolveWords}
 use Rattle.subgraph_cli.specs.Lines.{refusal_text}
 use Rattle.subgraph_cli.specs.Disk.{Disk}
-use Rattle.subgraph_cli.specs.Streams.{Stream, IsAsBefore, Tells}
+use Rattle.subgraph_cli.specs.Streams.{Stream, IsAsBefore, Got, Tells}
 use Rattle.subgraph_cli.specs.Outcomes.{outcome}
 use Rattle.subgraph_cli.specs.Questions.{Asks, IsFirstRefused}
 use Rattle.subgraph_cli.specs.Stops.{TellsStop, SparesOutput}
-use Rattle.subgraph_cli.specs.Solving.{IsWritten, StopsInAnswer, SolveSays, SolveStatus, IsOrStops, solve_status}
+use Rattle.subgraph_cli.specs.Solving.{YesWritten, NoneWritten, UnknownWritten, IsWritten, StopsInAnswer, SolveSays, SolveStatus, IsOrStops, solve_status}
 use Rattle.subgraph_cli.specs.declared.stop.Role.{Role}
 use Rattle.subgraph_cli.specs.declared.stop.TextFault.{TextFault}
 use Rattle.subgraph_cli.specs.declared.stop.Stop.{Stop}
@@ -25,8 +25,14 @@ use Rattle.subgraph_cli.proofs.OneProblem.{one_problem, asks_not_refused}
 
 -- Status 0 is that of `yes`.
 yes_says : (r : Result Decision Stop) (w : SolveWords) (p t : Option (List ℕ)) (accounts : List Account) (out : Stream)
-    → SolveSays r w p t accounts out → solve_status r ≡ 0 → IsWritten Yes w p t accounts out
-yes_says (Ok Yes) w p t accounts out says e = says
+    → SolveSays r w p t accounts out → solve_status r ≡ 0 → YesWritten w p t out
+yes_says (Ok Yes) w p t accounts out says e = record {
+  problem = says.answers.problem;
+  map = says.answers.is_answer.0;
+  asks = says.answers.asks;
+  embeds = says.answers.is_answer.1;
+  written = subst (λ (text : List ℕ). Got out text) says.answers.is_answer.2 says.written;
+}
 yes_says (Ok Nothing) w p t accounts out says e = absurd (omega arith)
 yes_says (Ok Unknown) w p t accounts out says e = absurd (omega arith)
 yes_says (Err (Refused role fault)) w p t accounts out says e = absurd (omega arith)
@@ -36,8 +42,13 @@ yes_says (Err NoMemory) w p t accounts out says e = absurd (omega arith)
 
 -- Status 1 is that of `none`.
 none_says : (r : Result Decision Stop) (w : SolveWords) (p t : Option (List ℕ)) (accounts : List Account) (out : Stream)
-    → SolveSays r w p t accounts out → solve_status r ≡ 1 → IsWritten Nothing w p t accounts out
-none_says (Ok Nothing) w p t accounts out says e = says
+    → SolveSays r w p t accounts out → solve_status r ≡ 1 → NoneWritten w p t out
+none_says (Ok Nothing) w p t accounts out says e = record {
+  problem = says.answers.problem;
+  asks = says.answers.asks;
+  has_none = says.answers.is_answer.0;
+  written = subst (λ (text : List ℕ). Got out text) says.answers.is_answer.1 says.written;
+}
 none_says (Ok Yes) w p t accounts out says e = absurd (omega arith)
 none_says (Ok Unknown) w p t accounts out says e = absurd (omega arith)
 none_says (Err (Refused role fault)) w p t accounts out says e = absurd (omega arith)
@@ -47,8 +58,13 @@ none_says (Err NoMemory) w p t accounts out says e = absurd (omega arith)
 
 -- Status 2 is that of `unknown`.
 unknown_says : (r : Result Decision Stop) (w : SolveWords) (p t : Option (List ℕ)) (accounts : List Account) (out : Stream)
-    → SolveSays r w p t accounts out → solve_status r ≡ 2 → IsWritten Unknown w p t accounts out
-unknown_says (Ok Unknown) w p t accounts out says e = says
+    → SolveSays r w p t accounts out → solve_status r ≡ 2 → UnknownWritten w p t accounts out
+unknown_says (Ok Unknown) w p t accounts out says e = record {
+  problem = says.answers.problem;
+  asks = says.answers.asks;
+  spent = says.answers.is_answer.0;
+  written = subst (λ (text : List ℕ). Got out text) says.answers.is_answer.1 says.written;
+}
 unknown_says (Ok Yes) w p t accounts out says e = absurd (omega arith)
 unknown_says (Ok Nothing) w p t accounts out says e = absurd (omega arith)
 unknown_says (Err (Refused role fault)) w p t accounts out says e = absurd (omega arith)
@@ -132,9 +148,9 @@ enough_leads : TextLaws → (r : Result Decision Stop) (w : SolveWords) (p t : O
     → enough (size q.pattern) (size q.target) ≤ w.budget → solve_status r ≡ 2 → ⊥
 enough_leads laws r w p t accounts out says q asks most e =
     let unknown = unknown_says r w p t accounts out says e in
-    let same = same_problem laws Unknown w p t accounts out unknown q asks in
+    let same = one_problem laws p t w.format w.induced q unknown.problem asks unknown.asks in
     let less : w.budget < enough (size q.pattern) (size q.target) =
-    subst (λ (s : Problem). w.budget < enough (size s.pattern) (size s.target)) (sym same) unknown.answers.is_answer.0.not_enough in
+    subst (λ (s : Problem). w.budget < enough (size s.pattern) (size s.target)) (sym same) unknown.spent.not_enough in
     omega arith
 
 -- Where a text is refused that is told.

@@ -17,9 +17,9 @@ use Rattle.subgraph_cli.specs.Streams.{Stream, IsAsBefore, Got, GotFront, Tells}
 use Rattle.subgraph_cli.specs.Outcomes.{Outcome}
 use Rattle.subgraph_cli.specs.Solving.{IsOrStops}
 use Rattle.subgraph_cli.specs.declared.stop.Role.{Role}
-use Rattle.subgraph_cli.specs.declared.stop.Role.TheVariants.{Pattern, Target, Mapping, Encoding, Log}
+use Rattle.subgraph_cli.specs.declared.stop.Role.TheVariants.{Encoding, Log}
 use Rattle.subgraph_cli.specs.declared.stop.TextFault.{TextFault}
-use Rattle.subgraph_cli.specs.declared.stop.TextFault.TheVariants.{TooLong, Word, Line, Opb}
+use Rattle.subgraph_cli.specs.declared.stop.TextFault.TheVariants.{TooLong, Opb}
 use Rattle.subgraph_cli.specs.declared.stop.Stop.{Stop}
 use Rattle.subgraph_cli.specs.declared.stop.Stop.TheVariants.{Refused, FilesFault, OutputFault, NoMemory}
 use Rattle.subgraph_cli.specs.declared.check.Claim.{Claim}
@@ -37,9 +37,8 @@ pub record HoldsModel (content : Option (List ℕ)) (m : OpbModel) : Type 0 wher
 -- Bytes are no model's text, for this fault: they are over the limit, or have a first faulty line.
 abbrev pub IsNoModel : List ℕ → TextFault → Type 0
 IsNoModel bytes TooLong = 2 ^ 40 < length bytes
-IsNoModel bytes (Word w cause) = ⊥
-IsNoModel bytes (Line n) = ⊥
 IsNoModel bytes (Opb n cause) = (length bytes ≤ 2 ^ 40) × (opb_answer bytes ≡ Err (n, cause))
+IsNoModel bytes _ = ⊥
 
 -- The content of a file is no model's text, for this fault.
 pub record HoldsNoModel (content : Option (List ℕ)) (fault : TextFault) : Type 0 where
@@ -74,14 +73,13 @@ pub record LacksLog (encoding log : Option (List ℕ)) (fault : TextFault) : Typ
 abbrev pub IsFirstOfCheck : Option (List ℕ) → Option (List ℕ) → Role → TextFault → Type 0
 IsFirstOfCheck encoding log Encoding fault = HoldsNoModel encoding fault
 IsFirstOfCheck encoding log Log fault = LacksLog encoding log fault
-IsFirstOfCheck encoding log Pattern fault = ⊥
-IsFirstOfCheck encoding log Target fault = ⊥
-IsFirstOfCheck encoding log Mapping fault = ⊥
+IsFirstOfCheck encoding log _ fault = ⊥
 
 -- The last fault was one of reading the encoding's file, or of reading the log's where the encoding's holds a model.
 abbrev pub IsFaultOfCheck : CheckWords → Disk → Type 0
 IsFaultOfCheck w d =
-    IsReadingOf w.encoding d ⊎ (IsReadingOf w.log d × (IsTrue d.tells → (m : OpbModel) × HoldsModel (d.content w.encoding) m))
+    IsReadingOf w.encoding d ⊎ (IsReadingOf w.log d
+    × (IsTrue d.tells → (m : OpbModel) × HoldsModel (d.content w.encoding) m))
 
 -- The claim of a last line, as a verdict.
 abbrev pub verdict_of_claim : Claim → Verdict
@@ -120,10 +118,12 @@ pub record IsRefusedLog (line : ℕ) (cause : Cause) (encoding log : Option (Lis
 
 -- What a check says: what the log claims, which is written, or why it is refused; or why it stopped.
 abbrev pub CheckSays : Result Checked Stop → Option (List ℕ) → Option (List ℕ) → Stream → Type 0
-CheckSays (Ok (Accepted claim)) encoding log out = IsAccepted claim encoding log × Got out (claim_text claim)
+CheckSays (Ok (Accepted claim)) encoding log out =
+    IsAccepted claim encoding log × Got out (claim_text claim)
 CheckSays (Ok (NotAccepted line cause)) encoding log out = IsRefusedLog line cause encoding log
 CheckSays (Err (Refused role fault)) encoding log out = IsFirstOfCheck encoding log role fault
-CheckSays (Err OutputFault) encoding log out = (claim : Claim) × IsAccepted claim encoding log × GotFront out (claim_text claim)
+CheckSays (Err OutputFault) encoding log out = (claim : Claim) × IsAccepted claim encoding log
+    × GotFront out (claim_text claim)
 CheckSays (Err FilesFault) encoding log out = Unit {0}
 CheckSays (Err NoMemory) encoding log out = Unit {0}
 
@@ -152,16 +152,22 @@ check_status (Err stop) = stop_status stop
 pub record CheckLeads (status : ℕ) (encoding log : Option (List ℕ)) : Type 0 where
   pub accepted : (m : OpbModel) (text : List ℕ) (claim : Claim) → Holds encoding log m text
       → verdict_of m.variables m.constraints text ≡ verdict_of_claim claim → IsOrStops 0 status
-  pub refused_log : (m : OpbModel) (text : List ℕ) (line : ℕ) (cause : Cause) → Holds encoding log m text
+  pub refused_log : (m : OpbModel) (text : List ℕ) (line : ℕ) (cause : Cause)
+      → Holds encoding log m text
       → verdict_of m.variables m.constraints text ≡ verdict.Refused line cause → IsOrStops 7 status
-  pub refused : (role : Role) (fault : TextFault) → IsFirstOfCheck encoding log role fault → IsOrStops 4 status
+  pub refused : (role : Role) (fault : TextFault) → IsFirstOfCheck encoding log role fault
+      → IsOrStops 4 status
 
 -- What the status of a check says, where the files tell their contents.
 pub record CheckStatus (o : Outcome) (encoding log : Option (List ℕ)) : Type 0 where
-  pub accepted : o.status ≡ 0 → (claim : Claim) × IsAccepted claim encoding log × Got o.out (claim_text claim)
-  pub refused_log : o.status ≡ 7 → (line : ℕ) × (cause : Cause) × IsRefusedLog line cause encoding log × Tells o.err (log_text line cause)
-  pub refused : o.status ≡ 4 → (role : Role) × (fault : TextFault) × IsFirstOfCheck encoding log role fault × Tells o.err (refusal_text role fault)
-  pub fault : o.status ≡ 5 → IsAsBefore o.out ⊎ ((claim : Claim) × IsAccepted claim encoding log × GotFront o.out (claim_text claim))
+  pub accepted : o.status ≡ 0 → (claim : Claim) × IsAccepted claim encoding log
+      × Got o.out (claim_text claim)
+  pub refused_log : o.status ≡ 7 → (line : ℕ) × (cause : Cause)
+      × IsRefusedLog line cause encoding log × Tells o.err (log_text line cause)
+  pub refused : o.status ≡ 4 → (role : Role) × (fault : TextFault)
+      × IsFirstOfCheck encoding log role fault × Tells o.err (refusal_text role fault)
+  pub fault : o.status ≡ 5 → IsAsBefore o.out
+      ⊎ ((claim : Claim) × IsAccepted claim encoding log × GotFront o.out (claim_text claim))
   pub leads : CheckLeads o.status encoding log
 
 -- What loading an encoding answers.
@@ -182,9 +188,11 @@ LogSays (Err NoMemory) content = Unit {0}
 
 -- What the verdict of a log says, as the program tells it.
 abbrev pub VerdictSays : Result Checked Stop → OpbModel → List ℕ → Type 0
-VerdictSays (Ok (Accepted claim)) m log = (verdict_of m.variables m.constraints log ≡ verdict_of_claim claim)
+VerdictSays (Ok (Accepted claim)) m log =
+    (verdict_of m.variables m.constraints log ≡ verdict_of_claim claim)
     × Accepts m.variables m.constraints log (verdict_of_claim claim) × ClaimHolds claim m
-VerdictSays (Ok (NotAccepted line cause)) m log = (verdict_of m.variables m.constraints log ≡ verdict.Refused line cause)
+VerdictSays (Ok (NotAccepted line cause)) m log =
+    (verdict_of m.variables m.constraints log ≡ verdict.Refused line cause)
     × Refuses m.variables m.constraints log line cause
 VerdictSays (Err NoMemory) m log = Unit {0}
 VerdictSays (Err FilesFault) m log = ⊥

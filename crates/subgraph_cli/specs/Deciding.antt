@@ -15,14 +15,19 @@ use Rattle.subgraph_cli.specs.declared.solve.Decision.TheVariants.{Yes, Nothing,
 -- What was decided is told as this decision, by this text; the accounts of an undecided problem are kept.
 abbrev pub IsToldAs : Solved → Decision → List ℕ → List Account → List Account → Type 0
 IsToldAs (solved.Yes m) decision text old new = (decision ≡ Yes) × (text ≡ yes_text m.items)
-IsToldAs (solved.NoEmbedding proof) decision text old new = (decision ≡ Nothing) × (text ≡ none_text)
-IsToldAs (solved.Unknown accounts) decision text old new = (decision ≡ Unknown) × (text ≡ unknown_text) × (new ≡ old ++ accounts.items)
+IsToldAs (solved.NoEmbedding proof) decision text old new = (decision ≡ Nothing)
+    × (text ≡ none_text)
+IsToldAs (solved.Unknown accounts) decision text old new = (decision ≡ Unknown)
+    × (text ≡ unknown_text) × (new ≡ old ++ accounts.items)
 IsToldAs solved.NoMemory decision text old new = ⊥
 
 -- What telling it answers: the decision where its text was written, and else why not.
-abbrev pub TellingSays : Result Decision Stop → Solved → List Account → List Account → Stream → Type 0
-TellingSays (Ok decision) s old new out = (text : List ℕ) × IsToldAs s decision text old new × Got out text
-TellingSays (Err OutputFault) s old new out = (decision : Decision) × (text : List ℕ) × IsToldAs s decision text old new × GotFront out text
+abbrev pub TellingSays : Result Decision Stop → Solved → List Account → List Account → Stream
+    → Type 0
+TellingSays (Ok decision) s old new out = (text : List ℕ) × IsToldAs s decision text old new
+    × Got out text
+TellingSays (Err OutputFault) s old new out = (decision : Decision) × (text : List ℕ)
+    × IsToldAs s decision text old new × GotFront out text
 TellingSays (Err NoMemory) s old new out = Unit {0}
 TellingSays (Err FilesFault) s old new out = ⊥
 TellingSays (Err (Refused role fault)) s old new out = ⊥

@@ -31,15 +31,18 @@ abbrev pub shown_text : Bool → Bool → List ℕ
 shown_text planted cycle = planted_text planted ++ cycle_text cycle
 
 -- Each worker of the demo spent the budget on the problem of this description, as their accounts show.
-pub record IsSpentOn (description : Problem → Type 0) (w : DemoWords) (accounts : List Account) : Type 0 where
+pub record IsSpentOn (description : Problem → Type 0) (w : DemoWords)
+    (accounts : List Account) : Type 0 where
   pub problem : Problem
   pub is_described : description problem
   pub spent : AreSpent problem w.threads w.budget accounts
 
 -- What deciding one of the two leaves of the accounts: all as they were where it was decided, and its workers' accounts after them where it was not.
-abbrev pub ShowsOne : Result Bool Stop → (Problem → Type 0) → DemoWords → List Account → List Account → Type 0
+abbrev pub ShowsOne : Result Bool Stop → (Problem → Type 0) → DemoWords → List Account
+    → List Account → Type 0
 ShowsOne (Ok true) description w old new = new ≡ old
-ShowsOne (Ok false) description w old new = (more : List Account) × IsSpentOn description w more × (new ≡ old ++ more)
+ShowsOne (Ok false) description w old new = (more : List Account) × IsSpentOn description w more
+    × (new ≡ old ++ more)
 ShowsOne (Err stop) description w old new = Unit {0}
 
 -- The accounts of the problems that were not decided, in order.
@@ -48,12 +51,15 @@ AreLeft true true w accounts = accounts ≡ []
 AreLeft false true w accounts = IsSpentOn (IsPlanted w.seed) w accounts
 AreLeft true false w accounts = IsSpentOn (IsCycle w.seed) w accounts
 AreLeft false false w accounts = (first : List Account) × (second : List Account)
-    × IsSpentOn (IsPlanted w.seed) w first × IsSpentOn (IsCycle w.seed) w second × (accounts ≡ first ++ second)
+    × IsSpentOn (IsPlanted w.seed) w first × IsSpentOn (IsCycle w.seed) w second
+    × (accounts ≡ first ++ second)
 
 -- What a demo says: which of the two problems of the seed were decided, or why it stopped.
 abbrev pub DemoSays : Result Shown Stop → DemoWords → List Account → Stream → Type 0
-DemoSays (Ok shown) w accounts out = AreLeft shown.planted shown.cycle w accounts × Got out (shown_text shown.planted shown.cycle)
-DemoSays (Err OutputFault) w accounts out = (planted cycle : Bool) × AreLeft planted cycle w accounts × GotFront out (shown_text planted cycle)
+DemoSays (Ok shown) w accounts out =
+    AreLeft shown.planted shown.cycle w accounts × Got out (shown_text shown.planted shown.cycle)
+DemoSays (Err OutputFault) w accounts out = (planted cycle : Bool)
+    × AreLeft planted cycle w accounts × GotFront out (shown_text planted cycle)
 DemoSays (Err NoMemory) w accounts out = Unit {0}
 DemoSays (Err FilesFault) w accounts out = ⊥
 DemoSays (Err (Refused role fault)) w accounts out = ⊥
@@ -71,12 +77,16 @@ demo_status (Err stop) = stop_status stop
 
 -- The budget is enough for each problem of this description.
 abbrev pub IsEnoughFor : (Problem → Type 0) → ℕ → Type 0
-IsEnoughFor description budget = (q : Problem) → description q → enough (size q.pattern) (size q.target) ≤ budget
+IsEnoughFor description budget = (q : Problem) → description q
+    → enough (size q.pattern) (size q.target) ≤ budget
 
 -- What the status of a demo says.
 pub record DemoStatus (o : Outcome) (w : DemoWords) : Type 0 where
   pub decided : o.status ≡ 0 → AreLeft true true w o.accounts × Got o.out (shown_text true true)
-  pub unknown : o.status ≡ 2 → (planted cycle : Bool) × (planted && cycle ≡ false) × AreLeft planted cycle w o.accounts × Got o.out (shown_text planted cycle)
-  pub fault : o.status ≡ 5 → (planted cycle : Bool) × AreLeft planted cycle w o.accounts × GotFront o.out (shown_text planted cycle)
+  pub unknown : o.status ≡ 2 → (planted cycle : Bool) × (planted && cycle ≡ false)
+      × AreLeft planted cycle w o.accounts × Got o.out (shown_text planted cycle)
+  pub fault : o.status ≡ 5 → (planted cycle : Bool) × AreLeft planted cycle w o.accounts
+      × GotFront o.out (shown_text planted cycle)
   pub answered : (o.status ≡ 0) ⊎ IsOrStops 2 o.status
-  pub enough : IsEnoughFor (IsPlanted w.seed) w.budget → IsEnoughFor (IsCycle w.seed) w.budget → o.status ≡ 2 → ⊥
+  pub enough : IsEnoughFor (IsPlanted w.seed) w.budget → IsEnoughFor (IsCycle w.seed) w.budget
+      → o.status ≡ 2 → ⊥

@@ -15,7 +15,8 @@ pub record Disk : Type 0 where
   pub fault_at : Option Use
 
 -- Files from their first state to their last one.
-abbrev pub disk : {S : Type 0} → (S → Bool) → (S → List ℕ → Option (List ℕ)) → (S → ℕ) → (S → Option Use) → S → S → Disk
+abbrev pub disk : {S : Type 0} → (S → Bool) → (S → List ℕ → Option (List ℕ)) → (S → ℕ)
+    → (S → Option Use) → S → S → Disk
 disk tells content faults fault_at old new = record {
   tells = tells old;
   content = content old;
@@ -29,7 +30,8 @@ abbrev pub IsReadingOf : List ℕ → Disk → Type 0
 IsReadingOf name d = d.fault_at ≡ Some (name, Reading)
 
 -- Each file holds what it held, and the count of faults has not fallen.
-pub record KeepsFiles {S : Type 0} (tells : S → Bool) (content : S → List ℕ → Option (List ℕ)) (faults : S → ℕ) (old new : S) : Type 0 where
+pub record KeepsFiles {S : Type 0} (tells : S → Bool) (content : S → List ℕ → Option (List ℕ))
+    (faults : S → ℕ) (old new : S) : Type 0 where
   pub told : tells new ≡ tells old
   pub same : SameFiles (content old) (content new)
   pub later : faults old ≤ faults new

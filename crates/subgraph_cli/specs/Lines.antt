@@ -89,14 +89,18 @@ log_cause_text log.NotSolution = codes "NotSolution"
 
 -- The line that tells of a log that is not accepted.
 abbrev pub log_text : ℕ → Cause → List ℕ
-log_text line cause = codes "log: line " ++ decimal line ++ codes ": " ++ log_cause_text cause ++ 10 ∷ []
+log_text line cause =
+    codes "log: line " ++ decimal line ++ codes ": " ++ log_cause_text cause ++ 10 ∷ []
 
 -- The line that tells of a refused text.
 abbrev pub refusal_text : Role → TextFault → List ℕ
 refusal_text role TooLong = role_text role ++ codes ": too long" ++ 10 ∷ []
-refusal_text role (Word w cause) = role_text role ++ codes ": word " ++ decimal w ++ codes ": " ++ cause_text cause ++ 10 ∷ []
-refusal_text role (Line n) = role_text role ++ codes ": line " ++ decimal n ++ codes ": Form" ++ 10 ∷ []
-refusal_text role (Opb n cause) = role_text role ++ codes ": line " ++ decimal n ++ codes ": " ++ opb_cause_text cause ++ 10 ∷ []
+refusal_text role (Word w cause) =
+    role_text role ++ codes ": word " ++ decimal w ++ codes ": " ++ cause_text cause ++ 10 ∷ []
+refusal_text role (Line n) =
+    role_text role ++ codes ": line " ++ decimal n ++ codes ": Form" ++ 10 ∷ []
+refusal_text role (Opb n cause) =
+    role_text role ++ codes ": line " ++ decimal n ++ codes ": " ++ opb_cause_text cause ++ 10 ∷ []
 
 -- The line on the error stream for each way to stop.
 abbrev pub stop_text : Stop → List ℕ

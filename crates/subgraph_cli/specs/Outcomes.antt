@@ -17,13 +17,15 @@ pub record Outcome : Type 0 where
   pub err : Stream
 
 abbrev pub outcome : ℕ → List Account → Disk → Stream → Stream → Outcome
-outcome status accounts disk out err = record { status = status; accounts = accounts; disk = disk; out = out; err = err }
+outcome status accounts disk out err =
+    record { status = status; accounts = accounts; disk = disk; out = out; err = err }
 
 -- What the error stream is given: nothing at an answer, and a line that its status fixes where there is no command and where memory was refused; where a text is refused, the line says which and why.
 pub record TellsStatus (o : Outcome) : Type 0 where
   pub silent : o.status ≤ 2 → IsAsBefore o.err
   pub no_command : o.status ≡ 3 → Tells o.err no_command_text
-  pub refused : o.status ≡ 4 → (role : Role) × (fault : TextFault) × Tells o.err (refusal_text role fault)
+  pub refused : o.status ≡ 4 → (role : Role) × (fault : TextFault)
+      × Tells o.err (refusal_text role fault)
   pub no_memory : o.status ≡ 6 → Tells o.err no_memory_text
 
 -- Where no answer is written the output is as it was; want of memory can come within an answer that is written part by part.

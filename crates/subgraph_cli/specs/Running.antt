@@ -35,11 +35,15 @@ writes_in_parts (Demo w) = false
 
 -- What the status says of the command: of the contents of its files, where they tell these.
 abbrev pub StatusSays : Command → Outcome → Type 0
-StatusSays (Solve w) o = IsTrue o.disk.tells → SolveStatus o w (o.disk.content w.pattern) (o.disk.content w.target)
+StatusSays (Solve w) o =
+    IsTrue o.disk.tells → SolveStatus o w (o.disk.content w.pattern) (o.disk.content w.target)
 StatusSays (Verify w) o =
-    IsTrue o.disk.tells → VerifyStatus o w (o.disk.content w.pattern) (o.disk.content w.target) (o.disk.content w.mapping)
-StatusSays (Encode w) o = IsTrue o.disk.tells → EncodeStatus o w (o.disk.content w.pattern) (o.disk.content w.target)
-StatusSays (Check w) o = IsTrue o.disk.tells → CheckStatus o (o.disk.content w.encoding) (o.disk.content w.log)
+    IsTrue o.disk.tells → VerifyStatus o w (o.disk.content w.pattern) (o.disk.content w.target)
+    (o.disk.content w.mapping)
+StatusSays (Encode w) o =
+    IsTrue o.disk.tells → EncodeStatus o w (o.disk.content w.pattern) (o.disk.content w.target)
+StatusSays (Check w) o =
+    IsTrue o.disk.tells → CheckStatus o (o.disk.content w.encoding) (o.disk.content w.log)
 StatusSays (Demo w) o = DemoStatus o w
 
 -- The statuses of a command.

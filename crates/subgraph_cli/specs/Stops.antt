@@ -48,4 +48,5 @@ TellsStop (Err stop) err = Tells err (stop_text stop)
 
 -- One of the files or the output failed, and the error stream is told which; at a fault of the files the output is as it was.
 abbrev pub TellsFault : (Disk → Type 0) → Disk → Stream → Stream → Type 0
-TellsFault blame d out err = (FilesFailed blame d × IsAsBefore out × Tells err files_fault_text) ⊎ (Failed out × Tells err output_fault_text)
+TellsFault blame d out err = (FilesFailed blame d × IsAsBefore out × Tells err files_fault_text)
+    ⊎ (Failed out × Tells err output_fault_text)

@@ -45,7 +45,8 @@ abbrev pub Tells : Stream → List ℕ → Type 0
 Tells s text = Got s text ⊎ (Failed s × GotFront s text)
 
 -- It is the same sink still, what stands beside it is as it was, and its count of faults has not fallen.
-pub record IsSameSink {S : Type 0} (spot : S → Spot) (rest : S → List ℕ → Option (List ℕ)) (faults : S → ℕ) (old new : S) : Type 0 where
+pub record IsSameSink {S : Type 0} (spot : S → Spot) (rest : S → List ℕ → Option (List ℕ))
+    (faults : S → ℕ) (old new : S) : Type 0 where
   pub same : spot new ≡ spot old
   pub others : (file : List ℕ) → rest new file ≡ rest old file
   pub later : faults old ≤ faults new

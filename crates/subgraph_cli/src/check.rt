@@ -120,7 +120,8 @@ fn claim_line(claim: Claim) -> &'static [u8]
 /// Writes what an accepted log claims.
 fn tell_claim<O: Sink>(checked: Checked, out: &mut O) -> Result<(), Stop>
     ensures says { ToldSays result checked (stream O.spot O.contents O.faults out.old out.new) }
-    ensures spares { IfErr result (λ stop. SparesOutput stop (stream O.spot O.contents O.faults out.old out.new)) }
+    ensures spares { IfErr result (λ stop. SparesOutput stop
+        (stream O.spot O.contents O.faults out.old out.new)) }
     ensures quiet { IsErrOf result Stop.OutputFault ⊎ (O.faults out.new ≡ O.faults out.old) }
     ensures sink { IsSameSink O.spot O.rest O.faults out.old out.new }
 {
@@ -142,11 +143,13 @@ pub fn check<F: Files, O: Sink>(
     files: &mut F,
     out: &mut O,
 ) -> Result<Checked, Stop>
-    ensures says { IsTrue (F.tells files.old) → CheckSays result (F.content files.old words.now.encoding)
+    ensures says { IsTrue (F.tells files.old)
+        → CheckSays result (F.content files.old words.now.encoding)
         (F.content files.old words.now.log) (stream O.spot O.contents O.faults out.old out.new) }
     ensures cause { IfErr result (λ stop. HasCause stop (IsFaultOfCheck words.now)
         (disk F.tells F.content F.faults F.fault_at files.old files.new)) }
-    ensures spares { IfErr result (λ stop. SparesOutput stop (stream O.spot O.contents O.faults out.old out.new)) }
+    ensures spares { IfErr result (λ stop. SparesOutput stop
+        (stream O.spot O.contents O.faults out.old out.new)) }
     ensures refused { KeepsWhenRefused result (stream O.spot O.contents O.faults out.old out.new) }
     ensures quiet { IsErrOf result Stop.FilesFault ⊎ (F.faults files.new ≡ F.faults files.old) }
     ensures quiet_output { IsErrOf result Stop.OutputFault ⊎ (O.faults out.new ≡ O.faults out.old) }

@@ -31,7 +31,8 @@ pub struct Shown {
 
 /// Keeps the accounts of a problem that ended undecided.
 fn keep_undecided(accounts: Vec<Account>, spent: &mut Vec<Account>) -> Result<bool, Stop>
-    ensures kept { IfOk result (λ decided. (decided ≡ false) × (spent.new.items ≡ spent.old.items ++ accounts.items)) }
+    ensures kept { IfOk result (λ decided. (decided ≡ false)
+        × (spent.new.items ≡ spent.old.items ++ accounts.items)) }
     ensures memory { IfErr result (λ stop. stop ≡ Stop.NoMemory) }
 {
     match keep(accounts, spent) {
@@ -65,7 +66,8 @@ fn show_planted<R: Threads + Sync>(
 ) -> Result<bool, Stop>
     requires ranges { IsDemoInRange asked.now }
     requires words { words.now ≡ asked.now.seed }
-    ensures shows { ShowsOne result (IsPlanted asked.now.seed) asked.now spent.old.items spent.new.items }
+    ensures shows { ShowsOne result
+        (IsPlanted asked.now.seed) asked.now spent.old.items spent.new.items }
     ensures memory { IfErr result (λ stop. stop ≡ Stop.NoMemory) }
 {
     planted_embeds();
@@ -97,7 +99,8 @@ fn show_cycle<R: Threads + Sync>(
 ) -> Result<bool, Stop>
     requires ranges { IsDemoInRange asked.now }
     requires words { words.now ≡ asked.now.seed }
-    ensures shows { ShowsOne result (IsCycle asked.now.seed) asked.now spent.old.items spent.new.items }
+    ensures shows { ShowsOne result
+        (IsCycle asked.now.seed) asked.now spent.old.items spent.new.items }
     ensures memory { IfErr result (λ stop. stop ≡ Stop.NoMemory) }
 {
     cycle_has_none();
@@ -135,8 +138,10 @@ pub fn demo<R: Threads + Sync, O: Sink>(
 ) -> Result<Shown, Stop>
     requires ranges { IsDemoInRange asked.now }
     requires empty { spent.old.items ≡ [] }
-    ensures says { DemoSays result asked.now spent.new.items (stream O.spot O.contents O.faults out.old out.new) }
-    ensures spares { IfErr result (λ stop. SparesOutput stop (stream O.spot O.contents O.faults out.old out.new)) }
+    ensures says { DemoSays result asked.now spent.new.items
+        (stream O.spot O.contents O.faults out.old out.new) }
+    ensures spares { IfErr result (λ stop. SparesOutput stop
+        (stream O.spot O.contents O.faults out.old out.new)) }
     ensures quiet { IsErrOf result Stop.OutputFault ⊎ (O.faults out.new ≡ O.faults out.old) }
     ensures sink { IsSameSink O.spot O.rest O.faults out.old out.new }
 {

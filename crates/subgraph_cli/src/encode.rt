@@ -20,7 +20,8 @@ use std::alloc::Global;
 /// Writes the encoding of a problem, a line at a time.
 fn write_encoding<O: Sink>(alloc: Global, q: &Problem, out: &mut O) -> Result<(), Stop>
     ensures says { WritingSays result q.now (stream O.spot O.contents O.faults out.old out.new) }
-    ensures spares { IfErr result (λ stop. SparesInParts stop (stream O.spot O.contents O.faults out.old out.new)) }
+    ensures spares { IfErr result (λ stop. SparesInParts stop
+        (stream O.spot O.contents O.faults out.old out.new)) }
     ensures quiet { IsErrOf result Stop.OutputFault ⊎ (O.faults out.new ≡ O.faults out.old) }
     ensures sink { IsSameSink O.spot O.rest O.faults out.old out.new }
 {
@@ -42,11 +43,14 @@ pub fn encode<F: Files, O: Sink>(
     files: &mut F,
     out: &mut O,
 ) -> Result<(), Stop>
-    ensures says { IsTrue (F.tells files.old) → EncodeSays result words.now (F.content files.old words.now.pattern)
+    ensures says { IsTrue (F.tells files.old)
+        → EncodeSays result words.now (F.content files.old words.now.pattern)
         (F.content files.old words.now.target) (stream O.spot O.contents O.faults out.old out.new) }
-    ensures cause { IfErr result (λ stop. HasCause stop (IsFaultOfTwo words.now.pattern words.now.target words.now.format)
+    ensures cause { IfErr result (λ stop. HasCause stop
+        (IsFaultOfTwo words.now.pattern words.now.target words.now.format)
         (disk F.tells F.content F.faults F.fault_at files.old files.new)) }
-    ensures spares { IfErr result (λ stop. SparesInParts stop (stream O.spot O.contents O.faults out.old out.new)) }
+    ensures spares { IfErr result (λ stop. SparesInParts stop
+        (stream O.spot O.contents O.faults out.old out.new)) }
     ensures quiet { IsErrOf result Stop.FilesFault ⊎ (F.faults files.new ≡ F.faults files.old) }
     ensures quiet_output { IsErrOf result Stop.OutputFault ⊎ (O.faults out.new ≡ O.faults out.old) }
     ensures files { KeepsFiles F.tells F.content F.faults files.old files.new }

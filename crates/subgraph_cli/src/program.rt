@@ -55,12 +55,14 @@ pub fn run<R: Threads + Sync, F: Files, O: Sink, E: Sink>(
 
     // Status 3 comes exactly where the words are no command, unless memory was refused.
     ensures words { result ≡ 3 → line.command (map string_bytes words.now) ≡ None }
-    ensures no_command { line.command (map string_bytes words.now) ≡ None → EndsWithout (outcome result spent.new.items
+    ensures no_command { line.command (map string_bytes words.now) ≡ None
+        → EndsWithout (outcome result spent.new.items
         (disk F.tells F.content F.faults F.fault_at files.old files.new)
         (stream O.spot O.contents O.faults out.old out.new)
         (stream E.spot E.contents E.faults err.old err.new)) }
     // What a run of the words' command says, by its status, and that it is complete without a fault.
-    ensures ran { (c : TheCommand) → line.command (map string_bytes words.now) ≡ Some c → Ran c (outcome result spent.new.items
+    ensures ran { (c : TheCommand) → line.command (map string_bytes words.now) ≡ Some c
+        → Ran c (outcome result spent.new.items
         (disk F.tells F.content F.faults F.fault_at files.old files.new)
         (stream O.spot O.contents O.faults out.old out.new)
         (stream E.spot E.contents E.faults err.old err.new)) }
@@ -138,7 +140,8 @@ fn run_verify<F: Files, O: Sink, E: Sink>(
     out: &mut O,
     err: &mut E,
 ) -> u8
-    ensures ran { (accounts : List TheAccount) → Ran (TheCommand.Verify asked.now) (outcome result accounts
+    ensures ran { (accounts : List TheAccount)
+        → Ran (TheCommand.Verify asked.now) (outcome result accounts
         (disk F.tells F.content F.faults F.fault_at files.old files.new)
         (stream O.spot O.contents O.faults out.old out.new)
         (stream E.spot E.contents E.faults err.old err.new)) }
@@ -160,7 +163,8 @@ fn run_encode<F: Files, O: Sink, E: Sink>(
     out: &mut O,
     err: &mut E,
 ) -> u8
-    ensures ran { (accounts : List TheAccount) → Ran (TheCommand.Encode asked.now) (outcome result accounts
+    ensures ran { (accounts : List TheAccount)
+        → Ran (TheCommand.Encode asked.now) (outcome result accounts
         (disk F.tells F.content F.faults F.fault_at files.old files.new)
         (stream O.spot O.contents O.faults out.old out.new)
         (stream E.spot E.contents E.faults err.old err.new)) }
@@ -181,7 +185,8 @@ fn run_check<F: Files, O: Sink, E: Sink>(
     out: &mut O,
     err: &mut E,
 ) -> u8
-    ensures ran { (accounts : List TheAccount) → Ran (TheCommand.Check asked.now) (outcome result accounts
+    ensures ran { (accounts : List TheAccount)
+        → Ran (TheCommand.Check asked.now) (outcome result accounts
         (disk F.tells F.content F.faults F.fault_at files.old files.new)
         (stream O.spot O.contents O.faults out.old out.new)
         (stream E.spot E.contents E.faults err.old err.new)) }

@@ -49,7 +49,8 @@ fn graph_of<F: Files>(
     most: u32,
 ) -> Result<Graph, Stop>
     requires { most ≤ 8192 }
-    ensures says { IsTrue (F.tells files.old) → RoleSays result role (F.content files.old name.now) kind most }
+    ensures says { IsTrue (F.tells files.old)
+        → RoleSays result role (F.content files.old name.now) kind most }
     ensures few { IfOk result (λ g. size g ≤ most) }
     ensures loading { IfErr result IsOfFiles }
     ensures cause { IfErr result (λ stop. HasCause stop (IsReadingOf name.now)
@@ -73,7 +74,8 @@ pub fn load_problem<F: Files>(
     induced: bool,
 ) -> Result<Problem, Stop>
     ensures says { IsTrue (F.tells files.old)
-        → AskSays result (F.content files.old pattern.now) (F.content files.old target.now) kind induced }
+        → AskSays result (F.content files.old pattern.now)
+        (F.content files.old target.now) kind induced }
     ensures loading { IfErr result IsOfFiles }
     ensures cause { IfErr result (λ stop. HasCause stop (IsFaultOfTwo pattern.now target.now kind)
         (disk F.tells F.content F.faults F.fault_at files.old files.new)) }

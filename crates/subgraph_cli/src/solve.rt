@@ -34,8 +34,10 @@ pub enum Decision {
 
 /// Writes what was decided. The accounts of an undecided problem go to `spent`, before its answer is written.
 fn tell<O: Sink>(solved: Solved, out: &mut O, spent: &mut Vec<Account>) -> Result<Decision, Stop>
-    ensures says { TellingSays result solved spent.old.items spent.new.items (stream O.spot O.contents O.faults out.old out.new) }
-    ensures spares { IfErr result (λ stop. SparesOutput stop (stream O.spot O.contents O.faults out.old out.new)) }
+    ensures says { TellingSays result solved spent.old.items spent.new.items
+        (stream O.spot O.contents O.faults out.old out.new) }
+    ensures spares { IfErr result (λ stop. SparesOutput stop
+        (stream O.spot O.contents O.faults out.old out.new)) }
     ensures quiet { IsErrOf result Stop.OutputFault ⊎ (O.faults out.new ≡ O.faults out.old) }
     ensures sink { IsSameSink O.spot O.rest O.faults out.old out.new }
 {
@@ -81,11 +83,15 @@ pub fn solve<R: Threads + Sync, F: Files, O: Sink>(
 ) -> Result<Decision, Stop>
     requires ranges { IsSolveInRange words.now }
     requires empty { spent.old.items ≡ [] }
-    ensures says { IsTrue (F.tells files.old) → SolveSays result words.now (F.content files.old words.now.pattern)
-        (F.content files.old words.now.target) spent.new.items (stream O.spot O.contents O.faults out.old out.new) }
-    ensures cause { IfErr result (λ stop. HasCause stop (IsFaultOfTwo words.now.pattern words.now.target words.now.format)
+    ensures says { IsTrue (F.tells files.old)
+        → SolveSays result words.now (F.content files.old words.now.pattern)
+        (F.content files.old words.now.target) spent.new.items
+        (stream O.spot O.contents O.faults out.old out.new) }
+    ensures cause { IfErr result (λ stop. HasCause stop
+        (IsFaultOfTwo words.now.pattern words.now.target words.now.format)
         (disk F.tells F.content F.faults F.fault_at files.old files.new)) }
-    ensures spares { IfErr result (λ stop. SparesOutput stop (stream O.spot O.contents O.faults out.old out.new)) }
+    ensures spares { IfErr result (λ stop. SparesOutput stop
+        (stream O.spot O.contents O.faults out.old out.new)) }
     ensures quiet { IsErrOf result Stop.FilesFault ⊎ (F.faults files.new ≡ F.faults files.old) }
     ensures quiet_output { IsErrOf result Stop.OutputFault ⊎ (O.faults out.new ≡ O.faults out.old) }
     ensures files { KeepsFiles F.tells F.content F.faults files.old files.new }

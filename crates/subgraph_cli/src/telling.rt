@@ -89,7 +89,8 @@ fn log_cause_name(cause: Cause) -> &'static [u8]
 
 /// Puts the line of a log that is not accepted.
 fn put_log<E: Sink>(line: u64, cause: Cause, err: &mut E) -> Result<(), Failed>
-    ensures text { Wrote (E.spot err.old).steady (E.contents err.old) (E.contents err.new) result (log_text line cause) }
+    ensures text { Wrote (E.spot err.old).steady (E.contents err.old) (E.contents err.new) result
+        (log_text line cause) }
     ensures cause { HasBlame E.spot E.rest E.faults E.blamed err.old err.new result }
 {
     let mut digits = Buffer::new();
@@ -102,7 +103,8 @@ fn put_log<E: Sink>(line: u64, cause: Cause, err: &mut E) -> Result<(), Failed>
 
 /// Puts the line of a refused text.
 fn put_refusal<E: Sink>(role: Role, fault: TextFault, err: &mut E) -> Result<(), Failed>
-    ensures text { Wrote (E.spot err.old).steady (E.contents err.old) (E.contents err.new) result (refusal_text role fault) }
+    ensures text { Wrote (E.spot err.old).steady (E.contents err.old) (E.contents err.new) result
+        (refusal_text role fault) }
     ensures cause { HasBlame E.spot E.rest E.faults E.blamed err.old err.new result }
 {
     let who = role_name(role);
@@ -132,7 +134,8 @@ fn put_refusal<E: Sink>(role: Role, fault: TextFault, err: &mut E) -> Result<(),
 
 /// Puts the line of a way to stop.
 fn put_stop<E: Sink>(stop: Stop, err: &mut E) -> Result<(), Failed>
-    ensures text { Wrote (E.spot err.old).steady (E.contents err.old) (E.contents err.new) result (stop_text stop) }
+    ensures text { Wrote (E.spot err.old).steady (E.contents err.old) (E.contents err.new) result
+        (stop_text stop) }
     ensures cause { HasBlame E.spot E.rest E.faults E.blamed err.old err.new result }
 {
     match stop {

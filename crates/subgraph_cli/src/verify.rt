@@ -67,12 +67,14 @@ pub fn verify<F: Files, O: Sink>(
     files: &mut F,
     out: &mut O,
 ) -> Result<Tested, Stop>
-    ensures says { IsTrue (F.tells files.old) → VerifySays result words.now (F.content files.old words.now.pattern)
+    ensures says { IsTrue (F.tells files.old)
+        → VerifySays result words.now (F.content files.old words.now.pattern)
         (F.content files.old words.now.target) (F.content files.old words.now.mapping)
         (stream O.spot O.contents O.faults out.old out.new) }
     ensures cause { IfErr result (λ stop. HasCause stop (IsFaultOfThree words.now)
         (disk F.tells F.content F.faults F.fault_at files.old files.new)) }
-    ensures spares { IfErr result (λ stop. SparesOutput stop (stream O.spot O.contents O.faults out.old out.new)) }
+    ensures spares { IfErr result (λ stop. SparesOutput stop
+        (stream O.spot O.contents O.faults out.old out.new)) }
     ensures bad { KeepsWhenBad result (stream O.spot O.contents O.faults out.old out.new) }
     ensures quiet { IsErrOf result Stop.FilesFault ⊎ (F.faults files.new ≡ F.faults files.old) }
     ensures quiet_output { IsErrOf result Stop.OutputFault ⊎ (O.faults out.new ≡ O.faults out.old) }
