@@ -1,15 +1,13 @@
 -- What rows that serve a seat tell of it, and what a seat knows that wrote a row by itself.
 use Rattle.std.proofs.lemmas.List.{take-append-drop, take_all}
-use Rattle.std.proofs.Common.{◌≡◌, ◌≢◌, ◌⊎◌, inl, inr, ℕ, zero, suc, ◌+◌, ◌<◌, ◌≤◌, List, [], ◌∷◌, ◌++◌, length, take, drop, sym, ap, subst, ◌∙◌, refl, append_assoc, append-nil as append_nil, length-append, arith}
-use Rattle.std.specs.Prelude.{Option, Some, None, slice_get, slice_index_or}
-use Rattle.std.specs.List.{All}
+use Rattle.std.proofs.Common.{◌≡◌, inl, ℕ, ◌<◌, ◌≤◌, List, [], ◌∷◌, ◌++◌, length, take, drop, sym, ap, subst, ◌∙◌, refl, append-nil as append_nil, length-append, arith}
 use Rattle.graph_theory.specs.Embedding.{Problem}
 use Rattle.nogood_book.specs.declared.row.Row.{Row}
 use Rattle.nogood_book.specs.declared.row.Published.{Published}
 use Rattle.nogood_book.specs.declared.row.Published.TheVariants.{At, Full}
 use Rattle.nogood_book.specs.Rows.{Sound, MayFollow}
 use Rattle.nogood_book.specs.Places.{StartsWith, places}
-use Rattle.nogood_book.specs.Facts.{Facts, Grew, CaughtUp, StandsAt, IsFull, IsPlaced}
+use Rattle.nogood_book.specs.Facts.{Facts, Grew, CaughtUp, StandsAt, IsPlaced}
 use Rattle.nogood_book.proofs.Lists.{starts_same, starts_on, starts_length, get_seam, places-append, places_own, none_of_others}
 use Rattle.nogood_book.proofs.Paths.{sound_snoc, follow_more}
 use Rattle.locked_shelf.specs.Shelf.{Held, ShelfView, IsKept, Serves, facts_of}
@@ -25,8 +23,10 @@ starts_drop rows seen s = let e = s.1 in sym (e ∙ ap (λ z. seen ++ z) (sym (a
 -- a seat that serves itself
 pub caught_alone : (s : ShelfView) → Sound s.problem s.seen → CaughtUp (facts_of s) (facts_of s)
 caught_alone s h = record {
-    grew = record { problem = refl; owner = refl; size = refl; seen = starts_same s.seen; sound = h }; mine = refl; looks = inl refl
-  }
+  grew = record { problem = refl; owner = refl; size = refl; seen = starts_same s.seen; sound = h };
+  mine = refl;
+  looks = inl refl;
+}
 
 -- a seat that took up rows which serve it
 pub caught_up : (h : Held) (s : ShelfView) → Sound h.problem h.rows → Serves h s → CaughtUp (facts_of s) (facts_of (record s { seen = h.rows }))
@@ -36,21 +36,21 @@ caught_up h s sound v =
       grew = record { problem = refl; owner = refl; size = refl; seen = v.seen; sound = subst P v.problem sound };
       mine = ap (places s.owner) (sym e) ∙ (places-append s.owner s.seen (drop (length s.seen) h.rows)
           ∙ (ap (λ z. places s.owner s.seen ++ z) (none_of_others s.owner (length s.seen) (drop (length s.seen) h.rows) v.others) ∙ append_nil (places s.owner s.seen)));
-      looks = inl refl
+      looks = inl refl;
     }
 
 -- a seat that wrote a row behind what it had seen
 pub placed_alone : (s : ShelfView) (r : Row) → IsKept s → r.owner ≡ s.owner → length s.seen < s.most → MayFollow s.problem s.seen r
     → StandsAt r (length s.seen) (facts_of s) (facts_of (record s { seen = s.seen ++ r ∷ [] }))
 placed_alone s r k own room may = record {
-    inside = room;
-    new_ = omega arith;
-    grew = record { problem = refl; owner = refl; size = refl; seen = (r ∷ [], refl); sound = sound_snoc s.problem s.seen r k.sound may };
-    row_is = get_seam s.seen [] (length s.seen) r refl;
-    last = length-append s.seen (r ∷ []);
-    mine = places_own s.owner s.seen r own;
-    looks = refl
-  }
+  inside = room;
+  new_ = omega arith;
+  grew = record { problem = refl; owner = refl; size = refl; seen = (r ∷ [], refl); sound = sound_snoc s.problem s.seen r k.sound may };
+  row_is = get_seam s.seen [] (length s.seen) r refl;
+  last = length-append s.seen (r ∷ []);
+  mine = places_own s.owner s.seen r own;
+  looks = refl;
+}
 
 -- what a row may follow it may still follow once a seat has caught up
 pub may_still : (s t : Facts) (r : Row) → CaughtUp s t → MayFollow s.problem s.seen r → MayFollow t.problem t.seen r
@@ -61,26 +61,30 @@ may_still s t r h m =
 
 grew_on : (s t u : Facts) → Grew s t → Grew t u → Grew s u
 grew_on s t u a b = record {
-    problem = b.problem ∙ a.problem; owner = b.owner ∙ a.owner; size = b.size ∙ a.size; seen = starts_on s.seen t.seen u.seen a.seen b.seen; sound = b.sound
-  }
+  problem = b.problem ∙ a.problem;
+  owner = b.owner ∙ a.owner;
+  size = b.size ∙ a.size;
+  seen = starts_on s.seen t.seen u.seen a.seen b.seen;
+  sound = b.sound;
+}
 
 -- what is published after catching up, where no looks are told
 pub placed_later : (s t u : Facts) (r : Row) (p : Published) → CaughtUp s t → t.looks ≡ s.looks → IsPlaced r t u p → IsPlaced r s u p
 placed_later s t u r (At at) c l h = record {
-    inside = omega (arith, h.inside, c.grew.size);
-    new_ = omega (arith, h.new_, starts_length s.seen t.seen c.grew.seen);
-    grew = grew_on s t u c.grew h.grew;
-    row_is = h.row_is;
-    last = h.last;
-    mine = ap (λ o. places o u.seen) (sym c.grew.owner) ∙ (h.mine ∙ ap (λ z. z ++ at ∷ []) (ap (λ o. places o t.seen) c.grew.owner ∙ c.mine));
-    looks = h.looks ∙ l
-  }
+  inside = omega (arith, h.inside, c.grew.size);
+  new_ = omega (arith, h.new_, starts_length s.seen t.seen c.grew.seen);
+  grew = grew_on s t u c.grew h.grew;
+  row_is = h.row_is;
+  last = h.last;
+  mine = ap (λ o. places o u.seen) (sym c.grew.owner) ∙ (h.mine ∙ ap (λ z. z ++ at ∷ []) (ap (λ o. places o t.seen) c.grew.owner ∙ c.mine));
+  looks = h.looks ∙ l;
+}
 placed_later s t u r Full c l h = record {
-    grew = grew_on s t u c.grew h.grew;
-    mine = ap (λ o. places o u.seen) (sym c.grew.owner) ∙ (h.mine ∙ (ap (λ o. places o t.seen) c.grew.owner ∙ c.mine));
-    full = h.full ∙ c.grew.size;
-    looks = h.looks ∙ l
-  }
+  grew = grew_on s t u c.grew h.grew;
+  mine = ap (λ o. places o u.seen) (sym c.grew.owner) ∙ (h.mine ∙ (ap (λ o. places o t.seen) c.grew.owner ∙ c.mine));
+  full = h.full ∙ c.grew.size;
+  looks = h.looks ∙ l;
+}
 
 -- rows that are the same as what was seen, as far as that goes, begin with it
 pub starts_by_take : (rows seen : List Row) (k : ℕ) → take k rows ≡ take k seen → length seen ≤ k → StartsWith rows seen
@@ -92,7 +96,7 @@ kept_add s r rows k room may e =
     let P : List Row → Type 0 = Sound s.problem in record {
       sound = subst P (sym e) (sound_snoc s.problem s.seen r k.sound may);
       few = omega (arith, ap length e, length-append s.seen (r ∷ []));
-      limit = k.limit
+      limit = k.limit;
     }
 
 -- what may follow what the seat has seen may follow the rows that it has seen all of

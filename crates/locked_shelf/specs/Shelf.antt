@@ -1,6 +1,6 @@
 -- A book under a lock, and its seats.
 
-use Rattle.std.specs.Prelude.{◌≡◌, ◌≢◌, ℕ, ◌≤◌, List, [], ◌∷◌, ◌++◌, drop, length, Option, None}
+use Rattle.std.specs.Prelude.{◌≡◌, ◌≢◌, ◌⊎◌, ℕ, ◌≤◌, List, [], ◌∷◌, ◌++◌, drop, length, None}
 use Rattle.std.specs.List.{All}
 use Rattle.graph_theory.specs.Embedding.{Problem}
 use Rattle.nogood_book.specs.declared.row.Row.{Row}
@@ -25,6 +25,9 @@ pub record ShelfView : Type 0 where
   pub most : ℕ
   pub seen : List Row
 
+abbrev pub view_of : Problem → ℕ → ℕ → List Row → ShelfView
+view_of q owner most seen = record { problem = q; owner = owner; most = most; seen = seen }
+
 -- What a seat shows; a book under a lock tells no looks.
 abbrev pub facts_of : ShelfView → Facts
 facts_of s = record { problem = s.problem; owner = s.owner; size = s.most; seen = s.seen; looks = None }
@@ -42,3 +45,19 @@ pub record Serves (h : Held) (s : ShelfView) : Type 0 where
   pub few : length h.rows ≤ s.most
   pub seen : StartsWith h.rows s.seen
   pub others : All (λ r. r.owner ≢ s.owner) (drop (length s.seen) h.rows)
+
+-- The seat's problem is that of the rows under the lock, and it has seen all of them.
+abbrev pub HasSeenAll : Held → ShelfView → Type 0
+HasSeenAll h s = (s.problem ≡ h.problem) × (s.seen ≡ h.rows)
+
+-- The row was written behind the others, or nothing was.
+abbrev pub IsWritten : Row → List Row → List Row → Type 0
+IsWritten r old new = (new ≡ old ++ r ∷ []) ⊎ (new ≡ old)
+
+-- A seat that has seen nothing.
+abbrev pub fresh : Problem → ℕ → ℕ → ShelfView
+fresh q owner most = view_of q owner most []
+
+-- The seat's fields are within its limits, and its list has room for all rows of its book.
+abbrev pub IsSeat : ShelfView → ℕ → Type 0
+IsSeat s capacity = IsKept s × (s.most ≤ capacity)

@@ -1,11 +1,11 @@
 //! What is under the lock.
 
-ghost use Rattle.std.specs.Prelude.{◌≡◌, ◌≤◌, ◌≢◌, ◌++◌, ◌∷◌, [], ◌⊎◌, true, IsTrue, length, take, drop};
+ghost use Rattle.std.specs.Prelude.{◌≡◌, ◌≢◌, [], true};
 ghost use Rattle.std.specs.List.{All};
 ghost use Rattle.nogood_book.specs.Rows.{MayFollow};
 ghost use Rattle.nogood_book.specs.Places.{StartsWith};
 ghost use Rattle.nogood_book.specs.Facts.{CaughtUp};
-ghost use Rattle.locked_shelf.specs.Shelf.{IsKept, Serves, facts_of};
+ghost use Rattle.locked_shelf.specs.Shelf.{HasSeenAll, IsKept, IsWritten, Serves, facts_of};
 
 use crate::seat::ShelfSeat;
 use graph_rows::Problem;
@@ -45,7 +45,7 @@ impl<'a> Bundle<'a> {
     /// Shows a seat the rows, if they serve it: then the seat has seen all of them. Else it has its own.
     pub(crate) fn show(&self, seat: &mut ShelfSeat<'a>) -> bool
         ensures caught { CaughtUp (facts_of seat.old) (facts_of seat.new) }
-        ensures served { result ≡ true → (seat.new.problem ≡ self.now.problem) × (seat.new.seen ≡ self.now.rows) }
+        ensures served { result ≡ true → HasSeenAll self.now seat.new }
     {
         if !self.serves(seat) {
             return false;
@@ -76,7 +76,7 @@ impl<'a> Bundle<'a> {
     pub(crate) fn write(&mut self, row: Row)
         requires { MayFollow self.old.problem self.old.rows row }
         ensures problem { self.new.problem ≡ self.old.problem }
-        ensures rows { (self.new.rows ≡ self.old.rows ++ row ∷ []) ⊎ (self.new.rows ≡ self.old.rows) }
+        ensures rows { IsWritten row self.old.rows self.new.rows }
     {
         if self.rows.len() < self.rows.capacity() {
             self.rows.push_reserved(row);

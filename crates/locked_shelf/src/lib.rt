@@ -11,7 +11,6 @@ mod bundle;
 mod seat;
 mod shared;
 mod shelf;
-
 #[cfg(test)]
 mod tests;
 

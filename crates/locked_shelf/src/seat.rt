@@ -4,7 +4,7 @@ ghost use Rattle.std.specs.Prelude.{◌≡◌, ◌≤◌, ◌<◌, ◌↔◌, []
 ghost use Rattle.nogood_book.specs.Rows.{MayFollow, Sound};
 ghost use Rattle.nogood_book.specs.Places.{StartsWith};
 ghost use Rattle.nogood_book.specs.Facts.{IsPlaced};
-ghost use Rattle.locked_shelf.specs.Shelf.{facts_of, IsKept};
+ghost use Rattle.locked_shelf.specs.Shelf.{facts_of, fresh, IsKept};
 
 use graph_rows::Problem;
 use nogood_book::{Published, Row, RowSeat};
@@ -20,14 +20,14 @@ pub struct ShelfSeat<'a> {
 }
 
 impl<'a> Model for ShelfSeat<'a> {
-    ghost use Rattle.std.specs.Prelude.{◌≤◌, vec_capacity};
-    ghost use Rattle.locked_shelf.specs.Shelf.{ShelfView, IsKept};
+    ghost use Rattle.std.specs.Prelude.{vec_capacity};
+    ghost use Rattle.locked_shelf.specs.Shelf.{ShelfView, IsSeat, view_of};
 
     ghost Value = { ShelfView };
 
-    ghost view = { λ s. record { problem = s.problem.now; owner = s.owner; most = s.most; seen = s.rows.items } };
+    ghost view = { λ s. view_of s.problem.now s.owner s.most s.rows.items };
 
-    ghost invariant = { λ s. IsKept (record { problem = s.problem.now; owner = s.owner; most = s.most; seen = s.rows.items }) × (s.most ≤ vec_capacity s.rows) };
+    ghost invariant = { λ s. IsSeat (view_of s.problem.now s.owner s.most s.rows.items) (vec_capacity s.rows) };
 }
 
 impl<'a> ShelfSeat<'a> {
@@ -36,7 +36,7 @@ impl<'a> ShelfSeat<'a> {
         requires empty { room.items ≡ [] }
         requires limit { most ≤ 4194304 }
         requires room { most ≤ vec_capacity room }
-        ensures { result ≡ record { problem = problem.now; owner = owner; most = most; seen = [] } }
+        ensures { result ≡ fresh problem.now owner most }
     {
         ShelfSeat {
             problem,

@@ -3,7 +3,7 @@
 ghost use Rattle.std.specs.Prelude.{◌≡◌, ◌≤◌, [], length, IfOk};
 ghost use Rattle.nogood_book.specs.Rows.{MayFollow};
 ghost use Rattle.nogood_book.specs.Facts.{CaughtUp, IsPlaced};
-ghost use Rattle.locked_shelf.specs.Shelf.{facts_of};
+ghost use Rattle.locked_shelf.specs.Shelf.{facts_of, fresh};
 
 use crate::bundle::Bundle;
 use crate::seat::ShelfSeat;
@@ -65,7 +65,7 @@ impl<'a, R: Wait + Sync> LockedShelf<'a, R> {
 
     /// A seat of this owner, which has seen nothing yet.
     pub fn seat(&self, alloc: Global, owner: u8) -> Result<ShelfSeat<'a>, AllocError>
-        ensures { IfOk result (λ s. s ≡ record { problem = self.now.problem; owner = owner; most = self.now.size; seen = [] }) }
+        ensures { IfOk result (λ s. s ≡ fresh self.now.problem owner self.now.size) }
     {
         let room = Vec::with_capacity(alloc, self.most as usize)?;
         Ok(ShelfSeat::new(self.problem, owner, self.most, room))

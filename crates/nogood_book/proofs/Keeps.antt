@@ -1,25 +1,23 @@
 -- Each kind of step keeps the rule, and tells what it tells.
-use Rattle.std.proofs.Common.{◌≡◌, ◌≢◌, ◌⊎◌, inl, inr, ℕ, zero, suc, ◌+◌, ◌<◌, ◌≤◌, Bool, true, false, List, [], ◌∷◌, ◌++◌, length, eqb, refl, sym, ap, subst, ◌∙◌, length-append, arith}
+use Rattle.std.proofs.Common.{◌≡◌, inl, inr, ℕ, ◌+◌, ◌<◌, Bool, true, false, List, [], ◌∷◌, ◌++◌, length, refl, sym, ap, subst, ◌∙◌, arith}
 use Rattle.std.specs.Prelude.{if◌then◌else◌, ◌==◌, slice_index, slice_set}
 use mathlib.Core.Option.{none, some}
 use prog.Atomic.{either}
 use lib.ListN.{get_elem?}
-use Rattle.atomic_table.specs.Table.{State, Me, Step, step, Act, keeps, Allows, Splits, Joins, opening}
-use Rattle.atomic_table.proofs.Lists.{at_set, set_here, set_else, set_again, exchanged}
+use Rattle.atomic_table.specs.Table.{State, Me, step, keeps, Allows, Splits, Joins, opening}
+use Rattle.atomic_table.proofs.Lists.{at_set, set_else, set_again}
 use Rattle.graph_theory.specs.Embedding.{Problem}
 use Rattle.nogood_book.specs.declared.row.Row.{Row}
 use Rattle.nogood_book.specs.declared.view.View.{View}
-use Rattle.nogood_book.specs.Rows.{Sound, MayFollow, IsNarrow}
-use Rattle.nogood_book.specs.Places.{StartsWith, places}
-use Rattle.nogood_book.specs.Words.{word_of, row_of, Cells, AreZero}
-use Rattle.nogood_book.specs.Views.{Part, parts, Told, HasPart, HasNumber, Owned, AllMade, Apart, Knows, IsBook, Rule, first_view, sees, looked, added, maker, newcomer, longer, shorter, gathers, nobody}
+use Rattle.nogood_book.specs.Rows.{MayFollow}
+use Rattle.nogood_book.specs.Words.{word_of, row_of, AreZero}
+use Rattle.nogood_book.specs.Views.{Part, parts, HasPart, HasNumber, Knows, IsBook, Rule, first_view, sees, added, maker, newcomer, gathers, nobody}
 use Rattle.nogood_book.specs.Plays.{Shown, Looks, Adds, Checks}
-use Rattle.nogood_book.proofs.Lists.{starts_same, starts_length}
 use Rattle.nogood_book.proofs.Paths.{sound_snoc}
-use Rattle.nogood_book.proofs.Codes.{row_back, word_some}
+use Rattle.nogood_book.proofs.Codes.{row_back}
 use Rattle.nogood_book.proofs.Parts.{parts_live, made_has, owned_more, owned_snoc}
 use Rattle.nogood_book.proofs.NextWord.{Next, next_word, word_set, set_same}
-use Rattle.nogood_book.proofs.ViewLists.{Answers, Alone, Somewhere, SameOwners, at_within, at_snoc, alone_set, somewhere_set, alone_snoc, somewhere_snoc, alone_join, somewhere_join}
+use Rattle.nogood_book.proofs.ViewLists.{Answers, Alone, Somewhere, SameOwners, at_snoc, alone_set, somewhere_set, alone_snoc, somewhere_snoc, alone_join, somewhere_join}
 use Rattle.nogood_book.proofs.Steps.{shown_of, after_load, row_there, knows_load, knows_sees, same_load, live_load, knows_other, knows_added, same_added, knows_made, knows_maker, same_maker, knows_newcomer, starts_longer, knows_gathers, knows_nobody, takes_gathers}
 
 -- ---- the rule at the start

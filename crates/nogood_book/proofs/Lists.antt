@@ -1,5 +1,5 @@
 -- Lists by place, and the places of an owner's rows as rows follow.
-use Rattle.std.proofs.Common.{◌≢◌, eqb, eq-eqb, ne_eqb, ◌⊎◌, inl, inr, append-nil as append_nil, ◌≡◌, ℕ, zero, suc, ◌+◌, ◌<◌, ◌≤◌, Bool, true, false, List, [], ◌∷◌, ◌++◌, length, refl, sym, ap, subst, ◌∙◌, append_assoc, length-append, arith}
+use Rattle.std.proofs.Common.{◌≢◌, eq-eqb, ne_eqb, ◌⊎◌, inl, inr, append-nil as append_nil, ◌≡◌, ℕ, zero, suc, ◌+◌, ◌<◌, ◌≤◌, Bool, true, false, List, [], ◌∷◌, ◌++◌, length, refl, sym, ap, subst, ◌∙◌, append_assoc, length-append, arith}
 use Rattle.std.specs.Prelude.{Some, slice_get, ◌==◌}
 use Rattle.std.specs.List.{All}
 use Rattle.nogood_book.specs.declared.row.Row.{Row}

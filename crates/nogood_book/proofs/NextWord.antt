@@ -1,9 +1,9 @@
 -- What the word behind the rows that were seen is: unused, or the next row's.
-use Rattle.std.proofs.Common.{◌≡◌, ◌⊎◌, inl, inr, ℕ, zero, suc, ◌+◌, ◌<◌, ◌≤◌, List, [], ◌∷◌, ◌++◌, length, refl, sym, ap, subst, ◌∙◌, append_assoc, append-nil as append_nil, length-append, arith}
+use Rattle.std.proofs.Common.{◌≡◌, ◌⊎◌, inl, inr, ℕ, zero, suc, ◌+◌, ◌<◌, List, [], ◌∷◌, ◌++◌, length, refl, sym, ap, subst, ◌∙◌, append_assoc, append-nil as append_nil, arith}
 use Rattle.std.specs.Prelude.{slice_index, slice_set}
 use Rattle.nogood_book.specs.declared.row.Row.{Row}
 use Rattle.nogood_book.specs.Places.{StartsWith}
-use Rattle.nogood_book.specs.Words.{word_of, AreZero, Cells}
+use Rattle.nogood_book.specs.Words.{word_of, Cells}
 
 -- the word is 0 and all rows were seen, or it is the word of the row that comes next
 abbrev pub Next : List Row → List Row → ℕ → Type 0

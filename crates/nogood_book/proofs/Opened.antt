@@ -1,7 +1,9 @@
 -- What is so of a book and a seat of it is so of their fields.
-use Rattle.std.proofs.Common.{true, false, ◌≡◌, ℕ, zero, suc, ◌+◌, ◌<◌, ◌≤◌, List, [], ◌∷◌, length, sym, ap, subst, ◌∙◌, replicate, refl, arith}
+use Rattle.std.proofs.Common.{true, ◌≡◌, ℕ, zero, suc, ◌+◌, ◌<◌, ◌≤◌, [], ◌∷◌, length, sym, ap, subst, ◌∙◌, replicate, refl, arith}
 use Rattle.atomic_table.specs.Table.{Me}
 use Rattle.atomic_table.specs.Seated.{TableId}
+use Rattle.std.specs.Prelude.{Vec, vec_capacity}
+use Rattle.std.specs.Global.{Global}
 use Rattle.graph_theory.specs.Embedding.{Problem}
 use Rattle.nogood_book.specs.declared.row.Row.{Row}
 use Rattle.nogood_book.specs.declared.view.View.{View}
@@ -37,11 +39,11 @@ pub one_more_zero : (n : ℕ) → replicate {A = ℕ} (n + 1) 0 ≡ 0 ∷ replic
 one_more_zero n = let e : n + 1 ≡ suc n = omega arith in let z : ℕ = 0 in ap (λ (k : ℕ). replicate k z) e
 
 -- what the seat keeps once it has made an owner
-pub seat_maker : (table table' : TableId) (me me' : Me ℕ View) (rows : List Row) (capacity most owner o : ℕ) → table' ≡ table → me' ≡ (maker o me.0, me.1)
-    → IsSeat table me rows capacity most owner → IsSeat table' me' rows capacity most owner
-seat_maker table table' me me' rows capacity most owner o e f h =
-    let P : TableId → Type 0 = λ z. IsSeat z me' rows capacity most owner in
-    let Q : Me ℕ View → Type 0 = λ z. IsSeat table z rows capacity most owner in
+pub seat_maker : (table table' : TableId) (me me' : Me ℕ View) (rows : Vec Row Global) (most owner o : ℕ) → table' ≡ table → me' ≡ (maker o me.0, me.1)
+    → IsSeat table me rows most owner → IsSeat table' me' rows most owner
+seat_maker table table' me me' rows most owner o e f h =
+    let P : TableId → Type 0 = λ z. IsSeat z me' rows most owner in
+    let Q : Me ℕ View → Type 0 = λ z. IsSeat table z rows most owner in
     subst P (sym e) (subst Q (sym f) (record {
       rows_are = h.rows_are;
       no_slots = h.no_slots;
@@ -55,11 +57,11 @@ seat_maker table table' me me' rows capacity most owner o e f h =
     }))
 
 -- and what the new seat keeps
-pub seat_newcomer : (table table' : TableId) (v : View) (me' : Me ℕ View) (rows : List Row) (capacity most o : ℕ) → table' ≡ table → me' ≡ (newcomer o v, []) → rows ≡ v.seen → most ≤ capacity
-    → table.words ≡ most + 1 → most ≤ 4194304 → length v.seen ≤ most → v.first ≡ true → (HasNumber o v.made → ⊥) → Shown v → IsSeat table' me' rows capacity most o
-seat_newcomer table table' v me' rows capacity most o e f rows_are room words limit few first new_ shown =
-    let P : TableId → Type 0 = λ z. IsSeat z me' rows capacity most o in
-    let Q : Me ℕ View → Type 0 = λ z. IsSeat table z rows capacity most o in
+pub seat_newcomer : (table table' : TableId) (v : View) (me' : Me ℕ View) (rows : Vec Row Global) (most o : ℕ) → table' ≡ table → me' ≡ (newcomer o v, []) → rows.items ≡ v.seen → most ≤ vec_capacity rows
+    → table.words ≡ most + 1 → most ≤ 4194304 → length v.seen ≤ most → v.first ≡ true → (HasNumber o v.made → ⊥) → Shown v → IsSeat table' me' rows most o
+seat_newcomer table table' v me' rows most o e f rows_are room words limit few first new_ shown =
+    let P : TableId → Type 0 = λ z. IsSeat z me' rows most o in
+    let Q : Me ℕ View → Type 0 = λ z. IsSeat table z rows most o in
     subst P (sym e) (subst Q (sym f) (record {
       rows_are = rows_are;
       no_slots = refl;

@@ -1,19 +1,19 @@
 -- What a view knows after each kind of step.
-use Rattle.std.proofs.Common.{◌≡◌, ◌⊎◌, inl, inr, ℕ, zero, suc, ◌+◌, ◌<◌, ◌≤◌, Bool, true, false, List, [], ◌∷◌, ◌++◌, length, refl, sym, ap, subst, ◌∙◌, append_assoc, append-nil as append_nil, length-append, arith}
+use Rattle.std.proofs.Common.{◌≡◌, inl, inr, ℕ, ◌≤◌, Bool, true, false, List, [], ◌∷◌, ◌++◌, length, refl, sym, ap, subst, ◌∙◌, append_assoc, append-nil as append_nil, arith}
 use Rattle.std.specs.Prelude.{if◌then◌else◌, ◌==◌, nat_le}
 use Rattle.std.proofs.lemmas.Bool.{leb-true, leb-false}
 use Rattle.graph_theory.specs.Embedding.{Problem}
 use Rattle.nogood_book.specs.declared.row.Row.{Row}
 use Rattle.nogood_book.specs.declared.view.View.{View}
-use Rattle.nogood_book.specs.Rows.{Sound, MayFollow, IsNarrow}
-use Rattle.nogood_book.specs.Places.{StartsWith, places}
+use Rattle.nogood_book.specs.Rows.{Sound}
+use Rattle.nogood_book.specs.Places.{StartsWith}
 use Rattle.nogood_book.specs.Words.{word_of, row_of}
-use Rattle.nogood_book.specs.Views.{Part, parts, Told, HasPart, HasNumber, Owned, AllMade, Apart, Knows, sees, looked, added, maker, newcomer, longer, shorter, gathers, nobody, no_problem}
+use Rattle.nogood_book.specs.Views.{Part, parts, Told, HasPart, HasNumber, Owned, AllMade, Apart, Knows, sees, looked, added, maker, newcomer, longer, shorter, gathers, nobody}
 use Rattle.nogood_book.specs.Plays.{Shown}
-use Rattle.nogood_book.proofs.Lists.{starts_same, starts_on, starts_more, starts_length}
+use Rattle.nogood_book.proofs.Lists.{starts_same, starts_more}
 use Rattle.nogood_book.proofs.Paths.{sound_front, sound_next}
 use Rattle.nogood_book.proofs.Codes.{row_back, word_some}
-use Rattle.nogood_book.proofs.Parts.{parts_live, told_mid, told_other, told_own, told_append, part_either, part_left, part_right, made_append, made_more, made_has, apart_append, owned_more, owned_snoc, owned_front, none_of_owner}
+use Rattle.nogood_book.proofs.Parts.{parts_live, told_mid, told_other, told_own, told_append, part_either, part_left, part_right, made_append, made_more, apart_append, owned_more, owned_front, none_of_owner}
 use Rattle.nogood_book.proofs.NextWord.{Next}
 use Rattle.nogood_book.proofs.ViewLists.{SameOwners, TakesIn}
 

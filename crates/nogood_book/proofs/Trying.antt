@@ -1,17 +1,17 @@
 -- What a seat knows while it tries: rows of others have come into sight. And what it knows once it has found an unused word, written
 -- its row, or seen all.
-use Rattle.std.proofs.Common.{◌≡◌, ◌⊎◌, inl, inr, ℕ, ◌+◌, ◌-◌, ◌<◌, ◌≤◌, Bool, false, List, [], ◌∷◌, ◌++◌, length, sym, ap, subst, ◌∙◌, refl, length-append, arith}
-use Rattle.std.specs.Prelude.{Option, Some, slice_get}
+use Rattle.std.proofs.Common.{◌≡◌, ℕ, ◌+◌, ◌-◌, ◌<◌, false, List, [], ◌∷◌, ◌++◌, length, sym, ap, subst, ◌∙◌, length-append, arith}
+use Rattle.std.specs.Prelude.{Some, slice_get}
 use Rattle.nogood_book.specs.declared.row.Row.{Row}
 use Rattle.nogood_book.specs.declared.view.View.{View}
 use Rattle.graph_theory.specs.Embedding.{Problem}
 use Rattle.nogood_book.specs.Rows.{MayFollow}
 use Rattle.nogood_book.specs.Places.{StartsWith, places}
-use Rattle.nogood_book.specs.Facts.{Grew, CaughtUp, StandsAt, IsFull}
-use Rattle.nogood_book.specs.Views.{Part, parts, Told, sees, looked, added}
+use Rattle.nogood_book.specs.Facts.{Grew, StandsAt}
+use Rattle.nogood_book.specs.Views.{Part, Told, added}
 use Rattle.nogood_book.specs.Plays.{Shown}
-use Rattle.nogood_book.specs.Seats.{SeatName, IsSeatWith, IsHonest, IsAfterLook, seeing, facts_of}
-use Rattle.nogood_book.proofs.Lists.{starts_same, starts_on, starts_length, get_seam}
+use Rattle.nogood_book.specs.Seats.{SeatName, IsSeatWith, seeing, facts_of}
+use Rattle.nogood_book.proofs.Lists.{starts_on, starts_length, get_seam}
 use Rattle.nogood_book.proofs.Paths.{follow_more}
 use Rattle.nogood_book.proofs.Parts.{parts_live}
 

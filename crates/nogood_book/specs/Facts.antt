@@ -5,7 +5,7 @@ use Rattle.graph_theory.specs.Embedding.{Problem}
 use Rattle.nogood_book.specs.declared.row.Row.{Row}
 use Rattle.nogood_book.specs.declared.row.Published.{Published}
 use Rattle.nogood_book.specs.declared.row.Published.TheVariants.{At, Full}
-use Rattle.nogood_book.specs.Rows.{Sound}
+use Rattle.nogood_book.specs.Rows.{Sound, MayFollow}
 use Rattle.nogood_book.specs.Places.{StartsWith, places}
 
 -- A seat shows the problem that its rows are about, who writes rows there, how many rows its book has room for, the rows that it has
@@ -16,6 +16,10 @@ pub record Facts : Type 0 where
   pub size : ℕ
   pub seen : List Row
   pub looks : Option (List ℕ)
+
+-- The row may be written behind what the seat has seen.
+abbrev pub MayWrite : Facts → Row → Type 0
+MayWrite s row = MayFollow s.problem s.seen row
 
 -- The same seat has seen no less, and what it has seen is sound.
 pub record Grew (s t : Facts) : Type 0 where

@@ -1,6 +1,6 @@
 -- What each step on a word of a book tells the seat that makes it.
 
-use Rattle.std.specs.Prelude.{◌≡◌, ℕ, ◌≤◌, ◌==◌, true, if◌then◌else◌, List, [], ◌∷◌, ◌++◌, length}
+use Rattle.std.specs.Prelude.{◌≡◌, ℕ, ◌≤◌, ◌==◌, true, if◌then◌else◌, length}
 use Rattle.atomic_table.specs.Table.{Step, Me}
 use Rattle.nogood_book.specs.declared.view.View.{View}
 use Rattle.nogood_book.specs.Rows.{Sound}

@@ -6,7 +6,7 @@ use Rattle.std.specs.Prelude.{◌≡◌, ℕ, zero, suc, ◌+◌, ◌*◌, ◌/�
 use Rattle.nogood_book.specs.declared.row.Row.{Row}
 use Rattle.nogood_book.specs.declared.row.RowKind.{RowKind}
 use Rattle.nogood_book.specs.declared.row.RowKind.TheVariants.{Step, Nogood}
-use Rattle.nogood_book.specs.Rows.{parent_code, IsNarrow}
+use Rattle.nogood_book.specs.Rows.{parent_code}
 
 abbrev pub kind_code : RowKind → ℕ
 kind_code Step = 0

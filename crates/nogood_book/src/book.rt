@@ -1,8 +1,8 @@
 //! What a worker needs of a book: a seat that shows rows, and the two calls that bring more.
 
 ghost use Rattle.std.specs.Prelude.{◌≡◌, ◌≤◌, length};
-ghost use Rattle.nogood_book.specs.Rows.{Sound, MayFollow};
-ghost use Rattle.nogood_book.specs.Facts.{Facts, CaughtUp, IsPlaced};
+ghost use Rattle.nogood_book.specs.Rows.{Sound};
+ghost use Rattle.nogood_book.specs.Facts.{Facts, CaughtUp, IsPlaced, MayWrite};
 
 use crate::row::{Published, Row};
 
@@ -35,7 +35,7 @@ pub trait Book {
     fn publish(&self, seat: &mut Self::Seat, row: Row) -> Published
         requires of { fits self.now seat.old }
         requires owner { row.owner ≡ (Self.Seat.shows seat.old).owner }
-        requires row { MayFollow (Self.Seat.shows seat.old).problem (Self.Seat.shows seat.old).seen row }
+        requires row { MayWrite (Self.Seat.shows seat.old) row }
         ensures fits { fits self.now seat.new }
         ensures few { (Self.Seat.shows seat.new).size ≤ 4194304 }
         ensures placed { IsPlaced row (Self.Seat.shows seat.old) (Self.Seat.shows seat.new) result };

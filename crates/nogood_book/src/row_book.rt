@@ -4,13 +4,13 @@
 //! exchange with 0; where another was faster, the exchange shows the other's row, which the seat then has seen. So each try of a
 //! write ends with the row in its place or with one row more in sight.
 
-ghost use Rattle.std.specs.Prelude.{◌≡◌, ◌<◌, ◌≤◌, ◌+◌, true, length, IfOk, MatchBool, MatchResult, vec_capacity};
-ghost use Rattle.nogood_book.specs.declared.row.Row.{Row as TheRow};
+ghost use Rattle.std.specs.Prelude.{◌≡◌, ◌<◌, ◌≤◌, true, length, IfOk, OnOk, OnErr, vec_capacity};
 ghost use Rattle.nogood_book.specs.Rows.{MayFollow};
-ghost use Rattle.nogood_book.specs.Facts.{CaughtUp, IsPlaced};
+ghost use Rattle.nogood_book.specs.Facts.{CaughtUp, IsPlaced, MayWrite};
 ghost use Rattle.nogood_book.specs.Plays.{Shown};
-ghost use Rattle.nogood_book.specs.Seats.{facts_of, IsSeatOf, IsSeatWith, IsAfterLook, IsAfterWrite, Gathered};
-ghost use Rattle.nogood_book.specs.Views.{HasNumber, first_view, maker, newcomer, added, looked, sees};
+ghost use Rattle.nogood_book.specs.Seats.{facts_of, HasLooked, HasTried, IsSeatOf, IsSeatWith};
+ghost use Rattle.nogood_book.specs.Seats.{IsAfterLook, IsAfterWrite, Gathered};
+ghost use Rattle.nogood_book.specs.Views.{HasNumber, first_view, maker, newcomer};
 
 use crate::book::Book;
 use crate::row::{Published, Row};
@@ -31,14 +31,17 @@ pub struct RowBook {
 }
 
 impl Model for RowBook {
-    ghost use Rattle.std.specs.Prelude.{◌≡◌, ◌+◌, ◌≤◌};
-    ghost use Rattle.nogood_book.specs.Seats.{BookName};
+    ghost use Rattle.nogood_book.specs.Seats.{BookName, HasRows};
 
     ghost Value = { BookName };
 
-    ghost view = { λ b. record { table = b.table.shared.table_id; problem = b.table.shared.key.problem.value; size = b.rows } };
+    ghost view = { λ b. record {
+      table = b.table.shared.table_id;
+      problem = b.table.shared.key.problem.value;
+      size = b.rows;
+    } };
 
-    ghost invariant = { λ b. (b.table.shared.table_id.words ≡ b.rows + 1) × (b.table.shared.key.rows ≡ b.rows) × (b.rows ≤ 4194304) };
+    ghost invariant = { λ b. HasRows b.table.shared.table_id b.table.shared.key.rows b.rows };
 }
 
 impl RowBook {
@@ -75,8 +78,10 @@ impl RowBook {
         requires of { IsSeatOf self.now seat.old }
         requires first { seat.old.view.first ≡ true }
         requires new_ { HasNumber owner seat.old.view.made → ⊥ }
-        ensures given { IfOk result (λ s. IsSeatOf self.now s × (s.view ≡ newcomer owner seat.old.view)) }
-        ensures kept { MatchResult result (λ _. IsSeatWith seat.old seat.new (maker owner seat.old.view)) (λ _. seat.new ≡ seat.old) }
+        ensures of { IfOk result (λ s. IsSeatOf self.now s) }
+        ensures view { IfOk result (λ s. s.view ≡ newcomer owner seat.old.view) }
+        ensures made { OnOk result (IsSeatWith seat.old seat.new (maker owner seat.old.view)) }
+        ensures refused { OnErr result (seat.new ≡ seat.old) }
     {
         let mut rows = Vec::with_capacity(alloc, self.rows as usize)?;
         rows.extend_from_slice(&seat.rows)?;
@@ -91,7 +96,8 @@ impl RowBook {
         requires name { owner ≡ N.owner }
         requires rows { rows.items ≡ seat.old.view.seen }
         requires room { self.now.size ≤ vec_capacity rows }
-        ensures given { IsSeatOf self.now result × (result.view ≡ newcomer owner seat.old.view) }
+        ensures of { IsSeatOf self.now result }
+        ensures view { result.view ≡ newcomer owner seat.old.view }
         ensures kept { IsSeatWith seat.old seat.new (maker owner seat.old.view) }
     {
         let made = self.table.shared.split_seat::<Cut<N>>(&mut seat.seat);
@@ -130,7 +136,7 @@ impl RowBook {
         requires of { IsSeatOf self.now seat.old }
         requires more { length seat.old.view.seen < self.now.size }
         ensures same { IsSeatWith seat.old seat.new seat.new.view }
-        ensures told { MatchBool result ((r : TheRow) × (seat.new.view ≡ sees seat.old.view r)) (seat.new.view ≡ looked seat.old.view) }
+        ensures told { HasLooked result seat.old.view seat.new.view }
         ensures shown { Shown seat.new.view }
     {
         let next = seat.rows.len() + 1;
@@ -149,7 +155,7 @@ impl RowBook {
         requires owner { row.now.owner ≡ seat.old.view.owner }
         requires row { MayFollow seat.old.view.problem seat.old.view.seen row.now }
         ensures same { IsSeatWith seat.old seat.new seat.new.view }
-        ensures told { MatchBool result (seat.new.view ≡ added seat.old.view row.now) ((r : TheRow) × (seat.new.view ≡ sees seat.old.view r)) }
+        ensures told { HasTried row.now result seat.old.view seat.new.view }
         ensures shown { Shown seat.new.view }
     {
         let next = seat.rows.len() + 1;
@@ -190,7 +196,7 @@ impl Book for RowBook {
     fn publish(&self, seat: &mut BookSeat, row: Row) -> Published
         requires of { IsSeatOf self.now seat.old }
         requires owner { row.owner ≡ (facts_of seat.old).owner }
-        requires row { MayFollow (facts_of seat.old).problem (facts_of seat.old).seen row }
+        requires row { MayWrite (facts_of seat.old) row }
         ensures fits { IsSeatOf self.now seat.new }
         ensures few { (facts_of seat.new).size ≤ 4194304 }
         ensures placed { IsPlaced row (facts_of seat.old) (facts_of seat.new) result }

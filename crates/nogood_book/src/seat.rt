@@ -20,14 +20,13 @@ pub struct BookSeat {
 }
 
 impl Model for BookSeat {
-    ghost use Rattle.std.specs.Prelude.{vec_capacity};
     ghost use Rattle.nogood_book.specs.Seats.{SeatName, IsSeat};
 
     ghost Value = { SeatName };
 
     ghost view = { λ s. record { table = s.seat.table_id; id = s.seat.id; view = s.seat.me.0 } };
 
-    ghost invariant = { λ s. IsSeat s.seat.table_id s.seat.me s.rows.items (vec_capacity s.rows) s.most s.owner };
+    ghost invariant = { λ s. IsSeat s.seat.table_id s.seat.me s.rows s.most s.owner };
 }
 
 impl BookSeat {

@@ -1,5 +1,5 @@
 -- Rows whose beginning is the same as what was seen begin with it.
-use Rattle.std.proofs.Common.{◌≡◌, arith}
+use Rattle.std.proofs.Common.{arith}
 use Rattle.locked_shelf.proofs.Serving.{starts_by_take}
 use Rattle.locked_shelf.proofs.bundle.begins.Goals as goal
 

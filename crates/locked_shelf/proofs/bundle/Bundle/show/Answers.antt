@@ -1,5 +1,5 @@
 -- A seat that the rows do not serve stays; one that they serve has seen them all.
-use Rattle.std.proofs.Common.{◌≡◌, ◌∙◌, subst, sym, ap, refl, List}
+use Rattle.std.proofs.Common.{◌∙◌, subst, sym, ap, refl, List}
 use Rattle.nogood_book.specs.declared.row.Row.{Row}
 use Rattle.nogood_book.specs.Facts.{CaughtUp}
 use Rattle.locked_shelf.specs.Shelf.{facts_of, Held, Serves, ShelfView}

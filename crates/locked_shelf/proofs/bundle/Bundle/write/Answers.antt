@@ -1,5 +1,5 @@
 -- A row that may follow keeps the rows sound.
-use Rattle.std.proofs.Common.{◌≡◌, ap, sym, subst, ◌++◌, ◌∷◌, [], List}
+use Rattle.std.proofs.Common.{sym, subst, List}
 use Rattle.nogood_book.specs.declared.row.Row.{Row}
 use Rattle.nogood_book.specs.Rows.{Sound, MayFollow}
 use Rattle.nogood_book.proofs.Paths.{sound_snoc}

@@ -1,9 +1,7 @@
 -- A row of the seat's own stands behind what it had seen.
-use Rattle.std.proofs.Common.{◌≡◌, ◌∙◌, subst, sym, ap, refl, ℕ, ◌<◌, List, length, arith}
-use Rattle.nogood_book.specs.declared.row.Row.{Row}
+use Rattle.std.proofs.Common.{subst, sym, refl, ◌<◌, length, arith}
 use Rattle.nogood_book.specs.Rows.{MayFollow}
-use Rattle.nogood_book.specs.Facts.{StandsAt}
-use Rattle.locked_shelf.specs.Shelf.{facts_of, ShelfView}
+use Rattle.locked_shelf.specs.Shelf.{ShelfView}
 use Rattle.locked_shelf.proofs.Serving.{placed_at, kept_add}
 use Rattle.locked_shelf.proofs.seat.ShelfSeat.write.Goals as goal
 
@@ -17,4 +15,4 @@ invariant_of-self c =
 pub returns-clause-placed : goal.returns-clause-placed
 returns-clause-placed c =
     placed_at c.args.self.now _ c.args.row c.len-at.result c.push_reserved.new.self.items c.self.view_is c.self.invariant.0 c.requires.owner (c.if-not-has_room.ensures.0 refl) c.requires.row
-        (omega (arith, c.len-at.ensures, c.self.inside.rows.ok)) c.push_reserved.ensures.items
+    (omega (arith, c.len-at.ensures, c.self.inside.rows.ok)) c.push_reserved.ensures.items

@@ -1,6 +1,5 @@
 -- An exchange of the next word keeps the rule, and tells whose row is there.
-use Rattle.std.proofs.Common.{◌≡◌, ◌<◌, ◌+◌, length, ap, ◌∙◌, subst, sym, arith}
-use Rattle.nogood_book.specs.Rows.{MayFollow}
+use Rattle.std.proofs.Common.{◌≡◌, ◌<◌, ◌+◌, length, ap, ◌∙◌, sym, arith}
 use Rattle.nogood_book.specs.Seats.{SeatName}
 use Rattle.nogood_book.proofs.Keeps.{adds}
 use Rattle.nogood_book.proofs.Opened.{of_inside, more_inside, may_inside}

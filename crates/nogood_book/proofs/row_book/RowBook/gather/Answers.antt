@@ -1,8 +1,7 @@
 -- A join keeps the rule; a load after it tells that the shorter list begins the longer.
-use Rattle.std.proofs.Common.{ℕ, ◌≡◌, ◌<◌, ◌+◌, length, ap, ◌∙◌, subst, sym, arith}
+use Rattle.std.proofs.Common.{ℕ, ap, ◌∙◌, arith}
 use Rattle.atomic_table.specs.Table.{Me}
 use Rattle.nogood_book.specs.declared.view.View.{View}
-use Rattle.nogood_book.specs.Seats.{SeatName}
 use Rattle.nogood_book.proofs.Keeps.{joins, checks}
 use Rattle.nogood_book.proofs.Opened.{of_inside}
 use Rattle.nogood_book.proofs.row_book.RowBook.gather.Goals as goal

@@ -1,5 +1,5 @@
 -- A load of the next word keeps the rule, and tells what it found.
-use Rattle.std.proofs.Common.{◌≡◌, ◌<◌, ◌+◌, length, ap, ◌∙◌, arith}
+use Rattle.std.proofs.Common.{◌≡◌, ◌<◌, ◌+◌, length, ap, arith}
 use Rattle.nogood_book.proofs.Keeps.{looks}
 use Rattle.nogood_book.proofs.Opened.{of_inside, more_inside}
 use Rattle.nogood_book.proofs.row_book.RowBook.look.Goals as goal

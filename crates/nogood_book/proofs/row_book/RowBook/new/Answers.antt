@@ -1,5 +1,5 @@
 -- A book with no row written keeps the rule.
-use Rattle.std.proofs.Common.{◌≡◌, ◌<◌, ◌+◌, length, ap, ◌∙◌, subst, sym, replicate, refl, arith}
+use Rattle.std.proofs.Common.{◌∙◌, replicate}
 use Rattle.std.proofs.lemmas.List.{length-replicate}
 use Rattle.nogood_book.proofs.Keeps.{opens}
 use Rattle.nogood_book.proofs.Opened.{zeros, one_more_zero}

@@ -1,5 +1,5 @@
 -- What might follow may follow behind rows of others, and the row that was written stands where it was tried.
-use Rattle.std.proofs.Common.{◌≡◌, ◌+◌, ◌<◌, ap, ◌∙◌, sym, arith}
+use Rattle.std.proofs.Common.{ap, ◌∙◌, sym, arith}
 use Rattle.atomic_table.specs.Seated.{TableId}
 use Rattle.nogood_book.specs.Seats.{BookName}
 use Rattle.nogood_book.proofs.Trying.{may_still, placed_by_add}
