@@ -30,6 +30,15 @@ impl Model for Mark {
     ghost inverse = { λ n. record { length = n } };
 }
 
+impl Mark {
+    /// Whether less had been removed at this mark than at the other. Cost: one step.
+    pub fn is_before(self, other: Mark) -> bool
+        ensures { result ≡ nat_lt self other }
+    {
+        self.length < other.length
+    }
+}
+
 /// A domain for each vertex. All domains are full at first.
 ///
 /// Row `p` is the words from `p * words` on of `rows`; `sizes[p]` is how many bits it has set. Where that is one bit, `singles[p]`

@@ -192,6 +192,14 @@ none_taken q old new before after e is k (inr (here, notes)) =
     let n = narrows_unused q old new e is k in
     (n, none_narrowed q old new n (none_in_empty q new e.0 is.vertex_in notes.0))
 
+-- where a value was taken and none is left, the domain is empty
+pub emptied_taken : (old new : State) (before after : List Bool) (r u : ℕ) → NotesTaken false old before new after r u → (t : ℕ) → in_domain new r t ≡ true → ⊥
+emptied_taken old new before after r u (inl (told, same, flags)) = absurd (clash told)
+  where
+    clash : false ≡ true → ⊥
+    clash h = cc
+emptied_taken old new before after r u (inr (here, notes)) = notes.0
+
 -- ---- all of them
 
 pub forces_none : (q : Problem) (old mid new : State) (before between : List Bool) → Shrinks q old before mid between → Narrows q mid new × NoneInside q (in_domain mid)

@@ -11,5 +11,6 @@ pub mod root;
 pub mod search;
 #[cfg(test)]
 mod tests;
+mod untold;
 mod value_choice;
 pub mod worker;

@@ -15,11 +15,12 @@ ghost use Rattle.restart_search.specs.Acting.{Acting, WereActedOn};
 ghost use Rattle.propagation.specs.Learning.{HasLearned, LastFrom};
 ghost use Rattle.restart_search.specs.Searching.{AtRest, Based, Sound, Ends, LastAfter, FoundOf, IsBest, IsNow, IsUndecided};
 
+use crate::untold::{propagate, propagate_again};
 use crate::value_choice::ValueChoice;
 use domain_bits::{Domains, Mark, Trail, and_not_into};
 use fail_account::Account;
 use graph_rows::Problem;
-use propagation::{Filters, lower, propagate, propagate_again};
+use propagation::{Filters, lower};
 use sparse_set::SparseSet;
 use std::alloc::Global;
 
