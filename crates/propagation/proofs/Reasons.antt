@@ -6,7 +6,6 @@ use Rattle.std.proofs.lemmas.List.{append-nil}
 use Rattle.graph_theory.specs.Graph.{size}
 use Rattle.graph_theory.specs.Embedding.{Problem}
 use Rattle.search_theory.specs.Claims.{Single}
-use Rattle.search_theory.specs.Consistency.{IsFirstValue}
 use Rattle.domain_bits.specs.BitRows.{has}
 use Rattle.domain_bits.specs.Counting.{count, members}
 use Rattle.domain_bits.specs.Changes as changes
@@ -29,7 +28,7 @@ use Rattle.nogood_watch.proofs.Visits.{partner_half, partner_in}
 use Rattle.propagation.specs.declared.change.Cause.TheVariants as cause
 use Rattle.propagation.specs.Propagation.{IsOf, Sweeps}
 use Rattle.propagation.specs.Recording.{Change, LeftOne, LeftOthers, CountedSet, members_of, KeepsShort}
-use Rattle.propagation.specs.Telling.{HasAtMost, NamesUnit, IsForbidden, AreForbidden, AreDistinct, HaveOnly, Leaves, IsDecided, IsShown}
+use Rattle.propagation.specs.Telling.{HasFirst, HasAtMost, NamesUnit, IsForbidden, AreForbidden, AreDistinct, HaveOnly, Leaves, IsDecided, IsShown}
 use Rattle.propagation.proofs.Visits.{gone_kept}
 
 -- ---- one domain
@@ -72,7 +71,7 @@ leaves_forced q s old new r u name from r_in k forbidden is = record {
 
 -- what is not in the first domain
 pub leaves_first : (q : Problem) (s : Option watched.State) (old new : State) (p from : ℕ) (row : List ℕ) → IsOf q old → p < old.vertices → changes.Keeps old new p (has row)
-    → ((t : ℕ) → IsFirstValue q p t → t < size q.target → has row t ≡ true) → from ≡ length old.removed → Leaves q s old new (LeftOne p cause.First from)
+    → HasFirst q p row → from ≡ length old.removed → Leaves q s old new (LeftOne p cause.First from)
 leaves_first q s old new p from row of p_in k complete is = record {
   vertices_same = k.shrinks.vertices_same;
   values_same = k.shrinks.values_same;

@@ -4,6 +4,7 @@ use Rattle.std.specs.Prelude.{◌≡◌, ℕ, ◌<◌, ◌≤◌, true, false, �
 use Rattle.graph_theory.specs.Graph.{size}
 use Rattle.graph_theory.specs.Embedding.{Problem}
 use Rattle.search_theory.specs.Consistency.{IsFirstValue, AreConsistent}
+use Rattle.domain_bits.specs.BitRows.{has}
 use Rattle.domain_bits.specs.Removals.{State, in_domain, full, undone}
 use Rattle.all_different.specs.Prefixes.{Short}
 use Rattle.all_different.specs.Pruning.{among}
@@ -19,6 +20,10 @@ use Rattle.propagation.specs.Recording.{Change, LeftOne, LeftOthers, from_of, Co
 -- No value but t is left for p.
 abbrev pub HasAtMost : State → ℕ → ℕ → Type 0
 HasAtMost d p t = (u : ℕ) → in_domain d p u ≡ true → u ≡ t
+
+-- The row has each value of the first domain of p.
+abbrev pub HasFirst : Problem → ℕ → List ℕ → Type 0
+HasFirst q p row = (t : ℕ) → IsFirstValue q p t → t < size q.target → has row t ≡ true
 
 -- ---- nogoods by name
 

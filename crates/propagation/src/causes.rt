@@ -60,7 +60,8 @@ impl Causes {
 
     /// The changes, unless memory was refused. Cost: one step.
     pub fn kept(&self) -> Option<KeptChanges<'_>>
-        ensures some { IfSome result (λ k. self.now.changes ≡ Some (changes_of k.numbers.now k.entries.now)) }
+        ensures some { IfSome result (λ k. self.now.changes ≡ Some
+            (changes_of k.numbers.now k.entries.now)) }
         ensures short { IfSome result (λ k. self.now.short ≡ set_at k.numbers.now k.short) }
         ensures none { IfNone result (self.now.changes ≡ None) }
     {

@@ -73,7 +73,8 @@ fn note_decided<T: Trail>(d: &Domains<T>, waiting: &mut [bool], p: u16) -> bool
 fn note_all_decided<T: Trail>(d: &Domains<T>, waiting: &mut [bool]) -> Result<(), Failure>
     requires long { length waiting.old ≡ d.now.vertices }
     ensures notes { Notes (is_ok result) d.now waiting.old waiting.new }
-    ensures none { (q : Problem) → d.now.vertices ≡ size q.pattern → IfErr result (IsEmptied q d.now) }
+    ensures none { (q : Problem) → d.now.vertices ≡ size q.pattern
+        → IfErr result (IsEmptied q d.now) }
 {
     for p in 0..d.vertices() {
         if !note_decided(d, waiting, p) {
@@ -99,7 +100,8 @@ pub(crate) fn prune_noting<T: Trail, R: Recorder>(
     requires quiet { Quiet problem.now (in_domain d.old) }
     requires long { length waiting.old ≡ size problem.now.pattern }
     ensures pruned { PrunesFor result problem.now d.old d.new waiting.new }
-    ensures fails { (s : Option watched.State) → IfErr result (Fails problem.now s d.new (R.changes told.new) (R.short told.new)) }
+    ensures fails { (s : Option watched.State)
+        → IfErr result (Fails problem.now s d.new (R.changes told.new) (R.short told.new)) }
     ensures told { TellsOn problem.now d.old (R.changes told.old) d.new (R.changes told.new) }
     ensures is_for { IsFor problem.now scratch.new }
     ensures bounded { length d.new.removed ≤ d.new.vertices * d.new.values }

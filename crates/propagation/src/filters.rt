@@ -82,10 +82,12 @@ impl<'a> Filters<'a> {
         requires is_of { IsOf self.now.problem d.old }
         requires long { length waiting.old ≡ size self.now.problem.pattern }
         requires bounded { length d.old.removed ≤ d.old.vertices * d.old.values }
-        ensures forces { Forces (is_ok result) self.now.problem d.old waiting.old d.new waiting.new }
+        ensures forces { Forces (is_ok result) self.now.problem d.old waiting.old
+            d.new waiting.new }
         ensures none { IfErr result (IsEmptied self.now.problem d.new) }
         ensures out { UnitsOutAfter (is_ok result) d.new self.now.nogoods }
-        ensures told { Tells self.now.problem self.now.nogoods d.old (R.changes told.old) → Tells self.now.problem self.now.nogoods d.new (R.changes told.new) }
+        ensures told { Tells self.now.problem self.now.nogoods d.old (R.changes told.old)
+            → Tells self.now.problem self.now.nogoods d.new (R.changes told.new) }
         ensures kept { AreKept self.now.problem self.now.nogoods }
     {
         match &self.nogoods {

@@ -145,11 +145,14 @@ impl Nogoods {
         requires single { Single (in_domain d.old) p t }
         requires bounded { length d.old.removed ≤ d.old.vertices * d.old.values }
         ensures nogoods { AreNogoods rows.now.problem self.new }
-        ensures forces { Forces (is_ok result) rows.now.problem d.old waiting.old d.new waiting.new }
-        ensures fails { IfErr result (Fails rows.now.problem (Some self.new) d.new (R.changes told.new) (R.short told.new)) }
+        ensures forces { Forces (is_ok result) rows.now.problem d.old waiting.old
+            d.new waiting.new }
+        ensures fails { IfErr result (Fails rows.now.problem (Some self.new) d.new
+            (R.changes told.new) (R.short told.new)) }
         ensures wait { WaitAfter (is_ok result) d.new waiting.new (Some self.new) }
         ensures moved { Move d.old self.old self.new }
-        ensures told { Tells rows.now.problem (Some self.old) d.old (R.changes told.old) → Tells rows.now.problem (Some self.new) d.new (R.changes told.new) }
+        ensures told { Tells rows.now.problem (Some self.old) d.old (R.changes told.old)
+            → Tells rows.now.problem (Some self.new) d.new (R.changes told.new) }
     {
         match self.watched.on_assign(d, p, t) {
             WatchAnswer::Quiet => Ok(()),
@@ -170,10 +173,12 @@ impl Nogoods {
         requires is_of { IsOf rows.now.problem d.old }
         requires long { length waiting.old ≡ size rows.now.problem.pattern }
         requires bounded { length d.old.removed ≤ d.old.vertices * d.old.values }
-        ensures forces { Forces (is_ok result) rows.now.problem d.old waiting.old d.new waiting.new }
+        ensures forces { Forces (is_ok result) rows.now.problem d.old waiting.old
+            d.new waiting.new }
         ensures none { IfErr result (IsEmptied rows.now.problem d.new) }
         ensures out { OutAfter (is_ok result) d.new self.now.units }
-        ensures told { Tells rows.now.problem (Some self.now) d.old (R.changes told.old) → Tells rows.now.problem (Some self.now) d.new (R.changes told.new) }
+        ensures told { Tells rows.now.problem (Some self.now) d.old (R.changes told.old)
+            → Tells rows.now.problem (Some self.now) d.new (R.changes told.new) }
     {
         take_out(rows, self.watched.units(), d, waiting, told)
     }
@@ -195,7 +200,9 @@ fn take_out<T: Trail, R: Recorder>(
     ensures forces { Forces (is_ok result) rows.now.problem d.old waiting.old d.new waiting.new }
     ensures none { IfErr result (IsEmptied rows.now.problem d.new) }
     ensures out { OutAfter (is_ok result) d.new pairs.now }
-    ensures told { (s : Option watched.State) → AreForbidden s d.old pairs.now → Tells rows.now.problem s d.old (R.changes told.old) → Tells rows.now.problem s d.new (R.changes told.new) }
+    ensures told { (s : Option watched.State) → AreForbidden s d.old pairs.now
+        → Tells rows.now.problem s d.old (R.changes told.old)
+        → Tells rows.now.problem s d.new (R.changes told.new) }
 {
     for k in 0..pairs.len() {
         let (r, u, name) = pairs[k];

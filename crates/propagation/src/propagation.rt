@@ -97,7 +97,8 @@ fn settle<T: Trail, R: Recorder>(
     requires made { IsMade rows.now t }
     requires single { Single (in_domain d.old) p t }
     requires bounded { length d.old.removed ≤ d.old.vertices * d.old.values }
-    ensures settles { Settles (is_ok result) rows.now.problem d.old waiting.old d.new waiting.new p t }
+    ensures settles { Settles (is_ok result) rows.now.problem d.old waiting.old
+        d.new waiting.new p t }
     ensures none { IfErr result (IsEmptied rows.now.problem d.new) }
     ensures told { TellsOn rows.now.problem d.old (R.changes told.old) d.new (R.changes told.new) }
 {
@@ -130,10 +131,12 @@ fn force<T: Trail, R: Recorder>(
     requires bounded { length d.old.removed ≤ d.old.vertices * d.old.values }
     ensures kept { AreKept rows.now.problem nogoods.new }
     ensures forces { Forces (is_ok result) rows.now.problem d.old waiting.old d.new waiting.new }
-    ensures fails { IfErr result (Fails rows.now.problem nogoods.new d.new (R.changes told.new) (R.short told.new)) }
+    ensures fails { IfErr result (Fails rows.now.problem nogoods.new d.new (R.changes told.new)
+        (R.short told.new)) }
     ensures wait { WaitAfter (is_ok result) d.new waiting.new nogoods.new }
     ensures moved { HaveMoved d.old nogoods.old nogoods.new }
-    ensures told { Tells rows.now.problem nogoods.old d.old (R.changes told.old) → Tells rows.now.problem nogoods.new d.new (R.changes told.new) }
+    ensures told { Tells rows.now.problem nogoods.old d.old (R.changes told.old)
+        → Tells rows.now.problem nogoods.new d.new (R.changes told.new) }
 {
     match nogoods {
         None => Ok(()),
@@ -164,8 +167,10 @@ fn visit<T: Trail, R: Recorder>(
     ensures wait { WaitAfter (is_ok result) d.new waiting.new nogoods.new }
     ensures moved { HaveMoved d.old nogoods.old nogoods.new }
     ensures visited { Visited (is_ok result) rows.old.problem d.old waiting.old d.new waiting.new }
-    ensures fails { IfErr result (Fails rows.old.problem nogoods.new d.new (R.changes told.new) (R.short told.new)) }
-    ensures told { Tells rows.old.problem nogoods.old d.old (R.changes told.old) → Tells rows.old.problem nogoods.new d.new (R.changes told.new) }
+    ensures fails { IfErr result (Fails rows.old.problem nogoods.new d.new (R.changes told.new)
+        (R.short told.new)) }
+    ensures told { Tells rows.old.problem nogoods.old d.old (R.changes told.old)
+        → Tells rows.old.problem nogoods.new d.new (R.changes told.new) }
     ensures left { LeavesPast rows.old.problem d.new undecided.new }
     ensures fewer { Fewer undecided.old undecided.new }
 {
@@ -210,8 +215,10 @@ fn take_up<T: Trail, R: Recorder>(
     ensures in_force { InForceAfter (is_ok result) d.new nogoods.new }
     ensures moved { HaveMoved d.old nogoods.old nogoods.new }
     ensures taken { TakenUp (is_ok result) rows.old.problem d.old d.new }
-    ensures fails { IfErr result (Fails rows.old.problem nogoods.new d.new (R.changes told.new) (R.short told.new)) }
-    ensures told { Tells rows.old.problem nogoods.old d.old (R.changes told.old) → Tells rows.old.problem nogoods.new d.new (R.changes told.new) }
+    ensures fails { IfErr result (Fails rows.old.problem nogoods.new d.new (R.changes told.new)
+        (R.short told.new)) }
+    ensures told { Tells rows.old.problem nogoods.old d.old (R.changes told.old)
+        → Tells rows.old.problem nogoods.new d.new (R.changes told.new) }
     ensures left { LeavesPast rows.old.problem d.new undecided.new }
     ensures fewer { Fewer undecided.old undecided.new }
 {
@@ -241,10 +248,12 @@ pub fn propagate<T: Trail, R: Recorder>(
     requires wait { IfSome filters.old.nogoods (WatchesWait d.old waiting.old) }
     ensures problem { filters.new.problem ≡ q.now }
     ensures propagated { Propagates (is_ok result) q.now d.old d.new }
-    ensures fails { IfErr result (Fails q.now filters.new.nogoods d.new (R.changes told.new) (R.short told.new)) }
+    ensures fails { IfErr result (Fails q.now filters.new.nogoods d.new (R.changes told.new)
+        (R.short told.new)) }
     ensures in_force { InForceAfter (is_ok result) d.new filters.new.nogoods }
     ensures moved { HaveMoved d.old filters.old.nogoods filters.new.nogoods }
-    ensures told { Tells q.now filters.old.nogoods d.old (R.changes told.old) → Tells q.now filters.new.nogoods d.new (R.changes told.new) }
+    ensures told { Tells q.now filters.old.nogoods d.old (R.changes told.old)
+        → Tells q.now filters.new.nogoods d.new (R.changes told.new) }
     ensures left { LeavesPast q.now d.new undecided.new }
     ensures fewer { Fewer undecided.old undecided.new }
 {
@@ -281,10 +290,12 @@ pub fn propagate_again<T: Trail, R: Recorder>(
     requires quiet { Quiet q.now (in_domain d.old) }
     ensures problem { filters.new.problem ≡ q.now }
     ensures propagated { Propagates (is_ok result) q.now d.old d.new }
-    ensures fails { IfErr result (Fails q.now filters.new.nogoods d.new (R.changes told.new) (R.short told.new)) }
+    ensures fails { IfErr result (Fails q.now filters.new.nogoods d.new (R.changes told.new)
+        (R.short told.new)) }
     ensures acted { ActedAfter (is_ok result) d.new filters.new.nogoods }
     ensures moved { HaveMoved d.old filters.old.nogoods filters.new.nogoods }
-    ensures told { Tells q.now filters.old.nogoods d.old (R.changes told.old) → Tells q.now filters.new.nogoods d.new (R.changes told.new) }
+    ensures told { Tells q.now filters.old.nogoods d.old (R.changes told.old)
+        → Tells q.now filters.new.nogoods d.new (R.changes told.new) }
     ensures left { LeavesPast q.now d.new undecided.new }
     ensures fewer { Fewer undecided.old undecided.new }
 {

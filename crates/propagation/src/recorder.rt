@@ -25,13 +25,15 @@ pub trait Recorder: Drop {
     /// The values that these vertices have together, as the row holds them, left all other domains.
     fn counted(&mut self, vertices: &[u16], row: &[u64], from: Mark)
         requires { length row.now ≤ 1024 }
-        ensures { Took (changes self.old) (changes self.new) (LeftOthers vertices.now (members_of row.now) from) };
+        ensures { Took (changes self.old) (changes self.new) (LeftOthers vertices.now
+            (members_of row.now) from) };
 
     /// These vertices have fewer values together, as the row holds them, than there are of them.
     fn found_short(&mut self, vertices: &[u16], row: &[u64])
         requires { length row.now ≤ 1024 }
         ensures same { KeepsSame (changes self.old) (changes self.new) }
-        ensures kept { KeepsShort (changes self.new) (short self.new) (record { vertices = vertices.now; values = members_of row.now }) };
+        ensures kept { KeepsShort (changes self.new) (short self.new)
+            (record { vertices = vertices.now; values = members_of row.now }) };
 
     /// The domains were undone to the mark.
     fn forget_to(&mut self, mark: Mark)

@@ -12,13 +12,13 @@ ghost use Rattle.domain_bits.specs.Changes as changes;
 ghost use Rattle.domain_bits.specs.Changes.{Keeps};
 ghost use Rattle.domain_bits.specs.Removals.{State, in_domain};
 ghost use Rattle.search_theory.specs.Claims.{Single};
-ghost use Rattle.search_theory.specs.Consistency.{AreConsistent, IsFirstValue};
+ghost use Rattle.search_theory.specs.Consistency.{AreConsistent};
 ghost use Rattle.all_different.specs.Pruning.{DecidedApart, PruneSays};
 ghost use Rattle.pair_rows.specs.Rows.{IsMade};
 ghost use Rattle.nogood_watch.specs.Nogoods as watched;
 ghost use Rattle.propagation.specs.Propagation.{IsOf, IsFor, waits_at, NotesSize, NotesTaken, Sweeps, pruned_of};
 ghost use Rattle.propagation.specs.Recording.{LeftOne};
-ghost use Rattle.propagation.specs.Telling.{Leaves, Tells, TellsOn, IsForbidden, Fails};
+ghost use Rattle.propagation.specs.Telling.{HasFirst, Leaves, Tells, TellsOn, IsForbidden, Fails};
 
 use crate::change::{Cause, Failure};
 use crate::recorder::Recorder;
@@ -29,7 +29,9 @@ use pair_rows::PairRows;
 
 /// Tells that values have left by the cause since the mark, if any have. Cost: one step, and that of `took`.
 fn tell<T: Trail, R: Recorder>(d: &Domains<T>, told: &mut R, vertex: u16, cause: Cause, from: Mark)
-    ensures { (q : Problem) (s : Option watched.State) (old : State) → Leaves q s old d.now (LeftOne vertex cause from) → Tells q s old (R.changes told.old) → Tells q s d.now (R.changes told.new) }
+    ensures { (q : Problem) (s : Option watched.State) (old : State)
+        → Leaves q s old d.now (LeftOne vertex cause from) → Tells q s old (R.changes told.old)
+        → Tells q s d.now (R.changes told.new) }
 {
     if from.is_before(d.mark()) {
         told.took(vertex, cause, from);
@@ -214,7 +216,8 @@ pub(crate) fn take_forced<T: Trail, R: Recorder>(
     ensures keeps { Keeps d.old d.new r (λ v. not (v == u)) }
     ensures taken { NotesTaken result d.old waiting.old d.new waiting.new r u }
     ensures bounded { length d.new.removed ≤ d.new.vertices * d.new.values }
-    ensures told { (q : Problem) (s : Option watched.State) → r < size q.pattern → IsForbidden s d.old name r u → Tells q s d.old (R.changes told.old) → Tells q s d.new (R.changes told.new) }
+    ensures told { (q : Problem) (s : Option watched.State) → r < size q.pattern → IsForbidden s d.old name r u
+        → Tells q s d.old (R.changes told.old) → Tells q s d.new (R.changes told.new) }
 {
     let from = d.mark();
     let some = take_value(d, waiting, r, u);
@@ -237,7 +240,8 @@ pub fn narrow_first<T: Trail, R: Recorder>(
     ensures keeps { Keeps d.old d.new p (has row.now) }
     ensures notes { NotesSize result d.new waiting.old waiting.new p }
     ensures bounded { length d.new.removed ≤ d.new.vertices * d.new.values }
-    ensures told { (q : Problem) (s : Option watched.State) → IsOf q d.old → ((t : ℕ) → IsFirstValue q p t → t < size q.target → has row.now t ≡ true) → Tells q s d.old (R.changes told.old) → Tells q s d.new (R.changes told.new) }
+    ensures told { (q : Problem) (s : Option watched.State) → IsOf q d.old → HasFirst q p row.now
+        → Tells q s d.old (R.changes told.old) → Tells q s d.new (R.changes told.new) }
 {
     let from = d.mark();
     let some = narrow(d, waiting, row, p);
@@ -251,7 +255,8 @@ pub fn give<T: Trail, R: Recorder>(d: &mut Domains<T>, told: &mut R, p: u16, t: 
     requires t_in { in_domain d.old p t ≡ true }
     ensures keeps { Keeps d.old d.new p (λ u. u == t) }
     ensures single { changes.Single d.new p t }
-    ensures told { (q : Problem) (s : Option watched.State) → IsOf q d.old → Tells q s d.old (R.changes told.old) → Tells q s d.new (R.changes told.new) }
+    ensures told { (q : Problem) (s : Option watched.State) → IsOf q d.old
+        → Tells q s d.old (R.changes told.old) → Tells q s d.new (R.changes told.new) }
 {
     let from = d.mark();
     d.assign(p, t);
@@ -270,7 +275,8 @@ pub(crate) fn prune<T: Trail, R: Recorder>(
     requires is_for { IsFor q.now scratch.old }
     requires apart { DecidedApart d.old }
     ensures says { PruneSays (pruned_of result) d.old d.new }
-    ensures fails { (s : Option watched.State) → IfErr result (Fails q.now s d.new (R.changes told.new) (R.short told.new)) }
+    ensures fails { (s : Option watched.State)
+        → IfErr result (Fails q.now s d.new (R.changes told.new) (R.short told.new)) }
     ensures told { TellsOn q.now d.old (R.changes told.old) d.new (R.changes told.new) }
     ensures is_for { IsFor q.now scratch.new }
 {

@@ -31,7 +31,8 @@ pub(crate) fn put_set(
 ) -> Result<Place, AllocError>
     requires { length row.now ≤ 1024 }
     ensures adds { Adds numbers.old.items numbers.new.items }
-    ensures placed { IfOk result (IsPlaced numbers.old.items numbers.new.items vertices.now (members_of row.now)) }
+    ensures placed { IfOk result (IsPlaced numbers.old.items numbers.new.items vertices.now
+        (members_of row.now)) }
 {
     let start = numbers.len();
     numbers.extend_from_slice(vertices)?;
@@ -73,7 +74,8 @@ fn left_before(what: What, numbers: usize) -> usize
 pub(crate) fn cut_entries(entries: &mut Vec<Entry>, numbers: &mut Vec<u16>, mark: Mark)
     requires laid { AreLaid entries.old.items numbers.old.items }
     ensures laid { AreLaid entries.new.items numbers.new.items }
-    ensures cut { changes_of numbers.new.items entries.new.items ≡ cut mark (changes_of numbers.old.items entries.old.items) }
+    ensures cut { changes_of numbers.new.items entries.new.items ≡ cut mark
+        (changes_of numbers.old.items entries.old.items) }
 {
     while let Some(entry) = last_since(entries, mark) {
         entries.truncate(entries.len() - 1);
