@@ -62,7 +62,8 @@ none_whole q d s name are w m e h = nogood.dead m e (extends_by_place xs m each)
       assigned_in q d m (literal xs k) h (nogood.literals.vertex k k_in) (w.all k k_in),
     )
 
-half_in : (x n m : ℕ) → n ≡ 2 * m → x < n → x / 2 < m
+-- the nogood of a watch
+pub half_in : (x n m : ℕ) → n ≡ 2 * m → x < n → x / 2 < m
 half_in x n m is x_in = omega arith
 
 -- a pair that follows is unused

@@ -30,6 +30,7 @@ use Rattle.propagation.specs.Propagation.{IsOf, Sweeps}
 use Rattle.propagation.specs.Recording.{Change, LeftOne, LeftOthers, CountedSet, members_of, KeepsShort}
 use Rattle.propagation.specs.Telling.{HasFirst, HasAtMost, NamesUnit, IsForbidden, AreForbidden, AreDistinct, HaveOnly, Leaves, IsDecided, IsShown}
 use Rattle.propagation.proofs.Visits.{gone_kept}
+use Rattle.propagation.proofs.Forcing.{half_in}
 
 -- ---- one domain
 
@@ -189,6 +190,14 @@ distinct_counted (x ∷ xs) n h = by (distinct_counted xs n) (among xs x) refl
     by rest true there = absurd (omega (arith, h, count_same (among (x ∷ xs)) (among xs) n (λ i i_in. same there i), few_among xs n))
     by rest false off = (refl, rest (omega (arith, h, count_either (λ i. eqb x i) (among xs) n, count_equal x n)))
 
+-- what a row holds is one of its bits
+held_in : (row : List ℕ) (t : ℕ) → has row t ≡ true → t < 64 * length row
+held_in row t h = by (cases_lt t (64 * length row))
+  where
+    by : (t < 64 * length row) ⊎ (64 * length row ≤ t) → t < 64 * length row
+    by (inl lt) = lt
+    by (inr le) = absurd (true≢false (sym h ∙ has_past row t le))
+
 -- the vertices of a shown set have no other values than the row, which are no more than the union has
 pub shown_only : (q : Problem) (d : State) (n : ℕ) (set row : List ℕ) → IsOf q d → n ≤ d.vertices → Shows d n set row → HaveOnly q d set (members_of row)
 shown_only q d n set row of within shows = record {
@@ -198,18 +207,11 @@ shown_only q d n set row of within shows = record {
   within = λ p t here there.
       let prefix = sym (shows.vertices p) ∙ here in
       let held = shows.values t ∙ union_has d n p t (prefix_in p prefix) prefix there in
-      among_passing (has row) (64 * length row) t held (held_within t held);
+      among_passing (has row) (64 * length row) t held (held_in row t held);
 }
   where
     prefix_in : (p : ℕ) → in_prefix d n p ≡ true → p < d.vertices
     prefix_in p h = ltb-true p d.vertices (and_parts (ltb p d.vertices) (ltb (rank (size_of d) d.vertices p) n) h).0
-
-    held_within : (t : ℕ) → has row t ≡ true → t < 64 * length row
-    held_within t h = by (cases_lt t (64 * length row))
-      where
-        by : (t < 64 * length row) ⊎ (64 * length row ≤ t) → t < 64 * length row
-        by (inl lt) = lt
-        by (inr le) = absurd (true≢false (sym h ∙ has_past row t le))
 
 shown_few : (d : State) (n : ℕ) (set row : List ℕ) → Shows d n set row → length (members_of row) ≤ union_size d n
 shown_few d n set row shows =
@@ -247,19 +249,12 @@ leaves_counted q s old new set row from of (n, none, first, shows, after) is =
         let held = shows.values t ∙ more.1 in (
           subst (λ (k : ℕ). p < k) of.vertices_is (ltb-true p old.vertices parts.0),
           shows.vertices p ∙ off (in_prefix old n p) more.0,
-          among_passing (has row) (64 * length row) t held (held_within t held),
+          among_passing (has row) (64 * length row) t held (held_in row t held),
         )
       where
         off : (b : Bool) → not b ≡ true → b ≡ false
         off true h = cc
         off false h = refl
-
-        held_within : (u : ℕ) → has row u ≡ true → u < 64 * length row
-        held_within u h = by (cases_lt u (64 * length row))
-          where
-            by : (u < 64 * length row) ⊎ (64 * length row ≤ u) → u < 64 * length row
-            by (inl lt) = lt
-            by (inr le) = absurd (true≢false (sym h ∙ has_past row u le))
 
     leaves : Leaves q s old (without_union old n) (LeftOthers set (members_of row) from)
     leaves = let f = cleared_follows old (λ r. not (in_prefix old n r)) (in_union old n) old.vertices in record {
@@ -328,9 +323,6 @@ forbidden_following d old new l e are same long f = subst (λ (ns : List watched
         subst (λ (ns : List watched.Nogood). (k : ℕ) × (k < length (nogood_of ns f.watch).literals) × (literal (nogood_of ns f.watch).literals k ≡ literal new.watches (partner f.watch))) same
         (subst (λ (i : ℕ). (k : ℕ) × (k < length (watched.nogood new.nogoods i).literals) × (literal (watched.nogood new.nogoods i).literals k ≡ literal new.watches (partner f.watch)))
         (partner_half f.watch) (are.of (partner f.watch) other_in))
-
-    half_in : (x n m : ℕ) → n ≡ 2 * m → x < n → x / 2 < m
-    half_in x n m is x_in = omega arith
 
     here : IsForbidden (Some (record new { nogoods = old.nogoods })) d e.2 e.0 e.1
     here = record {

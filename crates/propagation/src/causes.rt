@@ -34,6 +34,7 @@ impl Model for Causes {
 }
 
 /// The changes that are kept, in order, with the numbers of their sets, and the set that was found short last.
+#[derive(Clone, Copy)]
 pub struct KeptChanges<'a> {
     /// The changes.
     pub entries: &'a [Entry],
