@@ -32,8 +32,8 @@ impl Model for Mark {
 
 impl Mark {
     /// Whether less had been removed at this mark than at the other. Cost: one step.
-    pub fn is_before(self, other: Mark) -> bool
-        ensures { result ≡ nat_lt self other }
+    pub fn is_before(&self, other: Mark) -> bool
+        ensures { result ≡ nat_lt self.now other }
     {
         self.length < other.length
     }
