@@ -62,7 +62,8 @@ none_whole q d s name are w m e h = nogood.dead m e (extends_by_place xs m each)
       assigned_in q d m (literal xs k) h (nogood.literals.vertex k k_in) (w.all k k_in),
     )
 
-half_in : (x n m : ℕ) → n ≡ 2 * m → x < n → x / 2 < m
+-- the nogood of a watch
+pub half_in : (x n m : ℕ) → n ≡ 2 * m → x < n → x / 2 < m
 half_in x n m is x_in = omega arith
 
 -- a pair that follows is unused
@@ -191,6 +192,14 @@ none_taken q old new before after e is k (inl (told, same, flags)) = absurd (cla
 none_taken q old new before after e is k (inr (here, notes)) =
     let n = narrows_unused q old new e is k in
     (n, none_narrowed q old new n (none_in_empty q new e.0 is.vertex_in notes.0))
+
+-- where a value was taken and none is left, the domain is empty
+pub emptied_taken : (old new : State) (before after : List Bool) (r u : ℕ) → NotesTaken false old before new after r u → (t : ℕ) → in_domain new r t ≡ true → ⊥
+emptied_taken old new before after r u (inl (told, same, flags)) = absurd (clash told)
+  where
+    clash : false ≡ true → ⊥
+    clash h = cc
+emptied_taken old new before after r u (inr (here, notes)) = notes.0
 
 -- ---- all of them
 

@@ -10,3 +10,6 @@ pub mod Refuting
 pub mod Holding
 pub mod Acting
 pub mod Taking
+pub mod Telling
+pub mod Reasons
+pub mod Entries

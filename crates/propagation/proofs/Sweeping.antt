@@ -16,7 +16,7 @@ use Rattle.propagation.proofs.Waiting.{flag_other, flag_here, count_raised, coun
 -- ---- one domain
 
 -- a state whose trail has not grown is the same
-same_trail : (old new : State) → new.vertices ≡ old.vertices → new.values ≡ old.values → new.removed ≡ old.removed → new ≡ old
+pub same_trail : (old new : State) → new.vertices ≡ old.vertices → new.values ≡ old.values → new.removed ≡ old.removed → new ≡ old
 same_trail old new v w r = ap with_vertices v ∙ (ap with_values w ∙ ap with_removed r)
   where
     with_vertices : ℕ → State

@@ -1,7 +1,7 @@
 -- The steps of propagation, put together: one domain, all domains, one vertex that waited.
 
-use Rattle.std.proofs.Common.{◌≡◌, ℕ, zero, suc, ◌*◌, ◌<◌, ◌≤◌, ◌==◌, not, Bool, true, false, List, length, slice_set, refl, sym, ◌∙◌, subst, arith, ◌⊎◌, inl, inr}
-use Rattle.std.proofs.lemmas.Bool.{eq-eqb, ne_eqb}
+use Rattle.std.proofs.Common.{◌≡◌, ℕ, zero, suc, ◌*◌, ◌<◌, ◌≤◌, ◌==◌, ◌&&◌, not, Bool, true, false, List, length, slice_set, refl, sym, ◌∙◌, subst, arith, ◌⊎◌, inl, inr}
+use Rattle.std.proofs.lemmas.Bool.{cases_eq, eq-eqb, ne_eqb}
 use Rattle.graph_theory.specs.Graph.{size}
 use Rattle.graph_theory.specs.Embedding.{Problem}
 use Rattle.search_theory.specs.Consistency.{AreConsistent}
@@ -9,6 +9,7 @@ use Rattle.search_theory.specs.Claims.{Single}
 use Rattle.domain_bits.specs.Counting.{count}
 use Rattle.domain_bits.specs.Removals.{State, in_domain, size_of}
 use Rattle.domain_bits.specs.Changes as changes
+use Rattle.domain_bits.proofs.Sizes.{in_below}
 use Rattle.propagation.specs.Propagation.{Narrows, waits_at, work, HasTwo, Shrinks, Rests, Ready, ReadyBut, NotesSize, NotesTaken, Swept, Sweeps, Settles, Visited}
 use Rattle.propagation.proofs.Narrowing.{narrows_none, narrows_keeps, none_narrowed, none_in_empty}
 use Rattle.propagation.proofs.Waiting.{shrinks_none, ready_but_on, ready_with, ready_but_lowered, rests_with_two, count_lowered, swept_by_rest}
@@ -54,6 +55,7 @@ sweeps_decided q d waiting p t r v p_in r_in other ready down s o bounded = reco
   narrows = narrows_none q d;
   swept = swept_by_rest q d p t r p_in s.here (resting (ready.each r r_in other)) v o;
   own = λ u. refl;
+  gone = λ x u here gone. absurd (not_both (in_domain d x u) gone here);
   shrinks = λ _. shrinks_none q d waiting bounded;
 }
   where
@@ -67,6 +69,7 @@ sweeps_own q d waiting p t r same bounded = record {
   narrows = narrows_none q d;
   swept = λ u other h. absurd (other (sym same));
   own = λ u. refl;
+  gone = λ x u here gone. absurd (not_both (in_domain d x u) gone here);
   shrinks = λ _. shrinks_none q d waiting bounded;
 }
 
@@ -77,15 +80,41 @@ shrinks_same q old new before after same flags bounded =
     subst (λ (d : State). Shrinks q old before d after) (sym same)
     (subst (λ (ws : List Bool). Shrinks q old before old ws) (sym flags) (shrinks_none q old before (subst (λ (d : State). length d.removed ≤ d.vertices * d.values) same bounded)))
 
+-- what left a domain that keeps what passes was of it, and did not pass
+pub gone_kept : (old new : State) (r : ℕ) (keeps : ℕ → Bool) → changes.Keeps old new r keeps → (x u : ℕ) → in_domain old x u ≡ true → in_domain new x u ≡ false
+    → (x ≡ r) × (keeps u ≡ false)
+gone_kept old new r keeps k x u here gone = by (cases_eq x r)
+  where
+    failed : (a b : Bool) → a ≡ true → (a && b) ≡ false → b ≡ false
+    failed true b h out = out
+    failed false b h out = cc
+
+    by : (x ≡ r) ⊎ (x ≡ r → ⊥) → (x ≡ r) × (keeps u ≡ false)
+    by (inl is) = (
+      is,
+      failed (in_domain old r u) (keeps u) (subst (λ (v : ℕ). in_domain old v u ≡ true) is here)
+          (sym (k.kept u) ∙ subst (λ (v : ℕ). in_domain new v u ≡ false) is gone),
+    )
+    by (inr other) = absurd (not_both (in_domain new x u) gone (k.shrinks.others x u other ∙ here))
+
+-- so it is not consistent, where all that is passes
+gone_inconsistent : (q : Problem) (old new : State) (p t r : ℕ) (keeps : ℕ → Bool) → old.values ≡ size q.target → changes.Keeps old new r keeps
+    → ((u : ℕ) → AreConsistent q p t r u → u < size q.target → keeps u ≡ true) → (x u : ℕ) → in_domain old x u ≡ true → in_domain new x u ≡ false
+    → (x ≡ r) × (AreConsistent q p t r u → ⊥)
+gone_inconsistent q old new p t r keeps values k complete x u here gone =
+    let left = gone_kept old new r keeps k x u here gone in
+    (left.0, λ c. not_both (keeps u) left.1 (complete u c (subst (λ (n : ℕ). u < n) values (in_below old x u here))))
+
 -- a domain of which the consistent values are kept
-pub sweeps_narrowed : (answer : Bool) (q : Problem) (old new : State) (before after : List Bool) (p t r : ℕ) (keeps : ℕ → Bool) → p < size q.pattern → r < size q.pattern → (p ≡ r → ⊥)
+pub sweeps_narrowed : (answer : Bool) (q : Problem) (old new : State) (before after : List Bool) (p t r : ℕ) (keeps : ℕ → Bool) → old.values ≡ size q.target → p < size q.pattern → r < size q.pattern → (p ≡ r → ⊥)
     → r < length before → Single (in_domain old) p t → changes.Keeps old new r keeps → NotesSize answer new before after r → length new.removed ≤ new.vertices * new.values
     → ((u : ℕ) → keeps u ≡ true → AreConsistent q p t r u) → ((u : ℕ) → AreConsistent q p t r u → u < size q.target → keeps u ≡ true)
     → (waits_at before r ≡ true) ⊎ ((u : ℕ) → Single (in_domain old) r u → ⊥) → Sweeps answer q old before new after p t r
-sweeps_narrowed answer q old new before after p t r keeps p_in r_in other flag s k notes bounded right complete undecided = record {
+sweeps_narrowed answer q old new before after p t r keeps values p_in r_in other flag s k notes bounded right complete undecided = record {
   narrows = narrows;
   swept = by_answer answer notes;
   own = λ v. k.shrinks.others p v other;
+  gone = gone_inconsistent q old new p t r keeps values k complete;
   shrinks = λ is. narrow_shrinks q old new before after r keeps k narrows flag bounded (subst (λ (b : Bool). NotesSize b new before after r) is notes) undecided;
 }
   where
@@ -97,11 +126,11 @@ sweeps_narrowed answer q old new before after p t r keeps p_in r_in other flag s
     by_answer false n = n.0
 
 -- a domain from which t was taken, where p and r are asked nothing but distinct images
-pub sweeps_taken : (answer : Bool) (q : Problem) (old new : State) (before after : List Bool) (p t r : ℕ) → p < size q.pattern → r < size q.pattern → (p ≡ r → ⊥)
+pub sweeps_taken : (answer : Bool) (q : Problem) (old new : State) (before after : List Bool) (p t r : ℕ) → old.values ≡ size q.target → p < size q.pattern → r < size q.pattern → (p ≡ r → ⊥)
     → r < length before → Single (in_domain old) p t → changes.Keeps old new r (λ v. not (v == t)) → NotesTaken answer old before new after r t
     → length new.removed ≤ new.vertices * new.values → ((x u : ℕ) → (x ≡ u → ⊥) → AreConsistent q p x r u)
     → (waits_at before r ≡ true) ⊎ ((u : ℕ) → Single (in_domain old) r u → ⊥) → Sweeps answer q old before new after p t r
-sweeps_taken answer q old new before after p t r p_in r_in other flag s k taken bounded free undecided = by_taken taken
+sweeps_taken answer q old new before after p t r values p_in r_in other flag s k taken bounded free undecided = by_taken taken
   where
     right : (u : ℕ) → not (u == t) ≡ true → AreConsistent q p t r u
     right u passes = free t u (λ same. not_both (u == t) (passed (u == t) passes) (eq-eqb u t (sym same)))
@@ -114,11 +143,12 @@ sweeps_taken answer q old new before after p t r p_in r_in other flag s k taken 
     complete u c u_in = rw (ne_eqb u t (λ same. c.pair.apart (sym same))) refl
 
     by_taken : NotesTaken answer old before new after r t → Sweeps answer q old before new after p t r
-    by_taken (inr (here, notes)) = sweeps_narrowed answer q old new before after p t r (λ v. not (v == t)) p_in r_in other flag s k notes bounded right complete undecided
+    by_taken (inr (here, notes)) = sweeps_narrowed answer q old new before after p t r (λ v. not (v == t)) values p_in r_in other flag s k notes bounded right complete undecided
     by_taken (inl (told, same, flags)) = record {
       narrows = narrows_keeps q old new r (λ v. not (v == t)) k (images_pass q old p t r (λ v. not (v == t)) p_in r_in other s complete);
       swept = subst (λ (b : Bool). Swept b q new p t r) (sym told) (kept_swept q old new p t r (λ v. not (v == t)) k right);
       own = λ v. k.shrinks.others p v other;
+      gone = gone_inconsistent q old new p t r (λ v. not (v == t)) values k complete;
       shrinks = λ _. shrinks_same q old new before after same flags bounded;
     }
 

@@ -2,3 +2,5 @@ pub mod Propagation
 pub mod Learning
 pub mod Acting
 pub mod Holding
+pub mod Recording
+pub mod Telling

@@ -1,6 +1,6 @@
 -- Propagation: what taking consequences does to domains, and which vertices still wait for theirs to be taken.
 
-use Rattle.std.specs.Prelude.{◌≡◌, ℕ, ◌+◌, ◌-◌, ◌*◌, ◌<◌, ◌≤◌, Bool, true, false, ◌⊎◌, if◌then◌else◌, List, [], ◌∷◌, ◌++◌, length, slice_index_or, slice_set}
+use Rattle.std.specs.Prelude.{◌≡◌, ℕ, ◌+◌, ◌-◌, ◌*◌, ◌<◌, ◌≤◌, Bool, true, false, ◌⊎◌, if◌then◌else◌, List, [], ◌∷◌, ◌++◌, length, slice_index_or, slice_set, Result, Ok, Err}
 use Rattle.graph_theory.specs.Graph.{size}
 use Rattle.graph_theory.specs.Embedding.{Problem}
 use Rattle.search_theory.specs.Consistency.{AreConsistent}
@@ -11,6 +11,7 @@ use Rattle.all_different.specs.Memory.{Memory}
 use Rattle.all_different.specs.Prefixes.{Balanced}
 use Rattle.all_different.specs.declared.Pruned.{Pruned}
 use Rattle.all_different.specs.declared.Pruned.TheVariants as pruned
+use Rattle.propagation.specs.declared.change.Failure.{Failure}
 
 -- The domains have a vertex for each pattern vertex and a value for each target vertex.
 pub record IsOf (q : Problem) (d : State) : Type 0 where
@@ -119,11 +120,12 @@ abbrev pub Swept : Bool → Problem → State → ℕ → ℕ → ℕ → Type 0
 Swept true q new p t r = (u : ℕ) → (p ≡ r → ⊥) → in_domain new r u ≡ true → AreConsistent q p t r u
 Swept false q new p t r = (u : ℕ) → in_domain new r u ≡ true → ⊥
 
--- What the step at r leaves: fewer values, none of p's taken, and those of r swept.
+-- What the step at r leaves: fewer values, none of p's taken, and those of r swept; what left was of r, and does not go together with p at t.
 pub record Sweeps (answer : Bool) (q : Problem) (old : State) (before : List Bool) (new : State) (after : List Bool) (p t r : ℕ) : Type 0 where
   pub narrows : Narrows q old new
   pub swept : Swept answer q new p t r
   pub own : (v : ℕ) → in_domain new p v ≡ in_domain old p v
+  pub gone : (s u : ℕ) → in_domain old s u ≡ true → in_domain new s u ≡ false → (s ≡ r) × (AreConsistent q p t r u → ⊥)
   pub shrinks : answer ≡ true → Shrinks q old before new after
 
 -- After steps that have swept the vertices below r.
@@ -171,11 +173,17 @@ Notes false d before after = (p : ℕ) × (p < d.vertices) × ((t : ℕ) → in_
 abbrev pub DecidedOnesWait : Problem → State → State → List Bool → Type 0
 DecidedOnesWait q old new after = (p : ℕ) → p < size q.pattern → (waits_at after p ≡ true) ⊎ (HasTwo new p ⊎ ((t : ℕ) → in_domain new p t ≡ in_domain old p t))
 
+-- What counting found: nothing, or a set that left all other domains, or one with too few values.
+abbrev pub pruned_of : Result Bool Failure → Pruned
+pruned_of (Ok false) = pruned.Quiet
+pruned_of (Ok true) = pruned.Hall
+pruned_of (Err failure) = pruned.Fail
+
 -- What pruning tells of a problem: its domains are balanced; or values left that no embedding needs, each vertex waits or rests, and each that is decided by it waits; or no embedding is within them.
-abbrev pub PrunesFor : Pruned → Problem → State → State → List Bool → Type 0
-PrunesFor pruned.Quiet q old new after = (new ≡ old) × Balanced new
-PrunesFor pruned.Hall q old new after = Narrows q old new × Ready q new after × (length old.removed < length new.removed) × DecidedOnesWait q old new after
-PrunesFor pruned.Fail q old new after = Narrows q old new × NoneInside q (in_domain old)
+abbrev pub PrunesFor : Result Bool Failure → Problem → State → State → List Bool → Type 0
+PrunesFor (Ok false) q old new after = (new ≡ old) × Balanced new
+PrunesFor (Ok true) q old new after = Narrows q old new × Ready q new after × (length old.removed < length new.removed) × DecidedOnesWait q old new after
+PrunesFor (Err failure) q old new after = Narrows q old new × NoneInside q (in_domain old)
 
 -- What propagation answers: domains at rest, those of unions of them included, or none that an embedding is within.
 abbrev pub Propagates : Bool → Problem → State → State → Type 0

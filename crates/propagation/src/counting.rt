@@ -1,14 +1,21 @@
 //! Domains counted together, and the flags of the vertices that this decides.
 
-ghost use Rattle.std.specs.Prelude.{◌≡◌, ℕ, ◌*◌, ◌<◌, ◌≤◌, false, length};
+ghost use Rattle.std.specs.Prelude.{◌≡◌, ℕ, ◌*◌, ◌<◌, ◌≤◌, false, length, Option, IfErr};
+ghost use Rattle.std.specs.Result.{is_ok};
 ghost use Rattle.graph_theory.specs.Graph.{size};
+ghost use Rattle.graph_theory.specs.Embedding.{Problem};
+ghost use Rattle.nogood_watch.specs.Nogoods as watched;
+ghost use Rattle.propagation.specs.Telling.{IsEmptied, Fails, TellsOn};
 ghost use Rattle.domain_bits.specs.Removals.{in_domain, size_of};
 ghost use Rattle.search_theory.specs.Claims.{Quiet};
 ghost use Rattle.propagation.specs.Learning.{DecidedWait};
 ghost use Rattle.sparse_set.specs.Removals.{has as is_member};
 ghost use Rattle.propagation.specs.Propagation.{IsOf, IsFor, LeavesPast, UndecidedWait, NotesDecided, Notes, PrunesFor};
 
-use all_different::{Pruned, Scratch, prune_undecided};
+use crate::change::Failure;
+use crate::recorder::Recorder;
+use crate::removal::prune;
+use all_different::Scratch;
 use domain_bits::{Domains, Trail};
 use graph_rows::Problem;
 use sparse_set::SparseSet;
@@ -61,53 +68,52 @@ fn note_decided<T: Trail>(d: &Domains<T>, waiting: &mut [bool], p: u16) -> bool
     true
 }
 
-/// Lowers the flags of all vertices that have more than one value; false where one has none. Cost: one step for each
+/// Lowers the flags of all vertices that have more than one value; fails where one has none. Cost: one step for each
 /// vertex.
-fn note_all_decided<T: Trail>(d: &Domains<T>, waiting: &mut [bool]) -> bool
+fn note_all_decided<T: Trail>(d: &Domains<T>, waiting: &mut [bool]) -> Result<(), Failure>
     requires long { length waiting.old ≡ d.now.vertices }
-    ensures { Notes result d.now waiting.old waiting.new }
+    ensures notes { Notes (is_ok result) d.now waiting.old waiting.new }
+    ensures none { (q : Problem) → d.now.vertices ≡ size q.pattern
+        → IfErr result (IsEmptied q d.now) }
 {
     for p in 0..d.vertices() {
         if !note_decided(d, waiting, p) {
-            return false;
+            return Err(Failure::Empty(p));
         }
     }
-    true
+    Ok(())
 }
 
-/// Counts the values of the first domains together. Where values leave, the vertices that this decides wait: the flags
-/// are raised of those that are undecided before, and lowered of those that still are.
-pub(crate) fn prune_noting<T: Trail>(
+/// Counts the values of the first domains together, and says whether any leave. Where values do, the vertices that this decides wait: the
+/// flags are raised of those that are undecided before, and lowered of those that still are.
+pub(crate) fn prune_noting<T: Trail, R: Recorder>(
     d: &mut Domains<T>,
     waiting: &mut [bool],
     undecided: &SparseSet,
     scratch: &mut Scratch,
+    told: &mut R,
     problem: &Problem,
-) -> Pruned
+) -> Result<bool, Failure>
     requires is_of { IsOf problem.now d.old }
     requires left { LeavesPast problem.now d.old undecided.now }
     requires is_for { IsFor problem.now scratch.old }
     requires quiet { Quiet problem.now (in_domain d.old) }
     requires long { length waiting.old ≡ size problem.now.pattern }
     ensures pruned { PrunesFor result problem.now d.old d.new waiting.new }
+    ensures fails { (s : Option watched.State)
+        → IfErr result (Fails problem.now s d.new (R.changes told.new) (R.short told.new)) }
+    ensures told { TellsOn problem.now d.old (R.changes told.old) d.new (R.changes told.new) }
     ensures is_for { IsFor problem.now scratch.new }
     ensures bounded { length d.new.removed ≤ d.new.vertices * d.new.values }
 {
     raise_undecided(d, waiting, undecided);
-    let answer = prune_undecided(d, scratch);
+    let answer = prune(problem, d, scratch, told);
     let _removed = d.mark();
-    match answer {
-        Pruned::Quiet => {
-            lower(waiting);
-            Pruned::Quiet
-        }
-        Pruned::Fail => Pruned::Fail,
-        Pruned::Hall => {
-            if note_all_decided(d, waiting) {
-                Pruned::Hall
-            } else {
-                Pruned::Fail
-            }
-        }
+    let have_left = answer?;
+    if !have_left {
+        lower(waiting);
+        return Ok(false);
     }
+    note_all_decided(d, waiting)?;
+    Ok(true)
 }

@@ -1,14 +1,18 @@
 //! What propagation works with: rows of consistent values, memory for counting, and nogoods.
 
-ghost use Rattle.std.specs.Prelude.{◌≡◌, ◌*◌, ◌^◌, ◌<◌, ◌≤◌, length, take, IfOk, OnOk};
+ghost use Rattle.std.specs.Prelude.{◌≡◌, ◌*◌, ◌^◌, ◌<◌, ◌≤◌, length, take, IfOk, IfErr, OnOk};
+ghost use Rattle.std.specs.Result.{is_ok};
 ghost use Rattle.graph_theory.specs.Graph.{size};
 ghost use Rattle.nogood_book.specs.Rows.{Sound};
 ghost use Rattle.propagation.specs.Learning.{AreKept, Forces, unlearned};
 ghost use Rattle.propagation.specs.Holding.{HoldsRows};
 ghost use Rattle.propagation.specs.Acting.{UnitsOutAfter};
 ghost use Rattle.propagation.specs.Propagation.{IsOf};
+ghost use Rattle.propagation.specs.Telling.{IsEmptied, Tells};
 
+use crate::change::Failure;
 use crate::nogoods::Nogoods;
+use crate::recorder::Recorder;
 use all_different::Scratch;
 use domain_bits::{Domains, Trail};
 use graph_rows::Problem;
@@ -81,18 +85,27 @@ impl<'a> Filters<'a> {
         take_into(alloc, q, rows, from, &mut self.nogoods)
     }
 
-    /// Takes the nogoods of one pair out of the domains; false where a domain becomes empty. Cost: one step for each.
-    pub(crate) fn take_units<T: Trail>(&self, d: &mut Domains<T>, waiting: &mut [bool]) -> bool
+    /// Takes the nogoods of one pair out of the domains; fails where a domain becomes empty. Cost: one step for each.
+    pub(crate) fn take_units<T: Trail, R: Recorder>(
+        &self,
+        d: &mut Domains<T>,
+        waiting: &mut [bool],
+        told: &mut R,
+    ) -> Result<(), Failure>
         requires is_of { IsOf self.now.problem d.old }
         requires long { length waiting.old ≡ size self.now.problem.pattern }
         requires bounded { length d.old.removed ≤ d.old.vertices * d.old.values }
-        ensures forces { Forces result self.now.problem d.old waiting.old d.new waiting.new }
-        ensures out { UnitsOutAfter result d.new self.now.nogoods }
+        ensures forces { Forces (is_ok result) self.now.problem d.old waiting.old
+            d.new waiting.new }
+        ensures none { IfErr result (IsEmptied self.now.problem d.new) }
+        ensures out { UnitsOutAfter (is_ok result) d.new self.now.nogoods }
+        ensures told { Tells self.now.problem self.now.nogoods d.old (R.changes told.old)
+            → Tells self.now.problem self.now.nogoods d.new (R.changes told.new) }
         ensures kept { AreKept self.now.problem self.now.nogoods }
     {
         match &self.nogoods {
-            None => true,
-            Some(nogoods) => nogoods.take_units(&self.rows, d, waiting),
+            None => Ok(()),
+            Some(nogoods) => nogoods.take_units(&self.rows, d, waiting, told),
         }
     }
 }

@@ -2,19 +2,32 @@
 //!
 //! The domains of pattern vertices lose the values that no embedding within them has: what is not consistent with a vertex of one
 //! value, what nogoods force, and what domains counted together leave no room for. The layer above hands the domains over, with a flag
-//! for each vertex whose consequences are still to be taken, and has them back at rest, or learns that no embedding is within them.
-//! It undoes the domains itself; nothing here has to be undone with them.
+//! for each vertex whose consequences are still to be taken, and has them back at rest, or learns why no embedding is within them.
+//! It undoes the domains itself; nothing here has to be undone with them but what a recorder keeps.
 #![tactic(auto)]
 
+mod causes;
+mod change;
 mod counting;
 mod filters;
-mod near;
 mod nogoods;
 mod propagation;
+mod recorder;
 mod removal;
+mod sets;
+#[cfg(test)]
+mod tests;
 
-pub use counting::lower;
+// What follows from domains.
 pub use filters::Filters;
 pub use nogoods::Nogoods;
 pub use propagation::{propagate, propagate_again};
-pub use removal::narrow;
+
+// Single steps of the layer above.
+pub use counting::lower;
+pub use removal::{give, narrow, narrow_first};
+
+// Who is told.
+pub use causes::{Causes, KeptChanges};
+pub use change::{Cause, Entry, Failure, Place, What};
+pub use recorder::{Recorder, Silent, telling_laws};

@@ -4,10 +4,12 @@
 //! pairs of a list but one are decided, the last one leaves its domain. This is what Lecoutre, Sais, Tabary and Vidal (2007) record at
 //! restarts.
 
-ghost use Rattle.std.specs.Prelude.{◌≡◌, ℕ, ◌+◌, ◌*◌, ◌^◌, ◌<◌, ◌≤◌, true, length, take, Some, IfOk, OnOk};
+ghost use Rattle.std.specs.Prelude.{◌≡◌, ℕ, ◌+◌, ◌*◌, ◌^◌, ◌<◌, ◌≤◌, true, length, take, Option, Some, IfOk, IfErr, OnOk};
+ghost use Rattle.std.specs.Result.{is_ok};
 ghost use Rattle.graph_theory.specs.Graph.{size};
 ghost use Rattle.domain_bits.specs.Removals.{in_domain};
 ghost use Rattle.search_theory.specs.Claims.{Single};
+ghost use Rattle.nogood_watch.specs.Nogoods as watched;
 ghost use Rattle.nogood_watch.specs.Nogoods.{empty, added};
 ghost use Rattle.nogood_watch.specs.Watching.{forced_at};
 ghost use Rattle.propagation.specs.Propagation.{IsOf, HaveValues};
@@ -15,9 +17,12 @@ ghost use Rattle.nogood_book.specs.Rows.{Sound, path_at};
 ghost use Rattle.nogood_book.specs.Places.{IsNogoodRow};
 ghost use Rattle.propagation.specs.Learning.{AreNogoods, IsUnused, Forces};
 ghost use Rattle.propagation.specs.Holding.{HoldsRows};
+ghost use Rattle.propagation.specs.Telling.{AreForbidden, Fails, IsEmptied, Tells};
 ghost use Rattle.propagation.specs.Acting.{Move, OutAfter, WaitAfter, WatchesWaitBut};
 
-use crate::removal::take_value;
+use crate::change::Failure;
+use crate::recorder::Recorder;
+use crate::removal::take_forced;
 use domain_bits::{Domains, Trail};
 use graph_rows::Problem;
 use nogood_book::{Row, RowKind, push_path};
@@ -101,16 +106,17 @@ impl Nogoods {
         Ok(())
     }
 
-    /// Looks at the nogoods that have `p` at `t`, where that is all of the domain of `p`, and takes out what they force; false where a
+    /// Looks at the nogoods that have `p` at `t`, where that is all of the domain of `p`, and takes out what they force; fails where a
     /// nogood is whole, or a domain becomes empty. Cost: that of `on_assign`, and one step for each pair that is forced.
-    pub(crate) fn force<T: Trail>(
+    pub(crate) fn force<T: Trail, R: Recorder>(
         &mut self,
         rows: &PairRows,
         d: &mut Domains<T>,
         waiting: &mut [bool],
+        told: &mut R,
         p: u16,
         t: u16,
-    ) -> bool
+    ) -> Result<(), Failure>
         requires nogoods { AreNogoods rows.now.problem self.old }
         requires is_of { IsOf rows.now.problem d.old }
         requires long { length waiting.old ≡ size rows.now.problem.pattern }
@@ -120,55 +126,70 @@ impl Nogoods {
         requires single { Single (in_domain d.old) p t }
         requires bounded { length d.old.removed ≤ d.old.vertices * d.old.values }
         ensures nogoods { AreNogoods rows.now.problem self.new }
-        ensures forces { Forces result rows.now.problem d.old waiting.old d.new waiting.new }
-        ensures wait { WaitAfter result d.new waiting.new (Some self.new) }
+        ensures forces { Forces (is_ok result) rows.now.problem d.old waiting.old
+            d.new waiting.new }
+        ensures fails { IfErr result (Fails rows.now.problem (Some self.new) d.new
+            (R.changes told.new) (R.short told.new)) }
+        ensures wait { WaitAfter (is_ok result) d.new waiting.new (Some self.new) }
         ensures moved { Move d.old self.old self.new }
+        ensures told { Tells rows.now.problem (Some self.old) d.old (R.changes told.old)
+            → Tells rows.now.problem (Some self.new) d.new (R.changes told.new) }
     {
         match self.watched.on_assign(d, p, t) {
-            WatchAnswer::Quiet => true,
-            WatchAnswer::Fail(_) => false,
-            WatchAnswer::Forced => take_out(rows, self.watched.forced(), d, waiting),
+            WatchAnswer::Quiet => Ok(()),
+            WatchAnswer::Fail(name) => Err(Failure::Whole(name)),
+            WatchAnswer::Forced => take_out(rows, self.watched.forced(), d, waiting, told),
         }
     }
 
-    /// Takes the nogoods of one pair out of the domains; false where a domain becomes empty. Cost: one step for each.
-    pub(crate) fn take_units<T: Trail>(
+    /// Takes the nogoods of one pair out of the domains; fails where a domain becomes empty. Cost: one step for each.
+    pub(crate) fn take_units<T: Trail, R: Recorder>(
         &self,
         rows: &PairRows,
         d: &mut Domains<T>,
         waiting: &mut [bool],
-    ) -> bool
+        told: &mut R,
+    ) -> Result<(), Failure>
         requires nogoods { AreNogoods rows.now.problem self.now }
         requires is_of { IsOf rows.now.problem d.old }
         requires long { length waiting.old ≡ size rows.now.problem.pattern }
         requires bounded { length d.old.removed ≤ d.old.vertices * d.old.values }
-        ensures forces { Forces result rows.now.problem d.old waiting.old d.new waiting.new }
-        ensures out { OutAfter result d.new self.now.units }
+        ensures forces { Forces (is_ok result) rows.now.problem d.old waiting.old
+            d.new waiting.new }
+        ensures none { IfErr result (IsEmptied rows.now.problem d.new) }
+        ensures out { OutAfter (is_ok result) d.new self.now.units }
+        ensures told { Tells rows.now.problem (Some self.now) d.old (R.changes told.old)
+            → Tells rows.now.problem (Some self.now) d.new (R.changes told.new) }
     {
-        take_out(rows, self.watched.units(), d, waiting)
+        take_out(rows, self.watched.units(), d, waiting, told)
     }
 }
 
-/// Takes pairs that no embedding has out of the domains. Where one value is left, its vertex waits; where none is, the answer is
-/// false. Cost: one step for each.
-fn take_out<T: Trail>(
+/// Takes pairs that no embedding has out of the domains, each as the nogood of its name asks. Where one value is left, its vertex waits;
+/// where none is, this fails. Cost: one step for each.
+fn take_out<T: Trail, R: Recorder>(
     rows: &PairRows,
     pairs: &[(u16, u16, u32)],
     d: &mut Domains<T>,
     waiting: &mut [bool],
-) -> bool
+    told: &mut R,
+) -> Result<(), Failure>
     requires is_of { IsOf rows.now.problem d.old }
     requires long { length waiting.old ≡ size rows.now.problem.pattern }
     requires bounded { length d.old.removed ≤ d.old.vertices * d.old.values }
     requires unused { (k : ℕ) → k < length pairs.now → IsUnused rows.now.problem d.old (forced_at pairs.now k) }
-    ensures forces { Forces result rows.now.problem d.old waiting.old d.new waiting.new }
-    ensures out { OutAfter result d.new pairs.now }
+    ensures forces { Forces (is_ok result) rows.now.problem d.old waiting.old d.new waiting.new }
+    ensures none { IfErr result (IsEmptied rows.now.problem d.new) }
+    ensures out { OutAfter (is_ok result) d.new pairs.now }
+    ensures told { (s : Option watched.State) → AreForbidden s d.old pairs.now
+        → Tells rows.now.problem s d.old (R.changes told.old)
+        → Tells rows.now.problem s d.new (R.changes told.new) }
 {
     for k in 0..pairs.len() {
-        let (r, u, _) = pairs[k];
-        if !take_value(d, waiting, r, u) {
-            return false;
+        let (r, u, name) = pairs[k];
+        if !take_forced(d, waiting, told, r, u, name) {
+            return Err(Failure::Empty(r));
         }
     }
-    true
+    Ok(())
 }

@@ -9,21 +9,23 @@
 //! the vertices that are still looked at, since nothing is left to be taken from its domain. Who undoes the domains gives
 //! back these vertices too.
 
-ghost use Rattle.std.specs.Prelude.{◌≡◌, ℕ, ◌*◌, ◌<◌, ◌≤◌, ◌⊎◌, true, false, length, IfSome, IfNone};
+ghost use Rattle.std.specs.Prelude.{◌≡◌, ℕ, ◌*◌, ◌<◌, ◌≤◌, true, false, length, IfSome, IfNone, IfErr};
+ghost use Rattle.std.specs.Result.{is_ok};
 ghost use Rattle.graph_theory.specs.Graph.{size};
 ghost use Rattle.domain_bits.specs.Removals.{in_domain};
 ghost use Rattle.search_theory.specs.Claims.{Single, First, Quiet};
 ghost use Rattle.pair_rows.specs.Rows.{IsMade};
 ghost use Rattle.propagation.specs.Learning.{AreKept, Forces};
 ghost use Rattle.propagation.specs.Acting.{ActedAfter, HaveMoved, InForceAfter, WaitAfter, WatchesWait, WatchesWaitBut};
+ghost use Rattle.propagation.specs.Telling.{Fails, IsEmptied, Tells, TellsOn};
 ghost use Rattle.propagation.specs.Propagation.{IsOf, waits_at, HaveValues, LeavesPast, Fewer, Ready, ReadyBut, Sweeps, Settles, Visited, TakenUp, Propagates};
 
+use crate::change::Failure;
 use crate::counting::{prune_noting, raise_decided};
 use crate::filters::Filters;
-use crate::near::{near_alone, take_near};
 use crate::nogoods::Nogoods;
-use crate::removal::{narrow, take_value};
-use all_different::Pruned;
+use crate::recorder::Recorder;
+use crate::removal::keep_consistent;
 use domain_bits::{Domains, Trail};
 use graph_rows::Problem;
 use pair_rows::PairRows;
@@ -42,44 +44,13 @@ fn next_waiting(waiting: &[bool]) -> Option<usize>
     None
 }
 
-/// Takes from the domain of `r` what is not consistent with `p` at `t`. Where the two are asked nothing but distinct
-/// images, this is `t` alone, and no row is read; nor is one where they are asked no edge besides and `t` has few neighbours.
-/// Cost: a few steps there, with one for each of these neighbours, and else a row and the values that leave.
-fn keep_consistent<T: Trail>(
-    rows: &PairRows,
-    d: &mut Domains<T>,
-    waiting: &mut [bool],
-    p: u16,
-    t: u16,
-    r: u16,
-) -> bool
-    requires is_of { IsOf rows.now.problem d.old }
-    requires long { length waiting.old ≡ size rows.now.problem.pattern }
-    requires p_in { p < size rows.now.problem.pattern }
-    requires t_in { t < size rows.now.problem.target }
-    requires r_in { r < size rows.now.problem.pattern }
-    requires apart { p ≡ r → ⊥ }
-    requires made { IsMade rows.now t }
-    requires single { Single (in_domain d.old) p t }
-    requires undecided { (waits_at waiting.old r ≡ true) ⊎ ((v : ℕ) → Single (in_domain d.old) r v → ⊥) }
-    requires bounded { length d.old.removed ≤ d.old.vertices * d.old.values }
-    ensures { Sweeps result rows.now.problem d.old waiting.old d.new waiting.new p t r }
-{
-    if rows.is_free(p, r) {
-        return take_value(d, waiting, r, t);
-    }
-    match near_alone(rows, p, t, r) {
-        Some(near) => take_near(d, waiting, r, t, near),
-        None => narrow(d, waiting, rows.row(p, r, t), r),
-    }
-}
-
 /// Takes from the domain of `r` what is not consistent with `p` at `t`. A vertex that is decided and does not wait has
 /// taken its consequences, so that nothing is to be done there.
-fn settle_at<T: Trail>(
+fn settle_at<T: Trail, R: Recorder>(
     rows: &PairRows,
     d: &mut Domains<T>,
     waiting: &mut [bool],
+    told: &mut R,
     p: u16,
     t: u16,
     r: u16,
@@ -92,30 +63,32 @@ fn settle_at<T: Trail>(
     requires made { IsMade rows.now t }
     requires single { Single (in_domain d.old) p t }
     requires bounded { length d.old.removed ≤ d.old.vertices * d.old.values }
-    ensures { Sweeps result rows.now.problem d.old waiting.old d.new waiting.new p t r }
+    ensures sweeps { Sweeps result rows.now.problem d.old waiting.old d.new waiting.new p t r }
+    ensures told { TellsOn rows.now.problem d.old (R.changes told.old) d.new (R.changes told.new) }
 {
     if r == p {
         return true;
     }
     if waiting[usize::from(r)] {
-        return keep_consistent(rows, d, waiting, p, t, r);
+        return keep_consistent(rows, d, waiting, told, p, t, r);
     }
     if d.size(r) == 1 {
         return true;
     }
-    keep_consistent(rows, d, waiting, p, t, r)
+    keep_consistent(rows, d, waiting, told, p, t, r)
 }
 
-/// Takes from each other domain what is not consistent with `p` at `t`, up to the first domain that becomes empty.
+/// Takes from each other domain what is not consistent with `p` at `t`, up to the first domain that becomes empty, where this fails.
 /// Cost: one step for each vertex that is not past, and a row for each that is asked more than a distinct image.
-fn settle<T: Trail>(
+fn settle<T: Trail, R: Recorder>(
     rows: &PairRows,
     d: &mut Domains<T>,
     waiting: &mut [bool],
     undecided: &SparseSet,
+    told: &mut R,
     p: u16,
     t: u16,
-) -> bool
+) -> Result<(), Failure>
     requires is_of { IsOf rows.now.problem d.old }
     requires ready { ReadyBut rows.now.problem d.old waiting.old p }
     requires left { LeavesPast rows.now.problem d.old undecided.now }
@@ -124,26 +97,30 @@ fn settle<T: Trail>(
     requires made { IsMade rows.now t }
     requires single { Single (in_domain d.old) p t }
     requires bounded { length d.old.removed ≤ d.old.vertices * d.old.values }
-    ensures { Settles result rows.now.problem d.old waiting.old d.new waiting.new p t }
+    ensures settles { Settles (is_ok result) rows.now.problem d.old waiting.old
+        d.new waiting.new p t }
+    ensures none { IfErr result (IsEmptied rows.now.problem d.new) }
+    ensures told { TellsOn rows.now.problem d.old (R.changes told.old) d.new (R.changes told.new) }
 {
     let members = undecided.members();
     for k in 0..members.len() {
-        if !settle_at(rows, d, waiting, p, t, members[k]) {
-            return false;
+        if !settle_at(rows, d, waiting, told, p, t, members[k]) {
+            return Err(Failure::Empty(members[k]));
         }
     }
-    true
+    Ok(())
 }
 
-/// Looks at the nogoods that have `p` at `t`, if any are kept, and takes out what they force; false where no embedding is left.
-fn force<T: Trail>(
+/// Looks at the nogoods that have `p` at `t`, if any are kept, and takes out what they force; fails where no embedding is left.
+fn force<T: Trail, R: Recorder>(
     rows: &PairRows,
     nogoods: &mut Option<Nogoods>,
     d: &mut Domains<T>,
     waiting: &mut [bool],
+    told: &mut R,
     p: u16,
     t: u16,
-) -> bool
+) -> Result<(), Failure>
     requires kept { AreKept rows.now.problem nogoods.old }
     requires is_of { IsOf rows.now.problem d.old }
     requires long { length waiting.old ≡ size rows.now.problem.pattern }
@@ -153,25 +130,30 @@ fn force<T: Trail>(
     requires single { Single (in_domain d.old) p t }
     requires bounded { length d.old.removed ≤ d.old.vertices * d.old.values }
     ensures kept { AreKept rows.now.problem nogoods.new }
-    ensures forces { Forces result rows.now.problem d.old waiting.old d.new waiting.new }
-    ensures wait { WaitAfter result d.new waiting.new nogoods.new }
+    ensures forces { Forces (is_ok result) rows.now.problem d.old waiting.old d.new waiting.new }
+    ensures fails { IfErr result (Fails rows.now.problem nogoods.new d.new (R.changes told.new)
+        (R.short told.new)) }
+    ensures wait { WaitAfter (is_ok result) d.new waiting.new nogoods.new }
     ensures moved { HaveMoved d.old nogoods.old nogoods.new }
+    ensures told { Tells rows.now.problem nogoods.old d.old (R.changes told.old)
+        → Tells rows.now.problem nogoods.new d.new (R.changes told.new) }
 {
     match nogoods {
-        None => true,
-        Some(table) => table.force(rows, d, waiting, p, t),
+        None => Ok(()),
+        Some(table) => table.force(rows, d, waiting, told, p, t),
     }
 }
 
 /// Takes up a vertex that waits; where it is decided, it is past from then on.
-fn visit<T: Trail>(
+fn visit<T: Trail, R: Recorder>(
     rows: &mut PairRows,
     nogoods: &mut Option<Nogoods>,
     d: &mut Domains<T>,
     waiting: &mut [bool],
     undecided: &mut SparseSet,
+    told: &mut R,
     p: u16,
-) -> bool
+) -> Result<(), Failure>
     requires is_of { IsOf rows.old.problem d.old }
     requires kept { AreKept rows.old.problem nogoods.old }
     requires ready { Ready rows.old.problem d.old waiting.old }
@@ -182,9 +164,13 @@ fn visit<T: Trail>(
     requires waits { waits_at waiting.old p ≡ true }
     ensures problem { rows.new.problem ≡ rows.old.problem }
     ensures kept { AreKept rows.old.problem nogoods.new }
-    ensures wait { WaitAfter result d.new waiting.new nogoods.new }
+    ensures wait { WaitAfter (is_ok result) d.new waiting.new nogoods.new }
     ensures moved { HaveMoved d.old nogoods.old nogoods.new }
-    ensures visited { Visited result rows.old.problem d.old waiting.old d.new waiting.new }
+    ensures visited { Visited (is_ok result) rows.old.problem d.old waiting.old d.new waiting.new }
+    ensures fails { IfErr result (Fails rows.old.problem nogoods.new d.new (R.changes told.new)
+        (R.short told.new)) }
+    ensures told { Tells rows.old.problem nogoods.old d.old (R.changes told.old)
+        → Tells rows.old.problem nogoods.new d.new (R.changes told.new) }
     ensures left { LeavesPast rows.old.problem d.new undecided.new }
     ensures fewer { Fewer undecided.old undecided.new }
 {
@@ -193,34 +179,31 @@ fn visit<T: Trail>(
         Some(t) => {
             let _removed = d.mark();
             rows.make(t);
-            if !settle(rows, d, waiting, undecided, p, t) {
-                return false;
-            }
-            if !force(rows, nogoods, d, waiting, p, t) {
-                return false;
-            }
+            settle(rows, d, waiting, undecided, told, p, t)?;
+            force(rows, nogoods, d, waiting, told, p, t)?;
             undecided.remove(p);
-            true
+            Ok(())
         }
         None => {
             let _removed = d.mark();
             if d.size(p) == 0 {
-                return false;
+                return Err(Failure::Empty(p));
             }
-            true
+            Ok(())
         }
     }
 }
 
 /// Takes up all vertices that wait. Cost: for each vertex that is decided on the way, one row for each that is not, a look at the
 /// nogoods that have its value, and the values that leave.
-fn take_up<T: Trail>(
+fn take_up<T: Trail, R: Recorder>(
     rows: &mut PairRows,
     nogoods: &mut Option<Nogoods>,
     d: &mut Domains<T>,
     waiting: &mut [bool],
     undecided: &mut SparseSet,
-) -> bool
+    told: &mut R,
+) -> Result<(), Failure>
     requires is_of { IsOf rows.old.problem d.old }
     requires kept { AreKept rows.old.problem nogoods.old }
     requires ready { Ready rows.old.problem d.old waiting.old }
@@ -229,31 +212,34 @@ fn take_up<T: Trail>(
     requires wait { IfSome nogoods.old (WatchesWait d.old waiting.old) }
     ensures problem { rows.new.problem ≡ rows.old.problem }
     ensures kept { AreKept rows.old.problem nogoods.new }
-    ensures in_force { InForceAfter result d.new nogoods.new }
+    ensures in_force { InForceAfter (is_ok result) d.new nogoods.new }
     ensures moved { HaveMoved d.old nogoods.old nogoods.new }
-    ensures taken { TakenUp result rows.old.problem d.old d.new }
+    ensures taken { TakenUp (is_ok result) rows.old.problem d.old d.new }
+    ensures fails { IfErr result (Fails rows.old.problem nogoods.new d.new (R.changes told.new)
+        (R.short told.new)) }
+    ensures told { Tells rows.old.problem nogoods.old d.old (R.changes told.old)
+        → Tells rows.old.problem nogoods.new d.new (R.changes told.new) }
     ensures left { LeavesPast rows.old.problem d.new undecided.new }
     ensures fewer { Fewer undecided.old undecided.new }
 {
     let _vertices = d.vertices();
     while let Some(p) = next_waiting(waiting) {
-        if !visit(rows, nogoods, d, waiting, undecided, p as u16) {
-            return false;
-        }
+        visit(rows, nogoods, d, waiting, undecided, told, p as u16)?;
     }
-    true
+    Ok(())
 }
 
-/// Takes all consequences, or finds that no embedding is within the domains; each vertex that is decided on the way is past
+/// Takes all consequences, or finds why no embedding is within the domains; each vertex that is decided on the way is past
 /// then. Cost: for each of these one row for each vertex that is not past, and the values that leave; once for each set of
 /// domains found to take its values from the others, the cost of `prune_undecided`.
-pub fn propagate<T: Trail>(
+pub fn propagate<T: Trail, R: Recorder>(
     q: &Problem,
     filters: &mut Filters,
     d: &mut Domains<T>,
     waiting: &mut [bool],
     undecided: &mut SparseSet,
-) -> bool
+    told: &mut R,
+) -> Result<(), Failure>
     requires problem { filters.old.problem ≡ q.now }
     requires is_of { IsOf q.now d.old }
     requires ready { Ready q.now d.old waiting.old }
@@ -261,52 +247,60 @@ pub fn propagate<T: Trail>(
     requires first { First q.now (in_domain d.old) }
     requires wait { IfSome filters.old.nogoods (WatchesWait d.old waiting.old) }
     ensures problem { filters.new.problem ≡ q.now }
-    ensures propagated { Propagates result q.now d.old d.new }
-    ensures in_force { InForceAfter result d.new filters.new.nogoods }
+    ensures propagated { Propagates (is_ok result) q.now d.old d.new }
+    ensures fails { IfErr result (Fails q.now filters.new.nogoods d.new (R.changes told.new)
+        (R.short told.new)) }
+    ensures in_force { InForceAfter (is_ok result) d.new filters.new.nogoods }
     ensures moved { HaveMoved d.old filters.old.nogoods filters.new.nogoods }
+    ensures told { Tells q.now filters.old.nogoods d.old (R.changes told.old)
+        → Tells q.now filters.new.nogoods d.new (R.changes told.new) }
     ensures left { LeavesPast q.now d.new undecided.new }
     ensures fewer { Fewer undecided.old undecided.new }
 {
     loop {
-        if !take_up(
+        take_up(
             &mut filters.rows,
             &mut filters.nogoods,
             d,
             waiting,
             undecided,
-        ) {
-            return false;
-        }
-        match prune_noting(d, waiting, undecided, &mut filters.scratch, q) {
-            Pruned::Quiet => return true,
-            Pruned::Fail => return false,
-            Pruned::Hall => (),
+            told,
+        )?;
+        let have_left = prune_noting(d, waiting, undecided, &mut filters.scratch, told, q)?;
+        if !have_left {
+            return Ok(());
         }
     }
 }
 
 /// Takes the nogoods of one pair out of domains at rest, and all consequences of them and of the other nogoods, for which each vertex
-/// that is decided is looked at again; or finds that no embedding is within the domains. Cost: that of `propagate`.
-pub fn propagate_again<T: Trail>(
+/// that is decided is looked at again; or finds why no embedding is within the domains. Cost: that of `propagate`.
+pub fn propagate_again<T: Trail, R: Recorder>(
     q: &Problem,
     filters: &mut Filters,
     d: &mut Domains<T>,
     waiting: &mut [bool],
     undecided: &mut SparseSet,
-) -> bool
+    told: &mut R,
+) -> Result<(), Failure>
     requires problem { filters.old.problem ≡ q.now }
     requires is_of { IsOf q.now d.old }
     requires left { LeavesPast q.now d.old undecided.old }
     requires long { length waiting.old ≡ size q.now.pattern }
     requires quiet { Quiet q.now (in_domain d.old) }
     ensures problem { filters.new.problem ≡ q.now }
-    ensures propagated { Propagates result q.now d.old d.new }
-    ensures acted { ActedAfter result d.new filters.new.nogoods }
+    ensures propagated { Propagates (is_ok result) q.now d.old d.new }
+    ensures fails { IfErr result (Fails q.now filters.new.nogoods d.new (R.changes told.new)
+        (R.short told.new)) }
+    ensures acted { ActedAfter (is_ok result) d.new filters.new.nogoods }
     ensures moved { HaveMoved d.old filters.old.nogoods filters.new.nogoods }
+    ensures told { Tells q.now filters.old.nogoods d.old (R.changes told.old)
+        → Tells q.now filters.new.nogoods d.new (R.changes told.new) }
     ensures left { LeavesPast q.now d.new undecided.new }
     ensures fewer { Fewer undecided.old undecided.new }
 {
     raise_decided(d, waiting);
     let _removed = d.mark();
-    filters.take_units(d, waiting) && propagate(q, filters, d, waiting, undecided)
+    filters.take_units(d, waiting, told)?;
+    propagate(q, filters, d, waiting, undecided, told)
 }

@@ -1,11 +1,42 @@
-//! Values that leave a domain, and the note of how many are left: the one place where propagation takes values away.
+//! Where values leave domains: the one module that takes them, and tells a recorder why.
+//!
+//! Each function notes how many values are left: a vertex of one value waits from then on. What has left is told once for each call,
+//! whatever left, and before anybody looks whether a domain is empty.
 
-ghost use Rattle.std.specs.Prelude.{◌≡◌, ◌*◌, ◌<◌, ◌≤◌, ◌==◌, not, length};
+ghost use Rattle.std.specs.Prelude.{◌≡◌, ℕ, ◌*◌, ◌<◌, ◌≤◌, ◌==◌, ◌&&◌, ◌⊎◌, ◌↔◌, true, false, not, length, Option, IfSome, IfErr};
+ghost use Rattle.graph_theory.specs.Graph.{size};
+ghost use Rattle.graph_theory.specs.Embedding.{Problem};
+ghost use Rattle.graph_rows.specs.Held.{stands_in};
 ghost use Rattle.domain_bits.specs.BitRows.{has, words_for};
+ghost use Rattle.domain_bits.specs.Changes as changes;
 ghost use Rattle.domain_bits.specs.Changes.{Keeps};
-ghost use Rattle.propagation.specs.Propagation.{NotesSize, NotesTaken};
+ghost use Rattle.domain_bits.specs.Removals.{State, in_domain};
+ghost use Rattle.search_theory.specs.Claims.{Single};
+ghost use Rattle.search_theory.specs.Consistency.{AreConsistent};
+ghost use Rattle.all_different.specs.Pruning.{DecidedApart, PruneSays};
+ghost use Rattle.pair_rows.specs.Rows.{IsMade};
+ghost use Rattle.nogood_watch.specs.Nogoods as watched;
+ghost use Rattle.propagation.specs.Propagation.{IsOf, IsFor, waits_at, NotesSize, NotesTaken, Sweeps, pruned_of};
+ghost use Rattle.propagation.specs.Recording.{LeftOne};
+ghost use Rattle.propagation.specs.Telling.{HasFirst, Leaves, Tells, TellsOn, IsForbidden, Fails};
 
-use domain_bits::{Domains, Trail};
+use crate::change::{Cause, Failure};
+use crate::recorder::Recorder;
+use all_different::{Pruned, Scratch, prune_undecided};
+use domain_bits::{Domains, Mark, Trail};
+use graph_rows::Problem;
+use pair_rows::PairRows;
+
+/// Tells that values have left by the cause since the mark, if any have. Cost: one step, and that of `took`.
+fn tell<T: Trail, R: Recorder>(d: &Domains<T>, told: &mut R, vertex: u16, cause: Cause, from: Mark)
+    ensures { (q : Problem) (s : Option watched.State) (old : State)
+        → Leaves q s old d.now (LeftOne vertex cause from) → Tells q s old (R.changes told.old)
+        → Tells q s d.now (R.changes told.new) }
+{
+    if from.is_before(d.mark()) {
+        told.took(vertex, cause, from);
+    }
+}
 
 /// Keeps of the domain of `r` what the row has. Where one value is left, `r` waits; where none is, the answer is false.
 /// Cost: the words of a row, and the values that leave.
@@ -23,7 +54,7 @@ pub fn narrow<T: Trail>(d: &mut Domains<T>, waiting: &mut [bool], row: &[u64], r
 }
 
 /// Notes how many values `r` has: with one only it waits, and with none the answer is false. Cost: one step.
-pub(crate) fn note_size<T: Trail>(d: &Domains<T>, waiting: &mut [bool], r: u16) -> bool
+fn note_size<T: Trail>(d: &Domains<T>, waiting: &mut [bool], r: u16) -> bool
     requires r_in { r < d.now.vertices }
     requires flags { r < length waiting.old }
     ensures { NotesSize result d.now waiting.old waiting.new r }
@@ -39,7 +70,7 @@ pub(crate) fn note_size<T: Trail>(d: &Domains<T>, waiting: &mut [bool], r: u16) 
 }
 
 /// Takes `u` from the domain of `r`. Where one value is left, `r` waits; where none is, the answer is false. Cost: one step.
-pub(crate) fn take_value<T: Trail>(d: &mut Domains<T>, waiting: &mut [bool], r: u16, u: u16) -> bool
+fn take_value<T: Trail>(d: &mut Domains<T>, waiting: &mut [bool], r: u16, u: u16) -> bool
     requires r_in { r < d.old.vertices }
     requires u_in { u < d.old.values }
     requires flags { r < length waiting.old }
@@ -53,4 +84,213 @@ pub(crate) fn take_value<T: Trail>(d: &mut Domains<T>, waiting: &mut [bool], r: 
     }
     let _removed = d.mark();
     note_size(d, waiting, r)
+}
+
+/// Takes `t` and the values of a list from the domain of `r`. Cost: one step for each of them.
+fn take_values<T: Trail>(d: &mut Domains<T>, r: u16, t: u16, near: &[u16])
+    requires r_in { r < d.old.vertices }
+    requires t_in { t < d.old.values }
+    requires near_in { (u : ℕ) → stands_in near.now u ≡ true → u < d.old.values }
+    ensures { Keeps d.old d.new r (λ v. not (v == t) && not (stands_in near.now v)) }
+{
+    let _was_there = d.remove(r, t);
+    for u in near {
+        let _was_near = d.remove(r, *u);
+    }
+}
+
+/// Takes `t` and the values of a list from the domain of `r`. Where one value is left, `r` waits; where none is, the answer is
+/// false. Cost: one step for each of them.
+fn take_near<T: Trail>(
+    d: &mut Domains<T>,
+    waiting: &mut [bool],
+    r: u16,
+    t: u16,
+    near: &[u16],
+) -> bool
+    requires r_in { r < d.old.vertices }
+    requires t_in { t < d.old.values }
+    requires near_in { (u : ℕ) → stands_in near.now u ≡ true → u < d.old.values }
+    requires flags { r < length waiting.old }
+    ensures keeps { Keeps d.old d.new r (λ v. not (v == t) && not (stands_in near.now v)) }
+    ensures notes { NotesSize result d.new waiting.old waiting.new r }
+    ensures bounded { length d.new.removed ≤ d.new.vertices * d.new.values }
+{
+    take_values(d, r, t, near);
+    let _removed = d.mark();
+    note_size(d, waiting, r)
+}
+
+/// The neighbours of `t`, where `r` is asked nothing but an image that is none of them nor `t`, and they are listed. Cost: a few
+/// steps.
+fn near_alone<'a>(rows: &'a PairRows, p: u16, t: u16, r: u16) -> Option<&'a [u16]>
+    requires p_in { p < size rows.now.problem.pattern }
+    requires t_in { t < size rows.now.problem.target }
+    requires r_in { r < size rows.now.problem.pattern }
+    requires apart { p ≡ r → ⊥ }
+    ensures asked { IfSome result (λ us. (u : ℕ) → AreConsistent rows.now.problem p t r u ↔ ((t ≡ u → ⊥) × (stands_in us.now u ≡ false))) }
+    ensures within { IfSome result (λ us. (u : ℕ) → stands_in us.now u ≡ true → u < size rows.now.problem.target) }
+{
+    if rows.is_bare(p, r) {
+        rows.neighbours(t)
+    } else {
+        None
+    }
+}
+
+/// Takes from the domain of `r` what is not consistent with `p` at `t`. Where the two are asked nothing but distinct
+/// images, this is `t` alone, and no row is read; nor is one where they are asked no edge besides and `t` has few neighbours.
+/// Cost: a few steps there, with one for each of these neighbours, and else a row and the values that leave.
+fn take_inconsistent<T: Trail>(
+    rows: &PairRows,
+    d: &mut Domains<T>,
+    waiting: &mut [bool],
+    p: u16,
+    t: u16,
+    r: u16,
+) -> bool
+    requires is_of { IsOf rows.now.problem d.old }
+    requires long { length waiting.old ≡ size rows.now.problem.pattern }
+    requires p_in { p < size rows.now.problem.pattern }
+    requires t_in { t < size rows.now.problem.target }
+    requires r_in { r < size rows.now.problem.pattern }
+    requires apart { p ≡ r → ⊥ }
+    requires made { IsMade rows.now t }
+    requires single { Single (in_domain d.old) p t }
+    requires undecided { (waits_at waiting.old r ≡ true) ⊎ ((v : ℕ) → Single (in_domain d.old) r v → ⊥) }
+    requires bounded { length d.old.removed ≤ d.old.vertices * d.old.values }
+    ensures { Sweeps result rows.now.problem d.old waiting.old d.new waiting.new p t r }
+{
+    if rows.is_free(p, r) {
+        return take_value(d, waiting, r, t);
+    }
+    match near_alone(rows, p, t, r) {
+        Some(near) => take_near(d, waiting, r, t, near),
+        None => narrow(d, waiting, rows.row(p, r, t), r),
+    }
+}
+
+/// Takes from the domain of `r` what is not consistent with `p` at `t`, and tells it. Cost: that of the removal.
+pub(crate) fn keep_consistent<T: Trail, R: Recorder>(
+    rows: &PairRows,
+    d: &mut Domains<T>,
+    waiting: &mut [bool],
+    told: &mut R,
+    p: u16,
+    t: u16,
+    r: u16,
+) -> bool
+    requires is_of { IsOf rows.now.problem d.old }
+    requires long { length waiting.old ≡ size rows.now.problem.pattern }
+    requires p_in { p < size rows.now.problem.pattern }
+    requires t_in { t < size rows.now.problem.target }
+    requires r_in { r < size rows.now.problem.pattern }
+    requires apart { p ≡ r → ⊥ }
+    requires made { IsMade rows.now t }
+    requires single { Single (in_domain d.old) p t }
+    requires undecided { (waits_at waiting.old r ≡ true) ⊎ ((v : ℕ) → Single (in_domain d.old) r v → ⊥) }
+    requires bounded { length d.old.removed ≤ d.old.vertices * d.old.values }
+    ensures sweeps { Sweeps result rows.now.problem d.old waiting.old d.new waiting.new p t r }
+    ensures told { TellsOn rows.now.problem d.old (R.changes told.old) d.new (R.changes told.new) }
+{
+    let from = d.mark();
+    let some = take_inconsistent(rows, d, waiting, p, t, r);
+    tell(d, told, r, Cause::Vertex(p, t), from);
+    some
+}
+
+/// Takes `u` from the domain of `r`, as the nogood of this name asks, and tells it. Where one value is left, `r` waits; where none is,
+/// the answer is false. Cost: one step.
+pub(crate) fn take_forced<T: Trail, R: Recorder>(
+    d: &mut Domains<T>,
+    waiting: &mut [bool],
+    told: &mut R,
+    r: u16,
+    u: u16,
+    name: u32,
+) -> bool
+    requires r_in { r < d.old.vertices }
+    requires u_in { u < d.old.values }
+    requires flags { r < length waiting.old }
+    requires bounded { length d.old.removed ≤ d.old.vertices * d.old.values }
+    ensures keeps { Keeps d.old d.new r (λ v. not (v == u)) }
+    ensures taken { NotesTaken result d.old waiting.old d.new waiting.new r u }
+    ensures bounded { length d.new.removed ≤ d.new.vertices * d.new.values }
+    ensures told { (q : Problem) (s : Option watched.State) → r < size q.pattern → IsForbidden s d.old name r u
+        → Tells q s d.old (R.changes told.old) → Tells q s d.new (R.changes told.new) }
+{
+    let from = d.mark();
+    let some = take_value(d, waiting, r, u);
+    tell(d, told, r, Cause::Nogood(name), from);
+    some
+}
+
+/// Leaves `p` its first domain, which is the row, and tells it. Where one value is left, `p` waits; where none is, the answer is false.
+/// Cost: the words of a row, and the values that leave.
+pub fn narrow_first<T: Trail, R: Recorder>(
+    d: &mut Domains<T>,
+    waiting: &mut [bool],
+    told: &mut R,
+    row: &[u64],
+    p: u16,
+) -> bool
+    requires p_in { p < d.old.vertices }
+    requires flags { p < length waiting.old }
+    requires long { length row.now ≡ words_for d.old.values }
+    ensures keeps { Keeps d.old d.new p (has row.now) }
+    ensures notes { NotesSize result d.new waiting.old waiting.new p }
+    ensures bounded { length d.new.removed ≤ d.new.vertices * d.new.values }
+    ensures told { (q : Problem) (s : Option watched.State) → IsOf q d.old → HasFirst q p row.now
+        → Tells q s d.old (R.changes told.old) → Tells q s d.new (R.changes told.new) }
+{
+    let from = d.mark();
+    let some = narrow(d, waiting, row, p);
+    tell(d, told, p, Cause::First, from);
+    some
+}
+
+/// Gives `p` the value `t`, and tells it. Cost: the words of a row, and the values that leave.
+pub fn give<T: Trail, R: Recorder>(d: &mut Domains<T>, told: &mut R, p: u16, t: u16)
+    requires p_in { p < d.old.vertices }
+    requires t_in { in_domain d.old p t ≡ true }
+    ensures keeps { Keeps d.old d.new p (λ u. u == t) }
+    ensures single { changes.Single d.new p t }
+    ensures told { (q : Problem) (s : Option watched.State) → IsOf q d.old
+        → Tells q s d.old (R.changes told.old) → Tells q s d.new (R.changes told.new) }
+{
+    let from = d.mark();
+    d.assign(p, t);
+    tell(d, told, p, Cause::Guess(t), from);
+}
+
+/// Counts the values of the first domains together, where each value that is all of a domain has left the others, and tells what leaves:
+/// whether any has, or that some domains have fewer values than there are of them. Cost: that of `prune_undecided`.
+pub(crate) fn prune<T: Trail, R: Recorder>(
+    q: &Problem,
+    d: &mut Domains<T>,
+    scratch: &mut Scratch,
+    told: &mut R,
+) -> Result<bool, Failure>
+    requires is_of { IsOf q.now d.old }
+    requires is_for { IsFor q.now scratch.old }
+    requires apart { DecidedApart d.old }
+    ensures says { PruneSays (pruned_of result) d.old d.new }
+    ensures fails { (s : Option watched.State)
+        → IfErr result (Fails q.now s d.new (R.changes told.new) (R.short told.new)) }
+    ensures told { TellsOn q.now d.old (R.changes told.old) d.new (R.changes told.new) }
+    ensures is_for { IsFor q.now scratch.new }
+{
+    let _vertices = d.vertices();
+    let from = d.mark();
+    match prune_undecided(d, scratch) {
+        Pruned::Quiet => Ok(false),
+        Pruned::Hall => {
+            told.counted(scratch.set(), scratch.values(), from);
+            Ok(true)
+        }
+        Pruned::Fail => {
+            told.found_short(scratch.set(), scratch.values());
+            Err(Failure::Short(scratch.set().len() as u16))
+        }
+    }
 }

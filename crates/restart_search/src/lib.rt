@@ -14,6 +14,7 @@ pub mod outcome;
 pub mod root;
 pub mod search;
 mod sharing;
+mod untold;
 mod value_choice;
 pub mod worker;
 

@@ -8,12 +8,13 @@ ghost use Rattle.sparse_set.specs.Removals.{whole};
 ghost use Rattle.propagation.specs.Learning.{unlearned};
 ghost use Rattle.restart_search.specs.Searching.{Begins, Roots, RootSays};
 
+use crate::untold::propagate;
 use domain_bits::{Domains, Trail};
 use first_rows::fill_first;
 use graph_rows::Problem;
 use nds_filter::KeptRows;
 use pair_rows::PairKinds;
-use propagation::{Filters, narrow, propagate};
+use propagation::{Filters, narrow};
 use sparse_set::SparseSet;
 use std::alloc::{AllocError, Global};
 

@@ -19,12 +19,13 @@ ghost use Rattle.restart_search.specs.Searching.{AtRest, Based, Sound, Begun, Be
 
 use crate::outcome::Outcome;
 use crate::sharing::{Author, publish_position};
+use crate::untold::{propagate, propagate_again};
 use crate::value_choice::ValueChoice;
 use domain_bits::{Domains, Mark, Trail, and_not_into};
 use fail_account::Account;
 use graph_rows::Problem;
 use nogood_book::{Book, RowSeat};
-use propagation::{Filters, lower, propagate, propagate_again};
+use propagation::{Filters, lower};
 use sparse_set::SparseSet;
 use std::alloc::{AllocError, Global};
 use worker_gate::{AnswerCell, Gate, Note, Point};

@@ -1,4 +1,4 @@
-use Rattle.std.proofs.Common.{true, false, subst, ◌∙◌}
+use Rattle.std.proofs.Common.{◌≡◌, List, Option, sym, true, false, subst, ◌∙◌}
 use Rattle.graph_theory.specs.Embedding.{Problem}
 use Rattle.nogood_watch.specs.InForce.{InForce}
 use Rattle.propagation.specs.Acting.{WatchesWait}
@@ -7,48 +7,79 @@ use Rattle.propagation.specs.Propagation.{TakenUp, LeavesPast}
 use Rattle.propagation.proofs.Acting.{kept_then, moved_more, wait_pruned}
 use Rattle.propagation.proofs.Past.{leaves_on, fewer_more}
 use Rattle.propagation.proofs.Narrowing.{narrows_more, none_narrowed}
+use Rattle.domain_bits.specs.Removals.{State}
+use Rattle.nogood_watch.specs.Nogoods as watched
+use Rattle.propagation.specs.Recording.{Change}
+use Rattle.propagation.specs.Telling.{Tells}
+use Rattle.std.proofs.lemmas.Result.{err_from_is_err_and}
+use Rattle.propagation.proofs.Telling.{tells_of}
 use Rattle.propagation.proofs.propagation.propagate.Goals as goal
 
-pub returns-then-not-take_up-clause-propagated : goal.returns-then-not-take_up-clause-propagated
-returns-then-not-take_up-clause-propagated g c =
-    let taken = subst (λ (q : Problem). TakenUp false q c.loop-filters.d c.take_up.new.d) c.loop-filters.invariant.problem c.if-not-take_up.ensures.taken in
-    (narrows_more _ _ _ _ c.loop-filters.invariant.narrows taken.0, none_narrowed _ _ _ c.loop-filters.invariant.narrows taken.1)
+-- what taking up tells, of the problem that is held
+told_on : (q r : Problem) (n m : Option watched.State) (old new : State) (before after : Option (List Change)) → r ≡ q → (Tells r n old before → Tells r m new after) → Tells q n old before
+    → Tells q m new after
+told_on q r n m old new before after is on t = tells_of r q m new after (sym is) (on (tells_of q r n old before is t))
 
-pub returns-in-Fail-clause-propagated : goal.returns-in-Fail-clause-propagated
-returns-in-Fail-clause-propagated g c =
-    let taken = subst (λ (q : Problem). TakenUp true q c.loop-filters.d c.take_up.new.d) c.loop-filters.invariant.problem c.if-not-take_up.ensures.taken in
-    let n = narrows_more _ _ _ _ c.loop-filters.invariant.narrows taken.0 in
-    (narrows_more _ _ _ _ n c.in-Fail.ensures.pruned.0, none_narrowed _ _ _ n c.in-Fail.ensures.pruned.1)
+pub returns-in_err-take_up-clause-propagated : goal.returns-in_err-take_up-clause-propagated
+returns-in_err-take_up-clause-propagated g c =
+    let taken = subst (λ (q : Problem). TakenUp false q c.loop-d.d c.take_up.new.d) c.loop-d.invariant.problem c.in_err-take_up.ensures.taken in
+    let p = err_from_is_err_and c.from_residual.result c.from_residual.ensures.1 in
+    rw p.1 (narrows_more _ _ _ _ c.loop-d.invariant.narrows taken.0, none_narrowed _ _ _ c.loop-d.invariant.narrows taken.1)
 
-pub loop-filters-preserved : goal.loop-filters-preserved
-loop-filters-preserved g c =
-    let taken = subst (λ (q : Problem). TakenUp true q c.loop-filters.d c.take_up.new.d) c.loop-filters.invariant.problem c.if-not-take_up.ensures.taken in
-    let kept = subst (λ (q : Problem). AreKept q c.take_up.new.nogoods) c.loop-filters.invariant.problem c.take_up.ensures.kept in
+pub returns-in_err-have_left-clause-propagated : goal.returns-in_err-have_left-clause-propagated
+returns-in_err-have_left-clause-propagated g c =
+    let taken = subst (λ (q : Problem). TakenUp true q c.loop-d.d c.take_up.new.d) c.loop-d.invariant.problem c.in_ok-take_up.ensures.taken in
+    let n = narrows_more _ _ _ _ c.loop-d.invariant.narrows taken.0 in
+    let p = err_from_is_err_and c.from_residual-in_err-have_left.result c.from_residual-in_err-have_left.ensures.1 in
+    rw p.1 (narrows_more _ _ _ _ n c.in_err-have_left.ensures.pruned.0, none_narrowed _ _ _ n c.in_err-have_left.ensures.pruned.1)
+
+pub loop-d-preserved : goal.loop-d-preserved
+loop-d-preserved g c =
+    let pruned = rw c.if-not-have_left.false at c.in_ok-have_left.ensures.pruned in
+    let taken = subst (λ (q : Problem). TakenUp true q c.loop-d.d c.take_up.new.d) c.loop-d.invariant.problem c.in_ok-take_up.ensures.taken in
+    let kept = subst (λ (q : Problem). AreKept q c.take_up.new.nogoods) c.loop-d.invariant.problem c.in_ok-take_up.ensures.kept in
     record {
-      problem = c.take_up.ensures.problem ∙ c.loop-filters.invariant.problem;
-      is_for = c.prune_noting.ensures.is_for;
+      problem = c.in_ok-take_up.ensures.problem ∙ c.loop-d.invariant.problem;
+      is_for = c.in_ok-have_left.ensures.is_for;
       kept = kept;
-      narrows = narrows_more _ _ _ _ (narrows_more _ _ _ _ c.loop-filters.invariant.narrows taken.0) c.in-Hall.ensures.pruned.0;
-      ready = c.in-Hall.ensures.pruned.1;
-      left = leaves_on _ c.take_up.new.d c.prune_noting.new.d _ c.in-Hall.ensures.pruned.0.less (subst (λ (q : Problem). LeavesPast q c.take_up.new.d c.take_up.new.undecided) c.loop-filters.invariant.problem c.take_up.ensures.left);
-      fewer = fewer_more _ _ _ c.loop-filters.invariant.fewer c.take_up.ensures.fewer;
+      narrows = narrows_more _ _ _ _ (narrows_more _ _ _ _ c.loop-d.invariant.narrows taken.0) pruned.0;
+      ready = pruned.1;
+      left = leaves_on _ c.take_up.new.d c.prune_noting.new.d _ pruned.0.less (subst (λ (q : Problem). LeavesPast q c.take_up.new.d c.take_up.new.undecided) c.loop-d.invariant.problem c.in_ok-take_up.ensures.left);
+      fewer = fewer_more _ _ _ c.loop-d.invariant.fewer c.in_ok-take_up.ensures.fewer;
       wait = kept_then _ c.take_up.new.nogoods (λ s. InForce c.take_up.new.d s.watches) (WatchesWait c.prune_noting.new.d c.prune_noting.new.waiting) kept
-          (λ s are force. wait_pruned _ c.take_up.new.d c.prune_noting.new.d c.prune_noting.new.waiting s c.in-Hall.ensures.pruned.0.less c.in-Hall.ensures.pruned.3 are force) c.if-not-take_up.ensures.in_force;
-      moved = moved_more _ c.loop-filters.d _ _ c.take_up.new.nogoods c.loop-filters.invariant.narrows.less c.loop-filters.invariant.moved c.take_up.ensures.moved;
+          (λ s are force. wait_pruned _ c.take_up.new.d c.prune_noting.new.d c.prune_noting.new.waiting s pruned.0.less pruned.3 are force) c.in_ok-take_up.ensures.in_force;
+      moved = moved_more _ c.loop-d.d _ _ c.take_up.new.nogoods c.loop-d.invariant.narrows.less c.loop-d.invariant.moved c.in_ok-take_up.ensures.moved;
+      told = λ t. c.in_ok-have_left.ensures.told c.take_up.new.nogoods (told_on _ _ _ _ _ _ _ _ c.loop-d.invariant.problem c.in_ok-take_up.ensures.told (c.loop-d.invariant.told t));
     }
 
-pub returns-then-not-take_up-clause-moved : goal.returns-then-not-take_up-clause-moved
-returns-then-not-take_up-clause-moved g c =
-    moved_more c.args.d.now c.loop-filters.d c.args.filters.now.nogoods c.loop-filters.filters-inside.nogoods c.take_up.new.nogoods c.loop-filters.invariant.narrows.less c.loop-filters.invariant.moved c.take_up.ensures.moved
+pub returns-in_err-take_up-clause-told : goal.returns-in_err-take_up-clause-told
+returns-in_err-take_up-clause-told g c t = told_on _ _ _ _ _ _ _ _ c.loop-d.invariant.problem c.in_err-take_up.ensures.told (c.loop-d.invariant.told t)
 
-pub returns-in-Quiet-clause-moved : goal.returns-in-Quiet-clause-moved
-returns-in-Quiet-clause-moved g c =
-    moved_more c.args.d.now c.loop-filters.d c.args.filters.now.nogoods c.loop-filters.filters-inside.nogoods c.take_up.new.nogoods c.loop-filters.invariant.narrows.less c.loop-filters.invariant.moved c.take_up.ensures.moved
+pub returns-in_err-have_left-clause-told : goal.returns-in_err-have_left-clause-told
+returns-in_err-have_left-clause-told g c t =
+    c.in_err-have_left.ensures.told c.take_up.new.nogoods (told_on _ _ _ _ _ _ _ _ c.loop-d.invariant.problem c.in_ok-take_up.ensures.told (c.loop-d.invariant.told t))
 
-pub returns-in-Fail-clause-moved : goal.returns-in-Fail-clause-moved
-returns-in-Fail-clause-moved g c =
-    moved_more c.args.d.now c.loop-filters.d c.args.filters.now.nogoods c.loop-filters.filters-inside.nogoods c.take_up.new.nogoods c.loop-filters.invariant.narrows.less c.loop-filters.invariant.moved c.take_up.ensures.moved
+pub returns-then-not-have_left-clause-told : goal.returns-then-not-have_left-clause-told
+returns-then-not-have_left-clause-told g c t =
+    c.in_ok-have_left.ensures.told c.take_up.new.nogoods (told_on _ _ _ _ _ _ _ _ c.loop-d.invariant.problem c.in_ok-take_up.ensures.told (c.loop-d.invariant.told t))
 
-pub returns-in-Fail-clause-left : goal.returns-in-Fail-clause-left
-returns-in-Fail-clause-left g c =
-    leaves_on _ c.take_up.new.d c.prune_noting.new.d _ c.in-Fail.ensures.pruned.0.less (subst (λ (q : Problem). LeavesPast q c.take_up.new.d c.take_up.new.undecided) c.loop-filters.invariant.problem c.take_up.ensures.left)
+pub returns-in_err-take_up-clause-moved : goal.returns-in_err-take_up-clause-moved
+returns-in_err-take_up-clause-moved g c =
+    moved_more c.args.d.now c.loop-d.d c.args.filters.now.nogoods c.loop-d.filters-inside.nogoods c.take_up.new.nogoods c.loop-d.invariant.narrows.less c.loop-d.invariant.moved c.in_err-take_up.ensures.moved
+
+pub returns-then-not-have_left-clause-moved : goal.returns-then-not-have_left-clause-moved
+returns-then-not-have_left-clause-moved g c =
+    moved_more c.args.d.now c.loop-d.d c.args.filters.now.nogoods c.loop-d.filters-inside.nogoods c.take_up.new.nogoods c.loop-d.invariant.narrows.less c.loop-d.invariant.moved c.in_ok-take_up.ensures.moved
+
+pub returns-in_err-have_left-clause-moved : goal.returns-in_err-have_left-clause-moved
+returns-in_err-have_left-clause-moved g c =
+    moved_more c.args.d.now c.loop-d.d c.args.filters.now.nogoods c.loop-d.filters-inside.nogoods c.take_up.new.nogoods c.loop-d.invariant.narrows.less c.loop-d.invariant.moved c.in_ok-take_up.ensures.moved
+
+pub returns-in_err-have_left-clause-left : goal.returns-in_err-have_left-clause-left
+returns-in_err-have_left-clause-left g c =
+    leaves_on _ c.take_up.new.d c.prune_noting.new.d _ c.in_err-have_left.ensures.pruned.0.less (subst (λ (q : Problem). LeavesPast q c.take_up.new.d c.take_up.new.undecided) c.loop-d.invariant.problem c.in_ok-take_up.ensures.left)
+
+pub returns-in_err-have_left-clause-fails : goal.returns-in_err-have_left-clause-fails
+returns-in_err-have_left-clause-fails g c =
+    let p = err_from_is_err_and c.from_residual-in_err-have_left.result c.from_residual-in_err-have_left.ensures.1 in
+    rw (p.1, p.2) (c.in_err-have_left.ensures.fails c.take_up.new.nogoods)

@@ -2,10 +2,11 @@ use Rattle.std.proofs.Common.{◌≡◌, ◌*◌, ◌-◌, length, IfSome}
 use Rattle.propagation.specs.Learning.{AreKept}
 use Rattle.propagation.specs.Acting.{HaveMoved, WatchesWait}
 use Rattle.propagation.specs.Propagation.{IsFor, Narrows, Ready, LeavesPast, Fewer}
+use Rattle.propagation.specs.Telling.{Tells}
 use Rattle.propagation.proofs.propagation.propagate.Given as goal
 
-abbrev pub invariant-loop-filters : goal.invariant-loop-filters
-invariant-loop-filters g l = record {
+abbrev pub invariant-loop-d : goal.invariant-loop-d
+invariant-loop-d g l = record {
   problem : l.filters-inside.rows.problem ≡ l.q;
   is_for : IsFor l.q l.filters-inside.scratch;
   kept : AreKept l.q l.filters-inside.nogoods;
@@ -15,7 +16,8 @@ invariant-loop-filters g l = record {
   fewer : Fewer l.fn.undecided l.undecided;
   wait : IfSome l.filters-inside.nogoods (WatchesWait l.d l.waiting);
   moved : HaveMoved l.fn.d l.fn.filters.nogoods l.filters-inside.nogoods;
+  told : Tells l.q l.fn.filters.nogoods l.fn.d (g.R.Recorder.changes l.fn.told) → Tells l.q l.filters-inside.nogoods l.d (g.R.Recorder.changes l.told);
 }
 
-abbrev pub decreases-loop-filters : goal.decreases-loop-filters
-decreases-loop-filters g l = l.d.vertices * l.d.values - length l.d.removed
+abbrev pub decreases-loop-d : goal.decreases-loop-d
+decreases-loop-d g l = l.d.vertices * l.d.values - length l.d.removed

@@ -1,23 +1,39 @@
 use Rattle.propagation.proofs.Waiting.{ready_but_on}
 use Rattle.propagation.proofs.Past.{member_in}
-use Rattle.propagation.proofs.Walking.{walked_more, walked_none, walked_all}
+use Rattle.propagation.proofs.Walking.{walked_start, walked_more, walked_none, walked_all}
 use Rattle.propagation.proofs.propagation.settle.Goals as goal
 
 pub settle_at-requires-clause-ready : goal.settle_at-requires-clause-ready
-settle_at-requires-clause-ready g c = ready_but_on _ _ _ _ _ _ c.requires.ready c.loop-k.invariant.shrinks
+settle_at-requires-clause-ready g c = ready_but_on _ _ _ _ _ _ c.requires.ready c.loop-k.invariant.walked.shrinks
 
 pub settle_at-requires-clause-r_in : goal.settle_at-requires-clause-r_in
 settle_at-requires-clause-r_in g c = member_in _ _ _ _ c.requires.left (c.members-members.ensures.member c.loop-k.k c.loop-k-test.true)
 
-pub returns-then-not-settle_at : goal.returns-then-not-settle_at
-returns-then-not-settle_at g c =
-    walked_none _ _ _ _ _ _ _ _ _ _ c.members-members.result.now c.loop-k.k c.loop-k.invariant c.if-not-settle_at.ensures
+pub returns-then-not-settle_at-clause-settles : goal.returns-then-not-settle_at-clause-settles
+returns-then-not-settle_at-clause-settles g c =
+    walked_none _ _ _ _ _ _ _ _ _ _ c.members-members.result.now c.loop-k.k c.loop-k.invariant.walked c.if-not-settle_at.ensures.sweeps
     (member_in _ _ _ _ c.requires.left (c.members-members.ensures.member c.loop-k.k c.loop-k-test.true))
 
-pub returns : goal.returns
-returns g c =
+pub returns-then-not-settle_at-clause-none : goal.returns-then-not-settle_at-clause-none
+returns-then-not-settle_at-clause-none g c =
+    (member_in _ _ _ _ c.requires.left (c.members-members.ensures.member c.loop-k.k c.loop-k-test.true), c.if-not-settle_at.ensures.sweeps.swept)
+
+pub returns-then-not-settle_at-clause-told : goal.returns-then-not-settle_at-clause-told
+returns-then-not-settle_at-clause-told g c s t = c.if-not-settle_at.ensures.told s (c.loop-k.invariant.told s t)
+
+pub returns-clause-settles : goal.returns-clause-settles
+returns-clause-settles g c =
     walked_all _ c.args.d.now _ _ _ _ _ c.members-members.result.now c.args.undecided.now c.loop-k.k c.requires.p_in c.requires.single c.requires.left c.members-members.ensures.all
-    c.loop-k-test.false c.loop-k.invariant
+    c.loop-k-test.false c.loop-k.invariant.walked
+
+pub loop-k-init : goal.loop-k-init
+loop-k-init g c = record {
+  walked = walked_start _ c.args.d.now c.args.waiting.now c.args.p c.args.t c.members-members.result.now c.requires.bounded;
+  told = λ s t. t;
+}
 
 pub loop-k-preserved : goal.loop-k-preserved
-loop-k-preserved g c = walked_more _ _ _ _ _ _ _ _ _ _ _ c.loop-k.invariant c.if-not-settle_at.ensures
+loop-k-preserved g c = record {
+  walked = walked_more _ _ _ _ _ _ _ _ _ _ _ c.loop-k.invariant.walked c.if-not-settle_at.ensures.sweeps;
+  told = λ s t. c.if-not-settle_at.ensures.told s (c.loop-k.invariant.told s t);
+}

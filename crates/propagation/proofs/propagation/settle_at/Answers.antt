@@ -1,6 +1,6 @@
 use Rattle.std.proofs.Common.{◌≡◌, ℕ, inl, inr, sym, ◌∙◌, ap}
 use Rattle.propagation.specs.Propagation.{waits_at}
-use Rattle.propagation.proofs.Visits.{sweeps_decided}
+use Rattle.propagation.proofs.Visits.{sweeps_decided, sweeps_own}
 use Rattle.propagation.proofs.Pruning.{one_by_size, not_one_by_size}
 use Rattle.propagation.proofs.propagation.settle_at.Goals as goal
 
@@ -14,8 +14,11 @@ keep_consistent-requires-clause-undecided g c = inl (sym (ap (waits_at c.args.wa
 pub keep_consistent-requires-2-clause-undecided : goal.keep_consistent-requires-2-clause-undecided
 keep_consistent-requires-2-clause-undecided g c = inr (not_one_by_size c.args.d.now c.args.r (λ one. c.if-size-eq1.false (c.size.ensures.size ∙ one)))
 
-pub returns-then-size-eq1 : goal.returns-then-size-eq1
-returns-then-size-eq1 g c =
+pub returns-then-r-p-clause-sweeps : goal.returns-then-r-p-clause-sweeps
+returns-then-r-p-clause-sweeps g c = sweeps_own _ c.args.d.now c.args.waiting.now c.args.p c.args.t c.args.r c.if-r-p.true c.requires.bounded
+
+pub returns-then-size-eq1-clause-sweeps : goal.returns-then-size-eq1-clause-sweeps
+returns-then-size-eq1-clause-sweeps g c =
     let one = one_by_size c.args.d.now c.args.r (sym c.size.ensures.size ∙ c.if-size-eq1.true) in
     sweeps_decided _ _ _ _ _ _ _ c.requires.p_in c.requires.r_in (other _ _ c.if-r-p.false) c.requires.ready
     (sym (ap (waits_at c.args.waiting.now) c.from.ensures) ∙ c.if-waiting-from.false) c.requires.single one.1 c.requires.bounded

@@ -1,4 +1,4 @@
-use Rattle.std.proofs.Common.{ℕ, ◌<◌, true, false, slice_set, subst, arith}
+use Rattle.std.proofs.Common.{◌≡◌, ℕ, List, Option, sym, ◌<◌, true, false, slice_set, subst, arith}
 use Rattle.graph_theory.specs.Graph.{size}
 use Rattle.graph_theory.specs.Embedding.{Problem}
 use Rattle.propagation.specs.Acting.{WatchesWait, WatchesWaitBut}
@@ -7,37 +7,45 @@ use Rattle.propagation.proofs.Acting.{kept_then, moved_none, moved_more, wait_bu
 use Rattle.propagation.proofs.Past.{leaves_on, leaves_one, fewer_one, past_visited}
 use Rattle.propagation.proofs.Visits.{single_of, two_of, visited_two, visited_empty}
 use Rattle.propagation.proofs.Forcing.{visited_settled_forced}
+use Rattle.std.proofs.lemmas.Result.{err_from_is_err_and}
+use Rattle.domain_bits.specs.Removals.{State}
+use Rattle.nogood_watch.specs.Nogoods as watched
+use Rattle.propagation.specs.Recording.{Change}
+use Rattle.propagation.specs.Telling.{Tells, TellsOn}
+use Rattle.propagation.proofs.Telling.{tells_of, tells_on_of}
 use Rattle.propagation.proofs.propagation.visit.Goals as goal
 
 pub returns-then-size-eq0-clause-visited : goal.returns-then-size-eq0-clause-visited
 returns-then-size-eq0-clause-visited g c = visited_empty _ _ c.args.waiting.now c.args.waiting.now c.args.p c.requires.p_in (c.size.ensures.empty.0 c.if-size-eq0.true)
 
-pub returns-then-not-force-clause-visited : goal.returns-then-not-force-clause-visited
-returns-then-not-force-clause-visited g c =
-    visited_settled_forced false _ _ c.args.d.now c.settle.new.d _ c.args.waiting.now c.settle.new.waiting c.force.new.waiting _ _ c.make.ensures.problem c.requires.ready c.requires.waits
+pub returns-in_err-force-in-Some-clause-visited : goal.returns-in_err-force-in-Some-clause-visited
+returns-in_err-force-in-Some-clause-visited g c =
+    let p = err_from_is_err_and c.from_residual-in_err-force-in-Some.result c.from_residual-in_err-force-in-Some.ensures.1 in
+    rw p.1 (visited_settled_forced false _ _ c.args.d.now c.settle.new.d _ c.args.waiting.now c.settle.new.waiting c.force.new.waiting _ _ c.make.ensures.problem c.requires.ready c.requires.waits
     (single_of _ _ _ c.in-Some.ensures.some)
-    (subst (λ (x : ℕ). Settles true c.make.new.self.problem c.args.d.now (slice_set c.args.waiting.now x false) c.settle.new.d c.settle.new.waiting c.args.p c.in-Some.t) c.from.ensures c.if-not-settle.ensures)
-    c.if-not-force.ensures.forces
+    (subst (λ (x : ℕ). Settles true c.make.new.self.problem c.args.d.now (slice_set c.args.waiting.now x false) c.settle.new.d c.settle.new.waiting c.args.p c.in-Some.t) c.from.ensures c.in_ok-settle-in-Some.ensures.settles)
+    c.in_err-force-in-Some.ensures.forces)
 
-pub returns-then-not-force-clause-left : goal.returns-then-not-force-clause-left
-returns-then-not-force-clause-left g c = leaves_on _ c.args.d.now c.force.new.d _ (returns-then-not-force-clause-visited g c).0.less c.requires.left
+pub returns-in_err-force-in-Some-clause-left : goal.returns-in_err-force-in-Some-clause-left
+returns-in_err-force-in-Some-clause-left g c =
+    leaves_on _ c.args.d.now c.force.new.d _ (λ r u h. c.in_ok-settle-in-Some.ensures.settles.shrinks.narrows.less r u (c.in_err-force-in-Some.ensures.forces.0.less r u h)) c.requires.left
 
-pub returns-else-not-force-clause-visited : goal.returns-else-not-force-clause-visited
-returns-else-not-force-clause-visited g c =
+pub returns-in_ok-force-in-Some-clause-visited : goal.returns-in_ok-force-in-Some-clause-visited
+returns-in_ok-force-in-Some-clause-visited g c =
     visited_settled_forced true _ _ c.args.d.now c.settle.new.d _ c.args.waiting.now c.settle.new.waiting _ _ _ c.make.ensures.problem c.requires.ready c.requires.waits
     (single_of _ _ _ c.in-Some.ensures.some)
-    (subst (λ (x : ℕ). Settles true c.make.new.self.problem c.args.d.now (slice_set c.args.waiting.now x false) c.settle.new.d c.settle.new.waiting c.args.p c.in-Some.t) c.from.ensures c.if-not-settle.ensures)
-    c.if-not-force.ensures.forces
+    (subst (λ (x : ℕ). Settles true c.make.new.self.problem c.args.d.now (slice_set c.args.waiting.now x false) c.settle.new.d c.settle.new.waiting c.args.p c.in-Some.t) c.from.ensures c.in_ok-settle-in-Some.ensures.settles)
+    c.in_ok-force-in-Some.ensures.forces
 
-pub returns-else-not-force-clause-left : goal.returns-else-not-force-clause-left
-returns-else-not-force-clause-left g c =
-    leaves_one _ c.force.new.d c.args.undecided.now _ _ c.args.p (leaves_on _ c.args.d.now c.force.new.d _ (returns-else-not-force-clause-visited g c).0.less c.requires.left)
+pub returns-in_ok-force-in-Some-clause-left : goal.returns-in_ok-force-in-Some-clause-left
+returns-in_ok-force-in-Some-clause-left g c =
+    leaves_one _ c.force.new.d c.args.undecided.now _ _ c.args.p (leaves_on _ c.args.d.now c.force.new.d _ (returns-in_ok-force-in-Some-clause-visited g c).0.less c.requires.left)
     (past_visited _ _ c.args.d.now c.settle.new.d c.force.new.d _ c.settle.new.waiting c.force.new.waiting c.args.p _ c.make.ensures.problem (single_of _ _ _ c.in-Some.ensures.some)
-    c.if-not-settle.ensures c.if-not-force.ensures.forces)
+    c.in_ok-settle-in-Some.ensures.settles c.in_ok-force-in-Some.ensures.forces)
     c.remove.ensures.after
 
-pub returns-else-not-force-clause-fewer : goal.returns-else-not-force-clause-fewer
-returns-else-not-force-clause-fewer g c = fewer_one c.args.undecided.now _ _ c.args.p c.remove.ensures.after
+pub returns-in_ok-force-in-Some-clause-fewer : goal.returns-in_ok-force-in-Some-clause-fewer
+returns-in_ok-force-in-Some-clause-fewer g c = fewer_one c.args.undecided.now _ _ c.args.p c.remove.ensures.after
 
 pub returns-else-size-eq0-clause-visited : goal.returns-else-size-eq0-clause-visited
 returns-else-size-eq0-clause-visited g c =
@@ -46,28 +54,28 @@ returns-else-size-eq0-clause-visited g c =
 pub returns-then-size-eq0-clause-moved : goal.returns-then-size-eq0-clause-moved
 returns-then-size-eq0-clause-moved g c = moved_none _ c.args.d.now c.args.nogoods.now c.requires.kept
 
-pub returns-then-not-settle-clause-moved : goal.returns-then-not-settle-clause-moved
-returns-then-not-settle-clause-moved g c = moved_none _ c.args.d.now c.args.nogoods.now c.requires.kept
+pub returns-in_err-settle-in-Some-clause-moved : goal.returns-in_err-settle-in-Some-clause-moved
+returns-in_err-settle-in-Some-clause-moved g c = moved_none _ c.args.d.now c.args.nogoods.now c.requires.kept
 
 pub force-requires-clause-some : goal.force-requires-clause-some
 force-requires-clause-some g c p p_in =
-    c.if-not-settle.ensures.shrinks.some p (c.requires.ready.some p (subst (λ (q : Problem). p < size q.pattern) c.make.ensures.problem p_in))
+    c.in_ok-settle-in-Some.ensures.settles.shrinks.some p (c.requires.ready.some p (subst (λ (q : Problem). p < size q.pattern) c.make.ensures.problem p_in))
 
 pub force-requires-clause-wait : goal.force-requires-clause-wait
 force-requires-clause-wait g c =
-    let settled = subst (λ (x : ℕ). Settles true c.make.new.self.problem c.args.d.now (slice_set c.args.waiting.now x false) c.settle.new.d c.settle.new.waiting c.args.p c.in-Some.t) c.from.ensures c.if-not-settle.ensures in
+    let settled = subst (λ (x : ℕ). Settles true c.make.new.self.problem c.args.d.now (slice_set c.args.waiting.now x false) c.settle.new.d c.settle.new.waiting c.args.p c.in-Some.t) c.from.ensures c.in_ok-settle-in-Some.ensures.settles in
     let shrinks = subst (λ (q : Problem). Shrinks q c.args.d.now (slice_set c.args.waiting.now c.args.p false) c.settle.new.d c.settle.new.waiting) c.make.ensures.problem settled.shrinks in
     kept_then _ c.args.nogoods.now (WatchesWait c.args.d.now c.args.waiting.now) (WatchesWaitBut c.settle.new.d c.settle.new.waiting c.args.p) c.requires.kept
     (λ s are w. wait_but_on _ c.args.d.now c.settle.new.d (slice_set c.args.waiting.now c.args.p false) c.settle.new.waiting c.args.p s shrinks are (wait_but_lowered c.args.d.now c.args.waiting.now c.args.p s w))
     c.requires.wait
 
-pub returns-then-not-force-clause-moved : goal.returns-then-not-force-clause-moved
-returns-then-not-force-clause-moved g c =
-    moved_more c.args.d.now c.settle.new.d c.args.nogoods.now c.args.nogoods.now c.force.new.nogoods c.if-not-settle.ensures.shrinks.narrows.less (moved_none _ c.args.d.now c.args.nogoods.now c.requires.kept) c.if-not-force.ensures.moved
+pub returns-in_err-force-in-Some-clause-moved : goal.returns-in_err-force-in-Some-clause-moved
+returns-in_err-force-in-Some-clause-moved g c =
+    moved_more c.args.d.now c.settle.new.d c.args.nogoods.now c.args.nogoods.now c.force.new.nogoods c.in_ok-settle-in-Some.ensures.settles.shrinks.narrows.less (moved_none _ c.args.d.now c.args.nogoods.now c.requires.kept) c.in_err-force-in-Some.ensures.moved
 
-pub returns-else-not-force-clause-moved : goal.returns-else-not-force-clause-moved
-returns-else-not-force-clause-moved g c =
-    moved_more c.args.d.now c.settle.new.d c.args.nogoods.now c.args.nogoods.now c.force.new.nogoods c.if-not-settle.ensures.shrinks.narrows.less (moved_none _ c.args.d.now c.args.nogoods.now c.requires.kept) c.if-not-force.ensures.moved
+pub returns-in_ok-force-in-Some-clause-moved : goal.returns-in_ok-force-in-Some-clause-moved
+returns-in_ok-force-in-Some-clause-moved g c =
+    moved_more c.args.d.now c.settle.new.d c.args.nogoods.now c.args.nogoods.now c.force.new.nogoods c.in_ok-settle-in-Some.ensures.settles.shrinks.narrows.less (moved_none _ c.args.d.now c.args.nogoods.now c.requires.kept) c.in_ok-force-in-Some.ensures.moved
 
 pub returns-else-size-eq0-clause-wait : goal.returns-else-size-eq0-clause-wait
 returns-else-size-eq0-clause-wait g c =
@@ -76,3 +84,19 @@ returns-else-size-eq0-clause-wait g c =
 
 pub returns-else-size-eq0-clause-moved : goal.returns-else-size-eq0-clause-moved
 returns-else-size-eq0-clause-moved g c = moved_none _ c.args.d.now c.args.nogoods.now c.requires.kept
+
+pub returns-in_err-settle-in-Some-clause-told : goal.returns-in_err-settle-in-Some-clause-told
+returns-in_err-settle-in-Some-clause-told g c t = tells_on_of _ _ c.args.d.now _ c.settle.new.d _ c.make.ensures.problem c.in_err-settle-in-Some.ensures.told c.args.nogoods.now t
+
+-- what was told by the consequences and then by the nogoods
+told_then : (q r : Problem) (n m : Option watched.State) (old mid new : State) (before between after : Option (List Change)) → r ≡ q → TellsOn r old before mid between
+    → (Tells r n mid between → Tells r m new after) → Tells q n old before → Tells q m new after
+told_then q r n m old mid new before between after is on forced t = tells_of r q m new after (sym is) (forced (on n (tells_of q r n old before is t)))
+
+pub returns-in_err-force-in-Some-clause-told : goal.returns-in_err-force-in-Some-clause-told
+returns-in_err-force-in-Some-clause-told g c t =
+    told_then _ _ c.args.nogoods.now c.force.new.nogoods c.args.d.now c.settle.new.d c.force.new.d _ _ _ c.make.ensures.problem c.in_ok-settle-in-Some.ensures.told c.in_err-force-in-Some.ensures.told t
+
+pub returns-in_ok-force-in-Some-clause-told : goal.returns-in_ok-force-in-Some-clause-told
+returns-in_ok-force-in-Some-clause-told g c t =
+    told_then _ _ c.args.nogoods.now c.force.new.nogoods c.args.d.now c.settle.new.d c.force.new.d _ _ _ c.make.ensures.problem c.in_ok-settle-in-Some.ensures.told c.in_ok-force-in-Some.ensures.told t

@@ -1,8 +1,10 @@
-use Rattle.std.proofs.Common.{refl, sym, subst}
+use Rattle.std.proofs.Common.{Some, refl, sym, subst}
 use Rattle.nogood_watch.specs.Nogoods.{State}
 use Rattle.propagation.specs.Learning.{AreNogoods}
 use Rattle.propagation.proofs.Acting.{wait_forced, wait_looked, none_out, move_looked}
 use Rattle.propagation.proofs.Forcing.{assigned_of, unused_forced, held_looked, watches_long, none_whole}
+use Rattle.propagation.proofs.Telling.{tells_named, moved_names, emptied_fails}
+use Rattle.propagation.proofs.Reasons.{whole_decided, forbidden_forced}
 use Rattle.propagation.proofs.Narrowing.{narrows_none}
 use Rattle.propagation.proofs.Waiting.{shrinks_none}
 use Rattle.propagation.proofs.nogoods.Nogoods.force.Goals.{in-Quiet, in-Fail, in-Forced}
@@ -46,3 +48,25 @@ pub returns-clause-moved : goal.returns-clause-moved
 returns-clause-moved g c =
     move_looked _ c.args.d.now c.args.self.now c.self.inside.watched c.on_assign.new.self (sym c.self.view_is) c.requires.is_of c.requires.some c.requires.nogoods c.on_assign.ensures.nogoods c.on_assign.ensures.units
     c.on_assign.ensures.watches c.on_assign.ensures.moves
+
+pub returns-clause-fails : goal.returns-clause-fails
+returns-clause-fails g c =
+    elim c.match-on_assign.branch [
+      | in-Quiet w ↦ rw (w.result-is) tt
+      | in-Fail w ↦ rw (w.result-is, w.d-is) (whole_decided c.args.d.now c.on_assign.new.self _ w.in-Fail.ensures.answer)
+      | in-Forced w ↦ rw (w.result-is, w.d-is)
+          (emptied_fails c.args.rows.now.problem (Some c.on_assign.new.self) w.take_out.new.d _ _ w.take_out.result w.take_out.ensures.none)
+    ]
+
+pub returns-clause-told : goal.returns-clause-told
+returns-clause-told g c t =
+    let before = subst (λ (s : State). AreNogoods c.args.rows.now.problem s) (sym c.self.view_is) c.requires.nogoods in
+    let named = tells_named c.args.rows.now.problem (Some c.args.self.now) (Some c.on_assign.new.self) c.args.d.now _
+    (moved_names c.args.d.now (Some c.args.self.now) (Some c.on_assign.new.self) (returns-clause-moved g c)) t in
+    elim c.match-on_assign.branch [
+      | in-Quiet w ↦ rw (w.d-is, w.told-is) named
+      | in-Fail w ↦ rw (w.d-is, w.told-is) named
+      | in-Forced w ↦ rw (w.d-is, w.told-is) (w.take_out.ensures.told (Some c.on_assign.new.self)
+          (forbidden_forced c.args.d.now c.self.inside.watched c.on_assign.new.self (c.args.p, c.args.t) w.forced.result.now before.watches c.on_assign.ensures.watches c.on_assign.ensures.nogoods
+          c.on_assign.ensures.forced w.forced.ensures) named)
+    ]

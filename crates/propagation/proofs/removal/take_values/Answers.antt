@@ -1,6 +1,6 @@
 use Rattle.std.proofs.Common.{arith, refl}
 use Rattle.propagation.proofs.Taking.{left_first, left_more, left_all, stands_at}
-use Rattle.propagation.proofs.near.take_values.Goals as goal
+use Rattle.propagation.proofs.removal.take_values.Goals as goal
 
 pub loop-u-init : goal.loop-u-init
 loop-u-init g c = left_first _ _ _ _ c.args.near.now c.remove-was_there.ensures.keeps

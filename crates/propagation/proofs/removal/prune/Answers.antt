@@ -1,0 +1,27 @@
+use Rattle.std.proofs.Common.{ℕ, List, sym, ap, length, ◌∙◌, subst, arith}
+use Rattle.domain_bits.specs.Removals.{State}
+use Rattle.all_different.specs.declared.Pruned.{Pruned}
+use Rattle.all_different.specs.declared.Pruned.TheVariants as pruned
+use Rattle.all_different.specs.Pruning.{Prunes}
+use Rattle.propagation.proofs.Telling.{told_more}
+use Rattle.propagation.proofs.Reasons.{leaves_counted, short_shown}
+use Rattle.propagation.proofs.removal.prune.Goals as goal
+use Rattle.std.specs.Prelude.{◌≡◌}
+
+-- the same of the set and the row as they are given out
+given_out : (answer : Pruned) (old new : State) (set set_now row row_now : List ℕ) → set_now ≡ set → row_now ≡ row → Prunes answer old new set row → Prunes answer old new set_now row_now
+given_out answer old new set set_now row row_now s r p =
+    subst (λ (xs : List ℕ). Prunes answer old new xs row_now) (sym s) (subst (λ (ys : List ℕ). Prunes answer old new set ys) (sym r) p)
+
+pub returns-in-Hall-clause-told : goal.returns-in-Hall-clause-told
+returns-in-Hall-clause-told g c s t =
+    told_more c.args.q.now s c.args.d.now c.prune_undecided.new.d _ _ _
+    (leaves_counted c.args.q.now s c.args.d.now c.prune_undecided.new.d c.set.result.now c.values.result.now c.mark-from.result c.requires.is_of
+    (given_out pruned.Hall c.args.d.now c.prune_undecided.new.d _ _ _ _ c.set.ensures c.values.ensures.union c.in-Hall.ensures.prunes) c.mark-from.ensures.length)
+    (omega (arith, c.mark-from.ensures.length, c.in-Hall.ensures.says.1)) c.counted.ensures t
+
+pub returns-in-Fail-clause-fails : goal.returns-in-Fail-clause-fails
+returns-in-Fail-clause-fails g c s =
+    short_shown c.args.q.now c.args.d.now c.prune_undecided.new.d c.set-in-Fail.result.now c.values-in-Fail.result.now _ _ _ c.requires.is_of
+    (given_out pruned.Fail c.args.d.now c.prune_undecided.new.d _ _ _ _ c.set-in-Fail.ensures c.values-in-Fail.ensures.union c.in-Fail.ensures.prunes)
+    c.found_short.ensures.kept (ap length (c.set-in-Fail-2.ensures ∙ sym c.set-in-Fail.ensures))

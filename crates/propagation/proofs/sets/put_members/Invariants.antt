@@ -1,0 +1,14 @@
+use Rattle.std.proofs.Common.{◌≡◌, ◌-◌, ◌*◌, ◌<◌, ◌≤◌, true, ◌++◌, length}
+use Rattle.domain_bits.specs.BitRows.{has}
+use Rattle.domain_bits.specs.Counting.{members}
+use Rattle.propagation.proofs.sets.put_members.Given as goal
+
+abbrev pub invariant-loop-t : goal.invariant-loop-t
+invariant-loop-t l = record {
+  are : l.numbers.items ≡ l.fn.numbers.items ++ members (has l.row) l.t;
+  within : l.t ≤ 64 * length l.row;
+  member : l.t < 64 * length l.row → has l.row l.t ≡ true;
+}
+
+abbrev pub decreases-loop-t : goal.decreases-loop-t
+decreases-loop-t l = 64 * length l.row - l.t

@@ -1,0 +1,178 @@
+-- What is told of the values that leave, and that it is true.
+
+use Rattle.std.specs.Prelude.{◌≡◌, ℕ, ◌<◌, ◌≤◌, true, false, ◌⊎◌, List, [], ◌∷◌, ◌++◌, length, Option, Some, None}
+use Rattle.graph_theory.specs.Graph.{size}
+use Rattle.graph_theory.specs.Embedding.{Problem}
+use Rattle.search_theory.specs.Consistency.{IsFirstValue, AreConsistent}
+use Rattle.domain_bits.specs.BitRows.{has}
+use Rattle.domain_bits.specs.Removals.{State, in_domain, full, undone}
+use Rattle.all_different.specs.Prefixes.{Short}
+use Rattle.all_different.specs.Pruning.{among}
+use Rattle.nogood_watch.specs.Nogoods as watched
+use Rattle.nogood_watch.specs.Nogoods.{literal}
+use Rattle.nogood_watch.specs.Watching.{forced_at}
+use Rattle.propagation.specs.declared.change.Cause.{Cause}
+use Rattle.propagation.specs.declared.change.Cause.TheVariants as cause
+use Rattle.propagation.specs.declared.change.Failure.{Failure}
+use Rattle.propagation.specs.declared.change.Failure.TheVariants as failure
+use Rattle.propagation.specs.Recording.{Change, LeftOne, LeftOthers, from_of, CountedSet, cut_at}
+
+-- No value but t is left for p.
+abbrev pub HasAtMost : State → ℕ → ℕ → Type 0
+HasAtMost d p t = (u : ℕ) → in_domain d p u ≡ true → u ≡ t
+
+-- The row has each value of the first domain of p.
+abbrev pub HasFirst : Problem → ℕ → List ℕ → Type 0
+HasFirst q p row = (t : ℕ) → IsFirstValue q p t → t < size q.target → has row t ≡ true
+
+-- ---- nogoods by name
+
+-- One of these lists has the name, and these pairs.
+pub record NamesList (nogoods : List watched.Nogood) (name : ℕ) (pairs : List (ℕ × ℕ)) : Type 0 where
+  pub place : ℕ
+  pub within : place < length nogoods
+  pub name_is : (watched.nogood nogoods place).name ≡ name
+  pub pairs_are : (watched.nogood nogoods place).literals ≡ pairs
+
+-- One of these single pairs has the name.
+pub record NamesUnit (units : List (ℕ × ℕ × ℕ)) (name : ℕ) (pairs : List (ℕ × ℕ)) : Type 0 where
+  pub place : ℕ
+  pub within : place < length units
+  pub name_is : (forced_at units place).2 ≡ name
+  pub pair_is : ((forced_at units place).0, (forced_at units place).1) ∷ [] ≡ pairs
+
+-- A kept nogood of this name has these pairs.
+abbrev pub IsNamed : Option watched.State → ℕ → List (ℕ × ℕ) → Type 0
+IsNamed None name pairs = ⊥
+IsNamed (Some s) name pairs = NamesList s.nogoods name pairs ⊎ NamesUnit s.units name pairs
+
+-- What was named is named still.
+abbrev pub KeepsNames : Option watched.State → Option watched.State → Type 0
+KeepsNames old new = (name : ℕ) (pairs : List (ℕ × ℕ)) → IsNamed old name pairs → IsNamed new name pairs
+
+-- ---- what a change stands by
+
+-- No value but t is left for p, and r is another vertex.
+pub record Faces (q : Problem) (d : State) (p t r : ℕ) : Type 0 where
+  pub vertex_in : p < size q.pattern
+  pub value_in : t < size q.target
+  pub other_in : r < size q.pattern
+  pub apart : p ≡ r → ⊥
+  pub decided : HasAtMost d p t
+
+-- A nogood of this name has the pair of r and u, and of each other pair the value is all that is left.
+pub record IsForbidden (s : Option watched.State) (d : State) (name r u : ℕ) : Type 0 where
+  pub pairs : List (ℕ × ℕ)
+  pub named : IsNamed s name pairs
+  pub place : ℕ
+  pub within : place < length pairs
+  pub here : literal pairs place ≡ (r, u)
+  pub rest : (k : ℕ) → k < length pairs → (literal pairs k ≡ (r, u)) ⊎ HasAtMost d (literal pairs k).0 (literal pairs k).1
+
+-- So it is of each of these pairs with the name beside it.
+abbrev pub AreForbidden : Option watched.State → State → List (ℕ × ℕ × ℕ) → Type 0
+AreForbidden s d pairs = (k : ℕ) → k < length pairs → IsForbidden s d (forced_at pairs k).2 (forced_at pairs k).0 (forced_at pairs k).1
+
+-- No number stands twice in the list.
+abbrev pub AreDistinct : List ℕ → Type 0
+AreDistinct [] = Unit {0}
+AreDistinct (x ∷ xs) = (among xs x ≡ false) × AreDistinct xs
+
+-- These are vertices, none twice, and together they have no other values than these.
+pub record HaveOnly (q : Problem) (d : State) (vertices values : List ℕ) : Type 0 where
+  pub vertices_in : (p : ℕ) → among vertices p ≡ true → p < size q.pattern
+  pub values_in : (t : ℕ) → among values t ≡ true → t < size q.target
+  pub distinct : AreDistinct vertices
+  pub within : (p t : ℕ) → among vertices p ≡ true → in_domain d p t ≡ true → among values t ≡ true
+
+-- What the cause of a change says of the domains before it.
+abbrev pub StandsBy : Cause → Problem → State → ℕ → Type 0
+StandsBy cause.First q d r = r < size q.pattern
+StandsBy (cause.Guess t) q d r = (r < size q.pattern) × (in_domain d r t ≡ true)
+StandsBy (cause.Vertex p t) q d r = Faces q d p t r
+StandsBy (cause.Nogood name) q d r = r < size q.pattern
+
+abbrev pub Stands : Change → Problem → State → Type 0
+Stands (LeftOne r why from) q d = StandsBy why q d r
+Stands (LeftOthers vertices values from) q d = HaveOnly q d vertices values × (length values ≤ length vertices)
+
+-- The cause refuses u for r.
+abbrev pub RefusesBy : Cause → Problem → Option watched.State → State → ℕ → ℕ → Type 0
+RefusesBy cause.First q s d r u = IsFirstValue q r u → ⊥
+RefusesBy (cause.Guess t) q s d r u = u ≡ t → ⊥
+RefusesBy (cause.Vertex p t) q s d r u = AreConsistent q p t r u → ⊥
+RefusesBy (cause.Nogood name) q s d r u = IsForbidden s d name r u
+
+-- So does a change: of its vertex by its cause, or of all vertices but those of a set the values of these.
+abbrev pub Refuses : Change → Problem → Option watched.State → State → ℕ → ℕ → Type 0
+Refuses (LeftOne p why from) q s d r u = (r ≡ p) × RefusesBy why q s d p u
+Refuses (LeftOthers vertices values from) q s d r u = (r < size q.pattern) × (among vertices r ≡ false) × (among values u ≡ true)
+
+-- What leaves, if anything does, leaves by the change.
+pub record Leaves (q : Problem) (s : Option watched.State) (old new : State) (c : Change) : Type 0 where
+  pub vertices_same : new.vertices ≡ old.vertices
+  pub values_same : new.values ≡ old.values
+  pub rest : List (ℕ × ℕ)
+  pub front : new.removed ≡ old.removed ++ rest
+  pub from_is : from_of c ≡ length old.removed
+  pub stands : Stands c q old
+  pub refused : (r u : ℕ) → in_domain old r u ≡ true → in_domain new r u ≡ false → Refuses c q s old r u
+
+-- The change has taken place.
+pub record Changed (q : Problem) (s : Option watched.State) (old new : State) (c : Change) : Type 0 where
+  pub leaves : Leaves q s old new c
+  pub some : length old.removed < length new.removed
+
+-- ---- what is told is true
+
+-- These changes, the last one first, have led from full domains to these.
+pub data Told (q : Problem) (s : Option watched.State) : State → List Change → Type 0 where
+  begins : (vertices values : ℕ) → Told q s (full vertices values) []
+  goes_on : (old new : State) (cs : List Change) (c : Change) → Told q s old cs → Changed q s old new c → Told q s new (c ∷ cs)
+
+-- So it is where changes are kept.
+abbrev pub Tells : Problem → Option watched.State → State → Option (List Change) → Type 0
+Tells q s d None = Unit {0}
+Tells q s d (Some cs) = Told q s d cs
+
+-- Where what was told of the old domains is true, so is what is told of the new ones, whatever names nogoods have.
+abbrev pub TellsOn : Problem → State → Option (List Change) → State → Option (List Change) → Type 0
+TellsOn q old before new after = (s : Option watched.State) → Tells q s old before → Tells q s new after
+
+-- ---- failures
+
+-- The vertex has no value.
+abbrev pub HasNone : Problem → State → ℕ → Type 0
+HasNone q d p = (p < size q.pattern) × ((t : ℕ) → in_domain d p t ≡ true → ⊥)
+
+-- The failure is that of an empty domain.
+abbrev pub IsEmptied : Problem → State → Failure → Type 0
+IsEmptied q d (failure.Empty p) = HasNone q d p
+IsEmptied q d (failure.Whole name) = ⊥
+IsEmptied q d (failure.Short n) = ⊥
+
+-- Of each pair of a nogood of this name the value is all that is left.
+pub record IsDecided (s : Option watched.State) (d : State) (name : ℕ) : Type 0 where
+  pub pairs : List (ℕ × ℕ)
+  pub named : IsNamed s name pairs
+  pub all : (k : ℕ) → k < length pairs → HasAtMost d (literal pairs k).0 (literal pairs k).1
+
+-- The set is kept, and its vertices have only its values, which are fewer.
+pub record IsShown (q : Problem) (d : State) (short : Option CountedSet) : Type 0 where
+  pub set : CountedSet
+  pub set_is : short ≡ Some set
+  pub only : HaveOnly q d set.vertices set.values
+  pub fewer : length set.values < length set.vertices
+
+-- What each failure says of the domains.
+abbrev pub Fails : Problem → Option watched.State → State → Option (List Change) → Option CountedSet → Failure → Type 0
+Fails q s d changes short (failure.Empty p) = HasNone q d p
+Fails q s d changes short (failure.Whole name) = IsDecided s d name
+Fails q s d changes short (failure.Short n) = Short d n × ((changes ≡ None) ⊎ IsShown q d short)
+
+-- ---- laws
+
+-- What is told stays true where domains are undone, to whichever mark, where watches move, and where nogoods are added.
+pub record TellingLaws : Type 0 where
+  pub undone : (q : Problem) (s : Option watched.State) (d : State) (told : Option (List Change)) (k : ℕ) → Tells q s d told → Tells q s (undone d k) (cut_at k told)
+  pub named : (q : Problem) (old new : Option watched.State) (d : State) (told : Option (List Change)) → KeepsNames old new → Tells q old d told → Tells q new d told

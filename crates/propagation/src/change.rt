@@ -1,0 +1,56 @@
+//! A change of the domains, as it is told.
+
+use domain_bits::Mark;
+
+/// Why values left the domain of one vertex.
+#[derive(Clone, Copy)]
+pub enum Cause {
+    /// They are not in its first domain.
+    First,
+    /// It was given this value.
+    Guess(u16),
+    /// They do not go together with this vertex at this value, the only one left for it.
+    Vertex(u16, u16),
+    /// The nogood of this name has the value, and its other pairs are decided.
+    Nogood(u32),
+}
+
+/// Where a set of domains that were counted together stands in a list of numbers: its vertices, and its values behind them.
+#[derive(Clone, Copy)]
+pub struct Place {
+    /// Where the vertices begin.
+    pub start: usize,
+    /// Where the vertices end and the values begin.
+    pub middle: usize,
+    /// Where the values end.
+    pub end: usize,
+}
+
+/// What changed.
+#[derive(Clone, Copy)]
+pub enum What {
+    /// Values left the domain of this vertex.
+    One(u16, Cause),
+    /// The values of a set left all other domains.
+    Others(Place),
+}
+
+/// A change as it is kept.
+#[derive(Clone, Copy)]
+pub struct Entry {
+    /// What changed.
+    pub what: What,
+    /// The mark of the domains before it.
+    pub from: Mark,
+}
+
+/// Why no embedding is within the domains.
+#[derive(Clone, Copy, PartialEq, Eq, Debug)]
+pub enum Failure {
+    /// This vertex has no value.
+    Empty(u16),
+    /// All pairs of the nogood of this name are decided.
+    Whole(u32),
+    /// So many domains, the first by size and number, have fewer values together.
+    Short(u16),
+}

@@ -1,0 +1,64 @@
+//! Who is told of each change of the domains.
+//!
+//! A recorder hears why values left, once for each domain and cause that took something, and how much had left before. It keeps this
+//! until the domains are undone to before it. A search that writes no proof tells `Silent`, which costs nothing; `Causes` keeps the
+//! changes, so that a dead path can be explained after the fact by those that it rests on.
+
+ghost use Rattle.std.specs.Prelude.{◌≡◌, ℕ, ◌≤◌, List, Option, None, length};
+ghost use Rattle.propagation.specs.Telling.{TellingLaws};
+
+use crate::change::Cause;
+use domain_bits::Mark;
+
+/// Hears of each change of the domains.
+pub trait Recorder: Drop {
+    ghost use Rattle.propagation.specs.Recording.{Change, CountedSet, LeftOne, LeftOthers, Took, KeepsSame, KeepsShort, cut_at, members_of};
+
+    ghost changes: { Self → Option (List Change) };
+
+    ghost short: { Self → Option CountedSet };
+
+    /// Values left the domain of the vertex.
+    fn took(&mut self, vertex: u16, cause: Cause, from: Mark)
+        ensures { Took (changes self.old) (changes self.new) (LeftOne vertex cause from) };
+
+    /// The values that these vertices have together, as the row holds them, left all other domains.
+    fn counted(&mut self, vertices: &[u16], row: &[u64], from: Mark)
+        requires { length row.now ≤ 1024 }
+        ensures { Took (changes self.old) (changes self.new) (LeftOthers vertices.now
+            (members_of row.now) from) };
+
+    /// These vertices have fewer values together, as the row holds them, than there are of them.
+    fn found_short(&mut self, vertices: &[u16], row: &[u64])
+        requires { length row.now ≤ 1024 }
+        ensures same { KeepsSame (changes self.old) (changes self.new) }
+        ensures kept { KeepsShort (changes self.new) (short self.new)
+            (record { vertices = vertices.now; values = members_of row.now }) };
+
+    /// The domains were undone to the mark.
+    fn forget_to(&mut self, mark: Mark)
+        ensures { changes self.new ≡ cut_at mark (changes self.old) };
+}
+
+/// That what is told stays true where domains are undone, where watches move, and where nogoods are added.
+pub fn telling_laws()
+    ensures { TellingLaws }
+{}
+
+/// Keeps nothing. Cost: none.
+#[derive(Drop)]
+pub struct Silent;
+
+impl Recorder for Silent {
+    ghost changes = { λ _. None };
+
+    ghost short = { λ _. None };
+
+    fn took(&mut self, _vertex: u16, _cause: Cause, _from: Mark) {}
+
+    fn counted(&mut self, _vertices: &[u16], _row: &[u64], _from: Mark) {}
+
+    fn found_short(&mut self, _vertices: &[u16], _row: &[u64]) {}
+
+    fn forget_to(&mut self, _mark: Mark) {}
+}
