@@ -11,7 +11,6 @@ use Rattle.nogood_watch.specs.Nogoods as watched
 use Rattle.propagation.specs.declared.change.Cause.TheVariants as cause
 use Rattle.propagation.specs.declared.change.Failure.{Failure}
 use Rattle.propagation.specs.declared.change.Failure.TheVariants as failure
-use Rattle.propagation.specs.Learning.{GrowsFrom}
 use Rattle.propagation.specs.Acting.{HaveMoved}
 use Rattle.propagation.specs.Recording.{Change, LeftOne, LeftOthers, from_of, CountedSet, cut, cut_at, Took, KeepsSame}
 use Rattle.propagation.specs.Telling.{NamesList, NamesUnit, KeepsNames, IsForbidden, Refuses, Leaves, Changed, Told, begins, goes_on, Tells, TellsOn, IsEmptied, Fails, TellingLaws}
@@ -109,23 +108,6 @@ moved_names d (Some s) (Some r) moved name pairs (inl h) = inl (subst (λ (ns : 
 moved_names d (Some s) (Some r) moved name pairs (inr h) = inr (subst (λ (us : List (ℕ × ℕ × ℕ)). NamesUnit us name pairs) (sym moved.units_same) h)
 moved_names d None (Some r) moved name pairs h = absurd moved
 moved_names d (Some s) None moved name pairs h = absurd moved
-
--- and so do nogoods that are added
-pub grown_names : (old new : Option watched.State) → GrowsFrom old new → KeepsNames old new
-grown_names None new grows name pairs h = absurd h
-grown_names (Some s) None grows name pairs h = absurd grows
-grown_names (Some s) (Some r) grows name pairs (inl h) = inl (subst (λ (ns : List watched.Nogood). NamesList ns name pairs) (sym grows.lists) (record {
-  place = h.place;
-  within = omega (arith, length-append s.nogoods grows.more_lists, h.within);
-  name_is = ap (λ (n : watched.Nogood). n.name) (get_or_append_left s.nogoods grows.more_lists (record { literals = []; name = 0 }) h.place h.within) ∙ h.name_is;
-  pairs_are = ap (λ (n : watched.Nogood). n.literals) (get_or_append_left s.nogoods grows.more_lists (record { literals = []; name = 0 }) h.place h.within) ∙ h.pairs_are;
-}))
-grown_names (Some s) (Some r) grows name pairs (inr h) = inr (subst (λ (us : List (ℕ × ℕ × ℕ)). NamesUnit us name pairs) (sym grows.units) (record {
-  place = h.place;
-  within = omega (arith, length-append s.units grows.more_units, h.within);
-  name_is = ap (λ (e : ℕ × ℕ × ℕ). e.2) (get_or_append_left s.units grows.more_units (0, 0, 0) h.place h.within) ∙ h.name_is;
-  pair_is = ap (λ (e : ℕ × ℕ × ℕ). (e.0, e.1) ∷ []) (get_or_append_left s.units grows.more_units (0, 0, 0) h.place h.within) ∙ h.pair_is;
-}))
 
 -- ---- undoing
 

@@ -172,7 +172,7 @@ Fails q s d changes short (failure.Short n) = Short d n × ((changes ≡ None) �
 
 -- ---- laws
 
--- What is told stays true where domains are undone, to whichever mark, where watches move, and where nogoods are added.
+-- What is told stays true where domains are undone, to whichever mark, and where nogoods keep their names.
 pub record TellingLaws : Type 0 where
   pub undone : (q : Problem) (s : Option watched.State) (d : State) (told : Option (List Change)) (k : ℕ) → Tells q s d told → Tells q s (undone d k) (cut_at k told)
   pub named : (q : Problem) (old new : Option watched.State) (d : State) (told : Option (List Change)) → KeepsNames old new → Tells q old d told → Tells q new d told

@@ -40,7 +40,7 @@ pub trait Recorder: Drop {
         ensures { changes self.new ≡ cut_at mark (changes self.old) };
 }
 
-/// That what is told stays true where domains are undone, where watches move, and where nogoods are added.
+/// That what is told stays true where domains are undone, and where each nogood keeps its name: where watches move, or others are added.
 pub fn telling_laws()
     ensures { TellingLaws }
 {}
