@@ -63,7 +63,8 @@ place_or-append : (b : Bool) (at : ℕ) (xs ys : List ℕ) → place_or b at (xs
 place_or-append false at xs ys = refl
 place_or-append true at xs ys = refl
 
-places_from-append : (at o : ℕ) (xs ys : List Row) → places_from at o (xs ++ ys) ≡ places_from at o xs ++ places_from (at + length xs) o ys
+-- the same from any place on
+pub places_from-append : (at o : ℕ) (xs ys : List Row) → places_from at o (xs ++ ys) ≡ places_from at o xs ++ places_from (at + length xs) o ys
 places_from-append at o [] ys = let e : at ≡ at + 0 = omega arith in ap (λ n. places_from n o ys) e
 places_from-append at o (x ∷ xs) ys =
     let e : (at + 1) + length xs ≡ at + length (x ∷ xs) = omega arith in

@@ -14,8 +14,14 @@ mod book;
 mod laws;
 mod path;
 mod row;
+mod row_book;
+mod seat;
+mod view;
+mod word;
 
 pub use book::{Book, RowSeat};
 pub use laws::row_laws;
 pub use path::push_path;
+pub use row_book::RowBook;
+pub use seat::BookSeat;
 pub use row::{Published, Row, RowKind};
