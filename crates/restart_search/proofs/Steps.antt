@@ -19,8 +19,8 @@ use Rattle.domain_bits.specs.Removals.{State, in_domain}
 use Rattle.fail_account.proofs.Members.{off_members, members_off}
 use Rattle.sparse_set.specs.Removals as sparse
 use Rattle.restart_search.specs.declared.search.Moment.{Moment}
-use Rattle.propagation.specs.Propagation.{Narrows, Fewer, LeavesPast}
-use Rattle.restart_search.specs.Searching.{AtRest, IsNow, Levels, Based, Sound, IsBest}
+use Rattle.propagation.specs.Propagation.{IsOf, Narrows, Fewer, LeavesPast}
+use Rattle.restart_search.specs.Searching.{AtRest, IsNow, Levels, Based, Sound, IsBest, IsFirstUndecided}
 use Rattle.restart_search.proofs.Guessing.{path_deepened, based_guessed, rest_guessed}
 
 -- ---- the vertex of a level
@@ -31,10 +31,19 @@ off_path q [] D p h none = tt
 off_path q (x ∷ xs) D p h none = (λ same. none x.1 (subst (λ (v : ℕ). Single D v x.1) same h.1), off_path q xs D p h.2 none)
 
 -- the best vertex of all may stand after the path
-pub best_may_stand : (q : Problem) (ps : List (ℕ × ℕ)) (d : State) (v best : Option ℕ) → AtRest q ps d → v ≡ None → IsBest d best (size q.pattern)
+pub best_may_stand : (q : Problem) (ps : List (ℕ × ℕ)) (d : State) (v best : Option ℕ) → IsOf q d → AtRest q ps d → v ≡ None → IsBest q d best (size q.pattern)
     → IfSome best (λ p. (p < size q.pattern) × NotOn ps p × IsAt v p)
-best_may_stand q ps d v None rest none h = tt
-best_may_stand q ps d v (Some p) rest none h = (h.0, off_path q ps (in_domain d) p rest.pins h.1, subst (λ (o : Option ℕ). IsAt o p) (sym none) tt)
+best_may_stand q ps d v None is rest none h = tt
+best_may_stand q ps d v (Some p) is rest none h = (
+  subst (λ (n : ℕ). p < n) is.vertices_is h.undecided.0,
+  off_path q ps (in_domain d) p rest.pins h.undecided.1,
+  subst (λ (o : Option ℕ). IsAt o p) (sym none) tt,
+)
+
+-- and it is the first undecided one
+pub best_is_first : (q : Problem) (d : State) (best : Option ℕ) (n : ℕ) → IsBest q d best n → IfSome best (IsFirstUndecided q d)
+best_is_first q d None n h = tt
+best_is_first q d (Some p) n h = h
 
 -- ---- its untried values
 

@@ -1,13 +1,14 @@
 -- A search: domains that claim only what is sound for the path, the set of the vertices that are not past, an account, and a moment for each level.
 
-use Rattle.std.specs.Prelude.{◌≡◌, ℕ, ◌<◌, ◌≤◌, Bool, true, false, ◌⊎◌, List, [], ◌∷◌, ◌++◌, length, Option, Some, None}
+use Rattle.std.specs.Prelude.{◌≡◌, ℕ, ◌<◌, ◌≤◌, Bool, true, false, ◌⊎◌, List, [], ◌∷◌, ◌++◌, length, Option, Some, None, IfSome}
 use Rattle.graph_theory.specs.Graph.{size}
 use Rattle.graph_theory.specs.Embedding.{Problem, Embeds, HasNone}
 use Rattle.search_theory.specs.Claims.{NoneInside, Single, Stands, Pins, Quiet}
 use Rattle.search_theory.specs.Consistency.{IsFirstValue}
 use Rattle.search_theory.specs.Bounds.{enough}
 use Rattle.search_theory.specs.Account.{Account, path, Honest, Spends}
-use Rattle.domain_bits.specs.Removals.{State, in_domain, undone}
+use Rattle.graph_theory.specs.Neighbours.{degree}
+use Rattle.domain_bits.specs.Removals.{State, in_domain, size_of, undone}
 use Rattle.sparse_set.specs.Removals as sparse
 use Rattle.all_different.specs.Prefixes.{Balanced}
 use Rattle.nogood_watch.specs.Nogoods as watched
@@ -118,14 +119,27 @@ Leaves Spent P = P
 Leaves (Stopped n) P = P
 Leaves NoMemory P = Unit {0}
 
--- The best vertex so far is below r and undecided; where there is none, each vertex below r is decided.
-abbrev pub IsBest : State → Option ℕ → ℕ → Type 0
-IsBest d None r = (s : ℕ) → s < r → (t : ℕ) × Single (in_domain d) s t
-IsBest d (Some p) r = (p < r) × ((t : ℕ) → Single (in_domain d) p t → ⊥)
-
 -- The vertex p is undecided.
 abbrev pub IsUndecided : State → ℕ → Type 0
 IsUndecided d p = (p < d.vertices) × ((t : ℕ) → Single (in_domain d) p t → ⊥)
+
+-- Vertex p comes before r: its domain is smaller, or as large and its degree greater, or these are alike and its number is less.
+abbrev pub ComesFirst : Problem → State → ℕ → ℕ → Type 0
+ComesFirst q d p r = (size_of d p < size_of d r) ⊎ ((size_of d p ≡ size_of d r) × ((degree q.pattern r < degree q.pattern p) ⊎ ((degree q.pattern p ≡ degree q.pattern r) × (p < r))))
+
+-- Vertex p is undecided, and no undecided vertex comes before it.
+pub record IsFirstUndecided (q : Problem) (d : State) (p : ℕ) : Type 0 where
+  pub undecided : IsUndecided d p
+  pub first : (r : ℕ) → IsUndecided d r → ComesFirst q d r p → ⊥
+
+-- The best vertex is the first undecided one; where there is none, each vertex below n is decided.
+abbrev pub IsBest : Problem → State → Option ℕ → ℕ → Type 0
+IsBest q d None n = (s : ℕ) → s < n → (t : ℕ) × Single (in_domain d) s t
+IsBest q d (Some p) n = IsFirstUndecided q d p
+
+-- Whatever comes before the next best vertex came before the best one, and is not p where p is undecided.
+abbrev pub IsNextBest : Problem → State → ℕ → Option ℕ → ℕ → Type 0
+IsNextBest q d p best next = (IsUndecided d p → ComesFirst q d p next → ⊥) × IfSome best (λ r. (s : ℕ) → ComesFirst q d s next → ComesFirst q d s r)
 
 -- The found list is an embedding, or memory was refused.
 abbrev pub FoundOf : Problem → Outcome → Type 0

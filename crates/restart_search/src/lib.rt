@@ -13,7 +13,10 @@
 pub mod outcome;
 pub mod root;
 pub mod search;
+mod shared;
 mod sharing;
+#[cfg(test)]
+mod tests;
 mod untold;
 mod value_choice;
 pub mod worker;

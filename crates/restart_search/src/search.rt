@@ -15,7 +15,7 @@ ghost use Rattle.restart_search.specs.Acting.{Acting, WereActedOn};
 ghost use Rattle.propagation.specs.Holding.{HoldsRows, KeepsSame};
 ghost use Rattle.nogood_book.specs.Facts.{CaughtUp};
 ghost use Rattle.restart_search.specs.Sharing.{IsSeatFor};
-ghost use Rattle.restart_search.specs.Searching.{AtRest, Based, Sound, Begun, BeganAgain, IsAtRoot, TookUp, Knows, Ends, IsNotStopped, Leaves, FoundOf, IsBest, IsNow, IsUndecided};
+ghost use Rattle.restart_search.specs.Searching.{AtRest, Based, Sound, Begun, BeganAgain, IsAtRoot, TookUp, Knows, Ends, IsNotStopped, Leaves, FoundOf, IsBest, IsFirstUndecided, IsNextBest, ComesFirst, IsNow, IsUndecided};
 
 use crate::outcome::Outcome;
 use crate::sharing::{Author, publish_position};
@@ -45,7 +45,7 @@ fn smallest<T: Trail>(q: &Problem, d: &Domains<T>, undecided: &SparseSet) -> Opt
     requires is_of { IsOf q.now d.now }
     requires quiet { Quiet q.now (in_domain d.now) }
     requires left { LeavesPast q.now d.now undecided.now }
-    ensures { IsBest d.now result (size q.now.pattern) }
+    ensures { IsBest q.now d.now result (size q.now.pattern) }
 {
     let members = undecided.members();
     let mut best: Option<u16> = None;
@@ -61,6 +61,7 @@ fn better<T: Trail>(q: &Problem, d: &Domains<T>, p: u16, best: Option<u16>) -> O
     requires p_in { p < size q.now.pattern }
     requires so_far { IfSome best (IsUndecided d.now) }
     ensures some { IfSome result (IsUndecided d.now) }
+    ensures next { IfSome result (IsNextBest q.now d.now p best) }
     ensures none { IfNone result ((best ≡ None) × ((t : ℕ) × Single (in_domain d.now) p t)) }
 {
     if d.size(p) == 1 {
@@ -74,7 +75,8 @@ fn first_of<T: Trail>(q: &Problem, d: &Domains<T>, p: u16, best: Option<u16>) ->
     requires is_of { IsOf q.now d.now }
     requires undecided { IsUndecided d.now p }
     requires so_far { IfSome best (IsUndecided d.now) }
-    ensures { IsUndecided d.now result }
+    ensures undecided { IsUndecided d.now result }
+    ensures next { IsNextBest q.now d.now p best result }
 {
     match best {
         None => p,
@@ -87,6 +89,8 @@ fn comes_first<T: Trail>(q: &Problem, d: &Domains<T>, p: u16, r: u16) -> bool
     requires is_of { IsOf q.now d.now }
     requires p_in { p < size q.now.pattern }
     requires r_in { r < size q.now.pattern }
+    ensures first { result ≡ true → ComesFirst q.now d.now p r }
+    ensures not_first { result ≡ false → ComesFirst q.now d.now p r → ⊥ }
 {
     let size = d.size(p);
     let least = d.size(r);
@@ -111,6 +115,7 @@ fn level_vertex<T: Trail>(
     requires left { LeavesPast q.now d.now undecided.now }
     requires sizes { account.now.pattern ≡ size q.now.pattern }
     ensures some { IfSome result (λ p. (p < size q.now.pattern) × NotOn (path account.now) p × IsAt account.now.vertex p) }
+    ensures fresh { account.now.vertex ≡ None → IfSome result (IsFirstUndecided q.now d.now) }
     ensures none { IfNone result ((p : ℕ) → p < size q.now.pattern → (t : ℕ) × Single (in_domain d.now) p t) }
 {
     match account.vertex() {

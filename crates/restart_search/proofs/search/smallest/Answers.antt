@@ -7,4 +7,4 @@ returns g c =
     c.loop-k.invariant
 
 pub loop-k-preserved : goal.loop-k-preserved
-loop-k-preserved g c = looked_more _ _ _ _ _ c.loop-k.invariant c.better-best.ensures.some c.better-best.ensures.none
+loop-k-preserved g c = looked_more _ _ _ _ _ _ c.loop-k.invariant c.better-best.ensures.some c.better-best.ensures.next c.better-best.ensures.none

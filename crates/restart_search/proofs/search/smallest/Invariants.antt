@@ -2,4 +2,4 @@ use Rattle.restart_search.proofs.Choosing.{Looked}
 use Rattle.restart_search.proofs.search.smallest.Given as goal
 
 abbrev pub invariant-loop-k : goal.invariant-loop-k
-invariant-loop-k g l = Looked l.d l.members l.best l.k
+invariant-loop-k g l = Looked l.q l.d l.members l.best l.k
