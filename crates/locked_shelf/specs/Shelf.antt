@@ -1,6 +1,7 @@
 -- A book under a lock, and its seats.
 
-use Rattle.std.specs.Prelude.{◌≡◌, ◌≢◌, ◌⊎◌, ℕ, ◌≤◌, List, [], ◌∷◌, ◌++◌, drop, length, None}
+use Rattle.std.specs.Prelude.{◌≡◌, ◌≢◌, ◌⊎◌, ℕ, ◌≤◌, List, [], ◌∷◌, ◌++◌, drop, length, Vec, vec_capacity, None}
+use Rattle.std.specs.Global.{Global}
 use Rattle.std.specs.List.{All}
 use Rattle.graph_theory.specs.Embedding.{Problem}
 use Rattle.nogood_book.specs.declared.row.Row.{Row}
@@ -59,5 +60,5 @@ abbrev pub fresh : Problem → ℕ → ℕ → ShelfView
 fresh q owner most = view_of q owner most []
 
 -- The seat's fields are within its limits, and its list has room for all rows of its book.
-abbrev pub IsSeat : ShelfView → ℕ → Type 0
-IsSeat s capacity = IsKept s × (s.most ≤ capacity)
+abbrev pub IsSeat : Problem → ℕ → ℕ → Vec Row Global → Type 0
+IsSeat q owner most rows = IsKept (view_of q owner most rows.items) × (most ≤ vec_capacity rows)

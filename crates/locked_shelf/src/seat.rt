@@ -20,14 +20,13 @@ pub struct ShelfSeat<'a> {
 }
 
 impl<'a> Model for ShelfSeat<'a> {
-    ghost use Rattle.std.specs.Prelude.{vec_capacity};
     ghost use Rattle.locked_shelf.specs.Shelf.{ShelfView, IsSeat, view_of};
 
     ghost Value = { ShelfView };
 
     ghost view = { λ s. view_of s.problem.now s.owner s.most s.rows.items };
 
-    ghost invariant = { λ s. IsSeat (view_of s.problem.now s.owner s.most s.rows.items) (vec_capacity s.rows) };
+    ghost invariant = { λ s. IsSeat s.problem.now s.owner s.most s.rows };
 }
 
 impl<'a> ShelfSeat<'a> {

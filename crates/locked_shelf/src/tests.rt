@@ -35,7 +35,13 @@ fn graph(alloc: Global, text: &[u8], vertices: u16) -> Option<Graph>
 
 /// The guess of this owner that takes vertex 0 to the value.
 fn guess(owner: u8, value: u16) -> Row
-    ensures { result ≡ record { kind = RowKind.Step; owner = owner; parent = None; vertex = 0; value = value } }
+    ensures { result ≡ record {
+      kind = RowKind.Step;
+      owner = owner;
+      parent = None;
+      vertex = 0;
+      value = value;
+    } }
 {
     Row {
         kind: RowKind::Step,

@@ -79,7 +79,13 @@ fn triangle_into_cycle(alloc: Global) -> Option<Problem>
 
 /// The nogood of this owner that takes vertex 0 to the value.
 fn nogood(owner: u8, value: u16) -> Row
-    ensures { result ≡ record { kind = RowKind.Nogood; owner = owner; parent = None; vertex = 0; value = value } }
+    ensures { result ≡ record {
+      kind = RowKind.Nogood;
+      owner = owner;
+      parent = None;
+      vertex = 0;
+      value = value;
+    } }
 {
     Row {
         kind: RowKind::Nogood,
