@@ -33,8 +33,12 @@ where
     ensures run { IfOk result (λ v. All (λ d. J.ran shared.now d) v.items) }
     ensures count { IfOk result (λ v. vec_len v ≡ vec_len jobs) }
 {
-    thread::map_vec(rt, jobs, &|job| -> J::Done
-        requires { J.ready shared.now job }
-        ensures { J.ran shared.entry.now result }
-        { job.go(shared) })
+    thread::map_vec(
+        rt,
+        jobs,
+        &|job| -> J::Done
+            requires { J.ready shared.now job }
+            ensures { J.ran shared.entry.now result }
+        { job.go(shared) },
+    )
 }

@@ -78,7 +78,7 @@ fn make_job<'a>(
     ensures job { IfOk result (λ w. IsJob book.now q.entry.now s.now.budget w) }
     ensures of { IsSeatOf book.now first.new }
     ensures first { first.new.view.first ≡ true }
-    ensures made { AreBelow first.new.view.made (number + 1) }
+    ensures made { OnOk result (AreBelow first.new.view.made (number + 1)) }
 {
     let copy = domains.copy(alloc)?;
     let filters = Filters::new(alloc, q, kinds, MOST_WORDS / s.threads as usize)?;
