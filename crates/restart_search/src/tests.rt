@@ -7,7 +7,7 @@ ghost use Rattle.propagation.specs.Propagation.{IsOf};
 ghost use Rattle.restart_search.specs.Searching.{AtRest};
 
 use crate::root::{Rooted, root};
-use crate::{Equipment, Outcome, Worker};
+use crate::{Equipment, Outcome, Stage, Worker};
 use domain_bits::{Domains, WordTrail};
 use graph_rows::{Graph, Problem};
 use lad_reader::{LadKind, read_lad};
