@@ -11,6 +11,8 @@ import subgraph_solver as solver
 
 from .asked import PATH, TRIANGLE, StandIn
 
+PACKAGE = os.path.dirname(os.path.dirname(os.path.abspath(solver.__file__)))
+
 
 class Statuses(unittest.TestCase):
     def test_each(self) -> None:
@@ -85,18 +87,19 @@ class Statuses(unittest.TestCase):
 
 class Interrupts(unittest.TestCase):
     def test_the_program_ends_too(self) -> None:
-        body = "import os, time\nopen({notes!r}, 'w').write(str(os.getpid()))\ntime.sleep(60)\n"
+        body = "import os, time\nopen({notes!r}, 'w').write(str(os.getpid()))\ntime.sleep(300)\n"
         with StandIn(body=body) as program:
             words = f"import subgraph_solver as s; s.find([(0, 1)], [(0, 1)], program={program.path!r})"
-            asking = subprocess.Popen([sys.executable, "-c", words], stderr=subprocess.DEVNULL)
+            asking = subprocess.Popen([sys.executable, "-c", words], stderr=subprocess.DEVNULL, cwd=PACKAGE)
             number = self._number(program.notes)
             asking.send_signal(signal.SIGINT)
-            self.assertNotEqual(asking.wait(10), 0)
+            self.assertNotEqual(asking.wait(60), 0)
             with self.assertRaises(ProcessLookupError):
                 os.kill(number, 0)
 
     def _number(self, path: str) -> int:
-        for _ in range(200):
+        started = time.monotonic()
+        while time.monotonic() < started + 60:  # a busy machine is slow to start a program
             if os.path.exists(path) and os.path.getsize(path):
                 with open(path, encoding="ascii") as file:
                     return int(file.read())
