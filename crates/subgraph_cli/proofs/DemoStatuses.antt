@@ -1,6 +1,6 @@
 -- What the status of a demo says, by the cases of its end.
 
-use Rattle.std.specs.Prelude.{◌≡◌, ℕ, ◌⊎◌, Bool, true, false, ◌&&◌, List, [], ◌++◌, Result, Ok, Err, IfOk, refl}
+use Rattle.std.specs.Prelude.{◌≡◌, ◌⊎◌, Bool, true, false, ◌&&◌, List, [], ◌++◌, Result, Ok, Err, IfOk, refl}
 use Rattle.std.proofs.Common.{sym, ap, subst, ◌∙◌, inl, inr, arith}
 use Rattle.graph_theory.specs.Embedding.{Problem}
 use Rattle.search_theory.specs.Account.{Account}

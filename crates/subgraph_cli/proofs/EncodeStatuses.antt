@@ -1,7 +1,7 @@
 -- What the status of an encode says, by the cases of its end.
 
 use Rattle.std.specs.Prelude.{◌≡◌, ℕ, ◌⊎◌, List, Option, Result, Ok, Err, IfErr, refl}
-use Rattle.std.proofs.Common.{sym, subst, inl, inr, arith}
+use Rattle.std.proofs.Common.{inl, inr, arith}
 use Rattle.graph_theory.specs.Embedding.{Problem}
 use Rattle.graph_theory.specs.LadFault.{TextLaws}
 use Rattle.search_theory.specs.Account.{Account}

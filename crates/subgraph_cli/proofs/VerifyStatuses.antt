@@ -1,7 +1,7 @@
 -- What the status of a verify says, by the cases of its end.
 
 use Rattle.std.specs.Prelude.{◌≡◌, ℕ, ◌⊎◌, List, Option, Result, Ok, Err, IfErr, refl}
-use Rattle.std.proofs.Common.{sym, subst, inl, inr, arith}
+use Rattle.std.proofs.Common.{subst, inl, inr, arith}
 use Rattle.graph_theory.specs.Embedding.{Problem, Embeds}
 use Rattle.graph_theory.specs.LadFault.{TextLaws}
 use Rattle.graph_theory.specs.Mapping.{MappingLaws}

@@ -20,7 +20,8 @@ use Rattle.subgraph_cli.specs.declared.solve.Decision.{Decision}
 use Rattle.subgraph_cli.specs.declared.solve.Decision.TheVariants.{Yes, Nothing, Unknown}
 
 -- `yes` was written, with an embedding for the problem that the files ask.
-pub record YesWritten (w : SolveWords) (pattern target : Option (List ℕ)) (out : Stream) : Type 0 where
+pub record YesWritten (w : SolveWords) (pattern target : Option (List ℕ))
+    (out : Stream) : Type 0 where
   pub problem : Problem
   pub map : List ℕ
   pub asks : Asks pattern target w.format w.induced problem
@@ -28,7 +29,8 @@ pub record YesWritten (w : SolveWords) (pattern target : Option (List ℕ)) (out
   pub written : Got out (yes_text map)
 
 -- `none` was written, and no embedding exists for the problem that the files ask.
-pub record NoneWritten (w : SolveWords) (pattern target : Option (List ℕ)) (out : Stream) : Type 0 where
+pub record NoneWritten (w : SolveWords) (pattern target : Option (List ℕ))
+    (out : Stream) : Type 0 where
   pub problem : Problem
   pub asks : Asks pattern target w.format w.induced problem
   pub has_none : HasNone problem

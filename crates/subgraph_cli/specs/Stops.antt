@@ -1,6 +1,6 @@
 -- Why a command stopped: what each way says of the files, of the output and of the error stream.
 
-use Rattle.std.specs.Prelude.{◌≡◌, ◌⊎◌, Result, Ok, Err}
+use Rattle.std.specs.Prelude.{◌⊎◌, Result, Ok, Err}
 use Rattle.outer_io.specs.Faults.{Rose}
 use Rattle.subgraph_cli.specs.Lines.{stop_text, files_fault_text, output_fault_text}
 use Rattle.subgraph_cli.specs.Disk.{Disk}

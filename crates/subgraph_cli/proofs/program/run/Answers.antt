@@ -1,6 +1,6 @@
 -- The command that the words are is the one that was run.
 
-use Rattle.subgraph_cli.proofs.Complete.{ran_of_words, memory_ran, no_three}
+use Rattle.subgraph_cli.proofs.Complete.{ran_of_words}
 use Rattle.subgraph_cli.proofs.program.run.Goals as goal
 
 pub returns-in-Ok-clause-ran : goal.returns-in-Ok-clause-ran
