@@ -38,7 +38,9 @@ test: build
 	$(PYTHON) examples/check.py --program $(PROGRAM)
 	$(PYTHON) tools/man.py --check
 	$(PYTHON) docs/crates.py --check
+	$(PYTHON) tools/claims.py --check
 
 docs:
 	$(PYTHON) tools/man.py
 	$(PYTHON) docs/crates.py
+	$(PYTHON) tools/claims.py
