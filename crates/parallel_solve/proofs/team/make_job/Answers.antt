@@ -9,6 +9,6 @@ split-requires-clause-new_ c = not_below c.args.first.now.view.made c.args.numbe
 
 pub returns-clause-made : goal.returns-clause-made
 returns-clause-made c =
-    let kept = c.in_ok-seat.ensures.kept in
+    let kept = c.in_ok-seat.ensures.made in
     subst (λ (xs : List ℕ). AreBelow xs (c.args.number + 1)) (sym (ap (λ (v : View). v.made) kept.view))
     (let l : c.args.number < c.args.number + 1 = omega arith in l, below_next c.args.first.now.view.made c.args.number c.requires.made)
