@@ -77,8 +77,8 @@ turned a b (t ∷ ts) low v rises same differs = by (turned a b ts (t.0 + 1) v r
     by later false e =
         let head : term_weight (b t.0) t.1 ≡ term_weight (a t.0) t.1 = ap (λ (x : Bool). term_weight x t.1) (same t.0 (λ (f : t.0 ≡ v). eqb-false t.0 v e f)) in
         elim later [
-          inl h ↦ inl (omega (arith, head, h))
-        | inr h ↦ inr (record {
+          | inl h ↦ inl (omega (arith, head, h))
+          | inr h ↦ inr (record {
             size_is = h.size_is;
             forced = λ k. ap (λ (x : Bool). cond x (forced_by k t.1) (forced_at k ts v)) e ∙ h.forced k;
             wants = ap (λ (x : Bool). cond x (wanted t.1) (wanted_at ts v)) e ∙ h.wants;

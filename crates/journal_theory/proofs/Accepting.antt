@@ -23,9 +23,10 @@ written_on n (x ∷ xs) ys a b = (a.0, written_on n xs ys a.1 b)
 -- A run of an owner's lines can be written where each of them can.
 written_numbered : (n owner place : ℕ) (ss : List Step) → ((i : ℕ) (s : Step) → slice_get ss i ≡ Some s → IsWritten n (named owner (place + i) s)) → AreWritten n (numbered owner place ss)
 written_numbered n owner place [] h = tt
-written_numbered n owner place (s ∷ ss) h =
-    (let e : place + 0 ≡ place = omega arith in subst (λ (m : ℕ). IsWritten n (named owner m s)) e (h 0 s refl),
-    written_numbered n owner (place + 1) ss (λ i x at. let e : place + suc i ≡ place + 1 + i = omega arith in subst (λ (m : ℕ). IsWritten n (named owner m x)) e (h (suc i) x at)))
+written_numbered n owner place (s ∷ ss) h = (
+  let e : place + 0 ≡ place = omega arith in subst (λ (m : ℕ). IsWritten n (named owner m s)) e (h 0 s refl),
+  written_numbered n owner (place + 1) ss (λ i x at. let e : place + suc i ≡ place + 1 + i = omega arith in subst (λ (m : ℕ). IsWritten n (named owner m x)) e (h (suc i) x at)),
+)
 
 -- A line that shares a row.
 written_row : (n k owner number : ℕ) → k < 2 ^ 22 → owner ≤ 64 → 1 ≤ number → number < 2 ^ 63 → IsWritten n (N k (record { owner = owner; number = number }))
@@ -83,12 +84,16 @@ module _ (n : ℕ) (model : List Form) (rows : List Row) (clause : ℕ → Form)
   written_whole f last inside found =
       let some = one_or_more (forms f) (length (journal_of js f).lines) last found in
       let few = all.few in
-      let positive = all.some_ in
-      (record { is_step = tt; variables = refl }, (record { is_step = fits.model_fits; variables = refl },
-      written_on n (merged js f rows) (E (Made (last_name js f)) ∷ [])
-      (written_on n (numbered 0 0 (journal_of js 0).lines) (merge_from js f 0 rows (begun js)) (written_part 0 0 (journal_of js 0).lines positive (λ i s at. let e : 0 + i ≡ i = omega arith in ap (slice_get (journal_of js 0).lines) e ∙ at))
-      (written_from f 0 rows (begun js) inside (λ i. let e : i ≡ 0 + i = omega arith in ap (slice_get rows) e)))
-      (record { is_step = record { owner_fits = omega (arith, few, inside); from_one = some; number_fits = fits.short f }; variables = refl }, tt)))
+      let positive = all.some_ in (
+        record { is_step = tt; variables = refl },
+        (
+          record { is_step = fits.model_fits; variables = refl },
+          written_on n (merged js f rows) (E (Made (last_name js f)) ∷ [])
+              (written_on n (numbered 0 0 (journal_of js 0).lines) (merge_from js f 0 rows (begun js)) (written_part 0 0 (journal_of js 0).lines positive (λ i s at. let e : 0 + i ≡ i = omega arith in ap (slice_get (journal_of js 0).lines) e ∙ at))
+              (written_from f 0 rows (begun js) inside (λ i. let e : i ≡ 0 + i = omega arith in ap (slice_get rows) e)))
+              (record { is_step = record { owner_fits = omega (arith, few, inside); from_one = some; number_fits = fits.short f }; variables = refl }, tt),
+        ),
+      )
 
 accepted : AcceptedLaw
 accepted n model rows clause js forms f last all fits inside found false_ =

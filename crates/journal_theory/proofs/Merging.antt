@@ -153,10 +153,10 @@ module _ (model : List Form) (owner : ℕ) (lines : List Step) (forms : List For
       let next = with_made x (own_name owner place) f in
       let step = line_steps model x owner place s f (making place s here) made_long goes in
       let own_next : made_by next owner ≡ take (place + 1) forms =
-          get_or-set_same x.made owner (made_by x owner ++ f ∷ []) [] (omega (arith, inside, owners_same)) ∙ ap (λ (fs : List Form). fs ++ f ∷ []) own ∙ sym (take_next forms place f g.1) in
+      get_or-set_same x.made owner (made_by x owner ++ f ∷ []) [] (omega (arith, inside, owners_same)) ∙ ap (λ (fs : List Form). fs ++ f ∷ []) own ∙ sym (take_next forms place f g.1) in
       let rest = run ss (place + 1) t next to (λ i y at. let e : place + 1 + i ≡ place + suc i = omega arith in ap (slice_get lines) e ∙ stand (suc i) y at) (omega (arith, ends)) within inside own_next
-          (λ w ne. get_or-set_other x.made owner w (made_by x owner ++ f ∷ []) [] ne ∙ others w ne) shared_same (length-set x.made owner (made_by x owner ++ f ∷ []) ∙ owners_same)
-          (λ i y h z low high at form own_z others_z shared_z. may i y h z (omega (arith, low)) high at form own_z others_z shared_z) in
+      (λ w ne. get_or-set_other x.made owner w (made_by x owner ++ f ∷ []) [] ne ∙ others w ne) shared_same (length-set x.made owner (made_by x owner ++ f ∷ []) ∙ owners_same)
+      (λ i y h z low high at form own_z others_z shared_z. may i y h z (omega (arith, low)) high at form own_z others_z shared_z) in
       (rest.0, (next, step, rest.1), rest.2)
     where
       take_long : (n : ℕ) (fs : List Form) → n ≤ length fs → length (take n fs) ≡ n
@@ -330,10 +330,11 @@ module _ (model : List Form) (rows : List Row) (clause : ℕ → Form) (js : Lis
       let few = all.few in
       let inside : r.owner < length t.made = (let l : r.owner < length js = o.1 in omega (arith, reached.owners, few, l)) in
       let ran = by_order r.owner n (cases_lt n (at_of done r.owner)) n_in inside o.0 o.1 (λ i m s below line_at names. j.early k n i m s own noted below line_at names) in
-      let found : from_one (made_by ran.0 r.owner) n ≡ Some (clause k) = ap (λ (fs : List Form). from_one fs n) (ran.2.made r.owner o.1) ∙ in_front n (at_of (set done r.owner (max (at_of done r.owner) n)) r.owner) (forms r.owner) (clause k) (at_least r.owner o.1) line in
-      (with_shared ran.0 k (clause k),
-      steps_on model t ran.0 (with_shared ran.0 k (clause k)) (lines_to js done r.owner n) (N k (record { owner = r.owner; number = n }) ∷ []) ran.1 (with_shared ran.0 k (clause k), row_steps model ran.0 k r.owner n (clause k) ran.2.below found, refl),
-      reached_shared k (set done r.owner (max (at_of done r.owner) n)) ran.0 ran.2)
+      let found : from_one (made_by ran.0 r.owner) n ≡ Some (clause k) = ap (λ (fs : List Form). from_one fs n) (ran.2.made r.owner o.1) ∙ in_front n (at_of (set done r.owner (max (at_of done r.owner) n)) r.owner) (forms r.owner) (clause k) (at_least r.owner o.1) line in (
+        with_shared ran.0 k (clause k),
+        steps_on model t ran.0 (with_shared ran.0 k (clause k)) (lines_to js done r.owner n) (N k (record { owner = r.owner; number = n }) ∷ []) ran.1 (with_shared ran.0 k (clause k), row_steps model ran.0 k r.owner n (clause k) ran.2.below found, refl),
+        reached_shared k (set done r.owner (max (at_of done r.owner) n)) ran.0 ran.2,
+      )
     where
       at_least : (w : ℕ) → w < length js → n ≤ at_of (set done w (max (at_of done w) n)) w
       at_least w inside =
@@ -357,10 +358,12 @@ module _ (model : List Form) (rows : List Row) (clause : ℕ → Form) (js : Lis
           → ((i m : ℕ) (s : Step) → i < n → slice_get (journal_of js w).lines i ≡ Some s → NamesRow (step_refs s) m → m < k)
           → (u : Table) × StepsRun model t (lines_to js done w n) u × Reached rows clause js forms k (set done w (max (at_of done w) n)) u
       by_order w n (inl less) n_in inside positive w_in early =
-          let most : max (at_of done w) n ≡ at_of done w = grind (arith, common_steps) in
-          (t, subst (λ (ss : List Step). StepsRun model t ss t) (sym (nothing w n less)) refl,
-          subst (λ (m : ℕ). Reached rows clause js forms k (set done w m) t) (sym most)
-          (reached_run k w (at_of done w) done t t reached positive w_in (reached.within w w_in) (record { own = reached.made w w_in; others = λ v ne. refl; shared_same = refl; owners_same = refl })))
+          let most : max (at_of done w) n ≡ at_of done w = grind (arith, common_steps) in (
+            t,
+            subst (λ (ss : List Step). StepsRun model t ss t) (sym (nothing w n less)) refl,
+            subst (λ (m : ℕ). Reached rows clause js forms k (set done w m) t) (sym most)
+                (reached_run k w (at_of done w) done t t reached positive w_in (reached.within w w_in) (record { own = reached.made w w_in; others = λ v ne. refl; shared_same = refl; owners_same = refl })),
+          )
       by_order w n (inr more) n_in inside positive w_in early =
           let most : max (at_of done w) n ≡ n = grind (arith, common_steps) in
           let j = all.each w positive w_in in
@@ -409,9 +412,11 @@ module _ (model : List Form) (rows : List Row) (clause : ℕ → Form) (js : Lis
           let few = all.few in
           let same : length (journal_of js w).lines ≡ length (forms w) = j.journal.same in
           let b = block model w (journal_of js w).lines (forms w) same j.journal.making t (at_of done w) (length (forms w)) (reached.within w w_in) (omega arith) (omega (arith, reached.owners, few, w_in))
-              (reached.made w w_in) (may_run k w (length (forms w)) done t reached (omega arith) w_in (λ i m s below at names. let o = j.foreign i m s at names in let l = slice_get_within rows m o.1.0 o.1.1 in omega (arith, l, ends))) in
-          (b.0, subst (λ (ss : List Step). StepsRun model t (numbered w (at_of done w) ss) b.0) (subst (λ (n : ℕ). drop (at_of done w) (take n (journal_of js w).lines) ≡ drop (at_of done w) (journal_of js w).lines) same (long_enough w (journal_of js w).lines)) b.1,
-          b.2.own ∙ take_all (forms w) (length (forms w)) (omega arith))
+          (reached.made w w_in) (may_run k w (length (forms w)) done t reached (omega arith) w_in (λ i m s below at names. let o = j.foreign i m s at names in let l = slice_get_within rows m o.1.0 o.1.1 in omega (arith, l, ends))) in (
+            b.0,
+            subst (λ (ss : List Step). StepsRun model t (numbered w (at_of done w) ss) b.0) (subst (λ (n : ℕ). drop (at_of done w) (take n (journal_of js w).lines) ≡ drop (at_of done w) (journal_of js w).lines) same (long_enough w (journal_of js w).lines)) b.1,
+            b.2.own ∙ take_all (forms w) (length (forms w)) (omega arith),
+          )
   rows_go f k (r ∷ rs) done t inside stand ends reached =
       let here : slice_get rows k ≡ Some r = (let e : k ≡ k + 0 = omega arith in ap (slice_get rows) e ∙ sym (stand 0)) in
       let g = row_goes k done t r reached here in
@@ -424,19 +429,22 @@ module _ (model : List Form) (rows : List Row) (clause : ℕ → Form) (js : Lis
       let j = all.root in
       let few = all.few in
       let b = run model 0 (journal_of js 0).lines (forms 0) j.same j.making (journal_of js 0).lines 0 empty_table empty_table (length (forms 0)) (λ i s at. let z : 0 + i ≡ i = omega arith in ap (slice_get (journal_of js 0).lines) z ∙ at) (let e : 0 + length (journal_of js 0).lines ≡ length (forms 0) = omega (arith, j.same) in e) (omega arith)
-          (omega (arith, sixty_five)) (nothing 0) (λ w ne. refl) refl refl
-          (λ i s f x low high at form own others shared_same. root_makes model clause i (journal_of js 0).lines (forms 0) x s f j own (λ m names. all.plain i m s at names) at form) in
-      let whole : made_by b.0 0 ≡ forms 0 = b.2.own ∙ take_all (forms 0) (length (forms 0)) (omega arith) in
-      (b.0, b.1, record {
-        owners = b.2.owners_same ∙ sixty_five;
-        counts = count_of js;
-        within = λ w w_in. within w w_in;
-        made = λ w w_in. made b.0 b.2 whole w w_in;
-        root_all = whole;
-        root_done = root_count;
-        below = subst (λ (ss : List (ℕ × Form)). AllBelow ss 0) (sym b.2.shared_same) tt;
-        shared_is = λ i o below own. absurd (omega arith);
-      })
+      (omega (arith, sixty_five)) (nothing 0) (λ w ne. refl) refl refl
+      (λ i s f x low high at form own others shared_same. root_makes model clause i (journal_of js 0).lines (forms 0) x s f j own (λ m names. all.plain i m s at names) at form) in
+      let whole : made_by b.0 0 ≡ forms 0 = b.2.own ∙ take_all (forms 0) (length (forms 0)) (omega arith) in (
+        b.0,
+        b.1,
+        record {
+          owners = b.2.owners_same ∙ sixty_five;
+          counts = count_of js;
+          within = λ w w_in. within w w_in;
+          made = λ w w_in. made b.0 b.2 whole w w_in;
+          root_all = whole;
+          root_done = root_count;
+          below = subst (λ (ss : List (ℕ × Form)). AllBelow ss 0) (sym b.2.shared_same) tt;
+          shared_is = λ i o below own. absurd (omega arith);
+        },
+      )
     where
       sixty_five : length empty_table.made ≡ 65
       sixty_five = length-replicate {A = List Form} 65 []

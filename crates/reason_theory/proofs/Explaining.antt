@@ -43,18 +43,18 @@ module _ (q : Problem) where
   vertex base d e line p t r refused t_in most takes only left =
       explains_one (variable q) (size q.target) base d e (at_least q p ∷ line ∷ []) r (λ v. v == p) only
       (λ s above out u u_in there gone.
-        then_gives s (at_least q p) (line ∷ []) (variable q p t) true (variable q r u) false
-        (at_least_forces q s p t (others_false q s d p t most (out p (eq-eqb p p refl))))
-        (λ is. one_gives (after s (at_least q p)) line (variable q r u) false (takes (after s (at_least q p)) is u u_in (left u there gone))))
+      then_gives s (at_least q p) (line ∷ []) (variable q p t) true (variable q r u) false
+      (at_least_forces q s p t (others_false q s d p t most (out p (eq-eqb p p refl))))
+      (λ is. one_gives (after s (at_least q p)) line (variable q r u) false (takes (after s (at_least q p)) is u u_in (left u there gone))))
 
   nogood : (base : Setting) (d e : Domains) (pairs : List (ℕ × ℕ)) (r : ℕ) → ((u : ℕ) → d r u ≡ true → e r u ≡ false → AreDecided q d (IsPair r u) pairs) → OnlyOf d e r
       → Explains (variable q) (size q.target) base d e (reason_for (at_leasts q (vertices_of pairs) ++ pairs_clause q pairs ∷ []) r (λ v. is_among v (vertices_of pairs)))
   nogood base d e pairs r decided only =
       explains_one (variable q) (size q.target) base d e (at_leasts q (vertices_of pairs) ++ pairs_clause q pairs ∷ []) r (λ v. is_among v (vertices_of pairs)) only
       (λ s above out u u_in there gone.
-        leads_on s (at_leasts q (vertices_of pairs)) (pairs_clause q pairs ∷ []) (λ t. AreSet q t (IsPair r u) pairs) (variable q r u) false
-        (decided_lead q s d (IsPair r u) pairs (decided u there gone) out)
-        (λ are. one_gives (run s (at_leasts q (vertices_of pairs))) (pairs_clause q pairs) (variable q r u) false (clause_forces q (run s (at_leasts q (vertices_of pairs))) r u pairs are)))
+      leads_on s (at_leasts q (vertices_of pairs)) (pairs_clause q pairs ∷ []) (λ t. AreSet q t (IsPair r u) pairs) (variable q r u) false
+      (decided_lead q s d (IsPair r u) pairs (decided u there gone) out)
+      (λ are. one_gives (run s (at_leasts q (vertices_of pairs))) (pairs_clause q pairs) (variable q r u) false (clause_forces q (run s (at_leasts q (vertices_of pairs))) r u pairs are)))
 
   -- Values of the set that are true are among those that it has.
   true_within : (s : Setting) (d : Domains) (a : ℕ → Bool) (p : ℕ) (vertices values : List ℕ) → HaveOnly q d (p ∷ vertices) values
@@ -89,7 +89,7 @@ module _ (q : Problem) where
       explains_each (variable q) (size q.target) base d e (record { forms = set_form q p vertices values ∷ []; takes = λ r. not (is_among r (p ∷ vertices)); needs = λ r. is_among r (p ∷ vertices) })
       (λ r u inside. stays r u (is_in (is_among r (p ∷ vertices)) inside))
       (λ s above out r u outside u_in there gone. let l = left r u there gone in
-        one_gives s (set_form q p vertices values) (variable q r u) false (set_takes s d p vertices values only few out r u l.0 (is_out (is_among r (p ∷ vertices)) outside) l.1))
+      one_gives s (set_form q p vertices values) (variable q r u) false (set_takes s d p vertices values only few out r u l.0 (is_out (is_among r (p ∷ vertices)) outside) l.1))
     where
       is_in : (b : Bool) → not b ≡ false → b ≡ true
       is_in true h = refl

@@ -46,8 +46,8 @@ at_least_forces q s p t others = unit s (at_least q p) (variable q p t) true (re
 pub at_least_fails : (q : Problem) (s : Setting) (p : ℕ) → ((u : ℕ) → u < size q.target → s (variable q p u) ≡ Some false) → conflict s (at_least q p) ≡ true
 at_least_fails q s p all = no_solution s (at_least q p) (Rises-sorted (terms_where (pos 1) every (variable q p) (size q.target)))
     (λ a follows holds.
-      let w = some_passes (λ i. every i && a (variable q p i)) (size q.target) (some_true a every (variable q p) (size q.target) holds) in
-      not_both (a (variable q p w.number)) w.passes (follows.same (variable q p w.number) false (all w.number w.below)))
+    let w = some_passes (λ i. every i && a (variable q p i)) (size q.target) (some_true a every (variable q p) (size q.target) holds) in
+    not_both (a (variable q p w.number)) w.passes (follows.same (variable q p w.number) false (all w.number w.below)))
 
 -- Where one value is true, every other is false.
 pub at_most_forces : (q : Problem) (s : Setting) (p t u : ℕ) → t < size q.target → u < size q.target → (u ≡ t → ⊥) → s (variable q p t) ≡ Some true

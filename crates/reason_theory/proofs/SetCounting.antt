@@ -286,7 +286,7 @@ module _ (q : Problem) (a : ℕ → Bool) (p : ℕ) (vertices values : List ℕ)
   unfolding inside
   rows_inside =
       let each = sum_le (row q a) (λ r. sum_over (λ u. one_if (every r && a (variable q r u))) values) (p ∷ vertices)
-          (λ r among. covered_count (λ i. every i && a (variable q r i)) (size q.target) values (λ u u_in is. within r u among u_in is)) in
+      (λ r among. covered_count (λ i. every i && a (variable q r i)) (size q.target) values (λ u u_in is. within r u among u_in is)) in
       let swapped = sum_swap (λ r u. one_if (every r && a (variable q r u))) (p ∷ vertices) values in
       omega (arith, each, swapped)
 
@@ -310,9 +310,9 @@ module _ (q : Problem) (a : ℕ → Bool) (p : ℕ) (vertices values : List ℕ)
       let says = set_says q a p vertices values holds in
       let rows = rows_inside in
       let one_more : inside u + 1 ≤ column q a u =
-          (let all = distinct_sum (λ v. every v && a (variable q v u)) (size q.pattern) (r ∷ p ∷ vertices) (and_of (is_among r (p ∷ vertices)) (are_distinct (p ∷ vertices)) outside distinct) (λ v here. in_all v (or_cases (r == v) (is_among v (p ∷ vertices)) here)) in
-           let one : one_if (every r && a (variable q r u)) ≡ 1 = ap one_if is in
-           omega (arith, all, one)) in
+      (let all = distinct_sum (λ v. every v && a (variable q v u)) (size q.pattern) (r ∷ p ∷ vertices) (and_of (is_among r (p ∷ vertices)) (are_distinct (p ∷ vertices)) outside distinct) (λ v here. in_all v (or_cases (r == v) (is_among v (p ∷ vertices)) here)) in
+      let one : one_if (every r && a (variable q r u)) ≡ 1 = ap one_if is in
+      omega (arith, all, one)) in
       let fit = sum_lt inside (column q a) values u (λ w here. inside_column w) among one_more in
       omega (arith, says, rows, fit, few)
     where
