@@ -86,7 +86,7 @@ def solve(program, files, options, pattern, target, induced):
 
 
 def one(program, seed, hard):
-    """One problem: how many runs it took, and what disagreed."""
+    """One problem: how many runs by several threads were held against its answer, and what disagreed; no number where it stayed undecided."""
     rng = random.Random(seed)
     induced = rng.random() < 0.5
     labelled = rng.random() < 0.4
@@ -108,12 +108,12 @@ def one(program, seed, hard):
         if hard:
             alone = solve(program, files, common + ["--budget", "20000"], pattern, target, induced)
             if alone.startswith("status 2"):
-                return 1, None
+                return None, None
             wanted = alone
         else:
             wanted = "yes" if occurs(pattern, target, induced, []) else "none"
             alone = solve(program, files, common, pattern, target, induced)
-        runs = 1
+        runs = 0
         if alone != wanted or alone not in ("yes", "none"):
             return runs, f"seed {seed}: one thread answers {alone}, wanted {wanted}"
         for _ in range(3):
@@ -130,25 +130,32 @@ def one(program, seed, hard):
 def main():
     parser = argparse.ArgumentParser()
     parser.add_argument("program")
-    parser.add_argument("--runs", type=int, default=10000)
+    parser.add_argument("--runs", type=int, default=10000, help="how many runs by several threads, at least")
     parser.add_argument("--jobs", type=int, default=2)
     parser.add_argument("--seed", type=int, default=0)
     parser.add_argument("--hard", type=float, default=10.0, help="how many of a hundred problems are hard")
     words = parser.parse_args()
-    runs = problems = 0
+    runs = problems = hard_ones = left_out = 0
     seed = words.seed
     with concurrent.futures.ThreadPoolExecutor(words.jobs) as pool:
         while runs < words.runs:
             batch = range(seed, seed + 50 * words.jobs)
             seed += len(batch)
             hard = [random.Random(-s - 1).random() * 100 < words.hard for s in batch]
-            for count, wrong in pool.map(one, [words.program] * len(batch), batch, hard):
+            for is_hard, (count, wrong) in zip(hard, pool.map(one, [words.program] * len(batch), batch, hard)):
+                if count is None:
+                    left_out += 1
+                    continue
                 runs += count
                 problems += 1
+                hard_ones += is_hard
                 if wrong:
                     print(wrong)
                     sys.exit(1)
-    print(f"{problems} problems, {runs} runs, no two answers differ")
+    print(
+        f"{runs} runs by several threads on {problems} problems, {hard_ones} of them hard, agree with one thread's answer, and with brute"
+        f" force on the others; {left_out} hard problems were left out, undecided by one thread"
+    )
 
 
 if __name__ == "__main__":
