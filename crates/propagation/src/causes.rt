@@ -1,12 +1,12 @@
 //! A recorder that keeps the changes, with the numbers of the sets that were counted together in one list beside them.
 
-ghost use Rattle.std.specs.Prelude.{◌≡◌, [], List, Option, None, Some, IfSome, IfNone};
+ghost use Rattle.std.specs.Prelude.{◌≡◌, [], List, Option, None, Some, IfOk, IfSome, IfNone};
 
 use crate::change::{Cause, Entry, Place, What};
 use crate::recorder::Recorder;
 use crate::sets::{cut_entries, put_set};
 use domain_bits::Mark;
-use std::alloc::Global;
+use std::alloc::{AllocError, Global};
 use std::marker::Model;
 
 /// The changes since the domains were full, or nothing once memory was refused. Cost: one entry for each change, and one number for each
@@ -45,7 +45,7 @@ pub struct KeptChanges<'a> {
 }
 
 impl Causes {
-    ghost use Rattle.propagation.specs.Recording.{changes_of, set_at};
+    ghost use Rattle.propagation.specs.Recording.{AreLaid, changes_of, set_at};
 
     /// No changes.
     pub fn new(alloc: Global) -> Causes
@@ -57,6 +57,33 @@ impl Causes {
             short: None,
             whole: true,
         }
+    }
+
+    /// No changes, and none from now on.
+    fn lost(alloc: Global) -> Causes
+        ensures { result.changes ≡ None }
+    {
+        Causes {
+            entries: Vec::new(alloc),
+            numbers: Vec::new(alloc),
+            short: None,
+            whole: false,
+        }
+    }
+
+    /// The changes of these entries, whose sets stand in the numbers.
+    fn again(alloc: Global, entries: &[Entry], numbers: &[u16]) -> Result<Causes, AllocError>
+        requires { AreLaid entries.now numbers.now }
+        ensures { IfOk result (λ c. c.changes ≡ Some (changes_of numbers.now entries.now)) }
+    {
+        let entries = Vec::from_slice(alloc, entries)?;
+        let numbers = Vec::from_slice(alloc, numbers)?;
+        Ok(Causes {
+            entries,
+            numbers,
+            short: None,
+            whole: true,
+        })
     }
 
     /// The changes, unless memory was refused. Cost: one step.
@@ -129,5 +156,15 @@ impl Recorder for Causes {
     fn forget_to(&mut self, mark: Mark) {
         self.short = None;
         cut_entries(&mut self.entries, &mut self.numbers, mark);
+    }
+
+    fn copy(&self, alloc: Global) -> Causes {
+        if !self.whole {
+            return Causes::lost(alloc);
+        }
+        match Causes::again(alloc, &self.entries, &self.numbers) {
+            Ok(copy) => copy,
+            Err(_) => Causes::lost(alloc),
+        }
     }
 }

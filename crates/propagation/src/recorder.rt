@@ -9,6 +9,7 @@ ghost use Rattle.propagation.specs.Telling.{TellingLaws};
 
 use crate::change::Cause;
 use domain_bits::Mark;
+use std::alloc::Global;
 
 /// Hears of each change of the domains.
 pub trait Recorder: Drop {
@@ -38,6 +39,11 @@ pub trait Recorder: Drop {
     /// The domains were undone to the mark.
     fn forget_to(&mut self, mark: Mark)
         ensures { changes self.new ≡ cut_at mark (changes self.old) };
+
+    /// Another that was told the same, and hears of other domains from then on. Where memory is refused it keeps nothing. Cost: one step
+    /// for each change that is kept.
+    fn copy(&self, alloc: Global) -> Self
+        ensures { KeepsSame (changes self.now) (changes result) };
 }
 
 /// That what is told stays true where domains are undone, and where each nogood keeps its name: where watches move, or others are added.
@@ -61,4 +67,8 @@ impl Recorder for Silent {
     fn found_short(&mut self, _vertices: &[u16], _row: &[u64]) {}
 
     fn forget_to(&mut self, _mark: Mark) {}
+
+    fn copy(&self, _alloc: Global) -> Silent {
+        Silent
+    }
 }
