@@ -3,6 +3,7 @@
 use Rattle.std.specs.Prelude.{◌≡◌, ℕ, ◌<◌, ◌==◌, ◌⊎◌, Bool, true, false, not, List, [], ◌∷◌, ◌++◌, map, Some}
 use Rattle.graph_theory.specs.Graph.{size}
 use Rattle.graph_theory.specs.Embedding.{Problem}
+use Rattle.search_theory.specs.Consistency.{IsFirstValue, AreConsistent}
 use Rattle.proof_theory.specs.declared.literal.Literal.{Literal}
 use Rattle.proof_theory.specs.Forms.{Form}
 use Rattle.proof_theory.specs.Slack.{Setting, conflict, after, refutes, clause_form}
@@ -44,6 +45,15 @@ TakesFirst q line p refused = (s : Setting) (u : ℕ) → u < size q.target → 
 abbrev pub TakesBeside : Problem → Form → ℕ → ℕ → ℕ → (ℕ → Bool) → Type 0
 TakesBeside q line p t r refused =
     (s : Setting) → s (variable q p t) ≡ Some true → (u : ℕ) → u < size q.target → refused u ≡ true → (conflict s line ≡ true) ⊎ (after s line (variable q r u) ≡ Some false)
+
+-- From every setting the form is in conflict or takes from p each value that is not in its first domain.
+abbrev pub ForcesFirst : Problem → Form → ℕ → Type 0
+ForcesFirst q line p = (s : Setting) (u : ℕ) → u < size q.target → (IsFirstValue q p u → ⊥) → (conflict s line ≡ true) ⊎ (after s line (variable q p u) ≡ Some false)
+
+-- Where p is at t it does so for each value of r that is not consistent with this.
+abbrev pub ForcesBeside : Problem → Form → ℕ → ℕ → ℕ → Type 0
+ForcesBeside q line p t r =
+    (s : Setting) → s (variable q p t) ≡ Some true → (u : ℕ) → u < size q.target → (AreConsistent q p t r u → ⊥) → (conflict s line ≡ true) ⊎ (after s line (variable q r u) ≡ Some false)
 
 -- ---- domains
 
