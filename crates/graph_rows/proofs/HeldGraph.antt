@@ -1,6 +1,6 @@
 -- What the graph says that labels and marks hold.
 
-use Rattle.std.proofs.Common.{◌≡◌, ℕ, ◌+◌, ◌*◌, ◌<◌, ◌≤◌, Bool, true, false, not, eqb, ◌&&◌, ◌||◌, subst, List, length, map, get_or, take, drop, Option, None, is_some, refl, sym, ap, ◌∙◌, zero-add, arith, inl, inr, ◌⊎◌}
+use Rattle.std.proofs.Common.{◌≡◌, ℕ, ◌+◌, ◌*◌, ◌<◌, ◌≤◌, Bool, true, false, not, eqb, ◌&&◌, ◌||◌, subst, List, length, map, get_or, take, drop, Option, None, Some, is_some, refl, sym, ap, ◌∙◌, zero-add, arith, inl, inr, ◌⊎◌}
 use Rattle.std.specs.List.{range_with_len}
 use Rattle.std.proofs.lemmas.Bool.{cases_lt, cases_eq, eq-eqb, ne_eqb, false≢true}
 use Rattle.std.proofs.lemmas.List.FromFn.{get_or-map-range_with_len, length-map-range_with_len, fill_by_all}
@@ -109,18 +109,39 @@ edge-held_from_past labels words width a b past =
     ap (λ (r : Option (List (Option ℕ))). row_edge r b)
     (slice_get_past (tabulate (length labels) row) a (rw (length-map-range_with_len row 0 (length labels)) past))
 
--- where marks are mutual, edges lead both ways
-pub edges_mutual : (labels words : List ℕ) (width : ℕ) → AreMutual (length labels) width words
-    → (a b : ℕ) → is_some (edge (graph_held labels words width) a b) ≡ is_some (edge (graph_held labels words width) b a)
+-- where marks are mutual, each edge leads back
+edges_mutual : (labels words : List ℕ) (width : ℕ) → AreMutual (length labels) width words
+    → (a b : ℕ) → edge (graph_held labels words width) a b ≡ edge (graph_held labels words width) b a
 edges_mutual labels words width turns a b = by (cases_lt a (length labels)) (cases_lt b (length labels))
   where
     by : (a < length labels) ⊎ (length labels ≤ a) → (b < length labels) ⊎ (length labels ≤ b)
-        → is_some (edge (graph_held labels words width) a b) ≡ is_some (edge (graph_held labels words width) b a)
-    by (inl a_in) (inl b_in) =
-        ap is_some (edge-held labels words width a b a_in b_in ∙ ap edge_of_mark (turns.each a b a_in b_in) ∙ sym (edge-held labels words width b a b_in a_in))
-    by (inl a_in) (inr past) = ap is_some (edge-held_past labels words width a b a_in past ∙ sym (edge-held_from_past labels words width b a past))
-    by (inr past) (inl b_in) = ap is_some (edge-held_from_past labels words width a b past ∙ sym (edge-held_past labels words width b a b_in past))
-    by (inr past) (inr out) = ap is_some (edge-held_from_past labels words width a b past ∙ sym (edge-held_from_past labels words width b a out))
+        → edge (graph_held labels words width) a b ≡ edge (graph_held labels words width) b a
+    by (inl a_in) (inl b_in) = edge-held labels words width a b a_in b_in ∙ ap edge_of_mark (turns.each a b a_in b_in) ∙ sym (edge-held labels words width b a b_in a_in)
+    by (inl a_in) (inr past) = edge-held_past labels words width a b a_in past ∙ sym (edge-held_from_past labels words width b a past)
+    by (inr past) (inl b_in) = edge-held_from_past labels words width a b past ∙ sym (edge-held_past labels words width b a b_in past)
+    by (inr past) (inr out) = edge-held_from_past labels words width a b past ∙ sym (edge-held_from_past labels words width b a out)
+
+pub both_ways : (labels words : List ℕ) (width : ℕ) (g : Graph) → graph_held labels words width ≡ g → AreMutual (length labels) width words → (a b : ℕ) → edge g a b ≡ edge g b a
+both_ways labels words width g is turns a b = ap (λ (h : Graph). edge h a b) (sym is) ∙ edges_mutual labels words width turns a b ∙ ap (λ (h : Graph). edge h b a) is
+
+-- each edge has the label 0
+pub all_zero : (labels words : List ℕ) (width : ℕ) (g : Graph) → graph_held labels words width ≡ g → (a b l : ℕ) → edge g a b ≡ Some l → l ≡ 0
+all_zero labels words width g is a b l e = by (cases_lt a (length labels)) (cases_lt b (length labels))
+  where
+    there : edge (graph_held labels words width) a b ≡ Some l
+    there = ap (λ (h : Graph). edge h a b) is ∙ e
+
+    of_mark : (m : Bool) → edge_of_mark m ≡ Some l → l ≡ 0
+    of_mark true h = let k : 0 ≡ l = cc in sym k
+    of_mark false h = absurd cc
+
+    of_none : let o : Option ℕ = None in o ≡ Some l → l ≡ 0
+    of_none h = absurd cc
+
+    by : (a < length labels) ⊎ (length labels ≤ a) → (b < length labels) ⊎ (length labels ≤ b) → l ≡ 0
+    by (inl a_in) (inl b_in) = of_mark (marked words width a b) (sym (edge-held labels words width a b a_in b_in) ∙ there)
+    by (inl a_in) (inr past) = of_none (sym (edge-held_past labels words width a b a_in past) ∙ there)
+    by (inr past) b_at = of_none (sym (edge-held_from_past labels words width a b past) ∙ there)
 
 eqb-turned : (a b : ℕ) → eqb a b ≡ eqb b a
 eqb-turned a b = by (cases_eq a b)
@@ -135,7 +156,7 @@ pub mutual_in : (labels words : List ℕ) (width : ℕ) (g : Graph) → graph_he
 mutual_in labels words width g is turns a b =
     ap (λ (h : Graph). is_neighbour h a b) (sym is)
     ∙ ap (λ (t : Bool). not t && is_some (edge (graph_held labels words width) a b)) (eqb-turned a b)
-    ∙ ap (λ (t : Bool). not (eqb b a) && t) (edges_mutual labels words width turns a b)
+    ∙ ap (λ (e : Option ℕ). not (eqb b a) && is_some e) (edges_mutual labels words width turns a b)
     ∙ ap (λ (h : Graph). is_neighbour h b a) is
 
 -- the row of loops has the vertices with an edge to themselves

@@ -1,6 +1,6 @@
 //! Graphs as bit rows: an edge is one bit, and a vertex's neighbours are one row of words. (Ullmann 2010.)
 
-ghost use Rattle.std.specs.Prelude.{◌≡◌, ℕ, ◌+◌, ◌*◌, ◌^◌, ◌<◌, ◌≤◌, ◌==◌, ◌&&◌, ◌||◌, ◌↔◌, not, true, false, length, is_some, IsTrue, IfOk, slice_index};
+ghost use Rattle.std.specs.Prelude.{◌≡◌, ℕ, ◌+◌, ◌*◌, ◌^◌, ◌<◌, ◌≤◌, ◌==◌, ◌&&◌, ◌||◌, ◌↔◌, not, true, false, length, is_some, Some, IsTrue, IfOk, slice_index};
 ghost use Rattle.graph_theory.specs.Graph.{size as size_of, label as label_of, edge as edge_of, graph_of};
 ghost use Rattle.graph_theory.specs.Neighbours.{degree as degree_of, is_neighbour};
 ghost use Rattle.lad_reader.specs.Parts.{vertices_of, AreBelow, AllBelow};
@@ -155,6 +155,14 @@ impl Graph {
     /// Each vertex is a neighbour of its neighbours. It changes nothing; the fact is what it is called for.
     pub fn neighbours_are_mutual(&self)
         ensures { (a b : ℕ) → is_neighbour self.now a b ≡ is_neighbour self.now b a }
+    {
+        let _width = self.width;
+    }
+
+    /// An edge leads back wherever one leads, and each has the label 0. It changes nothing; the facts are what it is called for.
+    pub fn edges_are_plain(&self)
+        ensures both { (a b : ℕ) → edge_of self.now a b ≡ edge_of self.now b a }
+        ensures zeros { (a b l : ℕ) → edge_of self.now a b ≡ Some l → l ≡ 0 }
     {
         let _width = self.width;
     }
