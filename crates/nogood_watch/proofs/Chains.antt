@@ -2,7 +2,7 @@
 use Rattle.std.proofs.Common.{◌≡◌, ℕ, ◌+◌, ◌<◌, ◌≤◌, zero, suc, Bool, true, false, cond, eqb, ltb, ◌&&◌, List, [], ◌∷◌, length, get_or, set, refl, sym, ap, ◌∙◌, subst, arith, inl, inr, ◌⊎◌, ◌++◌, length-append}
 use Rattle.std.proofs.lemmas.Bool.{cases_eq, eq-eqb, ne_eqb, ltb-true, ltb-false, lt-ltb, le-ltb}
 use Rattle.std.proofs.lemmas.List.{get_or-set_same, get_or-set_other, length-set, get_or_append_left}
-use Rattle.nogood_watch.specs.Lists.{no_watch, times, Chain, IsOnceEach, Chained, moved, renamed, followed, Holds}
+use Rattle.nogood_watch.specs.Lists.{no_watch, times, Chain, IsOnceEach, Chained, moved, renamed, followed}
 use Rattle.nogood_watch.proofs.Times.{times_same, times_other, once_length}
 
 -- what stands in a list is one of the numbers
@@ -43,10 +43,6 @@ followed_is (suc n) next at (y ∷ l) few c h =
 pub chain_length : (next : List ℕ) (at : ℕ) (l : List ℕ) → Chain next at l → IsOnceEach l → length l ≤ length next
 chain_length next at l c o = once_length l (length next) o (λ q h. chain_below next at l q c h)
 
--- how long the list from here is
-pub steps_are : (next : List ℕ) (at : ℕ) (l : List ℕ) → length next ≤ no_watch → Chain next at l → IsOnceEach l → length (followed (length next) next at) ≡ length l
-steps_are next at l few c o = ap length (followed_is (length next) next at l few c (chain_length next at l c o))
-
 -- ---- homes
 
 cond-false : (b : Bool) → ◌≡◌ {A = ℕ} (cond (b && false) 1 0) 0
@@ -75,10 +71,6 @@ once_each home heads next k c h y = rw (c.once k y h) (by (ltb y (length next) &
     by : (b : Bool) → cond b 1 0 ≤ 1
     by true = omega arith
     by false = omega arith
-
--- the list of a home holds who is there
-pub chained_holds : (home : ℕ → ℕ) (heads next : List ℕ) (k x : ℕ) → Chained home heads next → k < length heads → x < length next → home x ≡ k → Holds next (get_or heads k 0) x
-chained_holds home heads next k x c h l e = record { list = c.lists k; chain = c.chains k h; once = once_each home heads next k c h; has = at_home home heads next k x c h l e }
 
 -- homes that agree on the numbers
 pub chained_same : (home home' : ℕ → ℕ) (heads next : List ℕ) → Chained home heads next → ((y : ℕ) → y < length next → home' y ≡ home y) → Chained home' heads next

@@ -6,14 +6,14 @@ use Rattle.std.proofs.lemmas.Nat.{div-mul-add, mod-mul-add}
 use Rattle.domain_bits.specs.Counting.{count}
 use Rattle.domain_bits.specs.Removals as removals
 use Rattle.domain_bits.proofs.Sizes.{count_some}
-use Rattle.nogood_watch.specs.Lists.{no_watch, Chained, renamed}
+use Rattle.nogood_watch.specs.Lists.{no_watch, Chained, moved, renamed}
 use Rattle.nogood_watch.specs.declared.watched.WatchAnswer.{WatchAnswer}
 use Rattle.nogood_watch.specs.declared.watched.WatchAnswer.TheVariants.{Quiet, Forced, Fail}
 use Rattle.nogood_watch.specs.Nogoods.{State, Nogood, literal, partner, nogood, nogood_of, AreLiterals, AreWatches}
 use Rattle.nogood_watch.specs.Watching.{IsAssigned, IsGuarded, KeepsOrFrees, Follows, Answers, forced_at}
 use Rattle.nogood_watch.specs.Inside.{cell, home_of}
-use Rattle.nogood_watch.specs.Walking.{Homes, Visited, Ready, Walking, Walked, Tells, to_visit}
-use Rattle.nogood_watch.proofs.Chains.{first_home, no_home, chained_same}
+use Rattle.nogood_watch.specs.Walking.{Visited, Ready, Walking, Walked, Tells, to_visit}
+use Rattle.nogood_watch.proofs.Chains.{first_home, no_home, chained_same, moved_at, moved_other}
 use Rattle.nogood_watch.proofs.Waiting.{count_less, half_count, visit_count}
 use Rattle.nogood_watch.proofs.Visits.{partner_twice, partner_in, half_in, pair_is}
 use Rattle.nogood_watch.proofs.Readiness.{cell_below, watch_in}
@@ -23,7 +23,7 @@ use Rattle.nogood_watch.proofs.Readiness.{cell_below, watch_in}
 -- what is guarded stays so
 guarded_more : (d : removals.State) (nogoods : List Nogood) (w w' : List (ℕ × ℕ)) (forced more : List (ℕ × ℕ × ℕ)) (l : ℕ × ℕ) (x : ℕ) → literal w' x ≡ literal w x → literal w' (partner x) ≡ literal w (partner x)
     → IsGuarded d nogoods w forced l x → IsGuarded d nogoods w' (forced ++ more) l x
-guarded_more d nogoods w w' forced more l x e f (inl free) = inl (record { this = rw e free.this; other = rw f free.other })
+guarded_more d nogoods w w' forced more l x e f (inl free) = inl (λ s. free (subst (IsAssigned d) e s))
 guarded_more d nogoods w w' forced more l x e f (inr (inl h)) = inr (inl (record {
   this = e ∙ h.this;
   place = h.place;
@@ -47,7 +47,7 @@ pub walking_more : (d : removals.State) (nogoods : List Nogood) (start : List (�
     → ((i : ℕ) → i < length nogoods → AreLiterals d.vertices d.values (nogood nogoods i).literals) → AreWatches nogoods start
     → (a : Walking d nogoods start l w heads next forced) → x < length w → a.home x ≡ d.vertices * d.values
     → Visited d nogoods w w' forced forced' x
-    → ((home : ℕ → ℕ) → Chained home heads next → home x ≡ d.vertices * d.values → home (partner x) ≡ cell d.values (literal w (partner x)) → Homes d.values home w' heads' next' x)
+    → ((home : ℕ → ℕ) → Chained home heads next → home x ≡ d.vertices * d.values → Chained (moved home x (cell d.values (literal w' x))) heads' next')
     → length heads' ≡ length heads → length next' ≡ length next → Walking d nogoods start l w' heads' next' forced' × (to_visit heads' next' < to_visit heads next)
 walking_more d nogoods start l w w' heads heads' next next' forced forced' x are st a x-in at-hand v homes hl nl = (
   record {
@@ -55,12 +55,12 @@ walking_more d nogoods start l w w' heads heads' next next' forced forced' x are
     next_long = nl ∙ a.next_long ∙ sym v.long;
     start_long = a.start_long ∙ sym v.long;
     watches_are = v.watches_are;
-    home = h.to;
-    chained = h.chained;
-    waits = λ z z-in e. waits z (rw v.long at z-in) e (cases_eq z x) (cases_eq z (partner x));
-    rests = λ z z-in n. rests z (rw v.long at z-in) n (cases_eq z x) (cases_eq z (partner x));
+    home = moved a.home x (cell d.values (literal w' x));
+    chained = homes a.home a.chained at-hand;
+    waits = λ z z-in e. waits z (rw v.long at z-in) e (cases_eq z x);
+    rests = λ z z-in n. rests z (rw v.long at z-in) n (cases_eq z x);
     done = λ z z-in s n. done z (rw v.long at z-in) s n (cases_eq z x) (cases_eq z (partner x));
-    others = λ z z-in n m. others z (rw v.long at z-in) n m (cases_eq z x) (cases_eq z (partner x));
+    others = λ z z-in n. others z (rw v.long at z-in) n (cases_eq z x);
     moves = λ z z-in. moves_twice d (literal start z) (literal w z) (literal w' z) (a.moves z z-in) (v.moves z (omega (arith, z-in, a.start_long)));
     follows = λ k k-in. rw v.forces.after (follows k (rw v.forces.after at k-in) (cut (length forced) k));
     room = room;
@@ -69,7 +69,7 @@ walking_more d nogoods start l w w' heads heads' next next' forced forced' x are
     arith,
     less,
     visit_count a.home heads next (d.vertices * d.values) a.chained a.heads_long,
-    subst (λ n. to_visit heads' next' ≡ count (λ z. eqb (h.to z) (d.vertices * d.values)) n) nl (visit_count h.to heads' next' (d.vertices * d.values) h.chained (hl ∙ a.heads_long)),
+    subst (λ n. to_visit heads' next' ≡ count (λ z. eqb (to z) (d.vertices * d.values)) n) nl (visit_count to heads' next' (d.vertices * d.values) (homes a.home a.chained at-hand) (hl ∙ a.heads_long)),
   ),
 )
   where
@@ -85,27 +85,19 @@ walking_more d nogoods start l w w' heads heads' next next' forced forced' x are
     x-start : x < length start
     x-start = omega (arith, x-in, a.start_long)
 
-    y-rests : a.home (partner x) ≡ d.vertices * d.values → ⊥
-    y-rests e = other_literal nogoods w x l a.watches_are x-in own (a.waits (partner x) y-in e).0
-
-    h : Homes d.values a.home w' heads' next' x
-    h = homes a.home a.chained at-hand (a.rests (partner x) y-in y-rests)
+    to : ℕ → ℕ
+    to = moved a.home x (cell d.values (literal w' x))
 
     x-in' : x < length w'
     x-in' = omega (arith, x-in, v.long)
 
-    y-in' : partner x < length w'
-    y-in' = omega (arith, y-in, v.long)
-
-    x-away : h.to x ≡ d.vertices * d.values → ⊥
+    x-away : to x ≡ d.vertices * d.values → ⊥
     x-away e =
         let r = watch_in d.vertices d.values nogoods w' x are v.watches_are x-in' in
-        omega (arith, cell_below d.vertices d.values (literal w' x) r.0 r.1, sym h.this ∙ e)
+        omega (arith, cell_below d.vertices d.values (literal w' x) r.0 r.1, sym (moved_at a.home x (cell d.values (literal w' x))) ∙ e)
 
-    y-away : h.to (partner x) ≡ d.vertices * d.values → ⊥
-    y-away e =
-        let r = watch_in d.vertices d.values nogoods w' (partner x) are v.watches_are y-in' in
-        omega (arith, cell_below d.vertices d.values (literal w' (partner x)) r.0 r.1, sym h.other ∙ e)
+    to-rest : (z : ℕ) → (z ≡ x → ⊥) → to z ≡ a.home z
+    to-rest z n = moved_other a.home x (cell d.values (literal w' x)) z n
 
     cut : (n k : ℕ) → (k < n) ⊎ (n ≤ k)
     cut n k = by (ltb k n) refl
@@ -114,36 +106,30 @@ walking_more d nogoods start l w w' heads heads' next next' forced forced' x are
         by true e = inl (ltb-true k n e)
         by false e = inr (ltb-false k n e)
 
-    waits : (z : ℕ) → z < length w → h.to z ≡ d.vertices * d.values → (z ≡ x) ⊎ (z ≡ x → ⊥) → (z ≡ partner x) ⊎ (z ≡ partner x → ⊥) → (literal w' z ≡ l) × (literal start z ≡ l)
-    waits z z-in e (inl f) _ = absurd (x-away (ap h.to (sym f) ∙ e))
-    waits z z-in e (inr n) (inl f) = absurd (y-away (ap h.to (sym f) ∙ e))
-    waits z z-in e (inr n) (inr m) = let old = a.waits z z-in (sym (h.rest z n m) ∙ e) in (v.others z n m ∙ old.0, old.1)
+    waits : (z : ℕ) → z < length w → to z ≡ d.vertices * d.values → (z ≡ x) ⊎ (z ≡ x → ⊥) → (literal w' z ≡ l) × (literal start z ≡ l)
+    waits z z-in e (inl f) = absurd (x-away (ap to (sym f) ∙ e))
+    waits z z-in e (inr n) = let old = a.waits z z-in (sym (to-rest z n) ∙ e) in (v.others z n ∙ old.0, old.1)
 
-    rests : (z : ℕ) → z < length w → (h.to z ≡ d.vertices * d.values → ⊥) → (z ≡ x) ⊎ (z ≡ x → ⊥) → (z ≡ partner x) ⊎ (z ≡ partner x → ⊥) → h.to z ≡ cell d.values (literal w' z)
-    rests z z-in n (inl f) _ = ap h.to f ∙ h.this ∙ ap (λ k. cell d.values (literal w' k)) (sym f)
-    rests z z-in n (inr _) (inl f) = ap h.to f ∙ h.other ∙ ap (λ k. cell d.values (literal w' k)) (sym f)
-    rests z z-in n (inr i) (inr j) = h.rest z i j ∙ a.rests z z-in (λ e. n (h.rest z i j ∙ e)) ∙ ap (cell d.values) (sym (v.others z i j))
-
-    partner-not : (z : ℕ) → (z ≡ x → ⊥) → partner z ≡ partner x → ⊥
-    partner-not z n e = n (sym (partner_twice z) ∙ ap partner e ∙ partner_twice x)
+    rests : (z : ℕ) → z < length w → (to z ≡ d.vertices * d.values → ⊥) → (z ≡ x) ⊎ (z ≡ x → ⊥) → to z ≡ cell d.values (literal w' z)
+    rests z z-in n (inl f) = ap to f ∙ moved_at a.home x (cell d.values (literal w' x)) ∙ ap (λ k. cell d.values (literal w' k)) (sym f)
+    rests z z-in n (inr i) = to-rest z i ∙ a.rests z z-in (λ e. n (to-rest z i ∙ e)) ∙ ap (cell d.values) (sym (v.others z i))
 
     partner-not-x : (z : ℕ) → (z ≡ partner x → ⊥) → partner z ≡ x → ⊥
     partner-not-x z n e = n (sym (partner_twice z) ∙ ap partner e)
 
-    done : (z : ℕ) → z < length w → literal start z ≡ l → (h.to z ≡ d.vertices * d.values → ⊥) → (z ≡ x) ⊎ (z ≡ x → ⊥) → (z ≡ partner x) ⊎ (z ≡ partner x → ⊥) → IsGuarded d nogoods w' forced' l z
+    done : (z : ℕ) → z < length w → literal start z ≡ l → (to z ≡ d.vertices * d.values → ⊥) → (z ≡ x) ⊎ (z ≡ x → ⊥) → (z ≡ partner x) ⊎ (z ≡ partner x → ⊥) → IsGuarded d nogoods w' forced' l z
     done z z-in s n (inl f) _ = rw f (subst (λ (k : ℕ × ℕ). IsGuarded d nogoods w' forced' k x) own v.guarded)
     done z z-in s n (inr _) (inl f) = absurd (other_literal nogoods start x l st x-start first (ap (literal start) (sym f) ∙ s))
     done z z-in s n (inr i) (inr j) =
-        rw v.forces.after (guarded_more d nogoods w w' forced v.forces.more l z (v.others z i j) (v.others (partner z) (partner-not-x z j) (partner-not z i))
-        (a.done z z-in s (λ e. n (h.rest z i j ∙ e))))
+        rw v.forces.after (guarded_more d nogoods w w' forced v.forces.more l z (v.others z i) (v.others (partner z) (partner-not-x z j))
+        (a.done z z-in s (λ e. n (to-rest z i ∙ e))))
 
-    others : (z : ℕ) → z < length w → (literal start z ≡ l → ⊥) → (literal start (partner z) ≡ l → ⊥) → (z ≡ x) ⊎ (z ≡ x → ⊥) → (z ≡ partner x) ⊎ (z ≡ partner x → ⊥) → literal w' z ≡ literal start z
-    others z z-in n m (inl f) _ = absurd (n (ap (literal start) f ∙ first))
-    others z z-in n m (inr _) (inl f) = absurd (m (ap (literal start) (ap partner f ∙ partner_twice x) ∙ first))
-    others z z-in n m (inr i) (inr j) = v.others z i j ∙ a.others z z-in n m
+    others : (z : ℕ) → z < length w → (literal start z ≡ l → ⊥) → (z ≡ x) ⊎ (z ≡ x → ⊥) → literal w' z ≡ literal start z
+    others z z-in n (inl f) = absurd (n (ap (literal start) f ∙ first))
+    others z z-in n (inr i) = v.others z i ∙ a.others z z-in n
 
     follows : (k : ℕ) → k < length (forced ++ v.forces.more) → (k < length forced) ⊎ (length forced ≤ k)
-        → (f : Follows d nogoods start w' l (forced_at (forced ++ v.forces.more) k)) × (h.to f.watch ≡ d.vertices * d.values → ⊥)
+        → (f : Follows d nogoods start w' l (forced_at (forced ++ v.forces.more) k)) × (to f.watch ≡ d.vertices * d.values → ⊥)
     follows k k-in (inl less) =
         let old = a.follows k less in
         let f = old.0 in
@@ -154,13 +140,13 @@ walking_more d nogoods start l w w' heads heads' next next' forced forced' x are
             watch = f.watch;
             within = f.within;
             was = f.was;
-            is = v.others f.watch i j ∙ f.is;
-            other = v.others (partner f.watch) (partner-not-x f.watch j) (partner-not f.watch i) ∙ f.other;
+            is = v.others f.watch i ∙ f.is;
+            other = v.others (partner f.watch) (partner-not-x f.watch j) ∙ f.other;
             name = f.name;
             here = f.here;
             rest = f.rest;
           },
-          λ e. old.1 (sym (h.rest f.watch i j) ∙ e),
+          λ e. old.1 (sym (to-rest f.watch i) ∙ e),
         )
     follows k k-in (inr more) =
         let at : k - length forced < length v.forces.more = omega (arith, rw length-append at k-in) in
@@ -177,25 +163,24 @@ walking_more d nogoods start l w w' heads heads' next next' forced forced' x are
             here = f.here;
             rest = f.rest;
           },
-          λ e. x-away (ap h.to (sym new.1) ∙ e),
+          λ e. x-away (ap to (sym new.1) ∙ e),
         )
 
-    still : (i : ℕ) → eqb (h.to i) (d.vertices * d.values) ≡ true → eqb (a.home i) (d.vertices * d.values) ≡ true
-    still i e = by (cases_eq i x) (cases_eq i (partner x))
+    still : (i : ℕ) → eqb (to i) (d.vertices * d.values) ≡ true → eqb (a.home i) (d.vertices * d.values) ≡ true
+    still i e = by (cases_eq i x)
       where
-        to : h.to i ≡ d.vertices * d.values
-        to = eqb-true (h.to i) (d.vertices * d.values) e
+        in-hand : to i ≡ d.vertices * d.values
+        in-hand = eqb-true (to i) (d.vertices * d.values) e
 
-        by : (i ≡ x) ⊎ (i ≡ x → ⊥) → (i ≡ partner x) ⊎ (i ≡ partner x → ⊥) → eqb (a.home i) (d.vertices * d.values) ≡ true
-        by (inl f) _ = absurd (x-away (ap h.to (sym f) ∙ to))
-        by (inr n) (inl f) = absurd (y-away (ap h.to (sym f) ∙ to))
-        by (inr n) (inr m) = eq-eqb (a.home i) (d.vertices * d.values) (sym (h.rest i n m) ∙ to)
+        by : (i ≡ x) ⊎ (i ≡ x → ⊥) → eqb (a.home i) (d.vertices * d.values) ≡ true
+        by (inl f) = absurd (x-away (ap to (sym f) ∙ in-hand))
+        by (inr n) = eq-eqb (a.home i) (d.vertices * d.values) (sym (to-rest i n) ∙ in-hand)
 
-    less : count (λ z. eqb (h.to z) (d.vertices * d.values)) (length next) + 1 ≤ count (λ z. eqb (a.home z) (d.vertices * d.values)) (length next)
-    less = count_less (λ z. eqb (a.home z) (d.vertices * d.values)) (λ z. eqb (h.to z) (d.vertices * d.values)) (length next) x (omega (arith, x-in, a.next_long))
-        (eq-eqb (a.home x) (d.vertices * d.values) at-hand) (ne_eqb (h.to x) (d.vertices * d.values) x-away) still
+    less : count (λ z. eqb (to z) (d.vertices * d.values)) (length next) + 1 ≤ count (λ z. eqb (a.home z) (d.vertices * d.values)) (length next)
+    less = count_less (λ z. eqb (a.home z) (d.vertices * d.values)) (λ z. eqb (to z) (d.vertices * d.values)) (length next) x (omega (arith, x-in, a.next_long))
+        (eq-eqb (a.home x) (d.vertices * d.values) at-hand) (ne_eqb (to x) (d.vertices * d.values) x-away) still
 
-    room : length forced' + count (λ z. eqb (h.to z) (d.vertices * d.values)) (length next') ≤ length nogoods
+    room : length forced' + count (λ z. eqb (to z) (d.vertices * d.values)) (length next') ≤ length nogoods
     room =
         let long : length forced' ≡ length forced + length v.forces.more = ap length v.forces.after ∙ length-append forced v.forces.more in
         rw nl (omega (arith, less, long, v.forces.few, a.room))
@@ -223,7 +208,7 @@ walking_first d nogoods w l heads heads' next v at hand are watches heads-long n
   waits = λ z z-in e. waits z z-in e (cases_eq (cell d.values (literal w z)) at);
   rests = λ z z-in n. rests z z-in n (cases_eq (cell d.values (literal w z)) at);
   done = λ z z-in s n. absurd (n (ap (λ k. cond k hand (cell d.values (literal w z))) (eq-eqb (cell d.values (literal w z)) at (ap (cell d.values) s ∙ sym at-cell)) ∙ hand-at));
-  others = λ z z-in n m. refl;
+  others = λ z z-in n. refl;
   moves = λ z z-in. inl refl;
   follows = λ k h. absurd (omega arith);
   room = subst (λ n. 0 + count (λ z. eqb (renamed (home_of d.values w) at hand z) (d.vertices * d.values)) n ≤ length nogoods) (sym (next-long ∙ watches.two)) (omega (arith, half_count (λ z. eqb (renamed (home_of d.values w) at hand z) (d.vertices * d.values)) (length nogoods) not-both));
@@ -272,11 +257,9 @@ walking_ready d nogoods start l w heads next forced hand are assigned a h some =
   next_long = a.next_long;
   literals_are = are;
   watches_are = a.watches_are;
-  home = a.home;
-  chained = a.chained;
+  few = a.chained.few;
   x_in = x-in;
-  at_hand = at-hand;
-  at_cell = a.rests (partner (get_or heads hand 0)) y-in (λ e. other_literal nogoods w (get_or heads hand 0) l a.watches_are x-in own (a.waits (partner (get_or heads hand 0)) y-in e).0);
+  first = ap (λ k. get_or heads k 0) (sym h);
   assigned = subst (IsAssigned d) (sym own) assigned;
 }
   where
@@ -288,9 +271,6 @@ walking_ready d nogoods start l w heads next forced hand are assigned a h some =
 
     at-hand : a.home (get_or heads hand 0) ≡ d.vertices * d.values
     at-hand = first.1 ∙ h
-
-    y-in : partner (get_or heads hand 0) < length w
-    y-in = partner_in (get_or heads hand 0) (length w) (length nogoods) a.watches_are.two x-in
 
     own : literal w (get_or heads hand 0) ≡ l
     own = (a.waits (get_or heads hand 0) x-in at-hand).0
@@ -306,8 +286,7 @@ pub walking_next : (d : removals.State) (nogoods : List Nogood) (start : List (�
     → ((i : ℕ) → i < length nogoods → AreLiterals d.vertices d.values (nogood nogoods i).literals) → AreWatches nogoods start
     → Walking d nogoods start l w heads next forced → hand ≡ d.vertices * d.values → (get_or heads hand 0 ≡ no_watch → ⊥)
     → Visited d nogoods w w' forced forced' (get_or heads hand 0)
-    → ((home : ℕ → ℕ) → Chained home heads next → home (get_or heads hand 0) ≡ d.vertices * d.values → home (partner (get_or heads hand 0)) ≡ cell d.values (literal w (partner (get_or heads hand 0)))
-    → Homes d.values home w' heads' next' (get_or heads hand 0))
+    → ((home : ℕ → ℕ) → Chained home heads next → home (get_or heads hand 0) ≡ d.vertices * d.values → Chained (moved home (get_or heads hand 0) (cell d.values (literal w' (get_or heads hand 0)))) heads' next')
     → length heads' ≡ length heads → length next' ≡ length next → Walking d nogoods start l w' heads' next' forced' × (to_visit heads' next' < to_visit heads next)
 walking_next d nogoods start l w w' heads heads' next next' forced forced' hand are st a h some v homes hl nl =
     let first = first_home a.home heads next hand a.chained (omega (arith, a.heads_long)) some in
@@ -330,7 +309,7 @@ pub walking_done : (d : removals.State) (nogoods : List Nogood) (start : List (�
     → Walking d nogoods start l w heads next forced → get_or heads (d.vertices * d.values) 0 ≡ no_watch → Walked d nogoods start w l forced
 walking_done d nogoods start l w heads next forced a none = record {
   guarded = λ x h e. a.done x (omega (arith, h, a.start_long)) e (ended d nogoods start l w heads next forced a none x (omega (arith, h, a.start_long)));
-  others = λ x h n m. a.others x (omega (arith, h, a.start_long)) n m;
+  others = λ x h n. a.others x (omega (arith, h, a.start_long)) n;
   moves = a.moves;
   follows = λ k h. (a.follows k h).0;
 }

@@ -1,5 +1,5 @@
 -- Lists of numbers by index: the head of each list, and for each number the next one.
-use Rattle.std.specs.Prelude.{◌≡◌, ℕ, ◌+◌, ◌<◌, ◌≤◌, ◌==◌, ◌&&◌, nat_lt, cond, List, [], ◌∷◌, length, slice_index, slice_set}
+use Rattle.std.specs.Prelude.{◌≡◌, ℕ, ◌+◌, ◌<◌, ◌≤◌, ◌==◌, ◌&&◌, nat_lt, cond, List, [], ◌∷◌, length, slice_index}
 use Rattle.std.proofs.Common.{zero, suc}
 
 -- what stands where a list ends
@@ -35,21 +35,6 @@ moved home x k y = cond (y == x) k (home y)
 abbrev pub renamed : (ℕ → ℕ) → ℕ → ℕ → ℕ → ℕ
 renamed home j k y = cond (home y == j) k (home y)
 
--- the list that begins at a number holds x
-pub record Holds (next : List ℕ) (first x : ℕ) : Type 0 where
-  pub list : List ℕ
-  pub chain : Chain next first list
-  pub once : IsOnceEach list
-  pub has : times list x ≡ 1
-
--- the number before x goes on to the one after x
-pub record Skips (old new : List ℕ) (first x : ℕ) : Type 0 where
-  pub before : ℕ
-  pub within : before < length old
-  pub new_is : new ≡ slice_set old before (slice_index old x)
-  pub goes : slice_index old before ≡ x
-  pub on : (l : List ℕ) → Chain old first l → IsOnceEach l → times l x ≡ 1 → times l before ≡ 1
-
 -- where x is left out
 abbrev pub without : ℕ → List ℕ → List ℕ
 without x [] = []
@@ -59,10 +44,3 @@ without x (y ∷ ys) = cond (y == x) ys (y ∷ without x ys)
 abbrev pub followed : ℕ → List ℕ → ℕ → List ℕ
 followed zero next at = []
 followed (suc n) next at = cond (nat_lt at (length next)) (at ∷ followed n next (slice_index next at)) []
-
--- a part of a list goes on from here and holds x later
-pub record Reaches (next : List ℕ) (at x : ℕ) (l : List ℕ) : Type 0 where
-  pub rest : List ℕ
-  pub chain : Chain next at rest
-  pub has : times rest x ≡ 1
-  pub part : (y : ℕ) → times rest y ≤ times l y

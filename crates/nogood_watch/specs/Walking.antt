@@ -1,10 +1,10 @@
 -- A walk along the watches of a literal.
-use Rattle.std.specs.Prelude.{◌≡◌, ℕ, ◌+◌, ◌-◌, ◌*◌, ◌<◌, ◌≤◌, ◌⊎◌, ◌==◌, ◌++◌, List, [], length, slice_index, slice_set}
+use Rattle.std.specs.Prelude.{◌≡◌, ℕ, ◌+◌, ◌-◌, ◌*◌, ◌<◌, ◌≤◌, ◌⊎◌, ◌==◌, ◌++◌, List, [], length, slice_index}
 use Rattle.domain_bits.specs.Counting.{count}
 use Rattle.domain_bits.specs.Removals as removals
-use Rattle.nogood_watch.specs.Lists.{times, followed, Chained}
-use Rattle.nogood_watch.specs.Nogoods.{Nogood, literal, partner, nogood, AreLiterals, AreWatches}
-use Rattle.nogood_watch.specs.Watching.{IsAssigned, IsGuarded, KeepsOrFrees, MovesToFree, Follows, forced_at}
+use Rattle.nogood_watch.specs.Lists.{no_watch, times, followed, Chained}
+use Rattle.nogood_watch.specs.Nogoods.{Nogood, literal, nogood, AreLiterals, AreWatches}
+use Rattle.nogood_watch.specs.Watching.{IsAssigned, IsGuarded, MovesToFree, Follows, forced_at}
 use Rattle.nogood_watch.specs.Inside.{cell}
 use Rattle.nogood_watch.specs.declared.watched.WatchAnswer.{WatchAnswer}
 use Rattle.nogood_watch.specs.declared.watched.WatchAnswer.TheVariants.{Quiet, Forced, Fail}
@@ -22,27 +22,15 @@ pub record IsFreeLiteral (d : removals.State) (xs : List (ℕ × ℕ)) (p q : �
   pub not_q : l.0 ≡ q → ⊥
   pub free : IsAssigned d l → ⊥
 
--- a watch is at this literal, in its list, and it is not assigned or no other is free
-pub record Renews (d : removals.State) (xs : List (ℕ × ℕ)) (old new : List (ℕ × ℕ)) (x p : ℕ) (l : ℕ × ℕ) : Type 0 where
-  pub after : new ≡ slice_set old x l
-  pub place : ℕ
-  pub within : place < length xs
-  pub is : literal xs place ≡ l
-  pub apart : l.0 ≡ p → ⊥
-  pub fresh : (IsAssigned d l → ⊥) ⊎ NoneFree d xs p l.0
-  pub moves : KeepsOrFrees d (literal old x) l
-
--- the lists and watches are in order for a visit of x
+-- the lists and watches are in order for a visit of x, the first one in hand
 pub record Ready (d : removals.State) (nogoods : List Nogood) (watches : List (ℕ × ℕ)) (heads next : List ℕ) (x : ℕ) : Type 0 where
   pub heads_long : length heads ≡ d.vertices * d.values + 1
   pub next_long : length next ≡ length watches
   pub literals_are : (i : ℕ) → i < length nogoods → AreLiterals d.vertices d.values (nogood nogoods i).literals
   pub watches_are : AreWatches nogoods watches
-  pub home : ℕ → ℕ
-  pub chained : Chained home heads next
+  pub few : length next ≤ no_watch
   pub x_in : x < length watches
-  pub at_hand : home x ≡ d.vertices * d.values
-  pub at_cell : home (partner x) ≡ cell d.values (literal watches (partner x))
+  pub first : slice_index heads (d.vertices * d.values) ≡ x
   pub assigned : IsAssigned d (literal watches x)
 
 -- what has been forced, and one more at most
@@ -52,20 +40,12 @@ pub record Forces (d : removals.State) (nogoods : List Nogood) (old new : List (
   pub few : length more ≤ 1
   pub follows : (k : ℕ) → k < length more → (f : Follows d nogoods old new (literal old x) (forced_at more k)) × (f.watch ≡ x)
 
--- where the watches are at home after a visit
-pub record Homes (values : ℕ) (home : ℕ → ℕ) (watches : List (ℕ × ℕ)) (heads next : List ℕ) (x : ℕ) : Type 0 where
-  pub to : ℕ → ℕ
-  pub chained : Chained to heads next
-  pub this : to x ≡ cell values (literal watches x)
-  pub other : to (partner x) ≡ cell values (literal watches (partner x))
-  pub rest : (y : ℕ) → (y ≡ x → ⊥) → (y ≡ partner x → ⊥) → to y ≡ home y
-
 -- what a visit of x does
 pub record Visited (d : removals.State) (nogoods : List Nogood) (old new : List (ℕ × ℕ)) (forced forced' : List (ℕ × ℕ × ℕ)) (x : ℕ) : Type 0 where
   pub long : length new ≡ length old
   pub watches_are : AreWatches nogoods new
   pub guarded : IsGuarded d nogoods new forced' (literal old x) x
-  pub others : (y : ℕ) → (y ≡ x → ⊥) → (y ≡ partner x → ⊥) → literal new y ≡ literal old y
+  pub others : (y : ℕ) → (y ≡ x → ⊥) → literal new y ≡ literal old y
   pub moves : MovesToFree d old new
   pub forces : Forces d nogoods old new x forced forced'
 
@@ -84,7 +64,7 @@ pub record Walking (d : removals.State) (nogoods : List Nogood) (start : List (�
   pub waits : (x : ℕ) → x < length watches → home x ≡ d.vertices * d.values → (literal watches x ≡ l) × (literal start x ≡ l)
   pub rests : (x : ℕ) → x < length watches → (home x ≡ d.vertices * d.values → ⊥) → home x ≡ cell d.values (literal watches x)
   pub done : (x : ℕ) → x < length watches → literal start x ≡ l → (home x ≡ d.vertices * d.values → ⊥) → IsGuarded d nogoods watches forced l x
-  pub others : (x : ℕ) → x < length watches → (literal start x ≡ l → ⊥) → (literal start (partner x) ≡ l → ⊥) → literal watches x ≡ literal start x
+  pub others : (x : ℕ) → x < length watches → (literal start x ≡ l → ⊥) → literal watches x ≡ literal start x
   pub moves : MovesToFree d start watches
   pub follows : (k : ℕ) → k < length forced → (f : Follows d nogoods start watches l (forced_at forced k)) × (home f.watch ≡ d.vertices * d.values → ⊥)
   pub room : length forced + count (λ x. home x == d.vertices * d.values) (length next) ≤ length nogoods
@@ -92,7 +72,7 @@ pub record Walking (d : removals.State) (nogoods : List Nogood) (start : List (�
 -- what a walk has done
 pub record Walked (d : removals.State) (nogoods : List Nogood) (old new : List (ℕ × ℕ)) (l : ℕ × ℕ) (forced : List (ℕ × ℕ × ℕ)) : Type 0 where
   pub guarded : (x : ℕ) → x < length old → literal old x ≡ l → IsGuarded d nogoods new forced l x
-  pub others : (x : ℕ) → x < length old → (literal old x ≡ l → ⊥) → (literal old (partner x) ≡ l → ⊥) → literal new x ≡ literal old x
+  pub others : (x : ℕ) → x < length old → (literal old x ≡ l → ⊥) → literal new x ≡ literal old x
   pub moves : MovesToFree d old new
   pub follows : (k : ℕ) → k < length forced → Follows d nogoods old new l (forced_at forced k)
 

@@ -18,10 +18,9 @@ AllBut d xs l = (k : ℕ) → k < length xs → (literal xs k ≡ l) ⊎ IsAssig
 abbrev pub forced_at : List (ℕ × ℕ × ℕ) → ℕ → ℕ × ℕ × ℕ
 forced_at forced k = slice_index_or forced k (0, 0, 0)
 
--- it is watched at two literals that are not assigned
-pub record IsFree (d : removals.State) (watches : List (ℕ × ℕ)) (x : ℕ) : Type 0 where
-  pub this : IsAssigned d (literal watches x) → ⊥
-  pub other : IsAssigned d (literal watches (partner x)) → ⊥
+-- the watch is at a literal that is not assigned
+abbrev pub IsFree : removals.State → List (ℕ × ℕ) → ℕ → Type 0
+IsFree d watches x = IsAssigned d (literal watches x) → ⊥
 
 -- it is watched at l as before, and its other watch is forced
 pub record IsForced (nogoods : List Nogood) (watches : List (ℕ × ℕ)) (forced : List (ℕ × ℕ × ℕ)) (l : ℕ × ℕ) (x : ℕ) : Type 0 where
@@ -54,9 +53,9 @@ pub record Follows (d : removals.State) (nogoods : List Nogood) (old new : List 
 abbrev pub GuardsAll : removals.State → State → State → ℕ × ℕ → Type 0
 GuardsAll d old new l = (x : ℕ) → x < length old.watches → literal old.watches x ≡ l → IsGuarded d new.nogoods new.watches new.forced l x
 
--- every other nogood keeps its watches
+-- every other watch keeps its literal
 abbrev pub KeepsOthers : State → State → ℕ × ℕ → Type 0
-KeepsOthers old new l = (x : ℕ) → x < length old.watches → (literal old.watches x ≡ l → ⊥) → (literal old.watches (partner x) ≡ l → ⊥) → literal new.watches x ≡ literal old.watches x
+KeepsOthers old new l = (x : ℕ) → x < length old.watches → (literal old.watches x ≡ l → ⊥) → literal new.watches x ≡ literal old.watches x
 
 -- a watch keeps its literal, or that one is assigned and the new one is not
 abbrev pub KeepsOrFrees : removals.State → ℕ × ℕ → ℕ × ℕ → Type 0

@@ -50,16 +50,16 @@ fn a_whole_nogood_fails(rt: HostRuntime) -> Result<(), Fail> {
     let mut domains = Domains::new(rt.alloc(), 3, 2)?;
     domains.assign(0, 0);
     domains.assign(1, 1);
-    assert_eq!(rt; watched.on_assign(&domains, 0, 0), WatchAnswer::Forced);
+    assert_eq!(rt; watched.on_assign(&domains, 0, 0), WatchAnswer::Quiet);
+    assert_eq!(rt; watched.on_assign(&domains, 1, 1), WatchAnswer::Forced);
     assert_eq!(rt; watched.forced(), [(2, 0, 4)].as_slice());
     domains.assign(2, 0);
     assert_eq!(rt; watched.on_assign(&domains, 2, 0), WatchAnswer::Fail(4));
-    assert_eq!(rt; watched.on_assign(&domains, 1, 1), WatchAnswer::Quiet);
     Ok(())
 }
 
 #[test]
-fn the_other_watch_moves_where_it_is_assigned(rt: HostRuntime) -> Result<(), Fail> {
+fn each_of_two_assigned_watches_moves_at_its_own_look(rt: HostRuntime) -> Result<(), Fail> {
     let mut watched = Watched::new(rt.alloc(), 4, 2)?;
     watched.add(&[(0, 0), (1, 0), (2, 0)], 0)?;
     watched.add(&[(0, 0), (1, 0), (2, 0)], 1)?;
@@ -67,7 +67,8 @@ fn the_other_watch_moves_where_it_is_assigned(rt: HostRuntime) -> Result<(), Fai
     let mut domains = Domains::new(rt.alloc(), 4, 2)?;
     domains.assign(0, 0);
     domains.assign(1, 0);
-    assert_eq!(rt; watched.on_assign(&domains, 1, 0), WatchAnswer::Forced);
+    assert_eq!(rt; watched.on_assign(&domains, 1, 0), WatchAnswer::Quiet);
+    assert_eq!(rt; watched.on_assign(&domains, 0, 0), WatchAnswer::Forced);
     assert_eq!(rt; watched.forced().len(), 2);
     for (q, u, _name) in watched.forced() {
         assert_eq!(rt; (*q, *u), (2, 0));
@@ -75,6 +76,24 @@ fn the_other_watch_moves_where_it_is_assigned(rt: HostRuntime) -> Result<(), Fai
     domains.assign(3, 1);
     assert_eq!(rt; watched.on_assign(&domains, 3, 1), WatchAnswer::Forced);
     assert_eq!(rt; watched.forced(), [(2, 1, 9)].as_slice());
+    Ok(())
+}
+
+#[test]
+fn a_watch_moves_also_where_the_other_one_has_left(rt: HostRuntime) -> Result<(), Fail> {
+    let mut watched = Watched::new(rt.alloc(), 3, 2)?;
+    watched.add(&[(0, 0), (1, 1), (2, 0)], 5)?;
+    let mut domains = Domains::new(rt.alloc(), 3, 2)?;
+    let mark = domains.mark();
+    assert!(rt; domains.remove(1, 1));
+    domains.assign(0, 0);
+    assert_eq!(rt; watched.on_assign(&domains, 0, 0), WatchAnswer::Quiet);
+    domains.undo_to(mark);
+    domains.assign(0, 0);
+    domains.assign(1, 1);
+    assert_eq!(rt; watched.on_assign(&domains, 0, 0), WatchAnswer::Quiet);
+    assert_eq!(rt; watched.on_assign(&domains, 1, 1), WatchAnswer::Forced);
+    assert_eq!(rt; watched.forced(), [(2, 0, 5)].as_slice());
     Ok(())
 }
 

@@ -2,9 +2,9 @@
 
 ghost use Rattle.std.specs.Prelude.{◌≡◌, ℕ, ◌+◌, ◌-◌, ◌*◌, ◌<◌, ◌≤◌, ◌↔◌, [], length, IfSome, IfNone, IsTrue, slice_index, slice_set, vec_capacity};
 ghost use Rattle.nogood_watch.specs.Inside.{Kept, cell, nogoods_of, entry, Within};
-ghost use Rattle.nogood_watch.specs.Lists.{Chained, Holds, moved, no_watch};
+ghost use Rattle.nogood_watch.specs.Lists.{Chained, moved, no_watch};
 ghost use Rattle.nogood_watch.specs.Nogoods.{AreLiterals, literal, partner};
-ghost use Rattle.nogood_watch.specs.Walking.{Homes, IsFreeLiteral, NoneFree, Ready, Renews, Tells, Visited, Walked};
+ghost use Rattle.nogood_watch.specs.Walking.{IsFreeLiteral, NoneFree, Ready, Tells, Visited, Walked};
 ghost use Rattle.nogood_watch.specs.Watching.{IsAssigned, forced_at};
 
 use crate::lists::{END, relink, take_list};
@@ -50,7 +50,7 @@ fn free_literal<T: Trail>(
     None
 }
 
-/// Moves a watch from a list to another literal. Cost: one step for each watch before it.
+/// Moves the first watch of a list to another literal. Cost: one step.
 fn move_watch(
     values: u16,
     watches: &mut [(u16, u16)],
@@ -62,10 +62,9 @@ fn move_watch(
 )
     requires from_in { from < length heads.old }
     requires to_in { cell values literal < length heads.old }
-    requires few { length next.old ≤ no_watch }
     requires x_in { x < length next.old }
     requires long { length next.old ≡ length watches.old }
-    requires held { Holds next.old (slice_index heads.old from) x }
+    requires first { slice_index heads.old from ≡ x }
     ensures watches { watches.new ≡ slice_set watches.old x literal }
     ensures chained { (home : ℕ → ℕ) → Chained home heads.old next.old → home x ≡ from → Chained (moved home x (cell values literal)) heads.new next.new }
     ensures heads_long { length heads.new ≡ length heads.old }
@@ -73,51 +72,6 @@ fn move_watch(
 {
     watches[x as usize] = literal;
     relink(heads, next, from, cell_of(values, literal), x);
-}
-
-/// Moves a watch that is assigned to a literal that is not, if there is one of another vertex than `p`, and gives the literal.
-/// Cost: one step for each literal, and for each watch before this one where it moves.
-fn renew<T: Trail>(
-    d: &Domains<T>,
-    literals: &[(u16, u16)],
-    watches: &mut [(u16, u16)],
-    heads: &mut [u32],
-    next: &mut [u32],
-    x: u32,
-    p: u16,
-) -> (u16, u16)
-    requires are { AreLiterals d.now.vertices d.now.values literals.now }
-    requires heads_long { length heads.old ≡ d.now.vertices * d.now.values + 1 }
-    requires long { length next.old ≡ length watches.old }
-    requires few { length next.old ≤ no_watch }
-    requires x_in { x < length watches.old }
-    requires is { (k : ℕ) × (k < length literals.now) × (literal literals.now k ≡ literal watches.old x) }
-    requires apart { (literal watches.old x).0 ≡ p → ⊥ }
-    requires held { Holds next.old (slice_index heads.old (cell d.now.values (literal watches.old x))) x }
-    ensures renews { Renews d.now literals.now watches.old watches.new x p result }
-    ensures chained { (home : ℕ → ℕ) → Chained home heads.old next.old → home x ≡ cell d.now.values (literal watches.old x) → Chained (moved home x (cell d.now.values result)) heads.new next.new }
-    ensures heads_long { length heads.new ≡ length heads.old }
-    ensures next_long { length next.new ≡ length next.old }
-{
-    let literal = watches[x as usize];
-    if !is_assigned(d, literal) {
-        return literal;
-    }
-    match free_literal(d, literals, p, literal.0) {
-        None => literal,
-        Some(free) => {
-            move_watch(
-                d.values(),
-                watches,
-                heads,
-                next,
-                x,
-                cell_of(d.values(), literal),
-                free,
-            );
-            free
-        }
-    }
 }
 
 /// The other watch of the same nogood.
@@ -128,8 +82,9 @@ fn partner_of(x: u32) -> u32
     x + 1 - 2 * (x % 2)
 }
 
-/// Looks at one nogood whose watch `x` is assigned and out of its list. Cost: at most two steps for each of its literals, and one for
-/// each watch that stands before its other watch, where this one is assigned too.
+/// Looks at one nogood whose watch `x` is assigned and the first one in hand. It moves to a literal that is not assigned, also where the
+/// other watch has left its domain: a watch that stays is met again at each later assignment of its literal, and on hard refutations
+/// these were nine in ten of all visits. Its other watch stays where it is. Cost: at most two steps for each literal of the nogood.
 fn visit<T: Trail>(
     d: &Domains<T>,
     literals: &[(u16, u16)],
@@ -144,7 +99,7 @@ fn visit<T: Trail>(
     requires within { (i : ℕ) → i < length entries.now → Within literals.now (entry entries.now i) }
     requires room { length forced.old.items < vec_capacity forced.old }
     ensures visited { Visited d.now (nogoods_of literals.now entries.now) watches.old watches.new forced.old.items forced.new.items x }
-    ensures homes { (home : ℕ → ℕ) → Chained home heads.old next.old → home x ≡ d.now.vertices * d.now.values → home (partner x) ≡ cell d.now.values (literal watches.old (partner x)) → Homes d.now.values home watches.new heads.new next.new x }
+    ensures chained { (home : ℕ → ℕ) → Chained home heads.old next.old → home x ≡ d.now.vertices * d.now.values → Chained (moved home x (cell d.now.values (literal watches.new x))) heads.new next.new }
     ensures heads_long { length heads.new ≡ length heads.old }
     ensures next_long { length next.new ≡ length next.old }
     ensures room { vec_capacity forced.new ≡ vec_capacity forced.old }
@@ -153,15 +108,14 @@ fn visit<T: Trail>(
     let nogood = &literals[entry.start..entry.end];
     let hand = heads.len() - 1;
     let own = watches[x as usize];
-    let other = renew(d, nogood, watches, heads, next, partner_of(x), own.0);
-    if !d.has(other.0, other.1) {
-        move_watch(d.values(), watches, heads, next, x, hand, own);
-        return;
-    }
+    let other = watches[partner_of(x) as usize];
     match free_literal(d, nogood, own.0, other.0) {
         Some(free) => move_watch(d.values(), watches, heads, next, x, hand, free),
         None => {
-            move_watch(d.values(), watches, heads, next, x, hand, own);
+            relink(heads, next, hand, cell_of(d.values(), own), x);
+            if !d.has(other.0, other.1) {
+                return;
+            }
             forced.push_reserved((other.0, other.1, entry.name));
         }
     }

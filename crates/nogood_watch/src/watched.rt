@@ -124,12 +124,11 @@ impl Watched {
         Ok(())
     }
 
-    /// Looks at the nogoods that are watched at `p` and `t`, once `t` is all of the domain of `p`. Each of them is then watched at two
-    /// literals that are not assigned, or still at `p` and `t`, and then its other watch has left its domain or is forced. Where a forced
-    /// pair is assigned itself, the answer is `Fail` with the nogood's name.
+    /// Looks at the nogoods that are watched at `p` and `t`, once `t` is all of the domain of `p`. The watch then is at a literal that is
+    /// not assigned, or still at `p` and `t`, and then the nogood's other watch has left its domain or is forced. No other watch moves.
+    /// Where a forced pair is assigned itself, the answer is `Fail` with the nogood's name.
     ///
-    /// Cost: for each such nogood at most two looks at each of its literals, and one step for each watch that stands in a list before its
-    /// other watch, where this one is assigned too. Nothing is allocated.
+    /// Cost: for each such nogood at most two looks at each of its literals. Nothing is allocated.
     pub fn on_assign<T: Trail>(&mut self, d: &Domains<T>, p: u16, t: u16) -> WatchAnswer
         requires vertices { d.now.vertices ≡ self.old.vertices }
         requires values { d.now.values ≡ self.old.values }

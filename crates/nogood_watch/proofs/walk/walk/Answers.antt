@@ -55,7 +55,7 @@ loop-heads-smaller g c =
     let k = c.requires.kept in
     (walking_next c.args.d.now _ c.args.watches.now c.args.literal c.loop-heads.watches c.visit.new.watches c.loop-heads.heads c.visit.new.heads c.loop-heads.next c.visit.new.next c.loop-heads.forced.items c.visit.new.forced.items (length c.args.heads.now - 1)
     (λ i h. k.literals_are i (rw length-map at h)) k.watches_are c.loop-heads.invariant.walking (omega (arith, k.heads_long)) c.loop-heads-test.true
-    c.visit.ensures.visited c.visit.ensures.homes c.visit.ensures.heads_long c.visit.ensures.next_long).1
+    c.visit.ensures.visited c.visit.ensures.chained c.visit.ensures.heads_long c.visit.ensures.next_long).1
 
 pub loop-heads-preserved : goal.loop-heads-preserved
 loop-heads-preserved g c =
@@ -63,7 +63,7 @@ loop-heads-preserved g c =
     record {
       walking = (walking_next c.args.d.now _ c.args.watches.now c.args.literal c.loop-heads.watches c.visit.new.watches c.loop-heads.heads c.visit.new.heads c.loop-heads.next c.visit.new.next c.loop-heads.forced.items c.visit.new.forced.items (length c.args.heads.now - 1)
           (λ i h. k.literals_are i (rw length-map at h)) k.watches_are c.loop-heads.invariant.walking (omega (arith, k.heads_long)) c.loop-heads-test.true
-          c.visit.ensures.visited c.visit.ensures.homes c.visit.ensures.heads_long c.visit.ensures.next_long).0;
+          c.visit.ensures.visited c.visit.ensures.chained c.visit.ensures.heads_long c.visit.ensures.next_long).0;
       room = c.visit.ensures.room ∙ c.loop-heads.invariant.room;
     }
 
