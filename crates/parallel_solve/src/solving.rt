@@ -13,6 +13,7 @@ use domain_bits::{Domains, WordTrail};
 use graph_rows::Problem;
 use nogood_book::RowBook;
 use pair_rows::{MOST_WORDS, PairKinds};
+use propagation::Silent;
 use restart_search::root::{Rooted, root};
 use std::alloc::Global;
 use std::thread::Threads;
@@ -48,9 +49,9 @@ pub fn solve_with<R: Threads + Sync, G: Gate + Sync>(
     let Ok(kinds) = PairKinds::new(alloc, q) else {
         return Solved::NoMemory;
     };
-    match root::<WordTrail>(alloc, q, &kinds, MOST_WORDS) {
-        Rooted::Quiet(domains) => solve_from(rt, alloc, q, &kinds, domains, s, gate),
-        Rooted::Failed => Solved::NoEmbedding(Proof::Unlogged),
+    match root::<WordTrail, Silent>(alloc, q, &kinds, MOST_WORDS, Silent) {
+        Rooted::Quiet(domains, told) => solve_from(rt, alloc, q, &kinds, domains, told, s, gate),
+        Rooted::Failed(_, _) => Solved::NoEmbedding(Proof::Unlogged),
         Rooted::NoMemory => Solved::NoMemory,
     }
 }
@@ -62,6 +63,7 @@ fn solve_from<'a, R: Threads + Sync, G: Gate + Sync>(
     q: &'a Problem,
     kinds: &'a PairKinds<'a>,
     domains: Domains<WordTrail>,
+    told: Silent,
     s: &Settings,
     gate: &G,
 ) -> Solved
@@ -81,7 +83,11 @@ fn solve_from<'a, R: Threads + Sync, G: Gate + Sync>(
         return Solved::NoMemory;
     };
     let mut jobs = Vec::new(alloc);
-    if make_jobs(alloc, q, kinds, &domains, s, &book, &mut first, &mut jobs).is_err() {
+    if make_jobs(
+        alloc, q, kinds, &domains, &told, s, &book, &mut first, &mut jobs,
+    )
+    .is_err()
+    {
         return Solved::NoMemory;
     }
     drop(domains);

@@ -7,7 +7,7 @@ ghost use Rattle.parallel_solve.specs.Solving.{IsSolved};
 ghost use Rattle.parallel_solve.specs.Teaming.{HasRun, IsTally};
 
 use crate::answers::{Proof, Solved};
-use crate::team::{Done, NoLines};
+use crate::team::Done;
 use fail_account::account::Account;
 use graph_rows::Problem;
 use nogood_book::{BookSeat, RowBook};
@@ -68,7 +68,7 @@ pub(crate) fn gather_all<'a>(
     };
     for one in done {
         let Done { worker, outcome } = one;
-        let (account, seat, NoLines) = worker.into_parts();
+        let (account, seat, _log) = worker.into_parts();
         book.gather(first, seat);
         hear(&mut tally, q, budget, account, outcome);
     }

@@ -12,14 +12,11 @@ use domain_bits::{Domains, WordTrail};
 use graph_rows::Problem;
 use nogood_book::{BookSeat, RowBook};
 use pair_rows::{MOST_WORDS, PairKinds};
-use propagation::Filters;
+use proof_logger::Unlogged;
+use propagation::{Filters, Recorder, Silent};
 use restart_search::{Equipment, Outcome, Worker};
 use std::alloc::{AllocError, Global};
 use worker_gate::{AnswerCell, Gate};
-
-/// What keeps no line of a log.
-#[derive(Drop)]
-pub(crate) struct NoLines;
 
 /// What all workers of a solve read.
 #[derive(Drop)]
@@ -35,11 +32,11 @@ pub(crate) struct Shared<'r, 'a, G: Gate> {
 /// A worker that has run, and how its run ended.
 #[derive(Drop)]
 pub(crate) struct Done<'a> {
-    pub(crate) worker: Worker<'a, BookSeat, WordTrail, NoLines>,
+    pub(crate) worker: Worker<'a, BookSeat, WordTrail, Unlogged>,
     pub(crate) outcome: Outcome<'a>,
 }
 
-impl<'r, 'a, G: Gate> Job<Shared<'r, 'a, G>> for Worker<'a, BookSeat, WordTrail, NoLines> {
+impl<'r, 'a, G: Gate> Job<Shared<'r, 'a, G>> for Worker<'a, BookSeat, WordTrail, Unlogged> {
     type Done = Done<'a>;
 
     ghost ready = { λ c w. IsJob c.book.now c.problem.now c.budget w };
@@ -59,11 +56,12 @@ fn make_job<'a>(
     q: &'a Problem,
     kinds: &'a PairKinds<'a>,
     domains: &Domains<WordTrail>,
+    told: &Silent,
     s: &Settings,
     number: u8,
     book: &RowBook,
     first: &mut BookSeat,
-) -> Result<Worker<'a, BookSeat, WordTrail, NoLines>, AllocError>
+) -> Result<Worker<'a, BookSeat, WordTrail, Unlogged>, AllocError>
     requires kinds { kinds.now.problem ≡ q.now }
     requires is_of { IsOf q.now domains.now }
     requires rest { AtRest q.now [] domains.now }
@@ -82,9 +80,18 @@ fn make_job<'a>(
 {
     let copy = domains.copy(alloc)?;
     let filters = Filters::new(alloc, q, kinds, MOST_WORDS / s.threads as usize)?;
-    let equipment = Equipment::new(alloc, q, copy, filters, number, s.seed, s.budget)?;
+    let equipment = Equipment::new(
+        alloc,
+        q,
+        copy,
+        told.copy(alloc),
+        filters,
+        number,
+        s.seed,
+        s.budget,
+    )?;
     let seat = book.split(alloc, first, number)?;
-    Ok(Worker::new(equipment, seat, NoLines))
+    Ok(Worker::new(equipment, seat, Unlogged::new(number)))
 }
 
 /// Adds the workers of a solve. Where memory is refused, those that were made so far are there.
@@ -93,10 +100,11 @@ pub(crate) fn make_jobs<'a>(
     q: &'a Problem,
     kinds: &'a PairKinds<'a>,
     domains: &Domains<WordTrail>,
+    told: &Silent,
     s: &Settings,
     book: &RowBook,
     first: &mut BookSeat,
-    jobs: &mut Vec<Worker<'a, BookSeat, WordTrail, NoLines>>,
+    jobs: &mut Vec<Worker<'a, BookSeat, WordTrail, Unlogged>>,
 ) -> Result<(), AllocError>
     requires kinds { kinds.now.problem ≡ q.now }
     requires is_of { IsOf q.now domains.now }
@@ -116,7 +124,7 @@ pub(crate) fn make_jobs<'a>(
     for worker in 0..s.threads {
         jobs.reserve(1)?;
         let number = worker as u8 + 1;
-        let job = make_job(alloc, q, kinds, domains, s, number, book, first)?;
+        let job = make_job(alloc, q, kinds, domains, told, s, number, book, first)?;
         jobs.push_reserved(job);
     }
     Ok(())

@@ -11,7 +11,7 @@ use Rattle.nogood_watch.specs.Nogoods as watched
 use Rattle.nogood_watch.specs.Nogoods.{literal, partner, AreWatches, AreLiterals}
 use Rattle.nogood_watch.specs.Watching.{IsAssigned, IsGuarded, GuardsAll, KeepsOthers, MovesToFree, forced_at}
 use Rattle.nogood_watch.specs.InForce.{IsInForce, InForce}
-use Rattle.nogood_watch.proofs.Visits.{partner_in, partner_twice}
+use Rattle.nogood_watch.proofs.Visits.{partner_in}
 use Rattle.nogood_watch.proofs.Readiness.{watch_in}
 use Rattle.nogood_watch.proofs.InForce.{watch_laws_hold}
 use Rattle.propagation.specs.Propagation.{IsOf, HaveValues, HasTwo, IsSame, Shrinks, DecidedOnesWait, Propagates, waits_at}
@@ -137,9 +137,9 @@ out_among : (d : State) (pairs : List (ℕ × ℕ × ℕ)) (l : ℕ × ℕ) → 
 out_among d pairs l out a =
     subst (λ (v : ℕ). in_domain d v l.1 ≡ false) a.vertex (subst (λ (u : ℕ). in_domain d (forced_at pairs a.place).0 u ≡ false) a.value (out a.place a.within))
 
--- after a look a watch waits or is in force, or it or the other one is forced
+-- after a look a watch waits or is in force, or the other one is forced
 abbrev Looked : State → List Bool → List (ℕ × ℕ) → List (ℕ × ℕ × ℕ) → ℕ → Type 0
-Looked d waiting watches pairs x = WaitsOrIsInForce d waiting watches x ⊎ (IsAmong pairs (literal watches x) ⊎ IsAmong pairs (literal watches (partner x)))
+Looked d waiting watches pairs x = WaitsOrIsInForce d waiting watches x ⊎ IsAmong pairs (literal watches (partner x))
 
 is_literal : (l : ℕ × ℕ) (p t : ℕ) → (l ≡ (p, t)) ⊎ (l ≡ (p, t) → ⊥)
 is_literal l p t = by (cases_eq l.0 p) (cases_eq l.1 t)
@@ -163,51 +163,39 @@ looked d waiting old new p t x are single guarded others w x_in = by_this (is_li
     y_in = partner_in x (length old.watches) (length old.nogoods) are.two x_in
 
     here : IsGuarded d new.nogoods new.watches new.forced (p, t) x → Looked d waiting new.watches new.forced x
-    here (inl free) = inl (inr (λ a. absurd (free.this a)))
-    here (inr (inl forced)) = inr (inr (record {
+    here (inl free) = inl (inr (λ a. absurd (free a)))
+    here (inr (inl forced)) = inr (record {
       place = forced.place;
       within = forced.within;
       vertex = ap (λ (e : ℕ × ℕ × ℕ). e.0) forced.other;
       value = ap (λ (e : ℕ × ℕ × ℕ). e.1) forced.other;
-    }))
+    })
     here (inr (inr left)) = inl (inr (λ a. left.other))
-
-    beside : (y : ℕ) → partner y ≡ x → IsGuarded d new.nogoods new.watches new.forced (p, t) y → Looked d waiting new.watches new.forced x
-    beside y is (inl free) = inl (inr (λ a. absurd (free.other (subst (λ (z : ℕ). IsAssigned d (literal new.watches z)) (sym is) a))))
-    beside y is (inr (inl forced)) = inr (inl (subst (λ (z : ℕ). IsAmong new.forced (literal new.watches z)) is (record {
-      place = forced.place;
-      within = forced.within;
-      vertex = ap (λ (e : ℕ × ℕ × ℕ). e.0) forced.other;
-      value = ap (λ (e : ℕ × ℕ × ℕ). e.1) forced.other;
-    })))
-    beside y is (inr (inr left)) = inl (inr (λ a. absurd (cc (subst (λ (z : ℕ). in_domain d (literal new.watches z).0 (literal new.watches z).1 ≡ false) is left.other, a.here))))
 
     at_p : (l : ℕ × ℕ) → l.0 ≡ p → (l ≡ (p, t) → ⊥) → IsAssigned d l → ⊥
     at_p l same apart a =
         apart (ap (λ (v : ℕ). (v, l.1)) same ∙ ap (λ (u : ℕ). (p, u)) (single.only l.1 (subst (λ (v : ℕ). in_domain d v l.1 ≡ true) same a.here)))
 
-    by_vertex : (literal old.watches x ≡ (p, t) → ⊥) → literal new.watches x ≡ literal old.watches x → literal new.watches (partner x) ≡ literal old.watches (partner x)
-        → ((literal old.watches x).0 ≡ p) ⊎ ((literal old.watches x).0 ≡ p → ⊥) → Looked d waiting new.watches new.forced x
-    by_vertex apart this other (inl same) = inl (inr (λ a. absurd (at_p (literal old.watches x) same apart (subst (IsAssigned d) this a))))
-    by_vertex apart this other (inr elsewhere) = inl (wait_same d waiting old.watches new.watches x this other (w x x_in elsewhere))
-
-    by_other : (literal old.watches x ≡ (p, t) → ⊥) → (literal old.watches (partner x) ≡ (p, t)) ⊎ (literal old.watches (partner x) ≡ (p, t) → ⊥) → Looked d waiting new.watches new.forced x
-    by_other apart (inl is) = beside (partner x) (partner_twice x) (guarded (partner x) y_in is)
-    by_other apart (inr none) =
-        by_vertex apart (others x x_in apart none)
-        (others (partner x) y_in none (λ same. apart (sym (ap (literal old.watches) (partner_twice x)) ∙ same)))
-        (cases_eq (literal old.watches x).0 p)
+    -- it is at another literal, and so still there; where the other one was at this one, it was not in force but where it is not assigned
+    kept : (literal old.watches x ≡ (p, t) → ⊥) → (literal old.watches (partner x) ≡ (p, t)) ⊎ (literal old.watches (partner x) ≡ (p, t) → ⊥)
+        → ((literal old.watches x).0 ≡ p) ⊎ ((literal old.watches x).0 ≡ p → ⊥) → WaitsOrIsInForce d waiting new.watches x
+    kept apart y (inl same) = inr (λ a. absurd (at_p (literal old.watches x) same apart (subst (IsAssigned d) (others x x_in apart) a)))
+    kept apart (inl is) (inr away) = beside (w x x_in away)
+      where
+        beside : WaitsOrIsInForce d waiting old.watches x → WaitsOrIsInForce d waiting new.watches x
+        beside (inl up) = inl (ap (λ (l : ℕ × ℕ). waits_at waiting l.0) (others x x_in apart) ∙ up)
+        beside (inr force) = inr (λ a. absurd (cc (subst (λ (l : ℕ × ℕ). in_domain d l.0 l.1 ≡ false) is (force (subst (IsAssigned d) (others x x_in apart) a)), single.here)))
+    kept apart (inr none) (inr away) = wait_same d waiting old.watches new.watches x (others x x_in apart) (others (partner x) y_in none) (w x x_in away)
 
     by_this : (literal old.watches x ≡ (p, t)) ⊎ (literal old.watches x ≡ (p, t) → ⊥) → Looked d waiting new.watches new.forced x
     by_this (inl is) = here (guarded x x_in is)
-    by_this (inr apart) = by_other apart (is_literal (literal old.watches (partner x)) p t)
+    by_this (inr apart) = inl (kept apart (is_literal (literal old.watches (partner x)) p t) (cases_eq (literal old.watches x).0 p))
 
 -- once what is forced is out, each watch waits or is in force
 wait_taken : (q : Problem) (old new : State) (before after : List Bool) (watches : List (ℕ × ℕ)) (pairs : List (ℕ × ℕ × ℕ)) (x : ℕ) → Shrinks q old before new after → AreOut new pairs
     → (literal watches x).0 < size q.pattern → Looked old before watches pairs x → WaitsOrIsInForce new after watches x
 wait_taken q old new before after watches pairs x s out x_in (inl w) = wait_shrunk q old new before after watches x s x_in w
-wait_taken q old new before after watches pairs x s out x_in (inr (inl among)) = inr (λ a. absurd (cc (out_among new pairs (literal watches x) out among, a.here)))
-wait_taken q old new before after watches pairs x s out x_in (inr (inr among)) = inr (λ a. out_among new pairs (literal watches (partner x)) out among)
+wait_taken q old new before after watches pairs x s out x_in (inr among) = inr (λ a. out_among new pairs (literal watches (partner x)) out among)
 
 pub wait_forced : (q : Problem) (d e : State) (before after : List Bool) (held old new : watched.State) (p t : ℕ) (pairs : List (ℕ × ℕ × ℕ)) → held ≡ old → AreNogoods q held → AreNogoods q new
     → length new.watches ≡ length old.watches → changes.Single d p t → GuardsAll d old new (p, t) → KeepsOthers old new (p, t) → WatchesWaitBut d before p held

@@ -13,3 +13,4 @@ pub mod Taking
 pub mod Telling
 pub mod Reasons
 pub mod Entries
+pub mod Guesses

@@ -4,6 +4,7 @@ use Rattle.std.specs.Prelude.{◌≡◌, ℕ, ◌*◌, ◌≤◌, nat_lt, Bool, 
 use Rattle.domain_bits.specs.BitRows.{has}
 use Rattle.domain_bits.specs.Counting.{members}
 use Rattle.propagation.specs.declared.change.Cause.{Cause}
+use Rattle.propagation.specs.declared.change.Cause.TheVariants.{Guess}
 use Rattle.propagation.specs.declared.change.Place.{Place}
 use Rattle.propagation.specs.declared.change.What.{What}
 use Rattle.propagation.specs.declared.change.What.TheVariants.{One, Others}
@@ -47,6 +48,24 @@ KeepsSame old new = (new ≡ old) ⊎ (new ≡ None)
 -- The set is kept, or nothing is.
 abbrev pub KeepsShort : Option (List Change) → Option CountedSet → CountedSet → Type 0
 KeepsShort changes short set = (short ≡ Some set) ⊎ (changes ≡ None)
+
+-- The change is kept, or it was none, or nothing is kept from now on.
+abbrev pub MayTake : Option (List Change) → Option (List Change) → Change → Type 0
+MayTake old new c = Took old new c ⊎ (new ≡ old)
+
+-- The change is one of these.
+abbrev pub IsAmong : Change → List Change → Type 0
+IsAmong c [] = ⊥
+IsAmong c (e ∷ es) = (e ≡ c) ⊎ IsAmong c es
+
+-- Among the changes is the guess of t for p, before which so much had left.
+abbrev pub HasGuess : Option (List Change) → ℕ → ℕ → ℕ → Type 0
+HasGuess None p t from = ⊥
+HasGuess (Some cs) p t from = IsAmong (LeftOne p (Guess t) from) cs
+
+-- No guess is new among the changes.
+abbrev pub NoNewGuess : Option (List Change) → Option (List Change) → Type 0
+NoNewGuess old new = (p t from : ℕ) → HasGuess new p t from → HasGuess old p t from
 
 -- Only the changes before which less had left than the mark.
 abbrev pub cut : ℕ → List Change → List Change

@@ -5,6 +5,7 @@ ghost use Rattle.std.specs.Result.{is_ok};
 ghost use Rattle.graph_theory.specs.Graph.{size};
 ghost use Rattle.graph_theory.specs.Embedding.{Problem};
 ghost use Rattle.nogood_watch.specs.Nogoods as watched;
+ghost use Rattle.propagation.specs.Recording.{NoNewGuess};
 ghost use Rattle.propagation.specs.Telling.{IsEmptied, Fails, TellsOn};
 ghost use Rattle.domain_bits.specs.Removals.{in_domain, size_of};
 ghost use Rattle.search_theory.specs.Claims.{Quiet};
@@ -103,6 +104,7 @@ pub(crate) fn prune_noting<T: Trail, R: Recorder>(
     ensures fails { (s : Option watched.State)
         → IfErr result (Fails problem.now s d.new (R.changes told.new) (R.short told.new)) }
     ensures told { TellsOn problem.now d.old (R.changes told.old) d.new (R.changes told.new) }
+    ensures guesses { NoNewGuess (R.changes told.old) (R.changes told.new) }
     ensures is_for { IsFor problem.now scratch.new }
     ensures bounded { length d.new.removed ≤ d.new.vertices * d.new.values }
 {

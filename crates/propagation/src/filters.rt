@@ -8,6 +8,7 @@ ghost use Rattle.propagation.specs.Learning.{AreKept, Forces, unlearned};
 ghost use Rattle.propagation.specs.Holding.{HoldsRows};
 ghost use Rattle.propagation.specs.Acting.{UnitsOutAfter};
 ghost use Rattle.propagation.specs.Propagation.{IsOf};
+ghost use Rattle.propagation.specs.Recording.{NoNewGuess};
 ghost use Rattle.propagation.specs.Telling.{IsEmptied, Tells};
 
 use crate::change::Failure;
@@ -101,6 +102,7 @@ impl<'a> Filters<'a> {
         ensures out { UnitsOutAfter (is_ok result) d.new self.now.nogoods }
         ensures told { Tells self.now.problem self.now.nogoods d.old (R.changes told.old)
             → Tells self.now.problem self.now.nogoods d.new (R.changes told.new) }
+        ensures guesses { NoNewGuess (R.changes told.old) (R.changes told.new) }
         ensures kept { AreKept self.now.problem self.now.nogoods }
     {
         match &self.nogoods {

@@ -17,6 +17,7 @@ ghost use Rattle.nogood_book.specs.Rows.{Sound, path_at};
 ghost use Rattle.nogood_book.specs.Places.{IsNogoodRow};
 ghost use Rattle.propagation.specs.Learning.{AreNogoods, IsUnused, Forces};
 ghost use Rattle.propagation.specs.Holding.{HoldsRows};
+ghost use Rattle.propagation.specs.Recording.{NoNewGuess};
 ghost use Rattle.propagation.specs.Telling.{AreForbidden, Fails, IsEmptied, Tells};
 ghost use Rattle.propagation.specs.Acting.{Move, OutAfter, WaitAfter, WatchesWaitBut};
 
@@ -134,6 +135,7 @@ impl Nogoods {
         ensures moved { Move d.old self.old self.new }
         ensures told { Tells rows.now.problem (Some self.old) d.old (R.changes told.old)
             → Tells rows.now.problem (Some self.new) d.new (R.changes told.new) }
+        ensures guesses { NoNewGuess (R.changes told.old) (R.changes told.new) }
     {
         match self.watched.on_assign(d, p, t) {
             WatchAnswer::Quiet => Ok(()),
@@ -160,6 +162,7 @@ impl Nogoods {
         ensures out { OutAfter (is_ok result) d.new self.now.units }
         ensures told { Tells rows.now.problem (Some self.now) d.old (R.changes told.old)
             → Tells rows.now.problem (Some self.now) d.new (R.changes told.new) }
+        ensures guesses { NoNewGuess (R.changes told.old) (R.changes told.new) }
     {
         take_out(rows, self.watched.units(), d, waiting, told)
     }
@@ -184,6 +187,7 @@ fn take_out<T: Trail, R: Recorder>(
     ensures told { (s : Option watched.State) → AreForbidden s d.old pairs.now
         → Tells rows.now.problem s d.old (R.changes told.old)
         → Tells rows.now.problem s d.new (R.changes told.new) }
+    ensures guesses { NoNewGuess (R.changes told.old) (R.changes told.new) }
 {
     for k in 0..pairs.len() {
         let (r, u, name) = pairs[k];

@@ -17,6 +17,7 @@ ghost use Rattle.search_theory.specs.Claims.{Single, First, Quiet};
 ghost use Rattle.pair_rows.specs.Rows.{IsMade};
 ghost use Rattle.propagation.specs.Learning.{AreKept, Forces};
 ghost use Rattle.propagation.specs.Acting.{ActedAfter, HaveMoved, InForceAfter, WaitAfter, WatchesWait, WatchesWaitBut};
+ghost use Rattle.propagation.specs.Recording.{NoNewGuess};
 ghost use Rattle.propagation.specs.Telling.{Fails, IsEmptied, Tells, TellsOn};
 ghost use Rattle.propagation.specs.Propagation.{IsOf, waits_at, HaveValues, LeavesPast, Fewer, Ready, ReadyBut, Sweeps, Settles, Visited, TakenUp, Propagates};
 
@@ -65,6 +66,7 @@ fn settle_at<T: Trail, R: Recorder>(
     requires bounded { length d.old.removed ≤ d.old.vertices * d.old.values }
     ensures sweeps { Sweeps result rows.now.problem d.old waiting.old d.new waiting.new p t r }
     ensures told { TellsOn rows.now.problem d.old (R.changes told.old) d.new (R.changes told.new) }
+    ensures guesses { NoNewGuess (R.changes told.old) (R.changes told.new) }
 {
     if r == p {
         return true;
@@ -101,6 +103,7 @@ fn settle<T: Trail, R: Recorder>(
         d.new waiting.new p t }
     ensures none { IfErr result (IsEmptied rows.now.problem d.new) }
     ensures told { TellsOn rows.now.problem d.old (R.changes told.old) d.new (R.changes told.new) }
+    ensures guesses { NoNewGuess (R.changes told.old) (R.changes told.new) }
 {
     let members = undecided.members();
     for k in 0..members.len() {
@@ -137,6 +140,7 @@ fn force<T: Trail, R: Recorder>(
     ensures moved { HaveMoved d.old nogoods.old nogoods.new }
     ensures told { Tells rows.now.problem nogoods.old d.old (R.changes told.old)
         → Tells rows.now.problem nogoods.new d.new (R.changes told.new) }
+    ensures guesses { NoNewGuess (R.changes told.old) (R.changes told.new) }
 {
     match nogoods {
         None => Ok(()),
@@ -171,6 +175,7 @@ fn visit<T: Trail, R: Recorder>(
         (R.short told.new)) }
     ensures told { Tells rows.old.problem nogoods.old d.old (R.changes told.old)
         → Tells rows.old.problem nogoods.new d.new (R.changes told.new) }
+    ensures guesses { NoNewGuess (R.changes told.old) (R.changes told.new) }
     ensures left { LeavesPast rows.old.problem d.new undecided.new }
     ensures fewer { Fewer undecided.old undecided.new }
 {
@@ -219,6 +224,7 @@ fn take_up<T: Trail, R: Recorder>(
         (R.short told.new)) }
     ensures told { Tells rows.old.problem nogoods.old d.old (R.changes told.old)
         → Tells rows.old.problem nogoods.new d.new (R.changes told.new) }
+    ensures guesses { NoNewGuess (R.changes told.old) (R.changes told.new) }
     ensures left { LeavesPast rows.old.problem d.new undecided.new }
     ensures fewer { Fewer undecided.old undecided.new }
 {
@@ -254,6 +260,7 @@ pub fn propagate<T: Trail, R: Recorder>(
     ensures moved { HaveMoved d.old filters.old.nogoods filters.new.nogoods }
     ensures told { Tells q.now filters.old.nogoods d.old (R.changes told.old)
         → Tells q.now filters.new.nogoods d.new (R.changes told.new) }
+    ensures guesses { NoNewGuess (R.changes told.old) (R.changes told.new) }
     ensures left { LeavesPast q.now d.new undecided.new }
     ensures fewer { Fewer undecided.old undecided.new }
 {
@@ -296,6 +303,7 @@ pub fn propagate_again<T: Trail, R: Recorder>(
     ensures moved { HaveMoved d.old filters.old.nogoods filters.new.nogoods }
     ensures told { Tells q.now filters.old.nogoods d.old (R.changes told.old)
         → Tells q.now filters.new.nogoods d.new (R.changes told.new) }
+    ensures guesses { NoNewGuess (R.changes told.old) (R.changes told.new) }
     ensures left { LeavesPast q.now d.new undecided.new }
     ensures fewer { Fewer undecided.old undecided.new }
 {

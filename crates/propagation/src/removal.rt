@@ -17,7 +17,8 @@ ghost use Rattle.all_different.specs.Pruning.{DecidedApart, PruneSays};
 ghost use Rattle.pair_rows.specs.Rows.{IsMade};
 ghost use Rattle.nogood_watch.specs.Nogoods as watched;
 ghost use Rattle.propagation.specs.Propagation.{IsOf, IsFor, waits_at, NotesSize, NotesTaken, Sweeps, pruned_of};
-ghost use Rattle.propagation.specs.Recording.{LeftOne};
+ghost use Rattle.propagation.specs.declared.change.Cause.TheVariants as cause;
+ghost use Rattle.propagation.specs.Recording.{LeftOne, MayTake, NoNewGuess};
 ghost use Rattle.propagation.specs.Telling.{HasFirst, Leaves, Tells, TellsOn, IsForbidden, Fails};
 
 use crate::change::{Cause, Failure};
@@ -29,9 +30,10 @@ use pair_rows::PairRows;
 
 /// Tells that values have left by the cause since the mark, if any have. Cost: one step, and that of `took`.
 fn tell<T: Trail, R: Recorder>(d: &Domains<T>, told: &mut R, vertex: u16, cause: Cause, from: Mark)
-    ensures { (q : Problem) (s : Option watched.State) (old : State)
+    ensures told { (q : Problem) (s : Option watched.State) (old : State)
         → Leaves q s old d.now (LeftOne vertex cause from) → Tells q s old (R.changes told.old)
         → Tells q s d.now (R.changes told.new) }
+    ensures took { MayTake (R.changes told.old) (R.changes told.new) (LeftOne vertex cause from) }
 {
     if from.is_before(d.mark()) {
         told.took(vertex, cause, from);
@@ -192,6 +194,7 @@ pub(crate) fn keep_consistent<T: Trail, R: Recorder>(
     requires bounded { length d.old.removed ≤ d.old.vertices * d.old.values }
     ensures sweeps { Sweeps result rows.now.problem d.old waiting.old d.new waiting.new p t r }
     ensures told { TellsOn rows.now.problem d.old (R.changes told.old) d.new (R.changes told.new) }
+    ensures guesses { NoNewGuess (R.changes told.old) (R.changes told.new) }
 {
     let from = d.mark();
     let some = take_inconsistent(rows, d, waiting, p, t, r);
@@ -218,6 +221,7 @@ pub(crate) fn take_forced<T: Trail, R: Recorder>(
     ensures bounded { length d.new.removed ≤ d.new.vertices * d.new.values }
     ensures told { (q : Problem) (s : Option watched.State) → r < size q.pattern → IsForbidden s d.old name r u
         → Tells q s d.old (R.changes told.old) → Tells q s d.new (R.changes told.new) }
+    ensures guesses { NoNewGuess (R.changes told.old) (R.changes told.new) }
 {
     let from = d.mark();
     let some = take_value(d, waiting, r, u);
@@ -242,6 +246,7 @@ pub fn narrow_first<T: Trail, R: Recorder>(
     ensures bounded { length d.new.removed ≤ d.new.vertices * d.new.values }
     ensures told { (q : Problem) (s : Option watched.State) → IsOf q d.old → HasFirst q p row.now
         → Tells q s d.old (R.changes told.old) → Tells q s d.new (R.changes told.new) }
+    ensures guesses { NoNewGuess (R.changes told.old) (R.changes told.new) }
 {
     let from = d.mark();
     let some = narrow(d, waiting, row, p);
@@ -257,6 +262,8 @@ pub fn give<T: Trail, R: Recorder>(d: &mut Domains<T>, told: &mut R, p: u16, t: 
     ensures single { changes.Single d.new p t }
     ensures told { (q : Problem) (s : Option watched.State) → IsOf q d.old
         → Tells q s d.old (R.changes told.old) → Tells q s d.new (R.changes told.new) }
+    ensures guesses { MayTake (R.changes told.old) (R.changes told.new)
+        (LeftOne p (cause.Guess t) (length d.old.removed)) }
 {
     let from = d.mark();
     d.assign(p, t);
@@ -278,6 +285,7 @@ pub(crate) fn prune<T: Trail, R: Recorder>(
     ensures fails { (s : Option watched.State)
         → IfErr result (Fails q.now s d.new (R.changes told.new) (R.short told.new)) }
     ensures told { TellsOn q.now d.old (R.changes told.old) d.new (R.changes told.new) }
+    ensures guesses { NoNewGuess (R.changes told.old) (R.changes told.new) }
     ensures is_for { IsFor q.now scratch.new }
 {
     let _vertices = d.vertices();

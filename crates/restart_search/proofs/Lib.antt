@@ -9,3 +9,5 @@ pub mod Positions
 pub mod Publishing
 pub mod KeepingUp
 pub mod Restarting
+pub mod Logging
+pub mod Noting

@@ -1,6 +1,6 @@
 -- The root between two runs, and how a run ends.
 
-use Rattle.std.proofs.Common.{◌≡◌, ℕ, ◌≤◌, Bool, true, false, List, [], ◌++◌, length, take, Option, Result, Ok, Err, IfOk, refl, sym, ap, ◌∙◌, subst}
+use Rattle.std.proofs.Common.{◌≡◌, ◌≢◌, ℕ, ◌≤◌, ◌∷◌, arith, Bool, true, false, List, [], ◌++◌, length, take, Option, Result, Ok, Err, IfOk, refl, sym, ap, ◌∙◌, subst}
 use Rattle.std.proofs.lemmas.List.{length-take-le, take-append-le}
 use Rattle.std.proofs.Math.Seq.{take-append_seam}
 use Rattle.graph_theory.specs.Embedding.{Problem}
@@ -23,7 +23,10 @@ use Rattle.restart_search.specs.declared.outcome.Outcome.{Outcome}
 use Rattle.restart_search.specs.declared.outcome.Outcome.TheVariants.{Found, Refuted, Spent, Stopped, NoMemory}
 use Rattle.restart_search.specs.Acting.{Acting}
 use Rattle.restart_search.specs.Sharing.{KeepsUp}
-use Rattle.restart_search.specs.Searching.{Sound, IsNow, IsAtRoot, Begun, TookUp, BeganAgain, Ends, IsTrueFor, IsNotStopped, FoundOf, Leaves, Search, IsPaused}
+use Rattle.restart_search.specs.declared.outcome.Stage.{Stage}
+use Rattle.restart_search.specs.declared.outcome.Stage.TheVariants.{Fresh, Halfway, Over}
+use Rattle.restart_search.specs.Logging.{IfRefuted, LoggedAt}
+use Rattle.restart_search.specs.Searching.{stage_after, Sound, IsNow, IsAtRoot, Begun, TookUp, BeganAgain, Ends, IsTrueFor, IsNotStopped, FoundOf, Leaves, Search, IsPaused}
 use Rattle.restart_search.proofs.Beginning.{sound_fresh}
 use Rattle.restart_search.proofs.Closing.{sound_restarted, rest_again}
 use Rattle.restart_search.proofs.Moments.{acting_fresh}
@@ -133,8 +136,41 @@ ends_true Spent q a h = tt
 ends_true (Stopped n) q a h = tt
 ends_true NoMemory q a h = tt
 
+-- an embedding that is found refutes nothing
+pub found_refutes : (o : Outcome) (q : Problem) (P : Type 0) → FoundOf q o → IfRefuted o P
+found_refutes (Found m) q P h = tt
+found_refutes Refuted q P h = absurd h
+found_refutes Spent q P h = absurd h
+found_refutes (Stopped n) q P h = absurd h
+found_refutes NoMemory q P h = tt
+
+-- what holds between two runs where it may go on, and after the last one
+pub logged_after : (o : Outcome) (A B : Type 0) → Leaves o A → B → LoggedAt (stage_after o) A B
+logged_after (Found m) A B a b = b
+logged_after Refuted A B a b = b
+logged_after Spent A B a b = b
+logged_after (Stopped n) A B a b = a
+logged_after NoMemory A B a b = b
+
+-- before a run
+pub logged_open : (s : Stage) (A B : Type 0) → s ≢ Over → LoggedAt s A B → A
+logged_open Fresh A B open_ h = h
+logged_open Halfway A B open_ h = h
+logged_open Over A B open_ h = absurd (open_ refl)
+
+pub open_of : {S L : Type 0} (v w : Search S L) → v ≡ w → w.stage ≢ Over → v.stage ≢ Over
+open_of {S = S} {L = L} v w same open_ = λ over. open_ (sym (ap stage_of same) ∙ over)
+  where
+    stage_of : Search S L → Stage
+    stage_of x = x.stage
+
+-- a list without length is empty
+pub empty_of : {A : Type 0} (xs : List A) → length xs ≡ 0 → xs ≡ []
+empty_of [] none = refl
+empty_of (x ∷ xs) none = absurd (omega (arith, none))
+
 -- a search that has paused
-pub paused_of : {S K : Type 0} (w : Search S K) (o : Outcome) (n : Option watched.State) (s : sparse.State) (marks : List Moment) (root : Moment)
+pub paused_of : {S L : Type 0} (w : Search S L) (o : Outcome) (n : Option watched.State) (s : sparse.State) (marks : List Moment) (root : Moment)
     → Leaves o (Begun w.problem n w.domains s w.account marks root w.facts) → Leaves o (IsPaused w)
 paused_of w o n s marks root left = leaves_map o (Begun w.problem n w.domains s w.account marks root w.facts) (IsPaused w) paused left
   where

@@ -1,3 +1,4 @@
 pub mod Searching
 pub mod Acting
 pub mod Sharing
+pub mod Logging

@@ -14,6 +14,9 @@ use Rattle.all_different.specs.Prefixes.{Balanced}
 use Rattle.nogood_watch.specs.Nogoods as watched
 use Rattle.propagation.specs.Propagation.{IsOf, LeavesPast, Narrows, waits_at, HasTwo, HasValue}
 use Rattle.propagation.specs.Learning.{Filtering}
+use Rattle.propagation.specs.declared.change.Failure.{Failure}
+use Rattle.propagation.specs.Recording.{Change, CountedSet}
+use Rattle.propagation.specs.Telling.{Fails}
 use Rattle.propagation.specs.Holding.{HoldsRows}
 use Rattle.nogood_book.specs.Rows as book
 use Rattle.nogood_book.specs.Facts.{Facts}
@@ -22,6 +25,7 @@ use Rattle.nogood_book.specs.declared.row.Row.{Row}
 use Rattle.propagation.specs.Acting.{AreActedOn}
 use Rattle.restart_search.specs.Acting.{Acting}
 use Rattle.restart_search.specs.Sharing.{RowsInForce, KeepsUp}
+use Rattle.restart_search.specs.Logging.{IsTold}
 use Rattle.domain_bits.specs.BitRows.{words_for}
 use Rattle.restart_search.specs.declared.root.Rooted.{Rooted}
 use Rattle.restart_search.specs.declared.root.Rooted.TheVariants as rooted
@@ -170,21 +174,28 @@ abbrev pub Roots : Bool → Problem → State → Type 0
 Roots true q d = IsOf q d × AtRest q [] d
 Roots false q d = HasNone q
 
--- What the root says: its domains are at rest and hold every embedding; or none exists.
-abbrev pub RootSays : {T : Type 0} → Rooted T → Problem → Type 0
-RootSays (rooted.Quiet d) q = IsOf q d × AtRest q [] d
-RootSays rooted.Failed q = HasNone q
-RootSays rooted.NoMemory q = Unit {0}
+-- The root's domains failed so, and what was told of them is true.
+pub record RootFails (q : Problem) (changes : Option (List Change)) (short : Option CountedSet) (f : Failure) : Type 0 where
+  pub domains : State
+  pub is_of : IsOf q domains
+  pub told : IsTold q None domains [] [] changes
+  pub fails : Fails q None domains changes short f
+
+-- What the root says: its domains are at rest and hold every embedding; or none exists, and why.
+abbrev pub RootSays : {T R : Type 0} → (R → Option (List Change)) → (R → Option CountedSet) → Rooted T R → Problem → Type 0
+RootSays changes short (rooted.Quiet d told) q = IsOf q d × AtRest q [] d × IsTold q None d [] [] (changes told)
+RootSays changes short (rooted.Failed f told) q = HasNone q × RootFails q (changes told) (short told) f
+RootSays changes short rooted.NoMemory q = Unit {0}
 
 -- ---- a worker
 
 -- A worker as its callers see it.
-pub record Search (S K : Type 0) : Type 0 where
+pub record Search (S L : Type 0) : Type 0 where
   pub problem : Problem
   pub number : ℕ
   pub seat : S
   pub facts : Facts
-  pub keeper : K
+  pub log : L
   pub domains : State
   pub account : Account
   pub stage : Stage
@@ -255,7 +266,7 @@ stage_after (Stopped n) = Halfway
 stage_after NoMemory = Over
 
 -- A worker that has not ended by refuting or for want of memory: its domains are at rest for its path, no row that it has seen is left to follow from, and it keeps up with its book.
-pub record IsPaused {S K : Type 0} (w : Search S K) : Type 0 where
+pub record IsPaused {S L : Type 0} (w : Search S L) : Type 0 where
   pub rest : AtRest w.problem (path w.account) w.domains
   pub in_force : RowsInForce w.domains w.facts.seen
   pub keeps : KeepsUp w.facts w.account.run

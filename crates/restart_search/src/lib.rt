@@ -17,7 +17,6 @@ mod shared;
 mod sharing;
 #[cfg(test)]
 mod tests;
-mod untold;
 mod value_choice;
 pub mod worker;
 

@@ -1,121 +1,144 @@
 //! The root: the first domains of all vertices, and what follows from them before any guess.
 
-ghost use Rattle.std.specs.Prelude.{◌≡◌, ℕ, [], ◌<◌, ◌≤◌, length, true, false, IfOk};
+ghost use Rattle.std.specs.Prelude.{◌≡◌, ℕ, [], ◌<◌, ◌≤◌, length, true, false, None, IfOk, IfErr};
+ghost use Rattle.std.specs.Result.{is_ok};
 ghost use Rattle.graph_theory.specs.Graph.{size};
 ghost use Rattle.domain_bits.specs.BitRows.{words_for};
 ghost use Rattle.domain_bits.specs.Removals.{full};
 ghost use Rattle.sparse_set.specs.Removals.{whole};
 ghost use Rattle.propagation.specs.Learning.{unlearned};
+ghost use Rattle.propagation.specs.Propagation.{IsOf};
+ghost use Rattle.propagation.specs.Recording.{NoNewGuess};
+ghost use Rattle.propagation.specs.Telling.{Fails, IsEmptied, Tells, TellsOn};
 ghost use Rattle.restart_search.specs.Searching.{Begins, Roots, RootSays};
 
-use crate::untold::propagate;
 use domain_bits::{Domains, Trail};
 use first_rows::fill_first;
 use graph_rows::Problem;
 use nds_filter::KeptRows;
 use pair_rows::PairKinds;
-use propagation::{Filters, narrow};
+use propagation::{Failure, Filters, Recorder, narrow_first, propagate};
 use sparse_set::SparseSet;
 use std::alloc::{AllocError, Global};
 
 /// What the root answers.
 #[derive(Drop)]
-pub enum Rooted<T: Trail> {
-    /// Domains at rest that hold every embedding, for workers to begin with.
-    Quiet(Domains<T>),
-    /// No embedding exists.
-    Failed,
+pub enum Rooted<T: Trail, R: Recorder> {
+    /// Domains at rest that hold every embedding, for workers to begin with, and what was told of them.
+    Quiet(Domains<T>, R),
+    /// No embedding exists; how this was found, and what was told of the domains then.
+    Failed(Failure, R),
     /// Memory was refused.
     NoMemory,
 }
 
-/// Leaves each vertex its first domain. Where one is empty, the answer is false. Cost: for each vertex that of `fill_first`, and the
-/// values that leave.
-fn begin<T: Trail>(
+/// Leaves each vertex its first domain; fails where one is empty. Cost: for each vertex that of `fill_first`, and the values that leave.
+fn begin<T: Trail, R: Recorder>(
     q: &Problem,
     kept: &KeptRows,
     d: &mut Domains<T>,
     waiting: &mut [bool],
+    told: &mut R,
     row: &mut [u64],
-) -> bool
+) -> Result<(), Failure>
     requires rows { kept.now ≡ q.now }
     requires is_full { d.old ≡ full (size q.now.pattern) (size q.now.target) }
     requires long { length waiting.old ≡ size q.now.pattern }
     requires words { length row.old ≡ words_for (size q.now.target) }
-    ensures { Begins result q.now d.old d.new waiting.new }
+    ensures begins { Begins (is_ok result) q.now d.old d.new waiting.new }
+    ensures none { IfErr result (IsEmptied q.now d.new) }
+    ensures told { TellsOn q.now d.old (R.changes told.old) d.new (R.changes told.new) }
+    ensures guesses { NoNewGuess (R.changes told.old) (R.changes told.new) }
+    ensures is_of { IsOf q.now d.new }
 {
     for p in 0..d.vertices() {
         fill_first(q, kept, p, row);
-        if !narrow(d, waiting, row, p) {
-            return false;
+        if !narrow_first(d, waiting, told, row, p) {
+            return Err(Failure::Empty(p));
         }
     }
-    true
+    Ok(())
 }
 
-/// Leaves each vertex its first domain, and takes the consequences; false where no embedding is left.
-fn settle_root<T: Trail>(
+/// Leaves each vertex its first domain, and takes the consequences; fails where no embedding is left.
+fn settle_root<T: Trail, R: Recorder>(
     q: &Problem,
     kept: &KeptRows,
     filters: &mut Filters,
     d: &mut Domains<T>,
     waiting: &mut [bool],
     undecided: &mut SparseSet,
+    told: &mut R,
     row: &mut [u64],
-) -> bool
+) -> Result<(), Failure>
     requires rows { kept.now ≡ q.now }
     requires filters { filters.old ≡ unlearned q.now }
     requires is_full { d.old ≡ full (size q.now.pattern) (size q.now.target) }
     requires whole { undecided.old ≡ whole (size q.now.pattern) }
     requires long { length waiting.old ≡ size q.now.pattern }
     requires words { length row.old ≡ words_for (size q.now.target) }
-    ensures roots { Roots result q.now d.new }
+    ensures roots { Roots (is_ok result) q.now d.new }
     ensures filters { filters.new ≡ unlearned q.now }
+    ensures is_of { IsOf q.now d.new }
+    ensures fails { IfErr result (Fails q.now None d.new (R.changes told.new) (R.short told.new)) }
+    ensures told { Tells q.now None d.old (R.changes told.old) → Tells q.now None d.new (R.changes told.new) }
+    ensures guesses { NoNewGuess (R.changes told.old) (R.changes told.new) }
 {
-    begin(q, kept, d, waiting, row) && propagate(q, filters, d, waiting, undecided)
+    begin(q, kept, d, waiting, told, row)?;
+    propagate(q, filters, d, waiting, undecided, told)
 }
 
-/// The first domains and what follows from them, with at most so many words of rows of pairs. Cost: that of `KeptRows::new`, for each
-/// vertex that of `fill_first`, and the propagation.
-pub fn root<T: Trail>(alloc: Global, q: &Problem, kinds: &PairKinds, most: usize) -> Rooted<T>
-    requires { kinds.now.problem ≡ q.now }
-    ensures { RootSays result q.now }
+/// The first domains and what follows from them, with at most so many words of rows of pairs; all changes are told. Cost: that of
+/// `KeptRows::new`, for each vertex that of `fill_first`, and the propagation.
+pub fn root<T: Trail, R: Recorder>(
+    alloc: Global,
+    q: &Problem,
+    kinds: &PairKinds,
+    most: usize,
+    told: R,
+) -> Rooted<T, R>
+    requires kinds { kinds.now.problem ≡ q.now }
+    requires told { Tells q.now None (full (size q.now.pattern) (size q.now.target)) (R.changes told) }
+    ensures { RootSays R.changes R.short result q.now }
 {
-    match take_root::<T>(alloc, q, kinds, most) {
+    match take_root::<T, R>(alloc, q, kinds, most, told) {
         Ok(answer) => answer,
         Err(_) => Rooted::NoMemory,
     }
 }
 
 /// The same, where memory suffices.
-fn take_root<T: Trail>(
+fn take_root<T: Trail, R: Recorder>(
     alloc: Global,
     q: &Problem,
     kinds: &PairKinds,
     most: usize,
-) -> Result<Rooted<T>, AllocError>
-    requires { kinds.now.problem ≡ q.now }
-    ensures { IfOk result (λ answer. RootSays answer q.now) }
+    told: R,
+) -> Result<Rooted<T, R>, AllocError>
+    requires kinds { kinds.now.problem ≡ q.now }
+    requires told { Tells q.now None (full (size q.now.pattern) (size q.now.target)) (R.changes told) }
+    ensures { IfOk result (λ answer. RootSays R.changes R.short answer q.now) }
 {
     let vertices = q.pattern().size();
     let values = q.target().size();
+    let mut told = told;
     let mut domains = Domains::<T>::with_trail(alloc, vertices, values)?;
     let mut waiting = vec![in alloc; false; usize::from(vertices)]?;
     let mut undecided = SparseSet::new(alloc, vertices)?;
     let mut row = vec![in alloc; 0u64; (usize::from(values) + 63) / 64]?;
     let kept = KeptRows::new(alloc, q)?;
     let mut filters = Filters::new(alloc, q, kinds, most)?;
-    if settle_root(
+    match settle_root(
         q,
         &kept,
         &mut filters,
         &mut domains,
         &mut waiting,
         &mut undecided,
+        &mut told,
         &mut row,
     ) {
-        Ok(Rooted::Quiet(domains))
-    } else {
-        Ok(Rooted::Failed)
+        Ok(()) => Ok(Rooted::Quiet(domains, told)),
+        Err(failure) => Ok(Rooted::Failed(failure, told)),
     }
 }

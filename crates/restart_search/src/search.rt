@@ -1,31 +1,33 @@
 //! The steps of a search, down a path of guesses and back, and the loop over them.
 
-ghost use Rattle.std.specs.Prelude.{◌≡◌, ℕ, [], ◌+◌, ◌<◌, ◌≤◌, ◌&&◌, not, true, false, length, take, Option, None, IfOk, IfSome, IfNone, IsTrue, vec_capacity};
+ghost use Rattle.std.specs.Prelude.{◌≡◌, ℕ, [], ◌+◌, ◌<◌, ◌≤◌, ◌^◌, ◌&&◌, not, true, false, length, take, Option, None, IfOk, OnOk, IfSome, IfNone, IsTrue, vec_capacity};
 ghost use Rattle.graph_theory.specs.Graph.{size};
 ghost use Rattle.graph_theory.specs.Path.{NotOn, Dead};
 ghost use Rattle.domain_bits.specs.BitRows.{has, words_for};
 ghost use Rattle.domain_bits.specs.Removals.{in_domain, size_of};
 ghost use Rattle.search_theory.specs.Claims.{Single, Quiet};
 ghost use Rattle.search_theory.specs.Bounds.{cutoff};
-ghost use Rattle.search_theory.specs.Account.{path, IsAt, NotAmong, MayGuess, restarted};
+ghost use Rattle.search_theory.specs.Account.{path, IsAt, NotAmong, MayGuess, FailsTo, restarted};
 ghost use Rattle.search_theory.specs.Remaining.{remaining};
 ghost use Rattle.propagation.specs.Propagation.{IsOf, LeavesPast};
 ghost use Rattle.nogood_watch.specs.Nogoods as watched;
 ghost use Rattle.restart_search.specs.Acting.{Acting, WereActedOn};
 ghost use Rattle.propagation.specs.Holding.{HoldsRows, KeepsSame};
 ghost use Rattle.nogood_book.specs.Facts.{CaughtUp};
+ghost use Rattle.nogood_book.specs.Rows as book;
 ghost use Rattle.restart_search.specs.Sharing.{IsSeatFor};
+ghost use Rattle.restart_search.specs.Logging.{IsTold, IsLogged, LogsOn, IfRefuted};
 ghost use Rattle.restart_search.specs.Searching.{AtRest, Based, Sound, Begun, BeganAgain, IsAtRoot, TookUp, Knows, Ends, IsNotStopped, Leaves, FoundOf, IsBest, IsFirstUndecided, IsNextBest, ComesFirst, IsNow, IsUndecided};
 
 use crate::outcome::Outcome;
 use crate::sharing::{Author, publish_position};
-use crate::untold::{propagate, propagate_again};
 use crate::value_choice::ValueChoice;
 use domain_bits::{Domains, Mark, Trail, and_not_into};
 use fail_account::Account;
 use graph_rows::Problem;
-use nogood_book::{Book, RowSeat};
-use propagation::{Filters, lower};
+use nogood_book::{Book, Row, RowSeat};
+use proof_logger::{DeadEnd, ProofLogger};
+use propagation::{Filters, Recorder, give, lower, propagate, propagate_again};
 use sparse_set::SparseSet;
 use std::alloc::{AllocError, Global};
 use worker_gate::{AnswerCell, Gate, Note, Point};
@@ -159,12 +161,13 @@ fn has_value(row: &[u64]) -> bool
 }
 
 /// Refutes the last guess, and takes back what followed from it. Cost: what had been removed since.
-fn close<T: Trail>(
+fn take_back<T: Trail, R: Recorder>(
     q: &Problem,
     d: &mut Domains<T>,
     undecided: &mut SparseSet,
     account: &mut Account,
     marks: &mut Vec<Moment>,
+    told: &mut R,
     root: Moment,
 )
     requires based { Based q.now d.old undecided.old account.old marks.old.items root }
@@ -172,6 +175,8 @@ fn close<T: Trail>(
     requires dead { Dead q.now (path account.old) }
     ensures sound { Sound q.now d.new undecided.new account.new marks.new.items root }
     ensures acting { (nogoods : Option watched.State) → WereActedOn d.old nogoods marks.old.items root → Acting d.new nogoods marks.new.items root }
+    ensures told { (nogoods : Option watched.State) → IsTold q.now nogoods d.old (path account.old) marks.old.items (R.changes told.old) → IsTold q.now nogoods d.new (path account.new) marks.new.items (R.changes told.new) }
+    ensures failed { FailsTo account.old account.new }
     ensures nearer { remaining account.new < remaining account.old }
     ensures budget { account.new.budget ≡ account.old.budget }
     ensures run { account.new.run ≡ account.old.run }
@@ -181,37 +186,43 @@ fn close<T: Trail>(
     match marks.pop() {
         None => (),
         Some(moment) => {
-            d.undo_to(moment.domains);
+            let mark = moment.domains;
+            d.undo_to(mark);
             undecided.undo_to(moment.past);
+            told.forget_to(mark);
         }
     }
 }
 
 /// Goes back to the root, and begins the next run. Cost: what had been removed since the root.
-fn restart<T: Trail>(
+fn restart<T: Trail, R: Recorder>(
     q: &Problem,
     d: &mut Domains<T>,
     undecided: &mut SparseSet,
     account: &mut Account,
     marks: &mut Vec<Moment>,
+    told: &mut R,
     root: Moment,
 )
     requires sound { Sound q.now d.old undecided.old account.old marks.old.items root }
     requires due { account.old.count ≡ cutoff account.old.run }
     ensures at_root { IsAtRoot q.now d.new undecided.new account.new marks.new.items root }
     ensures restarted { account.new ≡ restarted account.old }
+    ensures told { (nogoods : Option watched.State) → IsTold q.now nogoods d.old (path account.old) marks.old.items (R.changes told.old) → IsTold q.now nogoods d.new (path account.new) marks.new.items (R.changes told.new) }
     ensures nearer { remaining account.new < remaining account.old }
     ensures room { vec_capacity marks.old ≤ vec_capacity marks.new }
 {
     account.restart(q);
     marks.clear();
-    d.undo_to(root.domains);
+    let mark = root.domains;
+    d.undo_to(mark);
     undecided.undo_to(root.past);
+    told.forget_to(mark);
 }
 
 /// Takes up what the book has: the nogoods among the rows from a place on, those before it being kept, and what follows at the root.
 /// False where no embedding is left. Cost: that of `Filters::take_rows` and of the propagation.
-pub(crate) fn take_up_book<T: Trail, B: Book>(
+pub(crate) fn take_up_book<T: Trail, B: Book, L: ProofLogger>(
     alloc: Global,
     q: &Problem,
     book: &B,
@@ -223,10 +234,14 @@ pub(crate) fn take_up_book<T: Trail, B: Book>(
     account: &Account,
     marks: &[Moment],
     waiting: &mut [bool],
+    told: &mut L::Told,
+    log: &mut L,
     root: &mut Moment,
 ) -> Result<bool, AllocError>
     requires fits { B.fits book.now seat.old }
     requires seat { (B.Seat.shows seat.old).problem ≡ q.now }
+    requires owner { L.owner log.old ≡ (B.Seat.shows seat.old).owner }
+    requires logged { IsLogged q.now (B.Seat.shows seat.old).seen filters.old.nogoods d.old account.now marks.now (L.Told.changes told.old) (L.writes log.old) }
     requires begun { taken ≤ length (B.Seat.shows seat.old).seen }
     requires problem { filters.old.problem ≡ q.now }
     requires holds { HoldsRows (take taken (B.Seat.shows seat.old).seen) filters.old.nogoods }
@@ -236,20 +251,30 @@ pub(crate) fn take_up_book<T: Trail, B: Book>(
     ensures caught { CaughtUp (B.Seat.shows seat.old) (B.Seat.shows seat.new) }
     ensures problem { filters.new.problem ≡ q.now }
     ensures took { IfOk result (λ some. TookUp some q.now filters.new.nogoods d.new undecided.new account.now marks.now root.new (B.Seat.shows seat.new).seen) }
+    ensures owner { L.owner log.new ≡ L.owner log.old }
+    ensures logged { IfOk result (λ some. LogsOn some q.now (B.Seat.shows seat.new).seen filters.new.nogoods d.new account.now marks.now (L.Told.changes told.new) (L.writes log.new) (L.refutes log.new)) }
+    ensures steps { L.steps log.new q.now (B.Seat.shows seat.new).seen }
 {
     book.catch_up(seat);
-    filters.take_rows(alloc, q, seat.rows(), taken)?;
-    if !propagate_again(q, filters, d, waiting, undecided) {
-        lower(waiting);
-        return Ok(false);
+    log.stays();
+    let rows = seat.rows();
+    filters.take_rows(alloc, q, rows, taken)?;
+    match propagate_again(q, filters, d, waiting, undecided, told) {
+        Ok(()) => {
+            *root = present(d, undecided);
+            Ok(true)
+        }
+        Err(failure) => {
+            lower(waiting);
+            log.close(alloc, q, rows, told, account, DeadEnd::Failed(failure))?;
+            Ok(false)
+        }
     }
-    *root = present(d, undecided);
-    Ok(true)
 }
 
 /// Begins the next run: what the position has refuted is published, and what the book has is taken up at the root. False where that
 /// leaves no embedding. Cost: that of `publish_position`, of `restart` and of `take_up_book`.
-fn begin_again<T: Trail, B: Book>(
+fn begin_again<T: Trail, B: Book, L: ProofLogger>(
     alloc: Global,
     author: &Author,
     book: &B,
@@ -260,10 +285,14 @@ fn begin_again<T: Trail, B: Book>(
     account: &mut Account,
     marks: &mut Vec<Moment>,
     waiting: &mut [bool],
+    told: &mut L::Told,
+    log: &mut L,
     root: &mut Moment,
 ) -> Result<bool, AllocError>
     requires fits { B.fits book.now seat.old }
     requires seat { IsSeatFor author.now.problem.now author.now.owner (B.Seat.shows seat.old) }
+    requires owner { L.owner log.old ≡ author.now.owner }
+    requires logged { IsLogged author.now.problem.now (B.Seat.shows seat.old).seen filters.old.nogoods d.old account.old marks.old.items (L.Told.changes told.old) (L.writes log.old) }
     requires narrow { author.now.owner < 128 }
     requires problem { filters.old.problem ≡ author.now.problem.now }
     requires begun { Begun author.now.problem.now filters.old.nogoods d.old undecided.old account.old marks.old.items root.old (B.Seat.shows seat.old) }
@@ -273,13 +302,19 @@ fn begin_again<T: Trail, B: Book>(
     ensures seat { IsSeatFor author.now.problem.now author.now.owner (B.Seat.shows seat.new) }
     ensures problem { filters.new.problem ≡ author.now.problem.now }
     ensures begun { IfOk result (λ some. BeganAgain some author.now.problem.now filters.new.nogoods d.new undecided.new account.new marks.new.items root.new (B.Seat.shows seat.new)) }
-    ensures nearer { remaining account.new < remaining account.old }
+    ensures owner { L.owner log.new ≡ L.owner log.old }
+    ensures logged { IfOk result (λ some. LogsOn some author.now.problem.now (B.Seat.shows seat.new).seen filters.new.nogoods d.new account.new marks.new.items (L.Told.changes told.new) (L.writes log.new) (L.refutes log.new)) }
+    ensures steps { L.steps log.new author.now.problem.now (B.Seat.shows seat.new).seen }
+    ensures nearer { IfOk result (λ some. remaining account.new < remaining account.old) }
     ensures budget { account.new.budget ≡ account.old.budget }
     ensures room { vec_capacity marks.old ≤ vec_capacity marks.new }
 {
     let taken = seat.rows().len();
-    publish_position(book, seat, author, account);
-    restart(author.problem, d, undecided, account, marks, *root);
+    let published = publish_position(book, seat, author, account, log);
+    log.stays();
+    let _whole = published?;
+    restart(author.problem, d, undecided, account, marks, told, *root);
+    log.restart();
     take_up_book(
         alloc,
         author.problem,
@@ -292,6 +327,8 @@ fn begin_again<T: Trail, B: Book>(
         account,
         marks,
         waiting,
+        told,
+        log,
         root,
     )
 }
@@ -306,22 +343,30 @@ pub(crate) fn present<T: Trail>(d: &Domains<T>, undecided: &SparseSet) -> Moment
     }
 }
 
-/// Guesses `t` for `p`, and takes the consequences; where no embedding is left, refutes the guess.
-fn guess<T: Trail>(
+/// Guesses `t` for `p`, and takes the consequences; where no embedding is left, logs the dead path and refutes the guess.
+fn guess<T: Trail, L: ProofLogger>(
+    alloc: Global,
     q: &Problem,
+    rows: &[Row],
     filters: &mut Filters,
     d: &mut Domains<T>,
     undecided: &mut SparseSet,
     account: &mut Account,
     marks: &mut Vec<Moment>,
     waiting: &mut [bool],
+    told: &mut L::Told,
+    log: &mut L,
     root: Moment,
     p: u16,
     t: u16,
-)
+) -> Result<(), AllocError>
     requires problem { filters.old.problem ≡ q.now }
     requires sound { Sound q.now d.old undecided.old account.old marks.old.items root }
     requires acting { Acting d.old filters.old.nogoods marks.old.items root }
+    requires rows { book.Sound q.now rows.now }
+    requires few { length rows.now < 2 ^ 32 }
+    requires holds { HoldsRows rows.now filters.old.nogoods }
+    requires logged { IsLogged q.now rows.now filters.old.nogoods d.old account.old marks.old.items (L.Told.changes told.old) (L.writes log.old) }
     requires unspent { account.old.all < account.old.budget }
     requires before_cutoff { account.old.count < cutoff account.old.run }
     requires may { MayGuess q.now account.old p t }
@@ -329,22 +374,31 @@ fn guess<T: Trail>(
     requires long { length waiting.old ≡ size q.now.pattern }
     requires room { size q.now.pattern ≤ vec_capacity marks.old }
     ensures problem { filters.new.problem ≡ q.now }
-    ensures sound { Sound q.now d.new undecided.new account.new marks.new.items root }
-    ensures acting { Acting d.new filters.new.nogoods marks.new.items root }
+    ensures sound { OnOk result (Sound q.now d.new undecided.new account.new marks.new.items root) }
+    ensures acting { OnOk result (Acting d.new filters.new.nogoods marks.new.items root) }
     ensures kept { KeepsSame filters.old.nogoods filters.new.nogoods }
-    ensures nearer { remaining account.new < remaining account.old }
+    ensures logged { OnOk result (IsLogged q.now rows.now filters.new.nogoods d.new account.new marks.new.items (L.Told.changes told.new) (L.writes log.new)) }
+    ensures owner { L.owner log.new ≡ L.owner log.old }
+    ensures steps { L.steps log.new q.now rows.now }
+    ensures nearer { OnOk result (remaining account.new < remaining account.old) }
     ensures budget { account.new.budget ≡ account.old.budget }
     ensures run { account.new.run ≡ account.old.run }
     ensures room { vec_capacity marks.old ≤ vec_capacity marks.new }
 {
+    log.stays();
     let moment = present(d, undecided);
     account.deepen(q, p, t);
     marks.push_reserved(moment);
-    d.assign(p, t);
+    give(d, told, p, t);
     waiting[usize::from(p)] = true;
-    if !propagate(q, filters, d, waiting, undecided) {
-        lower(waiting);
-        close(q, d, undecided, account, marks, root);
+    match propagate(q, filters, d, waiting, undecided, told) {
+        Ok(()) => Ok(()),
+        Err(failure) => {
+            lower(waiting);
+            log.close(alloc, q, rows, told, account, DeadEnd::Failed(failure))?;
+            take_back(q, d, undecided, account, marks, told, root);
+            Ok(())
+        }
     }
 }
 
@@ -389,7 +443,7 @@ fn stop_at<'a>(cell: Option<&AnswerCell<'a>>, asks: &mut bool, q: &Problem) -> O
 }
 
 /// Searches until an embedding is found, none is left, the cell shows an answer, or the budget is spent.
-pub(crate) fn run<'a, T: Trail, B: Book, G: Gate>(
+pub(crate) fn run<'a, T: Trail, B: Book, L: ProofLogger, G: Gate>(
     alloc: Global,
     author: &Author,
     book: &B,
@@ -404,6 +458,8 @@ pub(crate) fn run<'a, T: Trail, B: Book, G: Gate>(
     waiting: &mut [bool],
     untried: &mut [u64],
     choice: &mut ValueChoice,
+    told: &mut L::Told,
+    log: &mut L,
     root: &mut Moment,
 ) -> Outcome<'a>
     requires fits { B.fits book.now seat.old }
@@ -411,6 +467,8 @@ pub(crate) fn run<'a, T: Trail, B: Book, G: Gate>(
     requires narrow { author.now.owner < 128 }
     requires problem { filters.old.problem ≡ author.now.problem.now }
     requires begun { Begun author.now.problem.now filters.old.nogoods d.old undecided.old account.old marks.old.items root.old (B.Seat.shows seat.old) }
+    requires owner { L.owner log.old ≡ author.now.owner }
+    requires logged { IsLogged author.now.problem.now (B.Seat.shows seat.old).seen filters.old.nogoods d.old account.old marks.old.items (L.Told.changes told.old) (L.writes log.old) }
     requires long { length waiting.old ≡ size author.now.problem.now.pattern }
     requires words { length untried.old ≡ words_for (size author.now.problem.now.target) }
     requires choice { choice.old ≡ size author.now.problem.now.target }
@@ -421,6 +479,10 @@ pub(crate) fn run<'a, T: Trail, B: Book, G: Gate>(
     ensures alone { cell.entry ≡ None → IsNotStopped result }
     ensures budget { account.new.budget ≡ account.old.budget }
     ensures begun { Leaves result (Begun author.now.problem.now filters.new.nogoods d.new undecided.new account.new marks.new.items root.new (B.Seat.shows seat.new)) }
+    ensures owner { L.owner log.new ≡ L.owner log.old }
+    ensures logged { Leaves result (IsLogged author.now.problem.now (B.Seat.shows seat.new).seen filters.new.nogoods d.new account.new marks.new.items (L.Told.changes told.new) (L.writes log.new)) }
+    ensures steps { L.steps log.new author.now.problem.now (B.Seat.shows seat.new).seen }
+    ensures refutes { IfRefuted result (L.refutes log.new author.now.problem.now (B.Seat.shows seat.new).seen) }
     ensures problem { filters.new.problem ≡ author.now.problem.now }
     ensures choice { choice.new ≡ size author.now.problem.now.target }
     ensures room { size author.now.problem.now.pattern ≤ vec_capacity marks.new }
@@ -429,15 +491,21 @@ pub(crate) fn run<'a, T: Trail, B: Book, G: Gate>(
     let number = u32::from(author.owner);
     let mut asks = true;
     loop {
+        log.stays();
         let Some(p) = level_vertex(q, d, undecided, account) else {
             return found(alloc, q, d);
         };
         fill_untried(d, account, p, untried);
+        let rows = seat.rows();
         if !has_value(untried) {
+            let end = DeadEnd::Exhausted(p);
+            let Ok(()) = log.close(alloc, q, rows, told, account, end) else {
+                return Outcome::NoMemory;
+            };
             if account.path().is_empty() {
                 return Outcome::Refuted;
             }
-            close(q, d, undecided, account, marks, *root);
+            take_back(q, d, undecided, account, marks, told, *root);
             continue;
         }
         if let Some(note) = stop_at(cell, &mut asks, q) {
@@ -449,7 +517,8 @@ pub(crate) fn run<'a, T: Trail, B: Book, G: Gate>(
         if account.at_cutoff() {
             gate.at(number, Point::Restart);
             match begin_again(
-                alloc, author, book, seat, filters, d, undecided, account, marks, waiting, root,
+                alloc, author, book, seat, filters, d, undecided, account, marks, waiting, told,
+                log, root,
             ) {
                 Ok(true) => continue,
                 Ok(false) => return Outcome::Refuted,
@@ -458,8 +527,23 @@ pub(crate) fn run<'a, T: Trail, B: Book, G: Gate>(
         }
         gate.at(number, Point::Guess);
         let t = choice.choose(untried);
-        guess(
-            q, filters, d, undecided, account, marks, waiting, *root, p, t,
-        );
+        let Ok(()) = guess(
+            alloc,
+            q,
+            seat.rows(),
+            filters,
+            d,
+            undecided,
+            account,
+            marks,
+            waiting,
+            told,
+            log,
+            *root,
+            p,
+            t,
+        ) else {
+            return Outcome::NoMemory;
+        };
     }
 }

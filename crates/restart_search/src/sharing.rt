@@ -3,11 +3,13 @@
 //! For each level in order there is one nogood for each value refuted there, and then a step for the level's guess, below which the
 //! rows of the next level stand. So the guesses above a nogood are written once, however many nogoods stand below them.
 
-ghost use Rattle.std.specs.Prelude.{◌≡◌, ℕ, [], ◌∷◌, ◌++◌, ◌+◌, ◌<◌, ◌≤◌, true, false, length, take, Some, None, IfSome, IfNone};
+ghost use Rattle.std.specs.Prelude.{◌≡◌, ℕ, [], ◌∷◌, ◌++◌, ◌+◌, ◌<◌, ◌≤◌, true, false, length, take, Contains, IfOk, Some, None, IfSome, IfNone};
 ghost use Rattle.graph_theory.specs.Graph.{size};
 ghost use Rattle.graph_theory.specs.Path.{NotOn, IsPath, Dead};
 ghost use Rattle.domain_bits.specs.BitRows.{has, words_for};
-ghost use Rattle.search_theory.specs.Account.{InRange, Honest};
+ghost use Rattle.graph_theory.specs.Neighbours.{members};
+ghost use Rattle.search_theory.specs.Account.{InRange, Honest, path, level_at};
+ghost use Rattle.proof_logger.specs.Logging.{GrowsBeside};
 ghost use Rattle.nogood_book.specs.Reaching.{Reaches, MayStand};
 ghost use Rattle.restart_search.specs.Sharing.{IsSeatFor, IsRowOf, IsPublished, Went};
 
@@ -15,6 +17,8 @@ use bit_rows::next_member;
 use fail_account::Account;
 use graph_rows::Problem;
 use nogood_book::{Book, Published, Row, RowKind, RowSeat};
+use proof_logger::ProofLogger;
+use std::alloc::AllocError;
 
 /// Whose rows are written, and which problem they are about.
 #[derive(Clone, Copy)]
@@ -25,11 +29,15 @@ pub(crate) struct Author<'q> {
     pub owner: u8,
 }
 
-/// Publishes one nogood: that no embedding has the pairs above and this one. False where the book is full.
-fn publish_nogood<B: Book>(
+/// Publishes one nogood: that no embedding has the pairs above and this one, which the account has refuted at the level; and notes it.
+/// False where the book is full.
+fn publish_nogood<B: Book, L: ProofLogger>(
     book: &B,
     seat: &mut B::Seat,
     author: &Author,
+    account: &Account,
+    level: u16,
+    log: &mut L,
     parent: Option<u32>,
     above: &[(u16, u16)],
     pair: (u16, u16),
@@ -40,6 +48,14 @@ fn publish_nogood<B: Book>(
     requires parent { Reaches (B.Seat.shows seat.old).seen parent above.now }
     requires stands { MayStand author.now.problem.now above.now pair }
     requires dead { Dead author.now.problem.now (above.now ++ pair ∷ []) }
+    requires level { (level_at account.now level).vertex ≡ Some pair.0 }
+    requires refuted { Contains (level_at account.now level).refuted pair.1 }
+    requires above { above.now ≡ take level (path account.now) }
+    requires spare { 1 ≤ L.spare log.old }
+    requires owner { L.owner log.old ≡ author.now.owner }
+    requires writes { L.writes log.old author.now.problem.now (B.Seat.shows seat.old).seen account.now }
+    ensures owner { L.owner log.new ≡ L.owner log.old }
+    ensures writes { L.writes log.new author.now.problem.now (B.Seat.shows seat.new).seen account.now }
     ensures fits { B.fits book.now seat.new }
     ensures went { Went (B.Seat.shows seat.old) (B.Seat.shows seat.new) }
     ensures row { result ≡ true → IsRowOf author.now.owner (length (B.Seat.shows seat.old).seen) (B.Seat.shows seat.new).seen (above.now ++ pair ∷ []) }
@@ -54,8 +70,12 @@ fn publish_nogood<B: Book>(
         vertex: pair.0,
         value: pair.1,
     };
+    log.stays();
     match book.publish(seat, row) {
-        Published::At(_) => true,
+        Published::At(place) => {
+            log.note(account, level, pair.1, place);
+            true
+        }
         Published::Full => false,
     }
 }
@@ -76,6 +96,7 @@ fn publish_step<B: Book>(
     requires stands { MayStand author.now.problem.now above.now pair }
     ensures fits { B.fits book.now seat.new }
     ensures went { Went (B.Seat.shows seat.old) (B.Seat.shows seat.new) }
+    ensures beside { GrowsBeside author.now.owner (B.Seat.shows seat.old).seen (B.Seat.shows seat.new).seen }
     ensures next { IfSome result (λ at. Reaches (B.Seat.shows seat.new).seen (Some at) (above.now ++ pair ∷ [])) }
     ensures full { IfNone result (length (B.Seat.shows seat.new).seen ≡ (B.Seat.shows seat.new).size) }
 {
@@ -94,17 +115,20 @@ fn publish_step<B: Book>(
     }
 }
 
-/// Publishes a nogood for each value of the row, with the pairs above. False where the book is full. Cost: a row of the book for each
+/// Publishes a nogood for each value of the row, which the account has refuted at the level, with the pairs above. False where the book is full. Cost: a row of the book for each
 /// value, and one step for each word.
-fn publish_level<B: Book>(
+fn publish_level<B: Book, L: ProofLogger>(
     book: &B,
     seat: &mut B::Seat,
     author: &Author,
+    account: &Account,
+    level: u16,
+    log: &mut L,
     parent: Option<u32>,
     above: &[(u16, u16)],
     p: u16,
     refuted: &[u64],
-) -> bool
+) -> Result<bool, AllocError>
     requires fits { B.fits book.now seat.old }
     requires seat { IsSeatFor author.now.problem.now author.now.owner (B.Seat.shows seat.old) }
     requires narrow { author.now.owner < 128 }
@@ -113,21 +137,31 @@ fn publish_level<B: Book>(
     requires vertex { p < size author.now.problem.now.pattern }
     requires long { length refuted.now ≡ words_for (size author.now.problem.now.target) }
     requires refuted { (t : ℕ) → has refuted.now t ≡ true → (t < size author.now.problem.now.target) × Dead author.now.problem.now (above.now ++ (p, t) ∷ []) }
+    requires level { (level_at account.now level).vertex ≡ Some p }
+    requires row { members (has refuted.now) account.now.target ≡ (level_at account.now level).refuted }
+    requires target { account.now.target ≡ size author.now.problem.now.target }
+    requires above { above.now ≡ take level (path account.now) }
+    requires owner { L.owner log.old ≡ author.now.owner }
+    requires writes { L.writes log.old author.now.problem.now (B.Seat.shows seat.old).seen account.now }
+    ensures owner { L.owner log.new ≡ L.owner log.old }
+    ensures writes { L.writes log.new author.now.problem.now (B.Seat.shows seat.new).seen account.now }
     ensures fits { B.fits book.now seat.new }
     ensures went { Went (B.Seat.shows seat.old) (B.Seat.shows seat.new) }
-    ensures all { result ≡ true → (t : ℕ) → has refuted.now t ≡ true → IsRowOf author.now.owner (length (B.Seat.shows seat.old).seen) (B.Seat.shows seat.new).seen (above.now ++ (p, t) ∷ []) }
-    ensures full { result ≡ false → length (B.Seat.shows seat.new).seen ≡ (B.Seat.shows seat.new).size }
+    ensures all { IfOk result (λ whole. whole ≡ true → (t : ℕ) → has refuted.now t ≡ true → IsRowOf author.now.owner (length (B.Seat.shows seat.old).seen) (B.Seat.shows seat.new).seen (above.now ++ (p, t) ∷ [])) }
+    ensures full { IfOk result (λ whole. whole ≡ false → length (B.Seat.shows seat.new).seen ≡ (B.Seat.shows seat.new).size) }
 {
     let _few = author.problem.target().size();
     let _rows = seat.rows();
     let mut t = next_member(refuted, 0);
     while t < 64 * refuted.len() {
-        if !publish_nogood(book, seat, author, parent, above, (p, t as u16)) {
-            return false;
+        log.room()?;
+        let pair = (p, t as u16);
+        if !publish_nogood(book, seat, author, account, level, log, parent, above, pair) {
+            return Ok(false);
         }
         t = next_member(refuted, t + 1);
     }
-    true
+    Ok(true)
 }
 
 /// Publishes the guess of level `at`, where the path has one, and makes it the parent of what follows. False where the book is full.
@@ -147,6 +181,7 @@ fn publish_guess<B: Book>(
     requires range { InRange (size author.now.problem.now.pattern) (size author.now.problem.now.target) path.now }
     ensures fits { B.fits book.now seat.new }
     ensures went { Went (B.Seat.shows seat.old) (B.Seat.shows seat.new) }
+    ensures beside { GrowsBeside author.now.owner (B.Seat.shows seat.old).seen (B.Seat.shows seat.new).seen }
     ensures next { result ≡ true → Reaches (B.Seat.shows seat.new).seen parent.new (take (at + 1) path.now) }
     ensures full { result ≡ false → length (B.Seat.shows seat.new).seen ≡ (B.Seat.shows seat.new).size }
 {
@@ -166,20 +201,25 @@ fn publish_guess<B: Book>(
 /// Publishes what the position of the account has refuted: for each level in order, a nogood for each value refuted there, rising, and
 /// then the level's guess. False where the book is full, which ends it. Cost: a row of the book for each of these, and the words of the
 /// levels' rows.
-pub(crate) fn publish_position<B: Book>(
+pub(crate) fn publish_position<B: Book, L: ProofLogger>(
     book: &B,
     seat: &mut B::Seat,
     author: &Author,
     account: &Account,
-) -> bool
+    log: &mut L,
+) -> Result<bool, AllocError>
     requires fits { B.fits book.now seat.old }
     requires seat { IsSeatFor author.now.problem.now author.now.owner (B.Seat.shows seat.old) }
     requires narrow { author.now.owner < 128 }
     requires honest { Honest author.now.problem.now account.now }
+    requires owner { L.owner log.old ≡ author.now.owner }
+    requires writes { L.writes log.old author.now.problem.now (B.Seat.shows seat.old).seen account.now }
+    ensures owner { L.owner log.new ≡ L.owner log.old }
+    ensures writes { L.writes log.new author.now.problem.now (B.Seat.shows seat.new).seen account.now }
     ensures fits { B.fits book.now seat.new }
     ensures went { Went (B.Seat.shows seat.old) (B.Seat.shows seat.new) }
-    ensures all { result ≡ true → IsPublished account.now author.now.owner (length (B.Seat.shows seat.old).seen) (B.Seat.shows seat.new).seen }
-    ensures full { result ≡ false → length (B.Seat.shows seat.new).seen ≡ (B.Seat.shows seat.new).size }
+    ensures all { IfOk result (λ whole. whole ≡ true → IsPublished account.now author.now.owner (length (B.Seat.shows seat.old).seen) (B.Seat.shows seat.new).seen) }
+    ensures full { IfOk result (λ whole. whole ≡ false → length (B.Seat.shows seat.new).seen ≡ (B.Seat.shows seat.new).size) }
 {
     let _vertex = account.vertex();
     let _rows = seat.rows();
@@ -188,15 +228,20 @@ pub(crate) fn publish_position<B: Book>(
     for i in 0..author.problem.pattern().size() {
         let (vertex, refuted) = account.level(i);
         let Some(p) = vertex else {
-            return true;
+            return Ok(true);
         };
         let at = usize::from(i);
-        if !publish_level(book, seat, author, parent, &path[..at], p, refuted) {
-            return false;
+        let above = &path[..at];
+        let whole = publish_level(
+            book, seat, author, account, i, log, parent, above, p, refuted,
+        )?;
+        if !whole {
+            return Ok(false);
         }
+        log.stays();
         if !publish_guess(book, seat, author, &mut parent, path, at) {
-            return false;
+            return Ok(false);
         }
     }
-    true
+    Ok(true)
 }

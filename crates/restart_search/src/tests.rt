@@ -13,7 +13,8 @@ use graph_rows::{Graph, Problem};
 use lad_reader::{LadKind, read_lad};
 use nogood_book::{BookSeat, RowBook, RowSeat};
 use pair_rows::PairKinds;
-use propagation::Filters;
+use proof_logger::Unlogged;
+use propagation::{Filters, Silent};
 use std::alloc::{AllocError, Global};
 use std::test::Fail;
 use worker_gate::{AnswerCell, OpenGate};
@@ -81,7 +82,7 @@ fn worker_over<'a>(
     domains: Domains<WordTrail>,
     budget: u64,
     rows: u32,
-) -> Result<(RowBook, Worker<'a, BookSeat, WordTrail, ()>), AllocError>
+) -> Result<(RowBook, Worker<'a, BookSeat, WordTrail, Unlogged>), AllocError>
     requires problem { kinds.now.problem ≡ q.now }
     requires is_of { IsOf q.now domains }
     requires rest { AtRest q.now [] domains }
@@ -92,14 +93,14 @@ fn worker_over<'a>(
     ensures stage { IfOk result (λ w. w.1.stage ≡ Stage.Fresh) }
 {
     let filters = Filters::new(alloc, q, kinds, WORDS)?;
-    let equipment = Equipment::new(alloc, q, domains, filters, 1, 1, budget)?;
+    let equipment = Equipment::new(alloc, q, domains, Silent, filters, 1, 1, budget)?;
     let (book, mut first) = RowBook::new(alloc, q, rows)?;
     let seat = book.split(alloc, &mut first, 1)?;
-    Ok((book, Worker::new(equipment, seat, ())))
+    Ok((book, Worker::new(equipment, seat, Unlogged::new(1))))
 }
 
 /// How a run ended.
-fn end_of(q: &Problem, outcome: Outcome, worker: Worker<BookSeat, WordTrail, ()>) -> End {
+fn end_of(q: &Problem, outcome: Outcome, worker: Worker<BookSeat, WordTrail, Unlogged>) -> End {
     match outcome {
         Outcome::Found(map) => {
             if q.is_embedding(&map) {
@@ -110,7 +111,7 @@ fn end_of(q: &Problem, outcome: Outcome, worker: Worker<BookSeat, WordTrail, ()>
         }
         Outcome::Refuted => End::None,
         Outcome::Spent => {
-            let (account, seat, _keeper) = worker.into_parts();
+            let (account, seat, _log) = worker.into_parts();
             End::Spent(account.fails(), !seat.rows().is_empty())
         }
         Outcome::Stopped(_) => End::Stopped,
@@ -130,10 +131,10 @@ fn search<'a>(
     requires budget { budget < 2 ^ 63 }
     requires rows { rows ≤ 4194304 }
 {
-    match root::<WordTrail>(alloc, q, kinds, WORDS) {
-        Rooted::Failed => End::None,
+    match root::<WordTrail, Silent>(alloc, q, kinds, WORDS, Silent) {
+        Rooted::Failed(_, _) => End::None,
         Rooted::NoMemory => End::Other,
-        Rooted::Quiet(domains) => match worker_over(alloc, q, kinds, domains, budget, rows) {
+        Rooted::Quiet(domains, _) => match worker_over(alloc, q, kinds, domains, budget, rows) {
             Err(_) => End::Other,
             Ok((book, mut worker)) => {
                 let outcome = worker.run(alloc, &book, None, &OpenGate);
@@ -232,7 +233,7 @@ fn two_workers<'a>(
 ) -> Result<Option<((End, End), (End, End))>, AllocError>
     requires { kinds.now.problem ≡ q.now }
 {
-    let Rooted::Quiet(domains) = root::<WordTrail>(alloc, q, kinds, WORDS) else {
+    let Rooted::Quiet(domains, _) = root::<WordTrail, Silent>(alloc, q, kinds, WORDS, Silent) else {
         return Ok(None);
     };
     let cell = AnswerCell::new(alloc);

@@ -10,6 +10,7 @@ ghost use Rattle.search_theory.specs.Claims.{Quiet};
 ghost use Rattle.propagation.specs.Learning.{unlearned};
 ghost use Rattle.propagation.specs.Propagation.{IsOf, LeavesPast};
 ghost use Rattle.restart_search.specs.Sharing.{IsSeatFor};
+ghost use Rattle.restart_search.specs.Logging.{IsTold, IsLogged, IfRefuted};
 ghost use Rattle.restart_search.specs.Searching.{AtRest, AtStage, Begun, Ends, IsNotStopped, IsPaused, IsTrueFor, Leaves, NotBegun, stage_after};
 
 use crate::outcome::{Outcome, Stage, stage_of};
@@ -20,7 +21,8 @@ use domain_bits::{Domains, Trail};
 use fail_account::Account;
 use graph_rows::Problem;
 use nogood_book::{Book, RowSeat};
-use propagation::Filters;
+use proof_logger::ProofLogger;
+use propagation::{Filters, Recorder};
 use sparse_set::SparseSet;
 use std::alloc::{AllocError, Global};
 use std::marker::Model;
@@ -28,7 +30,7 @@ use worker_gate::{Answer, AnswerCell, Gate, Point};
 
 /// What a worker searches with, before it has a seat: all of its memory. So a seat is asked for only where a worker will have it.
 #[derive(Drop)]
-pub struct Equipment<'a, T: Trail> {
+pub struct Equipment<'a, T: Trail, R: Recorder> {
     problem: &'a Problem,
     number: u8,
     filters: Filters<'a>,
@@ -39,18 +41,21 @@ pub struct Equipment<'a, T: Trail> {
     waiting: Vec<bool>,
     untried: Vec<u64>,
     choice: ValueChoice,
+    told: R,
     root: Moment,
 }
 
-impl<'a, T: Trail> Model for Equipment<'a, T> {
+impl<'a, T: Trail, R: Recorder> Model for Equipment<'a, T, R> {
     ghost use Rattle.std.specs.Prelude.{◌≡◌, vec_capacity};
+    ghost use Rattle.search_theory.specs.Account.{path};
     ghost use Rattle.restart_search.specs.Searching.{Outfit, Equipped, NotBegun};
+    ghost use Rattle.restart_search.specs.Logging.{IsTold};
 
     ghost Value = { Outfit };
 
     ghost view = { λ e. record { problem = e.problem.now; number = e.number; domains = e.domains; account = e.account } };
 
-    ghost invariant = { λ e. Equipped e.problem.now e.number e.filters e.waiting.items e.untried.items e.choice (vec_capacity e.marks) × NotBegun e.problem.now e.filters.nogoods e.domains e.undecided e.account e.marks.items e.root };
+    ghost invariant = { λ e. Equipped e.problem.now e.number e.filters e.waiting.items e.untried.items e.choice (vec_capacity e.marks) × NotBegun e.problem.now e.filters.nogoods e.domains e.undecided e.account e.marks.items e.root × IsTold e.problem.now e.filters.nogoods e.domains (path e.account) e.marks.items (R.changes e.told) };
 }
 
 /// The set of the vertices that have more than one value in domains at rest. Cost: one step for each vertex.
@@ -73,20 +78,22 @@ fn undecided_of<T: Trail>(
     Ok(undecided)
 }
 
-impl<'a, T: Trail> Equipment<'a, T> {
-    /// The equipment of the worker of this number. It reserves a mark for each pattern vertex; the worker's choices of values are those
+impl<'a, T: Trail, R: Recorder> Equipment<'a, T, R> {
+    /// The equipment of the worker of this number, with what was told of the domains. It reserves a mark for each pattern vertex; the worker's choices of values are those
     /// of its own stream, which begins at the seed.
     pub fn new(
         alloc: Global,
         q: &'a Problem,
         domains: Domains<T>,
+        told: R,
         filters: Filters<'a>,
         number: u8,
         seed: u64,
         budget: u64,
-    ) -> Result<Equipment<'a, T>, AllocError>
+    ) -> Result<Equipment<'a, T, R>, AllocError>
         requires is_of { IsOf q.now domains }
         requires rest { AtRest q.now [] domains }
+        requires told { IsTold q.now None domains [] [] (R.changes told) }
         requires filters { filters ≡ unlearned q.now }
         requires some { 1 ≤ number }
         requires few { number ≤ 64 }
@@ -115,18 +122,19 @@ impl<'a, T: Trail> Equipment<'a, T> {
             waiting,
             untried,
             choice,
+            told,
             root,
         })
     }
 }
 
-/// One search, with where it stands, its seat at the book, and what keeps its lines.
+/// One search, with where it stands, its seat at the book, and who is told of it.
 #[derive(Drop)]
-pub struct Worker<'a, S: RowSeat + Drop, T: Trail, K: Drop> {
+pub struct Worker<'a, S: RowSeat + Drop, T: Trail, L: ProofLogger> {
     problem: &'a Problem,
     number: u8,
     seat: S,
-    keeper: K,
+    log: L,
     filters: Filters<'a>,
     domains: Domains<T>,
     undecided: SparseSet,
@@ -135,31 +143,36 @@ pub struct Worker<'a, S: RowSeat + Drop, T: Trail, K: Drop> {
     waiting: Vec<bool>,
     untried: Vec<u64>,
     choice: ValueChoice,
+    told: L::Told,
     root: Moment,
     stage: Stage,
 }
 
-impl<'a, S: RowSeat + Drop, T: Trail, K: Drop> Model for Worker<'a, S, T, K> {
+impl<'a, S: RowSeat + Drop, T: Trail, L: ProofLogger> Model for Worker<'a, S, T, L> {
     ghost use Rattle.std.specs.Prelude.{vec_capacity};
     ghost use Rattle.restart_search.specs.Searching.{Search, Equipped, AtStage};
+    ghost use Rattle.std.specs.Prelude.{◌≡◌};
     ghost use Rattle.restart_search.specs.Sharing.{IsSeatFor};
+    ghost use Rattle.restart_search.specs.Logging.{IsLogged, LoggedAt};
 
-    ghost Value = { Search S K };
+    ghost Value = { Search S L };
 
-    ghost view = { λ w. record { problem = w.problem.now; number = w.number; seat = w.seat; facts = S.shows w.seat; keeper = w.keeper; domains = w.domains; account = w.account; stage = w.stage } };
+    ghost view = { λ w. record { problem = w.problem.now; number = w.number; seat = w.seat; facts = S.shows w.seat; log = w.log; domains = w.domains; account = w.account; stage = w.stage } };
 
-    ghost invariant = { λ w. Equipped w.problem.now w.number w.filters w.waiting.items w.untried.items w.choice (vec_capacity w.marks) × IsSeatFor w.problem.now w.number (S.shows w.seat) × AtStage w.stage w.problem.now w.filters.nogoods w.domains w.undecided w.account w.marks.items w.root (S.shows w.seat) };
+    ghost invariant = { λ w. Equipped w.problem.now w.number w.filters w.waiting.items w.untried.items w.choice (vec_capacity w.marks) × IsSeatFor w.problem.now w.number (S.shows w.seat) × AtStage w.stage w.problem.now w.filters.nogoods w.domains w.undecided w.account w.marks.items w.root (S.shows w.seat) × (L.owner w.log ≡ w.number) × LoggedAt w.stage (IsLogged w.problem.now (S.shows w.seat).seen w.filters.nogoods w.domains w.account w.marks.items (L.Told.changes w.told) (L.writes w.log)) (L.steps w.log w.problem.now (S.shows w.seat).seen) };
 }
 
-impl<'a, S: RowSeat + Drop, T: Trail, K: Drop> Worker<'a, S, T, K> {
+impl<'a, S: RowSeat + Drop, T: Trail, L: ProofLogger> Worker<'a, S, T, L> {
     /// A worker that has not begun, at this seat of its own. It takes no memory.
-    pub fn new(equipment: Equipment<'a, T>, seat: S, keeper: K) -> Worker<'a, S, T, K>
-        requires { IsSeatFor equipment.problem equipment.number (S.shows seat) }
+    pub fn new(equipment: Equipment<'a, T, L::Told>, seat: S, log: L) -> Worker<'a, S, T, L>
+        requires seat { IsSeatFor equipment.problem equipment.number (S.shows seat) }
+        requires owner { L.owner log ≡ equipment.number }
+        requires writes { L.writes log equipment.problem (S.shows seat).seen equipment.account }
         ensures problem { result.problem ≡ equipment.entry.problem }
         ensures number { result.number ≡ equipment.entry.number }
         ensures seat { result.seat ≡ seat }
         ensures facts { result.facts ≡ S.shows seat }
-        ensures keeper { result.keeper ≡ keeper }
+        ensures log { result.log ≡ log }
         ensures account { result.account ≡ equipment.entry.account }
         ensures stage { result.stage ≡ Stage.Fresh }
     {
@@ -174,13 +187,14 @@ impl<'a, S: RowSeat + Drop, T: Trail, K: Drop> Worker<'a, S, T, K> {
             waiting,
             untried,
             choice,
+            told,
             root,
         } = equipment;
         Worker {
             problem,
             number,
             seat,
-            keeper,
+            log,
             filters,
             domains,
             undecided,
@@ -189,6 +203,7 @@ impl<'a, S: RowSeat + Drop, T: Trail, K: Drop> Worker<'a, S, T, K> {
             waiting,
             untried,
             choice,
+            told,
             root,
             stage: Stage::Fresh,
         }
@@ -219,7 +234,10 @@ impl<'a, S: RowSeat + Drop, T: Trail, K: Drop> Worker<'a, S, T, K> {
         ensures alone { cell.entry ≡ None → IsNotStopped result }
         ensures problem { self.new.problem ≡ self.old.problem }
         ensures number { self.new.number ≡ self.old.number }
-        ensures keeper { self.new.keeper ≡ self.old.keeper }
+        ensures owner { L.owner self.new.log ≡ L.owner self.old.log }
+        ensures steps { L.steps self.new.log self.new.problem self.new.facts.seen }
+        ensures writes { Leaves result (L.writes self.new.log self.new.problem self.new.facts.seen self.new.account) }
+        ensures refutes { IfRefuted result (L.refutes self.new.log self.new.problem self.new.facts.seen) }
         ensures budget { self.new.account.budget ≡ self.old.account.budget }
         ensures stage { self.new.stage ≡ stage_after result }
         ensures paused { Leaves result (IsPaused self.new) }
@@ -245,6 +263,8 @@ impl<'a, S: RowSeat + Drop, T: Trail, K: Drop> Worker<'a, S, T, K> {
             &mut self.waiting,
             &mut self.untried,
             &mut self.choice,
+            &mut self.told,
+            &mut self.log,
             &mut self.root,
         );
         self.stage = stage_of(&outcome);
@@ -252,17 +272,17 @@ impl<'a, S: RowSeat + Drop, T: Trail, K: Drop> Worker<'a, S, T, K> {
         outcome
     }
 
-    /// The account, which tells where the search stands and how often it failed, the seat, and the keeper.
-    pub fn into_parts(self) -> (Account, S, K)
+    /// The account, which tells where the search stands and how often it failed, the seat, and the log.
+    pub fn into_parts(self) -> (Account, S, L)
         ensures account { result.0 ≡ self.entry.account }
         ensures seat { result.1 ≡ self.entry.seat }
-        ensures keeper { result.2 ≡ self.entry.keeper }
+        ensures log { result.2 ≡ self.entry.log }
     {
         let Worker {
             problem: _,
             number: _,
             seat,
-            keeper,
+            log,
             filters: _,
             domains: _,
             undecided: _,
@@ -271,15 +291,16 @@ impl<'a, S: RowSeat + Drop, T: Trail, K: Drop> Worker<'a, S, T, K> {
             waiting: _,
             untried: _,
             choice: _,
+            told: _,
             root: _,
             stage: _,
         } = self;
-        (account, seat, keeper)
+        (account, seat, log)
     }
 }
 
 /// Takes up what the book has, as at a restart, and searches from the root.
-fn run_fresh<'a, T: Trail, B: Book, G: Gate>(
+fn run_fresh<'a, T: Trail, B: Book, L: ProofLogger, G: Gate>(
     alloc: Global,
     author: &Author,
     book: &B,
@@ -294,6 +315,8 @@ fn run_fresh<'a, T: Trail, B: Book, G: Gate>(
     waiting: &mut [bool],
     untried: &mut [u64],
     choice: &mut ValueChoice,
+    told: &mut L::Told,
+    log: &mut L,
     root: &mut Moment,
 ) -> Outcome<'a>
     requires fits { B.fits book.now seat.old }
@@ -301,6 +324,8 @@ fn run_fresh<'a, T: Trail, B: Book, G: Gate>(
     requires narrow { author.now.owner < 128 }
     requires problem { filters.old.problem ≡ author.now.problem.now }
     requires stands { NotBegun author.now.problem.now filters.old.nogoods d.old undecided.old account.old marks.old.items root.old }
+    requires owner { L.owner log.old ≡ author.now.owner }
+    requires logged { IsLogged author.now.problem.now (B.Seat.shows seat.old).seen filters.old.nogoods d.old account.old marks.old.items (L.Told.changes told.old) (L.writes log.old) }
     requires long { length waiting.old ≡ size author.now.problem.now.pattern }
     requires words { length untried.old ≡ words_for (size author.now.problem.now.target) }
     requires choice { choice.old ≡ size author.now.problem.now.target }
@@ -311,6 +336,10 @@ fn run_fresh<'a, T: Trail, B: Book, G: Gate>(
     ensures alone { cell.entry ≡ None → IsNotStopped result }
     ensures budget { account.new.budget ≡ account.old.budget }
     ensures begun { Leaves result (Begun author.now.problem.now filters.new.nogoods d.new undecided.new account.new marks.new.items root.new (B.Seat.shows seat.new)) }
+    ensures owner { L.owner log.new ≡ L.owner log.old }
+    ensures logged { Leaves result (IsLogged author.now.problem.now (B.Seat.shows seat.new).seen filters.new.nogoods d.new account.new marks.new.items (L.Told.changes told.new) (L.writes log.new)) }
+    ensures steps { L.steps log.new author.now.problem.now (B.Seat.shows seat.new).seen }
+    ensures refutes { IfRefuted result (L.refutes log.new author.now.problem.now (B.Seat.shows seat.new).seen) }
     ensures problem { filters.new.problem ≡ author.now.problem.now }
     ensures long { length waiting.new ≡ size author.now.problem.now.pattern }
     ensures words { length untried.new ≡ words_for (size author.now.problem.now.target) }
@@ -329,19 +358,21 @@ fn run_fresh<'a, T: Trail, B: Book, G: Gate>(
         account,
         marks,
         waiting,
+        told,
+        log,
         root,
     ) {
         Err(_) => Outcome::NoMemory,
         Ok(false) => Outcome::Refuted,
         Ok(true) => run(
             alloc, author, book, seat, cell, gate, filters, d, undecided, account, marks, waiting,
-            untried, choice, root,
+            untried, choice, told, log, root,
         ),
     }
 }
 
 /// Searches from where the worker stands: one that has not begun takes up what the book has, as at a restart.
-fn run_from<'a, T: Trail, B: Book, G: Gate>(
+fn run_from<'a, T: Trail, B: Book, L: ProofLogger, G: Gate>(
     stage: Stage,
     alloc: Global,
     author: &Author,
@@ -357,6 +388,8 @@ fn run_from<'a, T: Trail, B: Book, G: Gate>(
     waiting: &mut [bool],
     untried: &mut [u64],
     choice: &mut ValueChoice,
+    told: &mut L::Told,
+    log: &mut L,
     root: &mut Moment,
 ) -> Outcome<'a>
     requires fits { B.fits book.now seat.old }
@@ -365,6 +398,8 @@ fn run_from<'a, T: Trail, B: Book, G: Gate>(
     requires narrow { author.now.owner < 128 }
     requires problem { filters.old.problem ≡ author.now.problem.now }
     requires stands { AtStage stage author.now.problem.now filters.old.nogoods d.old undecided.old account.old marks.old.items root.old (B.Seat.shows seat.old) }
+    requires owner { L.owner log.old ≡ author.now.owner }
+    requires logged { IsLogged author.now.problem.now (B.Seat.shows seat.old).seen filters.old.nogoods d.old account.old marks.old.items (L.Told.changes told.old) (L.writes log.old) }
     requires long { length waiting.old ≡ size author.now.problem.now.pattern }
     requires words { length untried.old ≡ words_for (size author.now.problem.now.target) }
     requires choice { choice.old ≡ size author.now.problem.now.target }
@@ -375,6 +410,10 @@ fn run_from<'a, T: Trail, B: Book, G: Gate>(
     ensures alone { cell.entry ≡ None → IsNotStopped result }
     ensures budget { account.new.budget ≡ account.old.budget }
     ensures begun { Leaves result (Begun author.now.problem.now filters.new.nogoods d.new undecided.new account.new marks.new.items root.new (B.Seat.shows seat.new)) }
+    ensures owner { L.owner log.new ≡ L.owner log.old }
+    ensures logged { Leaves result (IsLogged author.now.problem.now (B.Seat.shows seat.new).seen filters.new.nogoods d.new account.new marks.new.items (L.Told.changes told.new) (L.writes log.new)) }
+    ensures steps { L.steps log.new author.now.problem.now (B.Seat.shows seat.new).seen }
+    ensures refutes { IfRefuted result (L.refutes log.new author.now.problem.now (B.Seat.shows seat.new).seen) }
     ensures problem { filters.new.problem ≡ author.now.problem.now }
     ensures long { length waiting.new ≡ size author.now.problem.now.pattern }
     ensures words { length untried.new ≡ words_for (size author.now.problem.now.target) }
@@ -385,11 +424,11 @@ fn run_from<'a, T: Trail, B: Book, G: Gate>(
         Stage::Over => unreachable!(),
         Stage::Halfway => run(
             alloc, author, book, seat, cell, gate, filters, d, undecided, account, marks, waiting,
-            untried, choice, root,
+            untried, choice, told, log, root,
         ),
         Stage::Fresh => run_fresh(
             alloc, author, book, seat, cell, gate, filters, d, undecided, account, marks, waiting,
-            untried, choice, root,
+            untried, choice, told, log, root,
         ),
     }
 }

@@ -4,6 +4,7 @@ use Rattle.propagation.proofs.Forcing.{unused_on, shrinks_taken, none_taken, emp
 use Rattle.propagation.proofs.Reasons.{forbidden_on}
 use Rattle.propagation.proofs.Acting.{out_more}
 use Rattle.propagation.proofs.Waiting.{shrinks_more}
+use Rattle.propagation.proofs.Guesses.{guesses_more}
 use Rattle.propagation.proofs.nogoods.take_out.Goals as goal
 
 pub take_forced-requires-clause-r_in : goal.take_forced-requires-clause-r_in
@@ -40,6 +41,7 @@ loop-k-preserved g c =
       out = out_more c.loop-k.d _ c.args.pairs.now c.loop-k.k taken.narrows.less c.if-not-take_forced.ensures.keeps c.loop-k.invariant.out;
       told = λ s forbidden t. c.if-not-take_forced.ensures.told c.args.rows.now.problem s unused.vertex_in
           (forbidden_on s c.args.d.now c.loop-k.d _ _ _ c.loop-k.invariant.shrinks.narrows.less (forbidden c.loop-k.k c.loop-k-test.true)) (c.loop-k.invariant.told s forbidden t);
+      guesses = guesses_more _ _ _ c.loop-k.invariant.guesses c.if-not-take_forced.ensures.guesses;
     }
 
 pub returns-then-not-take_forced-clause-none : goal.returns-then-not-take_forced-clause-none
@@ -55,3 +57,6 @@ returns-then-not-take_forced-clause-told g c s forbidden t =
 
 pub returns-clause-out : goal.returns-clause-out
 returns-clause-out g c j j_in = c.loop-k.invariant.out j (omega (arith, j_in, c.loop-k-test.false))
+
+pub returns-then-not-take_forced-clause-guesses : goal.returns-then-not-take_forced-clause-guesses
+returns-then-not-take_forced-clause-guesses g c = guesses_more _ _ _ c.loop-k.invariant.guesses c.if-not-take_forced.ensures.guesses

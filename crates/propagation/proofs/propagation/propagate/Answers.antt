@@ -13,6 +13,7 @@ use Rattle.propagation.specs.Recording.{Change}
 use Rattle.propagation.specs.Telling.{Tells}
 use Rattle.std.proofs.lemmas.Result.{err_from_is_err_and}
 use Rattle.propagation.proofs.Telling.{tells_of}
+use Rattle.propagation.proofs.Guesses.{guesses_more}
 use Rattle.propagation.proofs.propagation.propagate.Goals as goal
 
 -- what taking up tells, of the problem that is held
@@ -50,6 +51,7 @@ loop-d-preserved g c =
           (λ s are force. wait_pruned _ c.take_up.new.d c.prune_noting.new.d c.prune_noting.new.waiting s pruned.0.less pruned.3 are force) c.in_ok-take_up.ensures.in_force;
       moved = moved_more _ c.loop-d.d _ _ c.take_up.new.nogoods c.loop-d.invariant.narrows.less c.loop-d.invariant.moved c.in_ok-take_up.ensures.moved;
       told = λ t. c.in_ok-have_left.ensures.told c.take_up.new.nogoods (told_on _ _ _ _ _ _ _ _ c.loop-d.invariant.problem c.in_ok-take_up.ensures.told (c.loop-d.invariant.told t));
+      guesses = guesses_more _ _ _ c.loop-d.invariant.guesses (guesses_more _ _ _ c.in_ok-take_up.ensures.guesses c.in_ok-have_left.ensures.guesses);
     }
 
 pub returns-in_err-take_up-clause-told : goal.returns-in_err-take_up-clause-told
@@ -83,3 +85,14 @@ pub returns-in_err-have_left-clause-fails : goal.returns-in_err-have_left-clause
 returns-in_err-have_left-clause-fails g c =
     let p = err_from_is_err_and c.from_residual-in_err-have_left.result c.from_residual-in_err-have_left.ensures.1 in
     rw (p.1, p.2) (c.in_err-have_left.ensures.fails c.take_up.new.nogoods)
+
+pub returns-in_err-take_up-clause-guesses : goal.returns-in_err-take_up-clause-guesses
+returns-in_err-take_up-clause-guesses g c = guesses_more _ _ _ c.loop-d.invariant.guesses c.in_err-take_up.ensures.guesses
+
+pub returns-in_err-have_left-clause-guesses : goal.returns-in_err-have_left-clause-guesses
+returns-in_err-have_left-clause-guesses g c =
+    guesses_more _ _ _ c.loop-d.invariant.guesses (guesses_more _ _ _ c.in_ok-take_up.ensures.guesses c.in_err-have_left.ensures.guesses)
+
+pub returns-then-not-have_left-clause-guesses : goal.returns-then-not-have_left-clause-guesses
+returns-then-not-have_left-clause-guesses g c =
+    guesses_more _ _ _ c.loop-d.invariant.guesses (guesses_more _ _ _ c.in_ok-take_up.ensures.guesses c.in_ok-have_left.ensures.guesses)

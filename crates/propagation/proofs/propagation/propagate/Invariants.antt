@@ -2,6 +2,7 @@ use Rattle.std.proofs.Common.{◌≡◌, ◌*◌, ◌-◌, length, IfSome}
 use Rattle.propagation.specs.Learning.{AreKept}
 use Rattle.propagation.specs.Acting.{HaveMoved, WatchesWait}
 use Rattle.propagation.specs.Propagation.{IsFor, Narrows, Ready, LeavesPast, Fewer}
+use Rattle.propagation.specs.Recording.{NoNewGuess}
 use Rattle.propagation.specs.Telling.{Tells}
 use Rattle.propagation.proofs.propagation.propagate.Given as goal
 
@@ -17,6 +18,7 @@ invariant-loop-d g l = record {
   wait : IfSome l.filters-inside.nogoods (WatchesWait l.d l.waiting);
   moved : HaveMoved l.fn.d l.fn.filters.nogoods l.filters-inside.nogoods;
   told : Tells l.q l.fn.filters.nogoods l.fn.d (g.R.Recorder.changes l.fn.told) → Tells l.q l.filters-inside.nogoods l.d (g.R.Recorder.changes l.told);
+  guesses : NoNewGuess (g.R.Recorder.changes l.fn.told) (g.R.Recorder.changes l.told);
 }
 
 abbrev pub decreases-loop-d : goal.decreases-loop-d

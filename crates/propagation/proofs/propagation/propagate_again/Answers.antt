@@ -6,6 +6,7 @@ use Rattle.propagation.specs.Propagation.{Shrinks}
 use Rattle.propagation.proofs.Acting.{acted_told, moved_none, moved_more, kept_each, wait_on, wait_raised}
 use Rattle.propagation.proofs.Forcing.{ready_on, ready_at_rest, propagated_after}
 use Rattle.propagation.proofs.Telling.{tells_of}
+use Rattle.propagation.proofs.Guesses.{guesses_more}
 use Rattle.propagation.proofs.propagation.propagate_again.Goals as goal
 
 pub propagate-requires-clause-ready : goal.propagate-requires-clause-ready
@@ -47,3 +48,6 @@ pub returns-in_err-take_units-clause-told : goal.returns-in_err-take_units-claus
 returns-in_err-take_units-clause-told g c t =
     tells_of _ c.args.q.now c.args.filters.now.nogoods c.take_units.new.d _ (sym c.requires.problem)
     (c.in_err-take_units.ensures.told (tells_of c.args.q.now _ c.args.filters.now.nogoods c.args.d.now _ c.requires.problem t))
+
+pub returns-clause-guesses : goal.returns-clause-guesses
+returns-clause-guesses g c = guesses_more _ _ _ c.in_ok-take_units.ensures.guesses c.propagate.ensures.guesses

@@ -1,6 +1,7 @@
 use Rattle.propagation.proofs.Waiting.{ready_but_on}
 use Rattle.propagation.proofs.Past.{member_in}
 use Rattle.propagation.proofs.Walking.{walked_start, walked_more, walked_none, walked_all}
+use Rattle.propagation.proofs.Guesses.{guesses_more}
 use Rattle.propagation.proofs.propagation.settle.Goals as goal
 
 pub settle_at-requires-clause-ready : goal.settle_at-requires-clause-ready
@@ -30,10 +31,15 @@ pub loop-k-init : goal.loop-k-init
 loop-k-init g c = record {
   walked = walked_start _ c.args.d.now c.args.waiting.now c.args.p c.args.t c.members-members.result.now c.requires.bounded;
   told = λ s t. t;
+  guesses = λ p t from h. h;
 }
 
 pub loop-k-preserved : goal.loop-k-preserved
 loop-k-preserved g c = record {
   walked = walked_more _ _ _ _ _ _ _ _ _ _ _ c.loop-k.invariant.walked c.if-not-settle_at.ensures.sweeps;
   told = λ s t. c.if-not-settle_at.ensures.told s (c.loop-k.invariant.told s t);
+  guesses = guesses_more _ _ _ c.loop-k.invariant.guesses c.if-not-settle_at.ensures.guesses;
 }
+
+pub returns-then-not-settle_at-clause-guesses : goal.returns-then-not-settle_at-clause-guesses
+returns-then-not-settle_at-clause-guesses g c = guesses_more _ _ _ c.loop-k.invariant.guesses c.if-not-settle_at.ensures.guesses

@@ -10,6 +10,7 @@ use Rattle.propagation.proofs.Narrowing.{narrows_more, none_narrowed}
 use Rattle.propagation.proofs.Waiting.{first_on, quiet_where_none_waits}
 use Rattle.std.proofs.lemmas.Result.{err_from_is_err_and}
 use Rattle.propagation.proofs.Telling.{tells_of}
+use Rattle.propagation.proofs.Guesses.{guesses_more}
 use Rattle.propagation.proofs.propagation.take_up.Goals as goal
 
 pub returns-in_err-visit-clause-taken : goal.returns-in_err-visit-clause-taken
@@ -47,6 +48,7 @@ loop-p-preserved g c =
       moved = moved_more c.args.d.now c.loop-p.d c.args.nogoods.now c.loop-p.nogoods c.visit.new.nogoods c.loop-p.invariant.narrows.less c.loop-p.invariant.moved c.in_ok-visit.ensures.moved;
       told = λ t. tells_of _ c.args.rows.now.problem c.visit.new.nogoods c.visit.new.d _ (sym c.loop-p.invariant.problem)
           (c.in_ok-visit.ensures.told (tells_of c.args.rows.now.problem _ c.loop-p.nogoods c.loop-p.d _ c.loop-p.invariant.problem (c.loop-p.invariant.told t)));
+      guesses = guesses_more _ _ _ c.loop-p.invariant.guesses c.in_ok-visit.ensures.guesses;
     }
 
 pub returns-in_err-visit-clause-told : goal.returns-in_err-visit-clause-told
@@ -56,3 +58,6 @@ returns-in_err-visit-clause-told g c t =
 
 pub returns-clause-told : goal.returns-clause-told
 returns-clause-told g c t = c.loop-p.invariant.told t
+
+pub returns-in_err-visit-clause-guesses : goal.returns-in_err-visit-clause-guesses
+returns-in_err-visit-clause-guesses g c = guesses_more _ _ _ c.loop-p.invariant.guesses c.in_err-visit.ensures.guesses

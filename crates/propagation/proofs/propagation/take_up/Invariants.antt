@@ -2,6 +2,7 @@ use Rattle.std.proofs.Common.{◌≡◌, IfSome}
 use Rattle.propagation.specs.Learning.{AreKept}
 use Rattle.propagation.specs.Acting.{HaveMoved, WatchesWait}
 use Rattle.propagation.specs.Propagation.{Narrows, Ready, LeavesPast, Fewer, work}
+use Rattle.propagation.specs.Recording.{NoNewGuess}
 use Rattle.propagation.specs.Telling.{Tells}
 use Rattle.propagation.proofs.propagation.take_up.Given as goal
 
@@ -16,6 +17,7 @@ invariant-loop-p g l = record {
   wait : IfSome l.nogoods (WatchesWait l.d l.waiting);
   moved : HaveMoved l.fn.d l.fn.nogoods l.nogoods;
   told : Tells l.fn.rows.problem l.fn.nogoods l.fn.d (g.R.Recorder.changes l.fn.told) → Tells l.fn.rows.problem l.nogoods l.d (g.R.Recorder.changes l.told);
+  guesses : NoNewGuess (g.R.Recorder.changes l.fn.told) (g.R.Recorder.changes l.told);
 }
 
 abbrev pub decreases-loop-p : goal.decreases-loop-p

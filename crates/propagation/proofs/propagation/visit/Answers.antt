@@ -13,6 +13,7 @@ use Rattle.nogood_watch.specs.Nogoods as watched
 use Rattle.propagation.specs.Recording.{Change}
 use Rattle.propagation.specs.Telling.{Tells, TellsOn}
 use Rattle.propagation.proofs.Telling.{tells_of, tells_on_of}
+use Rattle.propagation.proofs.Guesses.{guesses_more}
 use Rattle.propagation.proofs.propagation.visit.Goals as goal
 
 pub returns-then-size-eq0-clause-visited : goal.returns-then-size-eq0-clause-visited
@@ -100,3 +101,9 @@ returns-in_err-force-in-Some-clause-told g c t =
 pub returns-in_ok-force-in-Some-clause-told : goal.returns-in_ok-force-in-Some-clause-told
 returns-in_ok-force-in-Some-clause-told g c t =
     told_then _ _ c.args.nogoods.now c.force.new.nogoods c.args.d.now c.settle.new.d c.force.new.d _ _ _ c.make.ensures.problem c.in_ok-settle-in-Some.ensures.told c.in_ok-force-in-Some.ensures.told t
+
+pub returns-in_err-force-in-Some-clause-guesses : goal.returns-in_err-force-in-Some-clause-guesses
+returns-in_err-force-in-Some-clause-guesses g c = guesses_more _ _ _ c.in_ok-settle-in-Some.ensures.guesses c.in_err-force-in-Some.ensures.guesses
+
+pub returns-in_ok-force-in-Some-clause-guesses : goal.returns-in_ok-force-in-Some-clause-guesses
+returns-in_ok-force-in-Some-clause-guesses g c = guesses_more _ _ _ c.in_ok-settle-in-Some.ensures.guesses c.in_ok-force-in-Some.ensures.guesses

@@ -5,6 +5,7 @@ use Rattle.all_different.specs.declared.Pruned.TheVariants as pruned
 use Rattle.all_different.specs.Pruning.{Prunes}
 use Rattle.propagation.proofs.Telling.{told_more}
 use Rattle.propagation.proofs.Reasons.{leaves_counted, short_shown}
+use Rattle.propagation.proofs.Guesses.{guesses_took, guesses_kept}
 use Rattle.propagation.proofs.removal.prune.Goals as goal
 use Rattle.std.specs.Prelude.{◌≡◌}
 
@@ -25,3 +26,9 @@ returns-in-Fail-clause-fails g c s =
     short_shown c.args.q.now c.args.d.now c.prune_undecided.new.d c.set-in-Fail.result.now c.values-in-Fail.result.now _ _ _ c.requires.is_of
     (given_out pruned.Fail c.args.d.now c.prune_undecided.new.d _ _ _ _ c.set-in-Fail.ensures c.values-in-Fail.ensures.union c.in-Fail.ensures.prunes)
     c.found_short.ensures.kept (ap length (c.set-in-Fail-2.ensures ∙ sym c.set-in-Fail.ensures))
+
+pub returns-in-Hall-clause-guesses : goal.returns-in-Hall-clause-guesses
+returns-in-Hall-clause-guesses g c = guesses_took _ _ _ (λ is. is) c.counted.ensures
+
+pub returns-in-Fail-clause-guesses : goal.returns-in-Fail-clause-guesses
+returns-in-Fail-clause-guesses g c = guesses_kept _ _ c.found_short.ensures.same

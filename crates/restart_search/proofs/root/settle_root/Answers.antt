@@ -1,16 +1,31 @@
-use Rattle.std.proofs.Common.{IfSome, subst, sym}
+use Rattle.std.proofs.Common.{IfSome, Option, None, ap, subst, sym}
 use Rattle.propagation.specs.Learning.{Filtering}
 use Rattle.propagation.specs.Acting.{WatchesWait}
 use Rattle.restart_search.proofs.Moments.{still_unlearned}
-use Rattle.restart_search.proofs.Beginning.{roots_of}
+use Rattle.restart_search.proofs.Beginning.{roots_of, begun_ready}
+use Rattle.nogood_watch.specs.Nogoods as watched
+use Rattle.propagation.specs.Telling.{Tells}
 use Rattle.restart_search.proofs.root.settle_root.Goals as goal
 
-pub returns-then-begin-clause-roots : goal.returns-then-begin-clause-roots
-returns-then-begin-clause-roots g c = roots_of _ _ _ _ _ _ c.requires.is_full c.if-begin.ensures c.propagate.ensures.propagated
+pub returns-clause-roots : goal.returns-clause-roots
+returns-clause-roots g c = roots_of _ _ _ _ _ _ c.requires.is_full c.in_ok-begin.ensures.begins c.propagate.ensures.propagated
 
 pub propagate-requires-clause-wait : goal.propagate-requires-clause-wait
 propagate-requires-clause-wait g c = subst (λ (f : Filtering). IfSome f.nogoods (WatchesWait c.begin.new.d c.begin.new.waiting)) (sym c.requires.filters) tt
 
-pub returns-then-begin-clause-filters : goal.returns-then-begin-clause-filters
-returns-then-begin-clause-filters g c =
+pub returns-clause-filters : goal.returns-clause-filters
+returns-clause-filters g c =
     still_unlearned c.begin.new.d c.args.filters.now c.propagate.new.filters c.args.q.now c.requires.filters c.propagate.ensures.problem c.propagate.ensures.moved
+
+pub propagate-requires-clause-ready : goal.propagate-requires-clause-ready
+propagate-requires-clause-ready g c = begun_ready _ _ _ _ c.in_ok-begin.ensures.begins
+
+pub returns-in_err-begin-clause-told : goal.returns-in_err-begin-clause-told
+returns-in_err-begin-clause-told g c t = c.in_err-begin.ensures.told None t
+
+pub returns-clause-told : goal.returns-clause-told
+returns-clause-told g c t =
+    let still = still_unlearned c.begin.new.d c.args.filters.now c.propagate.new.filters c.args.q.now c.requires.filters c.propagate.ensures.problem c.propagate.ensures.moved in
+    subst (λ (n : Option watched.State). Tells c.args.q.now n c.propagate.new.d (g.R.Recorder.changes c.propagate.new.told)) (ap (λ (f : Filtering). f.nogoods) still)
+    (c.propagate.ensures.told
+    (subst (λ (n : Option watched.State). Tells c.args.q.now n c.begin.new.d (g.R.Recorder.changes c.begin.new.told)) (sym (ap (λ (f : Filtering). f.nogoods) c.requires.filters)) (c.in_ok-begin.ensures.told None t)))

@@ -8,32 +8,34 @@ use Rattle.restart_search.specs.declared.search.Moment.{Moment}
 use Rattle.restart_search.specs.Searching.{TookUp}
 use Rattle.restart_search.proofs.KeepingUp.{keeps_again}
 use Rattle.restart_search.proofs.Restarting.{began_again, take_all_seen}
+use Rattle.restart_search.proofs.Publishing.{seat_went}
+use Rattle.restart_search.specs.Logging.{LogsOn}
 use Rattle.restart_search.proofs.search.begin_again.Goals as goal
 
 pub take_up_book-requires-clause-seat : goal.take_up_book-requires-clause-seat
-take_up_book-requires-clause-seat g c = c.publish_position.ensures.went.grew.problem ∙ c.requires.seat.problem
+take_up_book-requires-clause-seat g c = c.publish_position-published.ensures.went.grew.problem ∙ c.requires.seat.problem
 
 pub take_up_book-requires-clause-begun : goal.take_up_book-requires-clause-begun
 take_up_book-requires-clause-begun g c =
-    omega (arith, starts_length _ _ c.publish_position.ensures.went.grew.seen, ap length c.rows-taken.ensures.seen)
+    omega (arith, starts_length _ _ c.publish_position-published.ensures.went.grew.seen, ap length c.rows-taken.ensures.seen)
 
 pub take_up_book-requires-clause-holds : goal.take_up_book-requires-clause-holds
 take_up_book-requires-clause-holds g c =
     subst (λ (rows : List Row). HoldsRows rows c.args.filters.now.nogoods)
-    (sym (take_all_seen (g.B.Seat.RowSeat.shows c.publish_position.new.seat).seen (g.B.Seat.RowSeat.shows c.args.seat.now).seen (length c.rows-taken.result.now) c.publish_position.ensures.went.grew.seen (ap length c.rows-taken.ensures.seen)))
+    (sym (take_all_seen (g.B.Seat.RowSeat.shows c.publish_position-published.new.seat).seen (g.B.Seat.RowSeat.shows c.args.seat.now).seen (length c.rows-taken.result.now) c.publish_position-published.ensures.went.grew.seen (ap length c.rows-taken.ensures.seen)))
     c.requires.begun.holds
 
 pub returns-clause-seat : goal.returns-clause-seat
 returns-clause-seat g c = record {
-  problem = c.take_up_book.ensures.caught.grew.problem ∙ c.publish_position.ensures.went.grew.problem ∙ c.requires.seat.problem;
-  owner_is = c.take_up_book.ensures.caught.grew.owner ∙ c.publish_position.ensures.went.grew.owner ∙ c.requires.seat.owner_is;
+  problem = c.take_up_book.ensures.caught.grew.problem ∙ c.publish_position-published.ensures.went.grew.problem ∙ c.requires.seat.problem;
+  owner_is = c.take_up_book.ensures.caught.grew.owner ∙ c.publish_position-published.ensures.went.grew.owner ∙ c.requires.seat.owner_is;
 }
 
 pub returns-clause-begun : goal.returns-clause-begun
 returns-clause-begun g c =
-    let keeps = keeps_again c.args.author.now.problem.now c.args.author.now.owner (g.B.Seat.RowSeat.shows c.args.seat.now) (g.B.Seat.RowSeat.shows c.publish_position.new.seat) (g.B.Seat.RowSeat.shows c.take_up_book.new.seat)
-    c.args.account.now c.publish_position.result c.requires.seat c.requires.begun.sound.based.honest c.requires.due c.requires.begun.keeps c.publish_position.ensures.went c.publish_position.ensures.all
-    c.publish_position.ensures.full c.take_up_book.ensures.caught in
+    let keeps = keeps_again c.args.author.now.problem.now c.args.author.now.owner (g.B.Seat.RowSeat.shows c.args.seat.now) (g.B.Seat.RowSeat.shows c.publish_position-published.new.seat) (g.B.Seat.RowSeat.shows c.take_up_book.new.seat)
+    c.args.account.now c.in_ok-_whole._whole c.requires.seat c.requires.begun.sound.based.honest c.requires.due c.requires.begun.keeps c.publish_position-published.ensures.went c.in_ok-_whole.ensures.all
+    c.in_ok-_whole.ensures.full c.take_up_book.ensures.caught in
     began_again c.take_up_book.result c.args.author.now.problem.now c.take_up_book.new.filters.nogoods c.take_up_book.new.d c.take_up_book.new.undecided c.restart.new.account c.restart.new.marks.items c.take_up_book.new.root
     (g.B.Seat.RowSeat.shows c.take_up_book.new.seat)
     (subst (λ (ks : List Moment). IfOk c.take_up_book.result (λ some. TookUp some c.args.author.now.problem.now c.take_up_book.new.filters.nogoods c.take_up_book.new.d c.take_up_book.new.undecided c.restart.new.account ks c.take_up_book.new.root (g.B.Seat.RowSeat.shows c.take_up_book.new.seat).seen))
@@ -42,3 +44,29 @@ returns-clause-begun g c =
 
 pub returns-clause-budget : goal.returns-clause-budget
 returns-clause-budget g c = ap (λ (a : Account). a.budget) c.restart.ensures.restarted
+
+pub take_up_book-requires-clause-owner : goal.take_up_book-requires-clause-owner
+take_up_book-requires-clause-owner g c =
+    c.restart-2.ensures.owner ∙ (c.publish_position-published.ensures.owner ∙ (c.requires.owner ∙ sym (c.publish_position-published.ensures.went.grew.owner ∙ c.requires.seat.owner_is)))
+
+pub take_up_book-requires-clause-logged : goal.take_up_book-requires-clause-logged
+take_up_book-requires-clause-logged g c = record {
+  told = rw (c.deref.ensures.value) (c.restart.ensures.told c.args.filters.now.nogoods c.requires.logged.told);
+  writes = rw (c.restart.ensures.restarted)
+      (c.restart-2.ensures.restarted c.args.author.now.problem.now (g.B.Seat.RowSeat.shows c.publish_position-published.new.seat).seen c.args.account.now c.publish_position-published.ensures.writes);
+}
+
+pub returns-in_err-_whole-clause-steps : goal.returns-in_err-_whole-clause-steps
+returns-in_err-_whole-clause-steps g c = c.stays.ensures.steps _ _ _ c.publish_position-published.ensures.writes
+
+pub returns-in_err-_whole-clause-seat : goal.returns-in_err-_whole-clause-seat
+returns-in_err-_whole-clause-seat g c = seat_went _ _ _ _ c.publish_position-published.ensures.went c.requires.seat
+
+pub returns-clause-logged : goal.returns-clause-logged
+returns-clause-logged g c =
+    subst (λ (ks : List Moment). IfOk c.take_up_book.result (λ some. LogsOn some c.args.author.now.problem.now (g.B.Seat.RowSeat.shows c.take_up_book.new.seat).seen c.take_up_book.new.filters.nogoods c.take_up_book.new.d
+    c.restart.new.account ks (g.L.Told.Recorder.changes c.take_up_book.new.told) (g.L.ProofLogger.writes c.take_up_book.new.log) (g.L.ProofLogger.refutes c.take_up_book.new.log)))
+    c.deref.ensures.value c.take_up_book.ensures.logged
+
+pub returns-clause-owner : goal.returns-clause-owner
+returns-clause-owner g c = c.take_up_book.ensures.owner ∙ (c.restart-2.ensures.owner ∙ c.publish_position-published.ensures.owner)

@@ -2,6 +2,7 @@ use Rattle.std.proofs.Common.{subst}
 use Rattle.search_theory.specs.Account.{Account, Honest}
 use Rattle.restart_search.proofs.Closing.{sound_restarted}
 use Rattle.restart_search.proofs.Restarting.{at_root_restarted}
+use Rattle.restart_search.proofs.Logging.{told_restarted}
 use Rattle.restart_search.proofs.search.restart.Goals as goal
 
 pub undo_to-requires : goal.undo_to-requires
@@ -16,3 +17,7 @@ pub returns-clause-at_root : goal.returns-clause-at_root
 returns-clause-at_root g c =
     rw (c.undo_to.ensures.after, c.undo_to-2.ensures.after, c.restart.ensures.restarted, c.clear.ensures.items)
     (at_root_restarted _ _ _ _ _ _ c.requires.sound (subst (λ (a : Account). Honest c.args.q.now a) c.restart.ensures.restarted c.restart.ensures.honest))
+
+pub returns-clause-told : goal.returns-clause-told
+returns-clause-told g c = λ n t.
+    told_restarted c.args.q.now n c.args.d.now _ c.args.undecided.now c.args.account.now c.args.marks.now.items _ _ c.args.root _ _ c.requires.sound.based c.undo_to.ensures.after c.forget_to.ensures t

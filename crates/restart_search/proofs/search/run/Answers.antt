@@ -1,10 +1,13 @@
-use Rattle.std.proofs.Common.{ℕ, ◌<◌, length, sym, ap, ◌∙◌, refl, subst, arith}
+use Rattle.std.proofs.Common.{List, ℕ, ◌<◌, length, sym, ap, ◌∙◌, refl, subst, arith}
 use Rattle.std.proofs.lemmas.Bool.{eqb-true}
 use Rattle.restart_search.specs.Sharing.{KeepsUp}
 use Rattle.propagation.proofs.Holding.{holds_same}
 use Rattle.restart_search.proofs.Closing.{dead_where_all_refuted, none_where_dead, may_guess, spends_where_due}
 use Rattle.restart_search.proofs.Steps.{none_left, enough_for}
-use Rattle.restart_search.proofs.Restarting.{found_ends, found_alone, leaves_of}
+use Rattle.restart_search.proofs.Restarting.{found_ends, found_alone, found_refutes, empty_of, leaves_of}
+use Rattle.nogood_book.specs.declared.row.Row.{Row}
+use Rattle.restart_search.specs.Logging.{IsLogged}
+use Rattle.restart_search.proofs.Logging.{ends_path}
 use Rattle.restart_search.proofs.search.run.Goals as goal
 
 pub returns-in_default-clause-ends : goal.returns-in_default-clause-ends
@@ -23,8 +26,8 @@ returns-then-is_empty-clause-ends g c =
     (none_left c.loop-p.d c.loop-p.account.refuted c.fill_untried.new.row c.in-Some.p c.fill_untried.ensures.all (c.if-not-has_value.ensures.none refl)))
     (ap length (sym c.path.ensures.is) ∙ eqb-true (length c.path.result.now) 0 (sym (c.if-is_empty.ensures)))
 
-pub close-requires-clause-dead : goal.close-requires-clause-dead
-close-requires-clause-dead g c =
+pub take_back-requires-clause-dead : goal.take_back-requires-clause-dead
+take_back-requires-clause-dead g c =
     dead_where_all_refuted _ c.loop-p.d c.loop-p.undecided c.loop-p.account _ _ c.in-Some.p c.loop-p.invariant.begun.sound c.in-Some.ensures.some.0 c.in-Some.ensures.some.2
     (none_left c.loop-p.d c.loop-p.account.refuted c.fill_untried.new.row c.in-Some.p c.fill_untried.ensures.all (c.if-not-has_value.ensures.none refl))
 
@@ -56,6 +59,8 @@ loop-p-init g c = record {
   begun = c.requires.begun;
   budget = refl;
   choice = c.requires.choice;
+  owner = c.requires.owner;
+  logged = c.requires.logged;
   room = c.requires.room;
 }
 
@@ -67,15 +72,20 @@ loop-p-preserved-then-not-has_value g c =
       seat = c.loop-p.invariant.seat;
       problem = c.loop-p.invariant.problem;
       begun = record {
-        sound = c.close.ensures.sound;
-        acting = c.close.ensures.acting c.loop-p.filters.nogoods begun.acting.past;
+        sound = c.take_back.ensures.sound;
+        acting = c.take_back.ensures.acting c.loop-p.filters.nogoods begun.acting.past;
         rows = begun.rows;
         holds = begun.holds;
-        keeps = subst (λ (n : ℕ). KeepsUp (g.B.Seat.RowSeat.shows c.loop-p.seat) n) (sym c.close.ensures.run) begun.keeps;
+        keeps = subst (λ (n : ℕ). KeepsUp (g.B.Seat.RowSeat.shows c.loop-p.seat) n) (sym c.take_back.ensures.run) begun.keeps;
       };
-      budget = c.close.ensures.budget ∙ c.loop-p.invariant.budget;
+      budget = c.take_back.ensures.budget ∙ c.loop-p.invariant.budget;
       choice = c.loop-p.invariant.choice;
-      room = omega (arith, c.loop-p.invariant.room, c.close.ensures.room);
+      owner = c.in-Ok.ensures.owner ∙ c.loop-p.invariant.owner;
+      logged = record {
+        told = c.take_back.ensures.told c.loop-p.filters.nogoods c.loop-p.invariant.logged.told;
+        writes = subst (λ (rows : List Row). g.L.ProofLogger.writes c.close.new.self c.args.author.now.problem.now rows c.take_back.new.account) c.rows-rows.ensures.seen (c.in-Ok.ensures.closed.failed _ c.take_back.ensures.failed);
+      };
+      room = omega (arith, c.loop-p.invariant.room, c.take_back.ensures.room);
     }
 
 pub loop-p-preserved : goal.loop-p-preserved
@@ -86,13 +96,49 @@ loop-p-preserved g c =
       seat = c.loop-p.invariant.seat;
       problem = c.guess.ensures.problem;
       begun = record {
-        sound = c.guess.ensures.sound;
-        acting = c.guess.ensures.acting;
+        sound = c.in-Ok-guess.ensures.sound;
+        acting = c.in-Ok-guess.ensures.acting;
         rows = begun.rows;
         holds = holds_same (g.B.Seat.RowSeat.shows c.loop-p.seat).seen c.loop-p.filters.nogoods c.guess.new.filters.nogoods c.guess.ensures.kept begun.holds;
         keeps = subst (λ (n : ℕ). KeepsUp (g.B.Seat.RowSeat.shows c.loop-p.seat) n) (sym c.guess.ensures.run) begun.keeps;
       };
       budget = c.guess.ensures.budget ∙ c.loop-p.invariant.budget;
       choice = c.choose-t.ensures.same ∙ c.loop-p.invariant.choice;
+      owner = c.guess.ensures.owner ∙ c.loop-p.invariant.owner;
+      logged = subst (λ (rows : List Row). IsLogged c.args.author.now.problem.now rows c.guess.new.filters.nogoods c.guess.new.d c.guess.new.account c.guess.new.marks.items
+          (g.L.Told.Recorder.changes c.guess.new.told) (g.L.ProofLogger.writes c.guess.new.log)) c.rows.ensures.seen c.in-Ok-guess.ensures.logged;
       room = omega (arith, c.loop-p.invariant.room, c.guess.ensures.room);
     }
+
+pub returns-in_default-clause-logged : goal.returns-in_default-clause-logged
+returns-in_default-clause-logged g c = leaves_of c.found.result _ c.loop-p.invariant.logged
+
+pub returns-in_default-clause-refutes : goal.returns-in_default-clause-refutes
+returns-in_default-clause-refutes g c = found_refutes c.found.result _ _ c.found.ensures
+
+pub returns-in_default-clause-steps : goal.returns-in_default-clause-steps
+returns-in_default-clause-steps g c = c.stays.ensures.steps _ _ _ c.loop-p.invariant.logged.writes
+
+pub close-requires-clause-ends : goal.close-requires-clause-ends
+close-requires-clause-ends g c =
+    ends_path _ c.rows-rows.result.now c.loop-p.filters.nogoods c.loop-p.d _ _ _ _ _ c.loop-p.invariant.begun.sound.based.is_of (rw c.rows-rows.ensures.seen c.loop-p.invariant.begun.holds) c.loop-p.invariant.logged.told
+    (record {
+      vertex_in = c.in-Some.ensures.some.0;
+      level = c.in-Some.ensures.some.2;
+      none = none_left c.loop-p.d c.loop-p.account.refuted c.fill_untried.new.row c.in-Some.p c.fill_untried.ensures.all (c.if-not-has_value.ensures.none refl);
+    })
+
+pub close-requires-clause-writes : goal.close-requires-clause-writes
+close-requires-clause-writes g c = rw c.rows-rows.ensures.seen c.loop-p.invariant.logged.writes
+
+pub close-requires-clause-sound : goal.close-requires-clause-sound
+close-requires-clause-sound g c = rw c.rows-rows.ensures.seen c.loop-p.invariant.begun.rows
+
+pub guess-requires-clause-rows : goal.guess-requires-clause-rows
+guess-requires-clause-rows g c = rw c.rows.ensures.seen c.loop-p.invariant.begun.rows
+
+pub guess-requires-clause-holds : goal.guess-requires-clause-holds
+guess-requires-clause-holds g c = rw c.rows.ensures.seen c.loop-p.invariant.begun.holds
+
+pub guess-requires-clause-logged : goal.guess-requires-clause-logged
+guess-requires-clause-logged g c = rw c.rows.ensures.seen c.loop-p.invariant.logged

@@ -2,6 +2,7 @@ use Rattle.std.proofs.Common.{◌≡◌, ◌≤◌, vec_capacity}
 use Rattle.graph_theory.specs.Graph.{size}
 use Rattle.search_theory.specs.Remaining.{remaining}
 use Rattle.restart_search.specs.Sharing.{IsSeatFor}
+use Rattle.restart_search.specs.Logging.{IsLogged}
 use Rattle.restart_search.specs.Searching.{Begun}
 use Rattle.restart_search.proofs.search.run.Given as goal
 
@@ -13,6 +14,8 @@ invariant-loop-p g l = record {
   begun : Begun l.author.problem.now l.filters.nogoods l.d l.undecided l.account l.marks.items l.root (g.B.Seat.RowSeat.shows l.seat);
   budget : l.account.budget ≡ l.fn.account.budget;
   choice : l.choice ≡ size l.author.problem.now.target;
+  owner : g.L.ProofLogger.owner l.log ≡ l.author.owner;
+  logged : IsLogged l.author.problem.now (g.B.Seat.RowSeat.shows l.seat).seen l.filters.nogoods l.d l.account l.marks.items (g.L.Told.Recorder.changes l.told) (g.L.ProofLogger.writes l.log);
   room : size l.author.problem.now.pattern ≤ vec_capacity l.marks;
 }
 

@@ -1,7 +1,9 @@
-use Rattle.std.proofs.Common.{length, refl, arith}
+use Rattle.std.proofs.Common.{length, refl, arith, ◌∙◌}
+use Rattle.domain_bits.specs.BitRows.{has}
 use Rattle.nogood_book.proofs.Reaching.{reaches_more}
 use Rattle.restart_search.specs.Sharing.{IsRowOf}
 use Rattle.restart_search.proofs.Publishing.{went_more, row_on, row_later, level_more}
+use Rattle.restart_search.proofs.Noting.{passes_member}
 use Rattle.restart_search.proofs.sharing.publish_level.Goals as goal
 
 pub publish_nogood-requires-clause-parent : goal.publish_nogood-requires-clause-parent
@@ -23,4 +25,20 @@ loop-t-preserved g c =
           c.next_member-t-in-loop-t.ensures.none;
       within = c.next_member-t-in-loop-t.ensures.high;
       member = c.next_member-t-in-loop-t.ensures.member;
+      owner = c.publish_nogood.ensures.owner ∙ (c.in_ok-room.ensures.owner ∙ c.loop-t.invariant.owner);
+      writes = c.publish_nogood.ensures.writes;
     }
+
+pub publish_nogood-requires-clause-refuted : goal.publish_nogood-requires-clause-refuted
+publish_nogood-requires-clause-refuted g c =
+    let here = c.loop-t.invariant.member c.loop-t-test.true in
+    passes_member (has c.args.refuted.now) c.args.account.now.target c.loop-t.t _ c.requires.row (omega (arith, (c.requires.refuted c.loop-t.t here).0, c.requires.target)) here
+
+pub publish_nogood-requires-clause-writes : goal.publish_nogood-requires-clause-writes
+publish_nogood-requires-clause-writes g c = c.in_ok-room.ensures.writes _ _ _ c.loop-t.invariant.writes
+
+pub publish_nogood-requires-clause-owner : goal.publish_nogood-requires-clause-owner
+publish_nogood-requires-clause-owner g c = c.in_ok-room.ensures.owner ∙ (c.loop-t.invariant.owner ∙ c.requires.owner)
+
+pub returns-in_err-room-clause-writes : goal.returns-in_err-room-clause-writes
+returns-in_err-room-clause-writes g c = c.in_err-room.ensures.writes _ _ _ c.loop-t.invariant.writes

@@ -11,6 +11,8 @@ invariant-loop-t g l = record {
       → IsRowOf l.author.owner (length (g.B.Seat.RowSeat.shows l.fn.seat).seen) (g.B.Seat.RowSeat.shows l.seat).seen (l.above ++ (l.p, u) ∷ []);
   within : l.t ≤ 64 * length l.refuted;
   member : l.t < 64 * length l.refuted → has l.refuted l.t ≡ true;
+  owner : g.L.ProofLogger.owner l.log ≡ g.L.ProofLogger.owner l.fn.log;
+  writes : g.L.ProofLogger.writes l.log l.author.problem.now (g.B.Seat.RowSeat.shows l.seat).seen l.account;
 }
 
 abbrev pub decreases-loop-t : goal.decreases-loop-t

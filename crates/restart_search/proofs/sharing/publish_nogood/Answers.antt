@@ -1,6 +1,7 @@
-use Rattle.std.proofs.Common.{◌≤◌, refl, sym, subst}
+use Rattle.std.proofs.Common.{◌≤◌, refl, sym, subst, ◌∙◌}
 use Rattle.graph_theory.specs.Graph.{Graph, size}
 use Rattle.restart_search.proofs.Publishing.{may_publish, went_at, went_full, full_after, row_published}
+use Rattle.restart_search.proofs.Noting.{beside_full, publishes_at}
 use Rattle.restart_search.proofs.sharing.publish_nogood.Goals as goal
 
 pub publish-requires-clause-owner : goal.publish-requires-clause-owner
@@ -23,3 +24,14 @@ returns-in-At-clause-row g c = λ yes. row_published _ _ c.args.author.now.owner
 
 pub returns-in-Full-clause-full : goal.returns-in-Full-clause-full
 returns-in-Full-clause-full g c = λ no. full_after _ _ c.in-Full.ensures.placed
+
+pub returns-in-At-clause-writes : goal.returns-in-At-clause-writes
+returns-in-At-clause-writes g c =
+    c.note.ensures.noted c.args.author.now.problem.now (g.B.Seat.RowSeat.shows c.args.seat.now).seen (g.B.Seat.RowSeat.shows c.publish.new.seat).seen c.requires.writes
+    (publishes_at c.args.account.now _ _ (g.L.ProofLogger.owner c.args.log.now) c.args.level _ _ c.args.above.now (c.requires.seat.owner_is ∙ sym c.requires.owner) refl (sym c.requires.owner)
+    c.in-At.ensures.placed c.requires.parent c.requires.above c.requires.level c.requires.refuted)
+
+pub returns-in-Full-clause-writes : goal.returns-in-Full-clause-writes
+returns-in-Full-clause-writes g c =
+    c.stays.ensures.grown c.args.author.now.problem.now (g.B.Seat.RowSeat.shows c.args.seat.now).seen (g.B.Seat.RowSeat.shows c.publish.new.seat).seen c.args.account.now
+    (beside_full (g.L.ProofLogger.owner c.args.log.now) _ _ (c.requires.seat.owner_is ∙ sym c.requires.owner) c.in-Full.ensures.placed) c.requires.writes

@@ -8,6 +8,7 @@ use Rattle.nogood_book.proofs.Reaching.{reaches_more}
 use Rattle.restart_search.specs.Sharing.{IsRowOf}
 use Rattle.restart_search.proofs.Positions.{level_is, refuted_dead}
 use Rattle.restart_search.proofs.Publishing.{went_more, row_on, row_later, published_on, published_more, published_ended, published_all}
+use Rattle.proof_logger.specs.Logging.{GrowsBeside}
 use Rattle.restart_search.proofs.sharing.publish_position.Goals as goal
 
 pub returns-in_default-clause-all : goal.returns-in_default-clause-all
@@ -15,8 +16,8 @@ returns-in_default-clause-all g c = λ yes.
     published_ended c.args.account.now c.args.author.now.owner (length (g.B.Seat.RowSeat.shows c.args.seat.now).seen) (g.B.Seat.RowSeat.shows c.loop-i.seat).seen c.loop-i.i c.loop-i.invariant.published
     (sym c.level-vertex.ensures.vertex ∙ c.in_default.is)
 
-pub slice_bounds-publish_level-end : goal.slice_bounds-publish_level-end
-slice_bounds-publish_level-end g c =
+pub slice_bounds-above-end : goal.slice_bounds-above-end
+slice_bounds-above-end g c =
     let level = level_is c.args.author.now.problem.now c.args.account.now c.loop-i.i c.in-Some.p c.requires.honest c.path-path.ensures.vertices c.path-path.ensures.in_range
     (subst (λ (v : Option ℕ). IfSome v (λ r. (r < c.args.account.now.pattern) × NotOn (path c.args.account.now) r)) c.vertex-vertex.ensures.is c.vertex-vertex.ensures.off_path)
     (sym c.level-vertex.ensures.vertex ∙ c.in-Some.is) in
@@ -67,13 +68,17 @@ loop-i-preserved g c =
     (published_on c.args.account.now (IsRowOf o (length first.seen) mid.seen) K c.loop-i.i
     (λ xs. row_on o (length first.seen) (length first.seen) mid.seen next.seen xs c.publish_level.ensures.went.grew.seen (omega arith)) c.loop-i.invariant.published)
     (sym c.level-vertex.ensures.vertex ∙ c.in-Some.is) c.level-vertex.ensures.refuted above
-    (λ t here. row_later o first mid next _ c.loop-i.invariant.went (c.if-not-publish_level.ensures.all refl t here)) in
+    (λ t here. row_later o first mid next _ c.loop-i.invariant.went (c.in_ok-whole.ensures.all c.if-not-whole.false t here)) in
     record {
       fits = c.publish_guess.ensures.fits;
       went = went_more first next last to_next c.publish_guess.ensures.went;
       parent = rw (sym c.from-at.ensures) (c.if-not-publish_guess.ensures.next refl);
       published = published_on c.args.account.now K (IsRowOf o (length first.seen) last.seen) (c.loop-i.i + 1)
           (λ xs. row_on o (length first.seen) (length first.seen) next.seen last.seen xs c.publish_guess.ensures.went.grew.seen (omega arith)) level;
+      owner = c.publish_level.ensures.owner ∙ c.loop-i.invariant.owner;
+      writes = c.stays.ensures.grown c.args.author.now.problem.now next.seen last.seen c.args.account.now
+          (subst (λ (n : ℕ). GrowsBeside n next.seen last.seen) (sym (c.publish_level.ensures.owner ∙ (c.loop-i.invariant.owner ∙ c.requires.owner))) c.publish_guess.ensures.beside)
+          c.publish_level.ensures.writes;
     }
 
 pub returns-clause-all : goal.returns-clause-all
@@ -84,3 +89,20 @@ returns-clause-all g c = λ yes.
     c.requires.honest c.path-path.ensures.vertices c.path-path.ensures.in_range
     (subst (λ (v : Option ℕ). IfSome v (λ r. (r < c.args.account.now.pattern) × NotOn (path c.args.account.now) r)) c.vertex-vertex.ensures.is c.vertex-vertex.ensures.off_path)
     c.loop-i.invariant.published
+
+pub publish_level-requires-clause-level : goal.publish_level-requires-clause-level
+publish_level-requires-clause-level g c = sym c.level-vertex.ensures.vertex ∙ c.in-Some.is
+
+pub publish_level-requires-clause-above : goal.publish_level-requires-clause-above
+publish_level-requires-clause-above g c = rw (c.from-at.ensures, c.path-path.ensures.is) refl
+
+pub publish_level-requires-clause-owner : goal.publish_level-requires-clause-owner
+publish_level-requires-clause-owner g c = c.loop-i.invariant.owner ∙ c.requires.owner
+
+pub returns-then-not-publish_guess-clause-writes : goal.returns-then-not-publish_guess-clause-writes
+returns-then-not-publish_guess-clause-writes g c =
+    let next = g.B.Seat.RowSeat.shows c.publish_level.new.seat in
+    let last = g.B.Seat.RowSeat.shows c.publish_guess.new.seat in
+    c.stays.ensures.grown c.args.author.now.problem.now next.seen last.seen c.args.account.now
+    (subst (λ (n : ℕ). GrowsBeside n next.seen last.seen) (sym (c.publish_level.ensures.owner ∙ (c.loop-i.invariant.owner ∙ c.requires.owner))) c.publish_guess.ensures.beside)
+    c.publish_level.ensures.writes

@@ -2,6 +2,7 @@ use Rattle.std.proofs.Common.{◌≤◌, refl, sym, subst, arith}
 use Rattle.graph_theory.specs.Graph.{Graph, size}
 use Rattle.nogood_book.proofs.Reaching.{reaches_next}
 use Rattle.restart_search.proofs.Publishing.{may_publish, went_at, went_full, full_after}
+use Rattle.restart_search.proofs.Noting.{beside_full, beside_step}
 use Rattle.restart_search.proofs.sharing.publish_step.Goals as goal
 
 pub publish-requires-clause-owner : goal.publish-requires-clause-owner
@@ -26,3 +27,9 @@ returns-in-At-clause-next g c =
 
 pub returns-in-Full-clause-full : goal.returns-in-Full-clause-full
 returns-in-Full-clause-full g c = full_after _ _ c.in-Full.ensures.placed
+
+pub returns-in-At-clause-beside : goal.returns-in-At-clause-beside
+returns-in-At-clause-beside g c = beside_step _ _ c.args.author.now.owner _ _ c.requires.seat.owner_is refl c.in-At.ensures.placed
+
+pub returns-in-Full-clause-beside : goal.returns-in-Full-clause-beside
+returns-in-Full-clause-beside g c = beside_full c.args.author.now.owner _ _ c.requires.seat.owner_is c.in-Full.ensures.placed

@@ -70,3 +70,11 @@ returns-clause-told g c t =
           (forbidden_forced c.args.d.now c.self.inside.watched c.on_assign.new.self (c.args.p, c.args.t) w.forced.result.now before.watches c.on_assign.ensures.watches c.on_assign.ensures.nogoods
           c.on_assign.ensures.forced w.forced.ensures) named)
     ]
+
+pub returns-clause-guesses : goal.returns-clause-guesses
+returns-clause-guesses g c =
+    elim c.match-on_assign.branch [
+      | in-Quiet w ↦ rw (w.told-is) (λ p t from h. h)
+      | in-Fail w ↦ rw (w.told-is) (λ p t from h. h)
+      | in-Forced w ↦ rw (w.told-is) w.take_out.ensures.guesses
+    ]

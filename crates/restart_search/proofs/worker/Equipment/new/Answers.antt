@@ -4,6 +4,7 @@ use Rattle.graph_theory.specs.Graph.{size}
 use Rattle.domain_bits.specs.BitRows.{words_for}
 use Rattle.search_theory.specs.Account.{Account, path}
 use Rattle.propagation.specs.Learning.{Filtering}
+use Rattle.restart_search.proofs.Logging.{told_fresh}
 use Rattle.restart_search.proofs.worker.Equipment.new.Goals as goal
 
 pub invariant_of-result : goal.invariant_of-result
@@ -30,4 +31,5 @@ invariant_of-result g c = (
     none = ap (λ (f : Filtering). f.nogoods) c.requires.filters;
     first = ap (λ (a : Account). a.run) c.in_ok-account.ensures.fresh;
   },
+  told_fresh c.args.q.now _ c.args.domains _ _ _ (ap (λ (f : Filtering). f.nogoods) c.requires.filters) c.requires.told,
 )

@@ -5,7 +5,8 @@ use Rattle.restart_search.specs.Searching.{Based}
 use Rattle.restart_search.specs.Acting.{WereActedOn}
 use Rattle.restart_search.proofs.Moments.{acting_closed}
 use Rattle.restart_search.proofs.Closing.{sound_closed, some_mark}
-use Rattle.restart_search.proofs.search.close.Goals as goal
+use Rattle.restart_search.proofs.Logging.{told_closed}
+use Rattle.restart_search.proofs.search.take_back.Goals as goal
 
 pub undo_to-requires : goal.undo_to-requires
 undo_to-requires g c = (sound_closed _ _ _ _ _ _ _ c.in-Some.moment
@@ -42,3 +43,12 @@ returns-in-None-clause-run g c = ap (λ (a : Account). a.run) c.fail.ensures.fai
 
 pub returns-in-Some-clause-run : goal.returns-in-Some-clause-run
 returns-in-Some-clause-run g c = ap (λ (a : Account). a.run) c.fail.ensures.failed.new_is
+
+pub returns-in-None-clause-told : goal.returns-in-None-clause-told
+returns-in-None-clause-told g c = λ n t.
+    absurd (omega (arith, some_mark _ _ _ _ _ _ c.requires.based c.requires.some, c.in-None.ensures.cases.0, c.args.marks.now.ok.0))
+
+pub returns-in-Some-clause-told : goal.returns-in-Some-clause-told
+returns-in-Some-clause-told g c = λ n t.
+    told_closed c.args.q.now n c.args.d.now _ c.args.undecided.now c.args.account.now _ c.args.marks.now.items _ c.args.root c.in-Some.moment _ _ c.requires.based c.fail.ensures.failed c.in-Some.ensures.items
+    c.undo_to.ensures.after c.forget_to.ensures t
