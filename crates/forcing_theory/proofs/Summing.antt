@@ -61,21 +61,21 @@ forces_all s f gs v b tf tg said =
 
 -- ---- the operations
 
-size_append : (xs ys : List (ℕ × ℤ)) → size (xs ++ ys) ≡ size xs + size ys
+pub size_append : (xs ys : List (ℕ × ℤ)) → size (xs ++ ys) ≡ size xs + size ys
 size_append [] ys = omega arith
 size_append (x ∷ xs) ys = let h = size_append xs ys in omega (arith, h)
 
-abs_sum : (x y : ℤ) → unsigned_abs (x +ℤ y) ≤ unsigned_abs x + unsigned_abs y
+pub abs_sum : (x y : ℤ) → unsigned_abs (x +ℤ y) ≤ unsigned_abs x + unsigned_abs y
 abs_sum x y = omega (arith, ints)
 
 -- A sum is no larger than its parts together.
-small_sum : (m n : ℕ) (f g : Form) → IsSmall m f → IsSmall n g → IsSmall (m + n) (sum_of f g)
+pub small_sum : (m n : ℕ) (f g : Form) → IsSmall m f → IsSmall n g → IsSmall (m + n) (sum_of f g)
 small_sum m n f g sf sg = record {
   bound_fits = let l = abs_sum f.bound g.bound in let a = sf.bound_fits in let b = sg.bound_fits in omega (arith, l, a, b);
   sum_fits = let l = size-sorted (f.terms ++ g.terms) in let a = sf.sum_fits in let b = sg.sum_fits in let e = size_append f.terms g.terms in omega (arith, l, e, a, b);
 }
 
-narrow_small : (n : ℕ) (f : Form) → IsSmall n f → n ≤ 2 ^ 125 → narrow f ≡ Ok f
+pub narrow_small : (n : ℕ) (f : Form) → IsSmall n f → n ≤ 2 ^ 125 → narrow f ≡ Ok f
 narrow_small n f small fits =
     let a = small.bound_fits in
     let b = small.sum_fits in

@@ -16,7 +16,7 @@ use Rattle.journal_theory.proofs.Placing.{get_more, get_front, get_snoc, take_fr
 
 -- ---- lines beside a base
 
-finds_on : (a b c : Lookup) → Finds a b → Finds b c → Finds a c
+pub finds_on : (a b c : Lookup) → Finds a b → Finds b c → Finds a c
 finds_on a b c h k = record { alike = λ r f e. k.alike r f (h.alike r f e) }
 
 -- a journal steps over a wider base
@@ -28,7 +28,7 @@ wider_base less more owner lines forms finds j = record {
 }
 
 -- one line more
-journal_more : (base : Lookup) (owner : ℕ) (lines : List Step) (forms : List Form) (s : Step) (f : Form) → IsJournal base owner lines forms → IsMaking s
+pub journal_more : (base : Lookup) (owner : ℕ) (lines : List Step) (forms : List Form) (s : Step) (f : Form) → IsJournal base owner lines forms → IsMaking s
     → ((look : Lookup) → Finds base look → HoldsOwn owner forms look → makes look s ≡ Ok f) → IsJournal base owner (lines ++ s ∷ []) (forms ++ f ∷ [])
 journal_more base owner lines forms s f j making goes = record {
   same = omega (arith, length-append lines (s ∷ []), length-append forms (f ∷ []), j.same);
@@ -54,7 +54,7 @@ within_of : (b : Bool) (c f : Form) → cond b (Some c) None ≡ Some f → (b �
 within_of true c f e = (refl, cc)
 within_of false c f e = absurd cc
 
-base_more : (model root : List Form) (clause other : ℕ → Form) (a b : ℕ) → a ≤ b → ((k : ℕ) → k < a → other k ≡ clause k) → Finds (base_of model root clause a) (base_of model root other b)
+pub base_more : (model root : List Form) (clause other : ℕ → Form) (a b : ℕ) → a ≤ b → ((k : ℕ) → k < a → other k ≡ clause k) → Finds (base_of model root clause a) (base_of model root other b)
 base_more model root clause other a b le same = record { alike = alike }
   where
     alike : (r : Ref) (f : Form) → base_of model root clause a r ≡ Some f → base_of model root other b r ≡ Some f

@@ -1,6 +1,6 @@
-mod Placing
+pub mod Placing
 mod Agreeing
-mod Writing
-mod Growing
+pub mod Writing
+pub mod Growing
 mod Merging
 mod Accepting

@@ -33,12 +33,12 @@ pub lines_are : LinesLaw
 lines_are [] = refl
 lines_are (s ∷ ss) = ap (λ (rest : List ℕ). (step_line s ++ 10 ∷ []) ++ rest) (lines_are ss)
 
-are_lines : (n : ℕ) (steps : List Step) → AreWritten n steps → AreLines (map step_line steps)
+pub are_lines : (n : ℕ) (steps : List Step) → AreWritten n steps → AreLines (map step_line steps)
 are_lines n [] w = tt
 are_lines n (s ∷ ss) w = (no_feed s w.0.is_step, are_lines n ss w.1)
 
 -- A line leads where its step does.
-line_goes : (n : ℕ) (model : List Form) (stage : Stage) (s : Step) → IsWritten n s → line_progress n model stage (step_line s) ≡ progress_of model stage s
+pub line_goes : (n : ℕ) (model : List Form) (stage : Stage) (s : Step) → IsWritten n s → line_progress n model stage (step_line s) ≡ progress_of model stage s
 line_goes n model stage s w =
     ap (λ (o : Option Step). or_fault o Malformed >>= λ x. unless (in_range n (step_variables x)) Malformed >>= λ _. progress_of model stage x) (step_read_back s w.is_step)
     ∙ ap (λ (b : Bool). unless b Malformed >>= λ _. progress_of model stage s) w.variables

@@ -2,13 +2,13 @@
 use Rattle.std.proofs.Common.{◌≡◌, ℕ, suc, ◌+◌, ◌==◌, List, [], ◌∷◌, ◌++◌, length, Option, refl, sym, ap, subst, ◌∙◌, append_assoc, append-nil, length-append, arith}
 use Rattle.std.proofs.lemmas.Bool.{ne_eqb}
 use Rattle.log_theory.specs.declared.step.Step.{Step}
-use Rattle.log_theory.specs.declared.step.Step.TheVariants.{P, U}
+use Rattle.log_theory.specs.declared.step.Step.TheVariants.{Head, Model, P, U, N, E, Y, Q}
 use Rattle.log_theory.specs.Words.{pieces, joined, line_text}
 use Rattle.log_theory.specs.LogText.{IsName, IsStep, step_words}
 use Rattle.log_theory.proofs.Splitting.{Passes, pieces_front, joined_bytes}
 use Rattle.log_theory.proofs.StepReadBack.{words_step, step_read_back}
-use Rattle.journal_theory.specs.Journals.{own_name, named}
-use Rattle.journals.specs.Keeping.{IsLine, text_of, told, steps_told, steps_in, ends_from, AreSteps, IsText}
+use Rattle.journal_theory.specs.Journals.{own_name, named, numbered}
+use Rattle.journals.specs.Keeping.{IsLine, text_of, told, steps_told, steps_in, ends_from, AreSteps, IsText, BearNames}
 
 passes_feed : Passes (λ b. b == 10) 32 126
 passes_feed = record { over = λ b low high. ne_eqb b 10 (λ (e : b ≡ 10). omega (arith, low, e)) }
@@ -38,7 +38,7 @@ ends_snoc at (x ∷ xs) s =
     omega (arith, length-append (text_of xs) (line_text (step_words s)), length-append (line_text (step_words x) ++ text_of xs) (line_text (step_words s)), length-append (line_text (step_words x)) (text_of xs)) in
     ap (λ (es : List ℕ). (at + length (line_text (step_words x))) ∷ es) (rest ∙ ap (λ (e : ℕ). ends_from (at + length (line_text (step_words x))) xs ++ e ∷ []) same)
 
-ends_long : (at : ℕ) (ss : List Step) → length (ends_from at ss) ≡ length ss
+pub ends_long : (at : ℕ) (ss : List Step) → length (ends_from at ss) ≡ length ss
 ends_long at [] = refl
 ends_long at (x ∷ xs) = ap (λ (n : ℕ). suc n) (ends_long (at + length (line_text (step_words x))) xs)
 
@@ -74,3 +74,26 @@ pub named_step : (owner place : ℕ) (s : Step) → IsLine s → IsName (own_nam
 named_step owner place (P name ops) line is = (is, line)
 named_step owner place (U name lits refs) line is = (is, line.0, line.1)
 named_step owner place s line is = absurd line
+
+-- A line under its name stays as it is under that name.
+pub named_again : (owner place : ℕ) (s : Step) → named owner place (named owner place s) ≡ named owner place s
+named_again owner place (P name ops) = refl
+named_again owner place (U name lits refs) = refl
+named_again owner place Head = refl
+named_again owner place (Model m) = refl
+named_again owner place (N row name) = refl
+named_again owner place (E at) = refl
+named_again owner place (Y ones) = refl
+named_again owner place Q = refl
+
+numbered_snoc : (owner place : ℕ) (ss : List Step) (s : Step) → numbered owner place (ss ++ s ∷ []) ≡ numbered owner place ss ++ named owner (place + length ss) s ∷ []
+numbered_snoc owner place [] s = let e : place ≡ place + 0 = omega arith in ap (λ (k : ℕ). named owner k s ∷ []) e
+numbered_snoc owner place (x ∷ xs) s =
+    let e : place + 1 + length xs ≡ place + suc (length xs) = omega arith in
+    ap (λ (ts : List Step). named owner place x ∷ ts) (numbered_snoc owner (place + 1) xs s ∙ ap (λ (k : ℕ). numbered owner (place + 1) xs ++ named owner k s ∷ []) e)
+
+-- A line more under the next name.
+pub names_snoc : (owner : ℕ) (ss : List Step) (s : Step) → BearNames owner ss → named owner (length ss) s ≡ s → BearNames owner (ss ++ s ∷ [])
+names_snoc owner ss s names name =
+    let e : 0 + length ss ≡ length ss = omega arith in
+    numbered_snoc owner 0 ss s ∙ ap (λ (ts : List Step). ts ++ named owner (0 + length ss) s ∷ []) names ∙ ap (λ (x : Step). ss ++ x ∷ []) (ap (λ (k : ℕ). named owner k s) e ∙ name)

@@ -6,7 +6,7 @@ use Rattle.log_theory.specs.declared.step.Step.{Step}
 use Rattle.log_theory.specs.declared.step.Step.TheVariants.{P, U}
 use Rattle.log_theory.specs.Words.{pieces, line_text}
 use Rattle.log_theory.specs.LogText.{step_words, read_line, AreOps, AreLiterals, AreRefs, IsStep}
-use Rattle.journal_theory.specs.Journals.{own_name, named}
+use Rattle.journal_theory.specs.Journals.{own_name, named, numbered}
 
 -- ---- lines
 
@@ -63,6 +63,10 @@ pub record IsText (bytes ends : List ℕ) : Type 0 where
   pub are_steps : AreSteps (steps_in bytes)
   pub bytes_are : bytes ≡ text_of (steps_in bytes)
   pub ends_are : ends ≡ ends_from 0 (steps_in bytes)
+
+-- The lines bear the names of their owner, one after another.
+abbrev pub BearNames : ℕ → List Step → Type 0
+BearNames owner steps = numbered owner 0 steps ≡ steps
 
 -- A journal as its users see it: its owner, its lines in order, the notes, and for how many more there is room.
 pub record Keeping : Type 0 where

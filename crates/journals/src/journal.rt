@@ -1,10 +1,10 @@
 //! The lines of one owner, kept as their text.
 
-ghost use Rattle.std.specs.Prelude.{◌≡◌, ℕ, ◌+◌, ◌<◌, ◌≤◌, [], ◌∷◌, ◌++◌, List, length, Some, Ok, Err, OnOk, OnErr, slice_index};
+ghost use Rattle.std.specs.Prelude.{◌≡◌, ℕ, ◌+◌, ◌^◌, ◌<◌, ◌≤◌, [], ◌∷◌, ◌++◌, List, length, Some, Ok, Err, OnOk, OnErr, slice_index};
 ghost use Rattle.log_theory.specs.LogText.{step_words, IsStep};
 ghost use Rattle.log_theory.specs.Words.{line_text};
 ghost use Rattle.journal_theory.specs.Journals.{named, own_name};
-ghost use Rattle.journals.specs.Keeping.{IsLine, Keeps, Notes, text_of, ends_from, IsText, Keeping};
+ghost use Rattle.journals.specs.Keeping.{IsLine, Keeps, Notes, text_of, ends_from, IsText, Keeping, AreSteps, BearNames};
 
 use crate::buffer::TextBuffer;
 use crate::keeper::Keeper;
@@ -24,13 +24,13 @@ pub struct Journal {
 
 impl Model for Journal {
     ghost use Rattle.std.specs.Prelude.{◌≤◌, ◌-◌, length, vec_capacity};
-    ghost use Rattle.journals.specs.Keeping.{Keeping, IsText, steps_in};
+    ghost use Rattle.journals.specs.Keeping.{Keeping, IsText, steps_in, BearNames};
 
     ghost Value = { Keeping };
 
     ghost view = { λ j. record { owner = j.owner; steps = steps_in j.text.bytes; notes = j.notes.items; spare = vec_capacity j.notes - length j.notes.items } };
 
-    ghost invariant = { λ j. (j.owner ≤ 64) × IsText j.text.bytes j.ends.items };
+    ghost invariant = { λ j. (j.owner ≤ 64) × IsText j.text.bytes j.ends.items × BearNames j.owner (steps_in j.text.bytes) };
 }
 
 impl Journal {
@@ -49,16 +49,20 @@ impl Journal {
         }
     }
 
-    /// The text of all lines, each with its line end.
+    /// The text of all lines, each with its line end. They bear the names of their owner, from its number 1 on, and their numbers are in
+    /// the ranges that a line may write.
     pub fn text(&self) -> &[u8]
-        ensures { result.now ≡ text_of self.now.steps }
+        ensures text { result.now ≡ text_of self.now.steps }
+        ensures names { BearNames self.now.owner self.now.steps }
+        ensures ranges { AreSteps self.now.steps }
     {
         self.text.as_slice()
     }
 
     /// Where in the text each line ends.
     pub fn ends(&self) -> &[usize]
-        ensures { result.now ≡ ends_from 0 self.now.steps }
+        ensures ends { result.now ≡ ends_from 0 self.now.steps }
+        ensures few { length self.now.steps < 2 ^ 63 }
     {
         &self.ends
     }
@@ -70,9 +74,10 @@ impl Journal {
         &self.notes
     }
 
-    /// Appends the line of a step and its end, or leaves all as it was.
+    /// Appends the line of a step under the owner's next name and its end, or leaves all as it was.
     fn append(&mut self, step: &Step) -> Result<(), AllocError>
-        requires { IsStep step.now }
+        requires ranges { IsStep step.now }
+        requires name { named self.old.owner (length self.old.steps) step.now ≡ step.now }
         ensures appended { OnOk result (self.new.steps ≡ self.old.steps ++ step.now ∷ []) }
         ensures refused { OnErr result (self.new.steps ≡ self.old.steps) }
         ensures owner { self.new.owner ≡ self.old.owner }

@@ -1,7 +1,8 @@
 //! What a search gives its lines to.
 
-ghost use Rattle.std.specs.Prelude.{◌≡◌, ℕ, ◌≤◌, List, [], Option, None, OnOk, is_some};
+ghost use Rattle.std.specs.Prelude.{◌≡◌, ℕ, ◌≤◌, List, [], Option, None, OnOk, IfOk, is_some};
 ghost use Rattle.log_theory.specs.declared.step.Step.{Step};
+ghost use Rattle.log_theory.specs.LogText.{IsName};
 ghost use Rattle.journals.specs.Keeping.{IsLine, Keeps, Notes};
 
 use log_theory::{Name, Step};
@@ -31,6 +32,7 @@ pub trait Keeper: Drop {
     fn keep(&mut self, step: Step) -> Result<Name, AllocError>
         requires { IsLine step }
         ensures kept { Keeps result (owner self.old) (kept self.old) (kept self.new) step }
+        ensures name { IfOk result IsName }
         ensures owner { owner self.new ≡ owner self.old }
         ensures notes { notes self.new ≡ notes self.old }
         ensures spare { spare self.new ≡ spare self.old };
@@ -54,11 +56,13 @@ pub trait Keeper: Drop {
 #[derive(Drop)]
 pub struct NoLog {
     owner: u8,
+    ghost few: { owner ≤ 64 },
 }
 
 impl NoLog {
     /// Nothing kept of this owner.
     pub fn new(owner: u8) -> NoLog
+        requires { owner ≤ 64 }
         ensures { result.owner ≡ owner }
     {
         NoLog { owner }
@@ -81,7 +85,7 @@ impl Keeper for NoLog {
     fn keep(&mut self, _step: Step) -> Result<Name, AllocError> {
         Ok(Name {
             owner: self.owner,
-            number: u64::MAX,
+            number: 1,
         })
     }
 

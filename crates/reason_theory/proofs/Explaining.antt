@@ -19,7 +19,7 @@ use Rattle.reason_theory.proofs.Giving.{Leads, Gives, one_gives, then_gives, lea
 use Rattle.reason_theory.proofs.Forcing.{not_both, at_least_forces, at_least_fails, at_most_forces, others_false, out_within, clause_forces, clause_fails, AreSet, set_within, decided_lead}
 use Rattle.reason_theory.proofs.SetCounting.{sum_rises, enough_values, none_outside}
 
-conflict_refutes : (s : Setting) (f : Form) → conflict s f ≡ true → refutes s (f ∷ []) ≡ true
+pub conflict_refutes : (s : Setting) (f : Form) → conflict s f ≡ true → refutes s (f ∷ []) ≡ true
 conflict_refutes s f c = ap (λ (b : Bool). b || false) c
 
 -- A value that left and was all that is refused but one is another.

@@ -41,7 +41,7 @@ sum_over f (x ∷ xs) = f x + sum_over f xs
 abbrev pub one_if : Bool → ℕ
 one_if b = if b then 1 else 0
 
-sum_le : (f g : ℕ → ℕ) (xs : List ℕ) → ((x : ℕ) → is_among x xs ≡ true → f x ≤ g x) → sum_over f xs ≤ sum_over g xs
+pub sum_le : (f g : ℕ → ℕ) (xs : List ℕ) → ((x : ℕ) → is_among x xs ≡ true → f x ≤ g x) → sum_over f xs ≤ sum_over g xs
 sum_le f g [] h = omega arith
 sum_le f g (x ∷ xs) h =
     let here = h x (ap (λ (b : Bool). b || is_among x xs) (eq-eqb x x refl)) in
@@ -79,7 +79,7 @@ sum_add f g [] = refl
 sum_add f g (x ∷ xs) = let h = sum_add f g xs in omega (arith, h)
 
 -- Rows first, or columns first.
-sum_swap : (f : ℕ → ℕ → ℕ) (xs ys : List ℕ) → sum_over (λ x. sum_over (f x) ys) xs ≡ sum_over (λ y. sum_over (λ x. f x y) xs) ys
+pub sum_swap : (f : ℕ → ℕ → ℕ) (xs ys : List ℕ) → sum_over (λ x. sum_over (f x) ys) xs ≡ sum_over (λ y. sum_over (λ x. f x y) xs) ys
 sum_swap f [] ys = sym (sum_zero ys)
 sum_swap f (x ∷ xs) ys =
     let h = sum_swap f xs ys in
@@ -130,7 +130,7 @@ distinct_head true c e = absurd cc
 distinct_head false c e = (refl, e)
 
 -- Along a list without repetitions no more pass than there are.
-distinct_sum : (f : ℕ → Bool) (n : ℕ) (xs : List ℕ) → are_distinct xs ≡ true → ((x : ℕ) → is_among x xs ≡ true → x < n) → sum_over (λ i. one_if (f i)) xs ≤ count f n
+pub distinct_sum : (f : ℕ → Bool) (n : ℕ) (xs : List ℕ) → are_distinct xs ≡ true → ((x : ℕ) → is_among x xs ≡ true → x < n) → sum_over (λ i. one_if (f i)) xs ≤ count f n
 distinct_sum f n [] distinct within = omega arith
 distinct_sum f n (x ∷ xs) distinct within = by (f x) refl (distinct_sum (λ i. f i && not (i == x)) n xs parts.1 later) (distinct_sum f n xs parts.1 later)
   where
@@ -163,7 +163,7 @@ and_both true false e = (refl, refl)
 and_both false c e = absurd cc
 
 -- Where all that pass are in a list, they are no more than pass along it.
-covered_count : (g : ℕ → Bool) (n : ℕ) (ws : List ℕ) → ((u : ℕ) → u < n → g u ≡ true → is_among u ws ≡ true) → count g n ≤ sum_over (λ w. one_if (g w)) ws
+pub covered_count : (g : ℕ → Bool) (n : ℕ) (ws : List ℕ) → ((u : ℕ) → u < n → g u ≡ true → is_among u ws ≡ true) → count g n ≤ sum_over (λ w. one_if (g w)) ws
 covered_count g n [] covered = let z = count_none g n (λ u u_in is. let bad : false ≡ true = covered u u_in is in absurd cc) in omega (arith, z)
 covered_count g n (w ∷ ws) covered = by (cases_lt w n) (g w) refl (covered_count (λ i. g i && not (i == w)) n ws) (covered_count g n ws)
   where
@@ -202,15 +202,15 @@ row q a p = count (λ i. every i && a (variable q p i)) (size q.target)
 abbrev pub column : Problem → (ℕ → Bool) → ℕ → ℕ
 column q a u = count (λ p. every p && a (variable q p u)) (size q.pattern)
 
-total_value : (ℕ → Bool) → List Form → ℤ
+unfoldable pub total_value : (ℕ → Bool) → List Form → ℤ
 total_value a [] = pos 0
 total_value a (f ∷ fs) = value a f.terms +ℤ total_value a fs
 
-total_bound : List Form → ℤ
+unfoldable pub total_bound : List Form → ℤ
 total_bound [] = pos 0
 total_bound (f ∷ fs) = f.bound +ℤ total_bound fs
 
-sum_value : (a : ℕ → Bool) (f : Form) (gs : List Form) → value a (sum_from f gs).terms ≡ value a f.terms +ℤ total_value a gs
+pub sum_value : (a : ℕ → Bool) (f : Form) (gs : List Form) → value a (sum_from f gs).terms ≡ value a f.terms +ℤ total_value a gs
 unfolding total_value
 sum_value a f [] = omega (arith, ints)
 sum_value a f (g ∷ gs) =
@@ -218,7 +218,7 @@ sum_value a f (g ∷ gs) =
     let h = sum_value a (sum_of f g) gs in
     omega (arith, ints)
 
-sum_bound : (f : Form) (gs : List Form) → (sum_from f gs).bound ≡ f.bound +ℤ total_bound gs
+pub sum_bound : (f : Form) (gs : List Form) → (sum_from f gs).bound ≡ f.bound +ℤ total_bound gs
 unfolding total_bound
 sum_bound f [] = omega (arith, ints)
 sum_bound f (g ∷ gs) = let h = sum_bound (sum_of f g) gs in omega (arith, ints)
@@ -236,7 +236,7 @@ column_value q a u =
     let v = value_down a every (λ p. variable q p u) (size q.pattern) in
     omega (arith, ints)
 
-columns_value : (q : Problem) (a : ℕ → Bool) (values : List ℕ) → total_value a (map (at_most_target q) values) +ℤ pos (sum_over (column q a) values) ≡ pos 0
+pub columns_value : (q : Problem) (a : ℕ → Bool) (values : List ℕ) → total_value a (map (at_most_target q) values) +ℤ pos (sum_over (column q a) values) ≡ pos 0
 unfolding total_value
 columns_value q a [] = omega (arith, ints)
 columns_value q a (u ∷ us) =
@@ -244,7 +244,7 @@ columns_value q a (u ∷ us) =
     let e = column_value q a u in
     omega (arith, ints)
 
-columns_bound : (q : Problem) (values : List ℕ) → total_bound (map (at_most_target q) values) +ℤ pos (length values) ≡ pos 0
+pub columns_bound : (q : Problem) (values : List ℕ) → total_bound (map (at_most_target q) values) +ℤ pos (length values) ≡ pos 0
 unfolding total_bound
 columns_bound q [] = omega (arith, ints)
 columns_bound q (u ∷ us) = let h = columns_bound q us in omega (arith, ints)

@@ -1,0 +1,3 @@
+pub mod Members
+pub mod Crowds
+pub mod Composing

@@ -1,0 +1,4 @@
+pub mod Choosing
+pub mod Operands
+pub mod Named
+pub mod Given

@@ -1,0 +1,4 @@
+pub mod Going
+pub mod Naming
+pub mod Steps
+pub mod Rows

@@ -1,0 +1,92 @@
+//! The maker of lines.
+
+ghost use Rattle.std.specs.Prelude.{◌≡◌, ℕ, ◌<◌, ◌≤◌, [], IfOk};
+ghost use Rattle.graph_theory.specs.Graph.{size};
+ghost use Rattle.graph_theory.specs.Embedding.{Problem as TheProblem};
+ghost use Rattle.kept_lines.specs.Frames.{Frame};
+ghost use Rattle.made_lines.specs.Made.{IsMade, made_last, made_wider};
+
+use dead_paths::LineMaker;
+use first_lines::{FirstLines, Units};
+use graph_rows::Problem;
+use journals::Keeper;
+use log_theory::Ref;
+use pb_encoding::Encoding;
+use row_lines::RowLines;
+use std::alloc::{AllocError, Global};
+
+/// The names of the lines that were made so far for a problem. Cost of a line that is there: logarithmic in how many there are.
+#[derive(Drop)]
+pub struct MadeLines<'a> {
+    problem: &'a Problem,
+    first: FirstLines<'a>,
+    units: Units,
+    firsts: Units,
+    rows: RowLines,
+    ghost same: { first ≡ problem.now },
+}
+
+impl<'a> MadeLines<'a> {
+    /// No line yet.
+    pub fn new(
+        alloc: Global,
+        problem: &'a Problem,
+        lines: &'a Encoding<'a>,
+    ) -> Result<MadeLines<'a>, AllocError>
+        requires { lines.now ≡ problem.now }
+        ensures { IfOk result (λ m. (w : Frame) → IsMade problem.now m.problem.now w m.units m.firsts m.rows []) }
+    {
+        let first = FirstLines::new(alloc, problem, lines)?;
+        Ok(MadeLines {
+            problem,
+            first,
+            units: Units::new(alloc),
+            firsts: Units::new(alloc),
+            rows: RowLines::new(alloc),
+        })
+    }
+}
+
+impl<'a> LineMaker for MadeLines<'a> {
+    ghost knows = { λ m q w forms. IsMade q m.problem.now w m.units m.firsts m.rows forms };
+
+    fn first<K: Keeper>(
+        &mut self,
+        alloc: Global,
+        q: &Problem,
+        lines: &Encoding<'_>,
+        keeper: &mut K,
+        p: u16,
+    ) -> Result<Ref, AllocError> {
+        if p >= self.problem.pattern().size() {
+            return Err(AllocError);
+        }
+        if let Some(name) = self.firsts.name_of(u32::from(p)) {
+            return Ok(Ref::Made(name));
+        }
+        match self.first.first_line(alloc, keeper, &mut self.units, p)? {
+            None => Ok(Ref::Line(lines.at_least(p))),
+            Some(name) => {
+                self.firsts.add(u32::from(p), name)?;
+                Ok(Ref::Made(name))
+            }
+        }
+    }
+
+    fn row<K: Keeper>(
+        &mut self,
+        alloc: Global,
+        q: &Problem,
+        lines: &Encoding<'_>,
+        keeper: &mut K,
+        p: u16,
+        t: u16,
+        r: u16,
+    ) -> Result<Ref, AllocError> {
+        self.rows.row(alloc, q, lines, keeper, p, t, r)
+    }
+
+    ghost lasts = { λ m q w forms more h. made_last q m.problem.now w m.units m.firsts m.rows forms more h };
+
+    ghost wider = { λ m q w v forms wider h. made_wider q m.problem.now w v m.units m.firsts m.rows forms wider h };
+}

@@ -1,0 +1,298 @@
+-- The lines may be kept, and what they force.
+use Rattle.std.proofs.Common.{◌≡◌, ℕ, ◌-◌, ◌<◌, ◌==◌, Bool, true, false, ◌||◌, cond, List, [], ◌++◌, refl, sym, ap, subst, ◌∙◌, arith, Option, Some, None, Result, Ok, Err, inl, inr, ◌⊎◌}
+use Rattle.std.specs.Prelude.{IsSome, OnOk, OnErr}
+use Rattle.std.specs.declared.alloc.AllocError.{AllocError}
+use Rattle.std.proofs.lemmas.Bool.{cases_eq, eq-eqb, ne_eqb}
+use Rattle.graph_theory.specs.Graph.{size}
+use Rattle.graph_theory.specs.Embedding.{Problem}
+use Rattle.graph_theory.specs.Neighbours.{common}
+use Rattle.proof_theory.specs.Forms.{Form}
+use Rattle.log_theory.specs.declared.step.Name.{Name}
+use Rattle.log_theory.specs.declared.step.Ref.{Ref}
+use Rattle.log_theory.specs.declared.step.Ref.TheVariants.{Made, Shared}
+use Rattle.log_theory.specs.declared.step.Op.{Op}
+use Rattle.log_theory.specs.declared.step.Step.{Step}
+use Rattle.log_theory.specs.declared.step.Step.TheVariants.{P}
+use Rattle.log_theory.specs.Lookups.{Lookup, makes}
+use Rattle.log_theory.specs.LogText.{IsName, AreOps}
+use Rattle.log_theory.specs.Verdicts.{in_range, axiom_variables}
+use Rattle.journal_theory.specs.Journals.{Finds, HoldsOwn}
+use Rattle.encoding_theory.specs.Variables.{variables}
+use Rattle.encoding_theory.specs.Pairs.{is_edge_pair, is_non_edge_pair}
+use Rattle.encoding_theory.specs.Encoding.{at_most_target, pair_form}
+use Rattle.reason_theory.specs.Reasons.{ForcesBeside}
+use Rattle.row_theory.specs.Operations.{FindsEncoding}
+use Rattle.encoding_theory.specs.Places.{PlaceLaws, at_most_target_place}
+use Rattle.encoding_theory.proofs.PlaceProofs.{place_laws}
+use Rattle.row_theory.specs.Rows.{is_paired, target_line, edge_line, non_edge_line, spread_form, spread_ops}
+use Rattle.row_theory.specs.Laws.{IsPlainProblem, IsPlace, FindsSpread, RowMakes}
+use Rattle.row_theory.proofs.Making.{row_laws}
+use Rattle.kept_lines.specs.Frames.{Frame, IsFrameOf, IsNamed, MayFollow, IsKept, Goes, Lasts, AnyForms}
+use Rattle.kept_lines.proofs.Going.{goes_as, goes_beside, goes_then, goes_kept}
+use Rattle.journals.specs.Keeping.{IsLine, Keeps}
+use Rattle.kept_lines.proofs.Naming.{named_later}
+use Rattle.row_lines.specs.declared.row_lines.RowLines.{RowLines}
+use Rattle.row_lines.specs.declared.sharing.Sharing.{Sharing}
+use Rattle.row_lines.specs.declared.sharing.Sharing.TheVariants.{Nothing, One, Many}
+use Rattle.row_lines.specs.Choices.{IsSharing, own_line, entry_at, pair_key, pair_name, name_or_none, spread_ref, row_ops, row_form}
+use Rattle.row_lines.specs.Claims.{AreSpreads, HasAround, IsRowLine, IsRow, IsRowNamed, AreRows, Knows, IsKnownRow, IsThere}
+use Rattle.row_lines.proofs.Good.{AreGood, good_ops, good_rows, good_range, good_spread_ops, good_row_ops}
+
+finds_encoding : (q : Problem) (owner : ℕ) (w : Frame) (look : Lookup) → IsFrameOf q owner w → Finds w.base look → FindsEncoding q look
+finds_encoding q owner w look frame finds = record { line = λ k f at. finds.alike _ f (frame.model.line k f at) }
+
+-- A line of good operations may be kept where they make its form.
+good_follows : (q : Problem) (owner : ℕ) (w : Frame) (forms : List Form) (name : Name) (ops : List Op) (f : Form) → IsFrameOf q owner w → AreGood (variables q) ops
+    → ((look : Lookup) → Finds w.base look → HoldsOwn w.owner forms look → makes look (P name ops) ≡ Ok f) → MayFollow w forms (P name ops) f
+good_follows q owner w forms name ops f frame good makes_it = record {
+  made = makes_it;
+  rows = λ k names. absurd (good_rows (variables q) ops good k names);
+  ranges = ap (λ (x : Problem). in_range (variables x) (axiom_variables ops)) frame.problem_is ∙ good_range (variables q) ops good;
+}
+
+-- ---- a line that counts shared neighbours
+
+pub spread_line_ops : (q : Problem) → IsPlainProblem q → (p r v c : ℕ) (ops : List Op) → ops ≡ spread_ops q p r v (c - 1) → p < size q.pattern → r < size q.pattern → v < size q.target → c < 65536 → AreOps ops
+spread_line_ops q plain p r v c ops is p_in r_in v_in few = subst AreOps (sym is) (good_ops (variables q) (spread_ops q p r v (c - 1)) (good_spread_ops q plain p r v (c - 1) p_in r_in v_in (omega (arith, few))))
+
+pub spread_follows : (q : Problem) → IsPlainProblem q → (owner : ℕ) (w : Frame) (forms : List Form) (name : Name) (p r v c : ℕ) (ops : List Op) → IsFrameOf q owner w → ops ≡ spread_ops q p r v (c - 1)
+    → IsPlace q p v r → IsSharing q p r (Many c) → c < 65536 → MayFollow w forms (P name ops) (spread_form q p r v)
+spread_follows q plain owner w forms name p r v c ops frame is place shares few =
+    subst (λ (os : List Op). MayFollow w forms (P name os) (spread_form q p r v)) (sym is)
+    (good_follows q owner w forms name (spread_ops q p r v (c - 1)) (spread_form q p r v) frame (good_spread_ops q plain p r v (c - 1) place.first place.second place.place (omega (arith, few)))
+    (λ look finds own. ((row_laws q plain).makes look (finds_encoding q owner w look frame finds)).spread name p v r (c - 1) place (omega (arith, shares.0, shares.1)) (omega (arith, shares.1))))
+
+-- ---- a table of their names
+
+pub spreads_last : (w : Frame) (q : Problem) (names : List (ℕ × Name)) (forms more : List Form) → AreSpreads w q names forms → AreSpreads w q names (forms ++ more)
+spreads_last w q names forms more h = record { named = λ p r v n p_in r_in v_in is. named_later w forms more (Made n) (spread_form q p r v) (h.named p r v n p_in r_in v_in is) }
+
+-- One name more, of a line that is named.
+pub spreads_added : (w : Frame) (q : Problem) → IsPlainProblem q → (old new : List (ℕ × Name)) (forms : List Form) (p r v : ℕ) (n : Name) → p < size q.pattern → r < size q.pattern → v < size q.target
+    → ((k : ℕ) → entry_at new k ≡ cond (k == pair_key p r v) (Some n) (entry_at old k)) → IsNamed w forms (Made n) (spread_form q p r v) → AreSpreads w q old forms → AreSpreads w q new forms
+spreads_added w q plain old new forms p r v n p_in r_in v_in added named h = record { named = λ a b u m a_in b_in u_in is. by a b u m a_in b_in u_in is (cases_eq (pair_key a b u) (pair_key p r v)) }
+  where
+    by : (a b u : ℕ) (m : Name) → a < size q.pattern → b < size q.pattern → u < size q.target → pair_name new a b u ≡ Some m
+        → (pair_key a b u ≡ pair_key p r v) ⊎ (pair_key a b u ≡ pair_key p r v → ⊥) → IsNamed w forms (Made m) (spread_form q a b u)
+    by a b u m a_in b_in u_in is (inl same) =
+        let few = plain.vertices_few in
+        let less = plain.targets_few in
+        let a_is : p ≡ a = omega (arith, same, few, less, a_in, b_in, u_in, p_in, r_in, v_in) in
+        let b_is : r ≡ b = omega (arith, same, few, less, a_in, b_in, u_in, p_in, r_in, v_in) in
+        let u_is : v ≡ u = omega (arith, same, few, less, a_in, b_in, u_in, p_in, r_in, v_in) in
+        let read : Some n ≡ Some m = sym (added (pair_key a b u) ∙ ap (λ (x : Bool). cond x (Some n) (entry_at old (pair_key a b u))) (eq-eqb (pair_key a b u) (pair_key p r v) same)) ∙ is in
+        let n_is : n ≡ m = cc in
+        subst (λ (x : Name). IsNamed w forms (Made x) (spread_form q a b u)) n_is
+        (subst (λ (x : ℕ). IsNamed w forms (Made n) (spread_form q x b u)) a_is (subst (λ (x : ℕ). IsNamed w forms (Made n) (spread_form q p x u)) b_is (subst (λ (x : ℕ). IsNamed w forms (Made n) (spread_form q p r x)) u_is named)))
+    by a b u m a_in b_in u_in is (inr other) =
+        h.named a b u m a_in b_in u_in (sym (added (pair_key a b u) ∙ ap (λ (x : Bool). cond x (Some n) (entry_at old (pair_key a b u))) (ne_eqb (pair_key a b u) (pair_key p r v) other)) ∙ is)
+
+-- What adding a name does to the table, whatever it answers.
+pub spreads_put : (w : Frame) (q : Problem) → IsPlainProblem q → (old new : List (ℕ × Name)) (forms : List Form) (p r v : ℕ) (n : Name) (result : Result (Unit {0}) AllocError) → p < size q.pattern → r < size q.pattern → v < size q.target
+    → OnOk result ((k : ℕ) → entry_at new k ≡ cond (k == pair_key p r v) (Some n) (entry_at old k)) → OnErr result (new ≡ old) → IsNamed w forms (Made n) (spread_form q p r v) → AreSpreads w q old forms → AreSpreads w q new forms
+spreads_put w q plain old new forms p r v n (Ok done) p_in r_in v_in added refused named h = spreads_added w q plain old new forms p r v n p_in r_in v_in added named h
+spreads_put w q plain old new forms p r v n (Err e) p_in r_in v_in added refused named h = subst (λ (names : List (ℕ × Name)). AreSpreads w q names forms) (sym refused) h
+
+-- A line that may follow is kept, and what lasts stays so.
+pub goes_beside_kept : (w : Frame) (result : Result Name AllocError) (owner : ℕ) (old new : Option (List Step)) (step : Step) (f : Form) (Claim : List Form → Type 0) → w.owner ≡ owner → Keeps result owner old new step → IsLine step → Lasts Claim
+    → ((forms : List Form) → Claim forms → MayFollow w forms step f) → Goes w old new Claim (λ forms. IsKept w result f forms × Claim forms)
+goes_beside_kept w result owner old new step f Claim same keeps line lasts may =
+    goes_as w old new (λ forms. Claim forms × Claim forms) (λ forms. IsKept w result f forms × Claim forms) Claim (λ forms. IsKept w result f forms × Claim forms) (λ forms c. (c, c)) (λ forms k. k)
+    (goes_beside w old new Claim (IsKept w result f) Claim lasts (goes_kept w result owner old new step f Claim same keeps line may))
+
+-- A line that counts shared neighbours is kept beside the names of a table.
+pub spread_goes : (q : Problem) → IsPlainProblem q → (owner : ℕ) (w : Frame) (name : Name) (p r v c : ℕ) (ops : List Op) (names : List (ℕ × Name)) (result : Result Name AllocError) (old new : Option (List Step)) → IsFrameOf q owner w
+    → ops ≡ spread_ops q p r v (c - 1) → IsPlace q p v r → IsSharing q p r (Many c) → c < 65536 → Keeps result owner old new (P name ops)
+    → Goes w old new (AreSpreads w q names) (λ forms. IsKept w result (spread_form q p r v) forms × AreSpreads w q names forms)
+spread_goes q plain owner w name p r v c ops names result old new frame is place shares few keeps =
+    goes_beside_kept w result owner old new (P name ops) (spread_form q p r v) (AreSpreads w q names) frame.owner_is keeps (spread_line_ops q plain p r v c ops is place.first place.second place.place few)
+    (λ forms more h. spreads_last w q names forms more h) (λ forms h. spread_follows q plain owner w forms name p r v c ops frame is place shares few)
+
+-- ---- the line of a pair
+
+module _ (q : Problem) (plain : IsPlainProblem q) (p t r : ℕ) (place : IsPlace q p t r) where
+  -- Where the pair has a line of its own it is found, and where it has none the pair is none of those that have.
+  abbrev OwnFound : Lookup → Option Ref → Type 0
+  OwnFound look None = Unit {0}
+  OwnFound look (Some own) = look own ≡ Some (pair_form q p r t)
+
+  own_found : (look : Lookup) → FindsEncoding q look → OwnFound look (own_line q p r t)
+  own_found look finds = by (is_edge_pair q p r) refl (is_non_edge_pair q p r) refl
+    where
+      by : (b : Bool) → is_edge_pair q p r ≡ b → (c : Bool) → is_non_edge_pair q p r ≡ c → OwnFound look (cond b (Some (edge_line q p r t)) (cond c (Some (non_edge_line q p r t)) None))
+      by true is c other = ((row_laws q plain).makes look finds).edge p t r place is
+      by false unjoined true is = ((row_laws q plain).makes look finds).non_edge p t r place is
+      by false unjoined false none = tt
+
+  abbrev OwnSays : Option Ref → Type 0
+  OwnSays None = is_paired q p r ≡ false
+  OwnSays (Some own) = Unit {0}
+
+  own_says : OwnSays (own_line q p r t)
+  own_says = by (is_edge_pair q p r) refl (is_non_edge_pair q p r) refl
+    where
+      by : (b : Bool) → is_edge_pair q p r ≡ b → (c : Bool) → is_non_edge_pair q p r ≡ c → OwnSays (cond b (Some (edge_line q p r t)) (cond c (Some (non_edge_line q p r t)) None))
+      by true is c other = tt
+      by false unjoined true is = tt
+      by false unjoined false none = ap (λ (b : Bool). b || is_non_edge_pair q p r) unjoined ∙ none
+
+  at_place : (v : ℕ) → v < size q.target → IsPlace q p v r
+  at_place v v_in = record { first = place.first; place = v_in; second = place.second; others = place.others }
+
+  row_forces : (sharing : Sharing) → IsSharing q p r sharing → ForcesBeside q (row_form q sharing (own_line q p r t) p t r) p t r
+  row_forces sharing shares = by sharing shares (own_line q p r t) own_says
+    where
+      by : (sh : Sharing) → IsSharing q p r sh → (o : Option Ref) → OwnSays o → ForcesBeside q (row_form q sh o p t r) p t r
+      by Nothing none (Some own) says = (row_laws q plain).forces.beside p t r place none
+      by Nothing none None says = (row_laws q plain).forces.alone p t r place none says
+      by (One m) one (Some own) says = (row_laws q plain).forces.joined p t r place (omega (arith, one.0))
+      by (One m) one None says = (row_laws q plain).forces.apart p t r place (omega (arith, one.0)) says
+      by (Many c) many (Some own) says = (row_laws q plain).forces.joined p t r place (omega (arith, many.0, many.1))
+      by (Many c) many None says = (row_laws q plain).forces.apart p t r place (omega (arith, many.0, many.1)) says
+
+  spread_found : (w : Frame) (owner : ℕ) (names : List (ℕ × Name)) (forms : List Form) (look : Lookup) → IsFrameOf q owner w → AreSpreads w q names forms → Finds w.base look → HoldsOwn w.owner forms look → (sharing : Sharing) → IsSharing q p r sharing
+      → HasAround q names sharing p t r → 0 < common q.pattern p r → FindsSpread q look (spread_ref q names sharing p r) p t r
+  spread_found w owner names forms look frame spreads finds own Nothing none around some v v_in near = absurd (omega (arith, none, some))
+  spread_found w owner names forms look frame spreads finds own (One m) one around some v v_in near =
+      ((row_laws q plain).makes look (finds_encoding q owner w look frame finds)).one_spread m p v r (at_place v v_in) one.1 one.0 one.2
+  spread_found w owner names forms look frame spreads finds own (Many c) many around some v v_in near = by (pair_name names p r v) refl (around v v_in near)
+    where
+      by : (o : Option Name) → pair_name names p r v ≡ o → IsSome o → look (name_or_none o) ≡ Some (spread_form q p r v)
+      by (Some n) is there = (spreads.named p r v n place.first place.second v_in is).found look finds own
+      by None is there = absurd (nothing there)
+        where
+          nothing : let o : Option Name = None in IsSome o → ⊥
+          nothing h = cc
+
+  row_made : (w : Frame) (owner : ℕ) (names : List (ℕ × Name)) (forms : List Form) (name : Name) (sharing : Sharing) (look : Lookup) → IsFrameOf q owner w → AreSpreads w q names forms → IsSharing q p r sharing → HasAround q names sharing p t r
+      → Finds w.base look → HoldsOwn w.owner forms look → makes look (P name (row_ops q names sharing (own_line q p r t) p t r)) ≡ Ok (row_form q sharing (own_line q p r t) p t r)
+  row_made w owner names forms name sharing look frame spreads shares around finds own = by sharing shares around (own_line q p r t) (own_found look encoded)
+    where
+      encoded : FindsEncoding q look
+      encoded = finds_encoding q owner w look frame finds
+
+      laws : RowMakes q look
+      laws = (row_laws q plain).makes look (finds_encoding q owner w look frame finds)
+
+      by : (sh : Sharing) → IsSharing q p r sh → HasAround q names sh p t r → (o : Option Ref) → OwnFound look o → makes look (P name (row_ops q names sh o p t r)) ≡ Ok (row_form q sh o p t r)
+      by Nothing none a (Some mine) found = laws.beside name mine p t r place found
+      by Nothing none a None found = laws.alone name p t r place
+      by (One m) one a (Some mine) found = laws.joined name mine (spread_ref q names (One m) p r) p t r place found (spread_found w owner names forms look frame spreads finds own (One m) one a (omega (arith, one.0)))
+      by (One m) one a None found = laws.apart name (spread_ref q names (One m) p r) p t r place (spread_found w owner names forms look frame spreads finds own (One m) one a (omega (arith, one.0)))
+      by (Many c) many a (Some mine) found = laws.joined name mine (spread_ref q names (Many c) p r) p t r place found (spread_found w owner names forms look frame spreads finds own (Many c) many a (omega (arith, many.0, many.1)))
+      by (Many c) many a None found = laws.apart name (spread_ref q names (Many c) p r) p t r place (spread_found w owner names forms look frame spreads finds own (Many c) many a (omega (arith, many.0, many.1)))
+
+  pub row_line_ops : (names : List (ℕ × Name)) → ((k : ℕ) (n : Name) → entry_at names k ≡ Some n → IsName n) → (sharing : Sharing) (ops : List Op) → ops ≡ row_ops q names sharing (own_line q p r t) p t r → IsSharing q p r sharing → AreOps ops
+  row_line_ops names fit sharing ops is shares = subst AreOps (sym is) (good_ops (variables q) (row_ops q names sharing (own_line q p r t) p t r) (good_row_ops q plain names fit sharing p t r shares place.first place.place place.second))
+
+  pub row_follows : (owner : ℕ) (w : Frame) (forms : List Form) (name : Name) (names : List (ℕ × Name)) → ((k : ℕ) (n : Name) → entry_at names k ≡ Some n → IsName n) → (sharing : Sharing) (ops : List Op) → IsFrameOf q owner w
+      → ops ≡ row_ops q names sharing (own_line q p r t) p t r → IsSharing q p r sharing → HasAround q names sharing p t r → AreSpreads w q names forms → MayFollow w forms (P name ops) (row_form q sharing (own_line q p r t) p t r)
+  row_follows owner w forms name names fit sharing ops frame is shares around spreads =
+      subst (λ (os : List Op). MayFollow w forms (P name os) (row_form q sharing (own_line q p r t) p t r)) (sym is)
+      (good_follows q owner w forms name (row_ops q names sharing (own_line q p r t) p t r) (row_form q sharing (own_line q p r t) p t r) frame
+      (good_row_ops q plain names fit sharing p t r shares place.first place.place place.second) (λ look finds own. row_made w owner names forms name sharing look frame spreads shares around finds own))
+
+  -- A name of this form is that of a line for the pair.
+  pub row_kept : (w : Frame) (result : Result Name AllocError) (sharing : Sharing) (forms : List Form) → IsSharing q p r sharing → IsKept w result (row_form q sharing (own_line q p r t) p t r) forms → IsRowLine w q p t r result forms
+  row_kept w (Ok n) sharing forms shares kept = (row_form q sharing (own_line q p r t) p t r, kept, row_forces sharing shares)
+  row_kept w (Err e) sharing forms shares kept = tt
+
+-- ---- one after the other
+
+rows_beside : (q : Problem) (p t r : ℕ) (w : Frame) (a b c : Option (List Step)) (old new : List (ℕ × Name)) (result : Result Name AllocError) → Goes w a b (AreSpreads w q old) (AreSpreads w q new)
+    → Goes w b c (AreSpreads w q new) (IsRowLine w q p t r result) → Goes w a c (AreSpreads w q old) (IsRow w q p t r new result)
+rows_beside q p t r w a b c old new result first second =
+    goes_then w a b c (AreSpreads w q old) (AreSpreads w q new) (IsRow w q p t r new result) first
+    (goes_as w b c (λ forms. AreSpreads w q new forms × AreSpreads w q new forms) (λ forms. IsRowLine w q p t r result forms × AreSpreads w q new forms) (AreSpreads w q new) (IsRow w q p t r new result) (λ forms h. (h, h)) (λ forms k. (k.1, k.0))
+    (goes_beside w b c (AreSpreads w q new) (IsRowLine w q p t r result) (AreSpreads w q new) (λ forms more h. spreads_last w q new forms more h) second))
+
+-- The lines that are missing, and then the line itself.
+pub rows_join : (q k : Problem) (p t r : ℕ) (w : Frame) (owner middle : ℕ) (a b c : Option (List Step)) (old new : List (ℕ × Name)) (result : Result Name AllocError) → k ≡ q → middle ≡ owner → IsFrameOf q owner w
+    → ((f : Frame) → IsFrameOf k owner f → Goes f a b (AreSpreads f k old) (AreSpreads f k new)) → ((f : Frame) → IsFrameOf k middle f → Goes f b c (AreSpreads f k new) (IsRowLine f k p t r result))
+    → Goes w a c (AreSpreads w q old) (IsRow w q p t r new result)
+rows_join q k p t r w owner middle a b c old new result same stays frame first second =
+    rows_beside q p t r w a b c old new result
+    (subst (λ (x : Problem). (f : Frame) → IsFrameOf x owner f → Goes f a b (AreSpreads f x old) (AreSpreads f x new)) same first w frame)
+    (subst (λ (x : Problem). (f : Frame) → IsFrameOf x middle f → Goes f b c (AreSpreads f x new) (IsRowLine f x p t r result)) same second w (subst (λ (o : ℕ). IsFrameOf q o w) (sym stays) frame))
+
+-- Nothing but the lines that are missing.
+pub rows_stop : (q k : Problem) (p t r : ℕ) (w : Frame) (owner : ℕ) (a b : Option (List Step)) (old new : List (ℕ × Name)) (e : AllocError) → k ≡ q → IsFrameOf q owner w
+    → ((f : Frame) → IsFrameOf k owner f → Goes f a b (AreSpreads f k old) (AreSpreads f k new)) → Goes w a b (AreSpreads w q old) (IsRow w q p t r new (Err e))
+rows_stop q k p t r w owner a b old new e same frame first =
+    goes_as w a b (AreSpreads w q old) (AreSpreads w q new) (AreSpreads w q old) (IsRow w q p t r new (Err e)) (λ forms h. h) (λ forms h. (h, tt))
+    (subst (λ (x : Problem). (f : Frame) → IsFrameOf x owner f → Goes f a b (AreSpreads f x old) (AreSpreads f x new)) same first w frame)
+
+-- A table without names.
+pub no_spreads : (w : Frame) (q : Problem) (names : List (ℕ × Name)) (forms : List Form) → names ≡ [] → AreSpreads w q names forms
+no_spreads w q names forms none = subst (λ (xs : List (ℕ × Name)). AreSpreads w q xs forms) (sym none) (record { named = λ p r v n p_in r_in v_in is. absurd cc })
+
+pub row_alone : (w : Frame) (q : Problem) (p t r : ℕ) (a b : Option (List Step)) (old new : List (ℕ × Name)) (result : Result Name AllocError) → old ≡ [] → Goes w a b (AreSpreads w q old) (IsRow w q p t r new result)
+    → Goes w a b AnyForms (IsRowLine w q p t r result)
+row_alone w q p t r a b old new result none goes =
+    goes_as w a b (AreSpreads w q old) (IsRow w q p t r new result) AnyForms (IsRowLine w q p t r result) (λ forms any. no_spreads w q old forms none) (λ forms k. k.1) goes
+
+-- ---- all lines that were made
+
+pub rows_last : (w : Frame) (q : Problem) (names : List (ℕ × Name)) (forms more : List Form) → AreRows w q names forms → AreRows w q names (forms ++ more)
+rows_last w q names forms more h = record { named = λ p t r n p_in t_in r_in is. let k = h.named p t r n p_in t_in r_in is in (k.0, named_later w forms more (Made n) k.0 k.1, k.2) }
+
+rows_added : (w : Frame) (q : Problem) → IsPlainProblem q → (old new : List (ℕ × Name)) (forms : List Form) (p t r : ℕ) (n : Name) → p < size q.pattern → t < size q.target → r < size q.pattern
+    → ((k : ℕ) → entry_at new k ≡ cond (k == pair_key p r t) (Some n) (entry_at old k)) → IsRowNamed w q p t r (Made n) forms → AreRows w q old forms → AreRows w q new forms
+rows_added w q plain old new forms p t r n p_in t_in r_in added named h = record { named = λ a u b m a_in u_in b_in is. by a u b m a_in u_in b_in is (cases_eq (pair_key a b u) (pair_key p r t)) }
+  where
+    by : (a u b : ℕ) (m : Name) → a < size q.pattern → u < size q.target → b < size q.pattern → pair_name new a b u ≡ Some m
+        → (pair_key a b u ≡ pair_key p r t) ⊎ (pair_key a b u ≡ pair_key p r t → ⊥) → IsRowNamed w q a u b (Made m) forms
+    by a u b m a_in u_in b_in is (inl same) =
+        let few = plain.vertices_few in
+        let less = plain.targets_few in
+        let a_is : p ≡ a = omega (arith, same, few, less, a_in, b_in, u_in, p_in, r_in, t_in) in
+        let b_is : r ≡ b = omega (arith, same, few, less, a_in, b_in, u_in, p_in, r_in, t_in) in
+        let u_is : t ≡ u = omega (arith, same, few, less, a_in, b_in, u_in, p_in, r_in, t_in) in
+        let read : Some n ≡ Some m = sym (added (pair_key a b u) ∙ ap (λ (x : Bool). cond x (Some n) (entry_at old (pair_key a b u))) (eq-eqb (pair_key a b u) (pair_key p r t) same)) ∙ is in
+        let n_is : n ≡ m = cc in
+        subst (λ (x : Name). IsRowNamed w q a u b (Made x) forms) n_is
+        (subst (λ (x : ℕ). IsRowNamed w q x u b (Made n) forms) a_is (subst (λ (x : ℕ). IsRowNamed w q p x b (Made n) forms) u_is (subst (λ (x : ℕ). IsRowNamed w q p t x (Made n) forms) b_is named)))
+    by a u b m a_in u_in b_in is (inr other) =
+        h.named a u b m a_in u_in b_in (sym (added (pair_key a b u) ∙ ap (λ (x : Bool). cond x (Some n) (entry_at old (pair_key a b u))) (ne_eqb (pair_key a b u) (pair_key p r t) other)) ∙ is)
+
+-- A line that was made beside the names of other rows.
+rows_kept : (w : Frame) (q : Problem) (p t r : ℕ) (a b : Option (List Step)) (spreads new rows : List (ℕ × Name)) (result : Result Name AllocError) → Goes w a b (AreSpreads w q spreads) (IsRow w q p t r new result)
+    → Goes w a b (λ forms. AreSpreads w q spreads forms × AreRows w q rows forms) (λ forms. IsRow w q p t r new result forms × AreRows w q rows forms)
+rows_kept w q p t r a b spreads new rows result goes = goes_beside w a b (AreSpreads w q spreads) (IsRow w q p t r new result) (AreRows w q rows) (λ forms more h. rows_last w q rows forms more h) goes
+
+-- No line was made, though others may be.
+pub row_refused : (w : Frame) (q : Problem) (p t r : ℕ) (a b : Option (List Step)) (old new : RowLines) (result : Result Name AllocError) → new.rows ≡ old.rows → Goes w a b (AreSpreads w q old.spreads) (IsRow w q p t r new.spreads result)
+    → Goes w a b (Knows w q old) (Knows w q new)
+row_refused w q p t r a b old new result same goes =
+    goes_as w a b (λ forms. AreSpreads w q old.spreads forms × AreRows w q old.rows forms) (λ forms. IsRow w q p t r new.spreads result forms × AreRows w q old.rows forms) (Knows w q old) (Knows w q new) (λ forms h. h)
+    (λ forms k. (k.0.0, subst (λ (xs : List (ℕ × Name)). AreRows w q xs forms) (sym same) k.1)) (rows_kept w q p t r a b old.spreads new.spreads old.rows result goes)
+
+-- The line was made, and its name was added.
+pub row_added : (w : Frame) (q : Problem) → IsPlainProblem q → (p t r : ℕ) (a b : Option (List Step)) (old new : RowLines) (n : Name) → p < size q.pattern → t < size q.target → r < size q.pattern
+    → ((k : ℕ) → entry_at new.rows k ≡ cond (k == pair_key p r t) (Some n) (entry_at old.rows k)) → Goes w a b (AreSpreads w q old.spreads) (IsRow w q p t r new.spreads (Ok n)) → Goes w a b (Knows w q old) (IsKnownRow w q p t r new (Ok (Made n)))
+row_added w q plain p t r a b old new n p_in t_in r_in added goes =
+    goes_as w a b (λ forms. AreSpreads w q old.spreads forms × AreRows w q old.rows forms) (λ forms. IsRow w q p t r new.spreads (Ok n) forms × AreRows w q old.rows forms) (Knows w q old) (IsKnownRow w q p t r new (Ok (Made n))) (λ forms h. h)
+    (λ forms k. ((k.0.0, rows_added w q plain old.rows new.rows forms p t r n p_in t_in r_in added k.0.1 k.1), k.0.1)) (rows_kept w q p t r a b old.spreads new.spreads old.rows (Ok n) goes)
+
+-- A line of the encoding that serves.
+pub row_there : (q : Problem) → IsPlainProblem q → (owner : ℕ) (w : Frame) (p t r : ℕ) (ref : Ref) (forms : List Form) → IsFrameOf q owner w → IsPlace q p t r → IsThere q p t r (Some ref) → IsRowNamed w q p t r ref forms
+row_there q plain owner w p t r ref forms frame place there = (
+  at_most_target q t,
+  record {
+    found = λ look finds own. ap look there.0 ∙ (finds_encoding q owner w look frame finds).line (at_most_target_place q t) (at_most_target q t) ((place_laws q).at_most_target t place.place);
+    foreign = λ k is. absurd (not_shared k (sym there.0 ∙ is));
+  },
+  (row_laws q plain).forces.alone p t r place there.1 there.2,
+)
+  where
+    not_shared : (k : ℕ) → target_line q t ≡ Shared k → ⊥
+    not_shared k e = cc
+
+pub row_there_of : (q k : Problem) → k ≡ q → IsPlainProblem k → (owner : ℕ) (w : Frame) (p t r : ℕ) (ref : Ref) (forms : List Form) → IsFrameOf q owner w → IsPlace q p t r → IsThere k p t r (Some ref) → IsRowNamed w q p t r ref forms
+row_there_of q k same plain owner w p t r ref forms frame place there =
+    row_there q (subst (λ (x : Problem). IsPlainProblem x) same plain) owner w p t r ref forms frame place (subst (λ (x : Problem). IsThere x p t r (Some ref)) same there)
+
+-- The names of tables that have none are right.
+pub nothing_known : (w : Frame) (q : Problem) (lines : RowLines) (forms : List Form) → lines.spreads ≡ [] → lines.rows ≡ [] → Knows w q lines forms
+nothing_known w q lines forms no_spread no_row =
+    (no_spreads w q lines.spreads forms no_spread, subst (λ (xs : List (ℕ × Name)). AreRows w q xs forms) (sym no_row) (record { named = λ p t r n p_in t_in r_in is. absurd cc }))

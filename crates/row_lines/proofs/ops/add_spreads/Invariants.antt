@@ -1,0 +1,9 @@
+use Rattle.std.proofs.Common.{◌≡◌, ◌++◌}
+use Rattle.graph_theory.specs.Neighbours.{is_neighbour}
+use Rattle.log_theory.specs.declared.step.Op.TheVariants.{Push}
+use Rattle.row_theory.specs.Operations.{adds_where}
+use Rattle.row_lines.specs.Choices.{spread_ref}
+use Rattle.row_lines.proofs.ops.add_spreads.Given as goal
+
+abbrev pub invariant-loop-w : goal.invariant-loop-w
+invariant-loop-w l = l.ops.items ≡ l.fn.ops.items ++ adds_where (is_neighbour l.known.target l.t) (λ w. Push (spread_ref l.known l.spreads l.sharing l.p l.r w)) l.w

@@ -1,0 +1,302 @@
+//! The operations of the lines.
+
+ghost use Rattle.std.specs.Prelude.{◌≡◌, ◌<◌, ◌≤◌, ◌+◌, ◌++◌, ◌∷◌, [], true, not, OnOk, IfOk};
+ghost use Rattle.graph_theory.specs.Graph.{size};
+ghost use Rattle.graph_theory.specs.Neighbours.{is_neighbour};
+ghost use Rattle.log_theory.specs.declared.step.Op.TheVariants.{Push as PushOp, Axiom as AxiomOp, Add as AddOp};
+ghost use Rattle.encoding_theory.specs.Variables.{when};
+ghost use Rattle.encoding_theory.specs.Pairs.{is_edge_pair};
+ghost use Rattle.row_theory.specs.Operations.{adds_where};
+ghost use Rattle.row_theory.specs.Rows.{edge_line, is_shared as is_shared_by, there as there_at, spread_ops as spread_ops_of};
+ghost use Rattle.row_lines.specs.Choices.{IsSharing, begin_of, own_line as own_line_of, spread_ref as spread_ref_of, plain_ops as plain_ops_of, counted_ops as counted_ops_of, row_ops as row_ops_of};
+
+use crate::known::Known;
+use crate::pair_names::PairNames;
+use crate::sharing::Sharing;
+use log_theory::{Op, Ops, Ref};
+use std::alloc::{AllocError, Global};
+
+/// Adds the line of two vertices at `t`, where it is wanted.
+fn add_edge(
+    known: &Known,
+    ops: &mut Vec<Op>,
+    wanted: bool,
+    a: u16,
+    b: u16,
+    t: u16,
+) -> Result<(), AllocError>
+    requires a_in { a < size known.now.pattern }
+    requires b_in { b < size known.now.pattern }
+    requires t_in { t < size known.now.target }
+    requires pair { wanted ≡ true → is_edge_pair known.now a b ≡ true }
+    ensures { OnOk result (ops.new.items ≡ ops.old.items ++ when wanted (PushOp (edge_line known.now a b t) ∷ AddOp ∷ [])) }
+{
+    if wanted {
+        ops.push(Op::Push(known.edge(a, b, t)))?;
+        ops.push(Op::Add)?;
+    }
+    Ok(())
+}
+
+/// Adds the line of `p` and each shared neighbour, at `t`.
+#[tactic(auto, using(crate::proofs::Pairs::shared_first))]
+fn add_shared(known: &Known, ops: &mut Vec<Op>, p: u16, t: u16, r: u16) -> Result<(), AllocError>
+    requires p_in { p < size known.now.pattern }
+    requires r_in { r < size known.now.pattern }
+    requires t_in { t < size known.now.target }
+    ensures { OnOk result (ops.new.items ≡ ops.old.items ++ adds_where (is_shared_by known.now.pattern p r) (λ m. PushOp (edge_line known.now p m t)) (size known.now.pattern)) }
+{
+    for m in 0..known.vertices() {
+        let wanted = known.is_shared(p, r, m);
+        add_edge(known, ops, wanted, p, m, t)?;
+    }
+    Ok(())
+}
+
+/// Adds the line of each shared neighbour and `r`, at `w`.
+#[tactic(auto, using(crate::proofs::Pairs::shared_second))]
+fn add_backs(known: &Known, ops: &mut Vec<Op>, p: u16, r: u16, w: u16) -> Result<(), AllocError>
+    requires p_in { p < size known.now.pattern }
+    requires r_in { r < size known.now.pattern }
+    requires w_in { w < size known.now.target }
+    ensures { OnOk result (ops.new.items ≡ ops.old.items ++ adds_where (is_shared_by known.now.pattern p r) (λ m. PushOp (edge_line known.now m r w)) (size known.now.pattern)) }
+{
+    for m in 0..known.vertices() {
+        let wanted = known.is_shared(p, r, m);
+        add_edge(known, ops, wanted, m, r, w)?;
+    }
+    Ok(())
+}
+
+/// Adds that `v` is at `w`, where it is wanted.
+fn add_there(
+    known: &Known,
+    ops: &mut Vec<Op>,
+    wanted: bool,
+    w: u16,
+    v: u16,
+) -> Result<(), AllocError>
+    requires v_in { v < size known.now.pattern }
+    requires w_in { w < size known.now.target }
+    ensures { OnOk result (ops.new.items ≡ ops.old.items ++ when wanted (AxiomOp (there_at known.now w v) ∷ AddOp ∷ [])) }
+{
+    if wanted {
+        ops.push(Op::Axiom(known.there(w, v)))?;
+        ops.push(Op::Add)?;
+    }
+    Ok(())
+}
+
+/// Adds that each vertex which is not shared is at `w`.
+fn add_others(known: &Known, ops: &mut Vec<Op>, p: u16, r: u16, w: u16) -> Result<(), AllocError>
+    requires p_in { p < size known.now.pattern }
+    requires r_in { r < size known.now.pattern }
+    requires w_in { w < size known.now.target }
+    ensures { OnOk result (ops.new.items ≡ ops.old.items ++ adds_where (λ v. not (is_shared_by known.now.pattern p r v)) (λ v. AxiomOp (there_at known.now w v)) (size known.now.pattern)) }
+{
+    for v in 0..known.vertices() {
+        let wanted = !known.is_shared(p, r, v);
+        add_there(known, ops, wanted, w, v)?;
+    }
+    Ok(())
+}
+
+/// The operations of the line that counts those shared at `w`, one more than `less`. Cost: two operations for each vertex.
+pub(crate) fn spread_ops(
+    alloc: Global,
+    known: &Known,
+    p: u16,
+    r: u16,
+    w: u16,
+    less: u16,
+) -> Result<Ops, AllocError>
+    requires p_in { p < size known.now.pattern }
+    requires r_in { r < size known.now.pattern }
+    requires w_in { w < size known.now.target }
+    ensures { IfOk result (λ ops. ops ≡ spread_ops_of known.now p r w less) }
+{
+    let mut ops = Vec::new(alloc);
+    ops.push(Op::Push(known.target(w)))?;
+    add_others(known, &mut ops, p, r, w)?;
+    ops.push(Op::Times(u64::from(less)))?;
+    add_backs(known, &mut ops, p, r, w)?;
+    ops.push(Op::Divide(u64::from(less) + 1))?;
+    Ok(Ops::new(ops))
+}
+
+/// The line that counts those shared at `w`.
+fn spread_ref(known: &Known, spreads: &PairNames, sharing: Sharing, p: u16, r: u16, w: u16) -> Ref
+    requires p_in { p < size known.now.pattern }
+    requires r_in { r < size known.now.pattern }
+    requires w_in { w < size known.now.target }
+    requires sharing { IsSharing known.now p r sharing }
+    ensures { result ≡ spread_ref_of known.now spreads.now sharing p r w }
+{
+    match sharing {
+        Sharing::Nothing => Ref::Line(0),
+        Sharing::One(m) => known.edge(m, r, w),
+        Sharing::Many(_) => match spreads.find(p, r, w) {
+            Some(name) => Ref::Made(name),
+            None => Ref::Line(0),
+        },
+    }
+}
+
+/// Adds that line, where it is wanted.
+fn add_spread(
+    known: &Known,
+    spreads: &PairNames,
+    ops: &mut Vec<Op>,
+    sharing: Sharing,
+    wanted: bool,
+    p: u16,
+    r: u16,
+    w: u16,
+) -> Result<(), AllocError>
+    requires p_in { p < size known.now.pattern }
+    requires r_in { r < size known.now.pattern }
+    requires w_in { w < size known.now.target }
+    requires sharing { IsSharing known.now p r sharing }
+    ensures { OnOk result (ops.new.items ≡ ops.old.items ++ when wanted (PushOp (spread_ref_of known.now spreads.now sharing p r w) ∷ AddOp ∷ [])) }
+{
+    if wanted {
+        ops.push(Op::Push(spread_ref(known, spreads, sharing, p, r, w)))?;
+        ops.push(Op::Add)?;
+    }
+    Ok(())
+}
+
+/// Adds it for each neighbour of `t`.
+fn add_spreads(
+    known: &Known,
+    spreads: &PairNames,
+    ops: &mut Vec<Op>,
+    sharing: Sharing,
+    p: u16,
+    t: u16,
+    r: u16,
+) -> Result<(), AllocError>
+    requires p_in { p < size known.now.pattern }
+    requires r_in { r < size known.now.pattern }
+    requires t_in { t < size known.now.target }
+    requires sharing { IsSharing known.now p r sharing }
+    ensures { OnOk result (ops.new.items ≡ ops.old.items ++ adds_where (is_neighbour known.now.target t) (λ w. PushOp (spread_ref_of known.now spreads.now sharing p r w)) (size known.now.target)) }
+{
+    for w in 0..known.targets() {
+        let wanted = known.is_near(t, w);
+        add_spread(known, spreads, ops, sharing, wanted, p, r, w)?;
+    }
+    Ok(())
+}
+
+/// The pair's own line at `t`, if there is one.
+fn own_line(known: &Known, p: u16, r: u16, t: u16) -> Option<Ref>
+    requires p_in { p < size known.now.pattern }
+    requires r_in { r < size known.now.pattern }
+    requires t_in { t < size known.now.target }
+    ensures { result ≡ own_line_of known.now p r t }
+{
+    if known.is_edge_pair(p, r) {
+        Some(known.edge(p, r, t))
+    } else if known.is_non_edge_pair(p, r) {
+        Some(known.non_edge(p, r, t))
+    } else {
+        None
+    }
+}
+
+/// The operations where no shared neighbour is asked for: one or two lines.
+fn plain_ops(
+    alloc: Global,
+    known: &Known,
+    own: Option<Ref>,
+    t: u16,
+    r: u16,
+) -> Result<Ops, AllocError>
+    requires r_in { r < size known.now.pattern }
+    requires t_in { t < size known.now.target }
+    ensures { IfOk result (λ ops. ops ≡ plain_ops_of known.now own t r) }
+{
+    let mut ops = Vec::new(alloc);
+    match own {
+        Some(own) => {
+            ops.push(Op::Push(own))?;
+            ops.push(Op::Push(known.at_most(r)))?;
+            ops.push(Op::Add)?;
+        }
+        None => ops.push(Op::Push(known.target(t)))?,
+    }
+    Ok(Ops::new(ops))
+}
+
+/// What comes before the lines round a place: what refuses the values that are not compatible, often enough.
+fn begin(
+    known: &Known,
+    ops: &mut Vec<Op>,
+    own: Option<Ref>,
+    t: u16,
+    r: u16,
+) -> Result<(), AllocError>
+    requires r_in { r < size known.now.pattern }
+    requires t_in { t < size known.now.target }
+    ensures { OnOk result (ops.new.items ≡ ops.old.items ++ begin_of known.now own t r) }
+{
+    ops.push(Op::Push(known.at_most(r)))?;
+    match own {
+        Some(own) => {
+            ops.push(Op::Times(2))?;
+            ops.push(Op::Push(own))?;
+        }
+        None => ops.push(Op::Push(known.target(t)))?,
+    }
+    ops.push(Op::Add)?;
+    ops.push(Op::Times(known.weight(t)))?;
+    Ok(())
+}
+
+/// The operations where shared neighbours are asked for: a line for each, and one for each neighbour of `t`.
+fn counted_ops(
+    alloc: Global,
+    known: &Known,
+    spreads: &PairNames,
+    sharing: Sharing,
+    own: Option<Ref>,
+    p: u16,
+    t: u16,
+    r: u16,
+) -> Result<Ops, AllocError>
+    requires p_in { p < size known.now.pattern }
+    requires r_in { r < size known.now.pattern }
+    requires t_in { t < size known.now.target }
+    requires sharing { IsSharing known.now p r sharing }
+    ensures { IfOk result (λ ops. ops ≡ counted_ops_of known.now spreads.now sharing own p t r) }
+{
+    let mut ops = Vec::new(alloc);
+    begin(known, &mut ops, own, t, r)?;
+    add_shared(known, &mut ops, p, t, r)?;
+    add_spreads(known, spreads, &mut ops, sharing, p, t, r)?;
+    Ok(Ops::new(ops))
+}
+
+/// The operations of the line for `p` at `t` and `r`.
+pub(crate) fn row_ops(
+    alloc: Global,
+    known: &Known,
+    spreads: &PairNames,
+    sharing: Sharing,
+    p: u16,
+    t: u16,
+    r: u16,
+) -> Result<Ops, AllocError>
+    requires p_in { p < size known.now.pattern }
+    requires r_in { r < size known.now.pattern }
+    requires t_in { t < size known.now.target }
+    requires sharing { IsSharing known.now p r sharing }
+    ensures { IfOk result (λ ops. ops ≡ row_ops_of known.now spreads.now sharing (own_line_of known.now p r t) p t r) }
+{
+    let own = own_line(known, p, r, t);
+    match sharing {
+        Sharing::Nothing => plain_ops(alloc, known, own, t, r),
+        sharing => counted_ops(alloc, known, spreads, sharing, own, p, t, r),
+    }
+}

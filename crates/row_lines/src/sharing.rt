@@ -1,0 +1,54 @@
+//! How many neighbours two pattern vertices share.
+
+ghost use Rattle.std.specs.Prelude.{◌≡◌, ◌<◌, IfOk};
+ghost use Rattle.graph_theory.specs.Graph.{size};
+ghost use Rattle.row_theory.specs.Rows.{is_shared as is_shared_by};
+ghost use Rattle.row_lines.specs.Choices.{IsSharing, IsFirstShared};
+
+use crate::known::Known;
+use common_neighbour::Counts;
+use std::alloc::{AllocError, Global};
+
+/// The shared neighbours of two vertices: none, this one alone, or so many.
+#[derive(Clone, Copy, PartialEq, Eq, Debug)]
+pub(crate) enum Sharing {
+    Nothing,
+    One(u16),
+    Many(u16),
+}
+
+/// The first shared neighbour.
+fn first_shared(known: &Known, p: u16, r: u16) -> Option<u16>
+    requires p_in { p < size known.now.pattern }
+    requires r_in { r < size known.now.pattern }
+    ensures { IsFirstShared known.now p r result }
+{
+    for m in 0..known.vertices() {
+        if known.is_shared(p, r, m) {
+            return Some(m);
+        }
+    }
+    None
+}
+
+/// How many neighbours the two share. Cost: two words for each word of a row, and where it is one alone, two for each vertex.
+pub(crate) fn sharing_of(
+    alloc: Global,
+    known: &Known,
+    p: u16,
+    r: u16,
+) -> Result<Sharing, AllocError>
+    requires p_in { p < size known.now.pattern }
+    requires r_in { r < size known.now.pattern }
+    requires others { p ≡ r → ⊥ }
+    ensures { IfOk result (IsSharing known.now p r) }
+{
+    let count = Counts::new(alloc, known.pattern())?.count(p, r);
+    if count > 1 {
+        return Ok(Sharing::Many(count));
+    }
+    match first_shared(known, p, r) {
+        Some(m) => Ok(Sharing::One(m)),
+        None => Ok(Sharing::Nothing),
+    }
+}

@@ -1,0 +1,6 @@
+pub mod Totals
+pub mod Values
+pub mod Around
+pub mod Forcing
+pub mod Dividing
+pub mod Making

@@ -1,0 +1,66 @@
+-- The laws of the lines for a pair of pattern vertices.
+
+use Rattle.std.specs.Prelude.{◌≡◌, ℕ, ◌<◌, ◌≤◌, ◌^◌, ◌+◌, true, false, Some, Ok}
+use Rattle.graph_theory.specs.Graph.{size}
+use Rattle.graph_theory.specs.Embedding.{Problem}
+use Rattle.graph_theory.specs.Neighbours.{common, is_neighbour}
+use Rattle.log_theory.specs.declared.step.Name.{Name}
+use Rattle.log_theory.specs.declared.step.Ref.{Ref}
+use Rattle.log_theory.specs.declared.step.Step.TheVariants.{P}
+use Rattle.log_theory.specs.Lookups.{Lookup, makes}
+use Rattle.encoding_theory.specs.Pairs.{IsPlain, is_edge_pair, is_non_edge_pair}
+use Rattle.encoding_theory.specs.Encoding.{at_most_target, pair_form}
+use Rattle.forcing_theory.specs.Sums.{IsSmall}
+use Rattle.reason_theory.specs.Reasons.{ForcesBeside}
+use Rattle.row_theory.specs.Operations.{FindsEncoding}
+use Rattle.row_theory.specs.Rows.{edge_line, non_edge_line, is_paired, is_shared, beside_form, beside_ops, alone_ops, spread_form, spread_ops, joined_form, joined_ops, apart_form, apart_ops}
+
+-- Plain graphs within the limits of a problem.
+pub record IsPlainProblem (q : Problem) : Type 0 where
+  pub pattern_plain : IsPlain q.pattern
+  pub target_plain : IsPlain q.target
+  pub vertices_few : size q.pattern ≤ 1024
+  pub targets_few : size q.target ≤ 8192
+
+-- Two vertices of the pattern, and a place of the first.
+pub record IsPlace (q : Problem) (p t r : ℕ) : Type 0 where
+  pub first : p < size q.pattern
+  pub place : t < size q.target
+  pub second : r < size q.pattern
+  pub others : p ≡ r → ⊥
+
+-- The line of each neighbour of t is found.
+abbrev pub FindsSpread : Problem → Lookup → (ℕ → Ref) → ℕ → ℕ → ℕ → Type 0
+FindsSpread q look spread p t r = (w : ℕ) → w < size q.target → is_neighbour q.target t w ≡ true → look (spread w) ≡ Some (spread_form q p r w)
+
+-- What each line forces.
+pub record RowForces (q : Problem) : Type 0 where
+  pub beside : (p t r : ℕ) → IsPlace q p t r → common q.pattern p r ≡ 0 → ForcesBeside q (beside_form q p t r) p t r
+  pub alone : (p t r : ℕ) → IsPlace q p t r → common q.pattern p r ≡ 0 → is_paired q p r ≡ false → ForcesBeside q (at_most_target q t) p t r
+  pub joined : (p t r : ℕ) → IsPlace q p t r → 0 < common q.pattern p r → ForcesBeside q (joined_form q p t r) p t r
+  pub apart : (p t r : ℕ) → IsPlace q p t r → 0 < common q.pattern p r → is_paired q p r ≡ false → ForcesBeside q (apart_form q p t r) p t r
+
+-- The operations make the lines, over every lookup that finds the encoding: `own` names the pair's line at t.
+pub record RowMakes (q : Problem) (look : Lookup) : Type 0 where
+  pub beside : (name : Name) (own : Ref) (p t r : ℕ) → IsPlace q p t r → look own ≡ Some (pair_form q p r t) → makes look (P name (beside_ops q own r)) ≡ Ok (beside_form q p t r)
+  pub alone : (name : Name) (p t r : ℕ) → IsPlace q p t r → makes look (P name (alone_ops q t)) ≡ Ok (at_most_target q t)
+  pub joined : (name : Name) (own : Ref) (spread : ℕ → Ref) (p t r : ℕ) → IsPlace q p t r → look own ≡ Some (pair_form q p r t) → FindsSpread q look spread p t r
+      → makes look (P name (joined_ops q own spread p t r)) ≡ Ok (joined_form q p t r)
+  pub apart : (name : Name) (spread : ℕ → Ref) (p t r : ℕ) → IsPlace q p t r → FindsSpread q look spread p t r → makes look (P name (apart_ops q spread p t r)) ≡ Ok (apart_form q p t r)
+  pub spread : (name : Name) (p w r less : ℕ) → IsPlace q p w r → common q.pattern p r ≡ less + 1 → 0 < less → makes look (P name (spread_ops q p r w less)) ≡ Ok (spread_form q p r w)
+  pub one_spread : (m p w r : ℕ) → IsPlace q p w r → m < size q.pattern → common q.pattern p r ≡ 1 → is_shared q.pattern p r m ≡ true → look (edge_line q m r w) ≡ Some (spread_form q p r w)
+  pub edge : (p t r : ℕ) → IsPlace q p t r → is_edge_pair q p r ≡ true → look (edge_line q p r t) ≡ Some (pair_form q p r t)
+  pub non_edge : (p t r : ℕ) → IsPlace q p t r → is_non_edge_pair q p r ≡ true → look (non_edge_line q p r t) ≡ Some (pair_form q p r t)
+
+-- All coefficients together, and the bound, are below 2^40 in size.
+pub record RowSizes (q : Problem) : Type 0 where
+  pub beside : (p t r : ℕ) → IsSmall (2 ^ 40) (beside_form q p t r)
+  pub joined : (p t r : ℕ) → IsSmall (2 ^ 40) (joined_form q p t r)
+  pub apart : (p t r : ℕ) → IsSmall (2 ^ 40) (apart_form q p t r)
+  pub spread : (p r w : ℕ) → IsSmall (2 ^ 40) (spread_form q p r w)
+
+-- The lines for a pair of vertices: what they force, what makes them, and that they are small.
+pub record RowLaws (q : Problem) : Type 0 where
+  pub forces : RowForces q
+  pub makes : (look : Lookup) → FindsEncoding q look → RowMakes q look
+  pub sizes : RowSizes q

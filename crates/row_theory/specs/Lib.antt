@@ -1,0 +1,3 @@
+pub mod Operations
+pub mod Rows
+pub mod Laws

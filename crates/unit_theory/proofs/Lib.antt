@@ -1,0 +1,4 @@
+pub mod CrowdCounting
+pub mod Crowding
+pub mod FirstValues
+pub mod HighNeighbours
