@@ -1,0 +1,200 @@
+-- What pushing the references of a change, or of an end, comes to.
+use Rattle.std.proofs.Common.{◌≡◌, ℕ, ◌<◌, List, [], ◌∷◌, ◌++◌, Option, Result, Ok, Err, OnOk, refl, sym, ap, subst, ◌∙◌, append_assoc}
+use Rattle.std.specs.List.{slice_range}
+use Rattle.std.specs.declared.alloc.AllocError.{AllocError}
+use Rattle.graph_theory.specs.Graph.{size}
+use Rattle.graph_theory.specs.Embedding.{Problem}
+use Rattle.proof_theory.specs.Forms.{Form}
+use Rattle.log_theory.specs.declared.step.Ref.{Ref}
+use Rattle.log_theory.specs.declared.step.Step.{Step}
+use Rattle.encoding_theory.specs.Encoding.{at_least, at_most}
+use Rattle.reason_theory.specs.Reasons.{pairs_clause, at_leasts, vertices_of}
+use Rattle.nogood_book.specs.declared.row.Row.{Row}
+use Rattle.nogood_book.specs.Rows.{Sound, path_at}
+use Rattle.nogood_book.specs.Places.{IsNogoodRow}
+use Rattle.propagation.specs.declared.change.Cause.{Cause}
+use Rattle.propagation.specs.declared.change.Cause.TheVariants as cause
+use Rattle.propagation.specs.declared.change.What.{What}
+use Rattle.propagation.specs.declared.change.What.TheVariants.{One, Others}
+use Rattle.propagation.specs.declared.change.Place.{Place}
+use Rattle.propagation.specs.Recording.{Change, change_by}
+use Rattle.dead_theory.specs.Changes.{ExplainsChange, ExplainAll, nogood_forms, set_forms}
+use Rattle.dead_theory.proofs.Dying.{told_laws_hold}
+use Rattle.kept_lines.specs.Frames.{Frame, IsFrameOf, IsNamed, AreNamed, Goes, AnyForms, Lasts}
+use Rattle.kept_lines.proofs.Going.{goes_stay, goes_as, goes_then, goes_beside}
+use Rattle.kept_lines.proofs.Naming.{named_later, are_named_later, named_behind, named_pushed}
+use Rattle.dead_paths.specs.Lines.{at_least_ref, at_most_ref, at_least_refs}
+use Rattle.dead_paths.specs.Making.{GivesFirst, GivesRow, AreRowsNamed}
+use Rattle.dead_paths.specs.Explaining.{Explained, Knowing, Adds, AddsFor, nogood_refs, IsSetPushed, IsChangePushed}
+use Rattle.dead_paths.proofs.LineRefs.{at_least_named, at_most_named, at_leasts_named}
+
+-- ---- pushing
+
+pub adds_one : (w : Frame) (old new : List Ref) (r : Ref) (f : Form) (forms : List Form) → new ≡ old ++ r ∷ [] → IsNamed w forms r f → Adds w old new (f ∷ []) forms
+adds_one w old new r f forms is n = record { more = r ∷ []; front = is; named = (n, tt) }
+
+adds_two : (w : Frame) (old mid new : List Ref) (r s : Ref) (f g : Form) (forms : List Form) → mid ≡ old ++ r ∷ [] → new ≡ mid ++ s ∷ [] → IsNamed w forms r f → IsNamed w forms s g
+    → Adds w old new (f ∷ g ∷ []) forms
+adds_two w old mid new r s f g forms first then_ n m = record {
+  more = r ∷ s ∷ [];
+  front = then_ ∙ ap (λ (xs : List Ref). xs ++ s ∷ []) first ∙ append_assoc old (r ∷ []) (s ∷ []);
+  named = (n, (m, tt));
+}
+
+-- What is pushed without a line being kept.
+pub pure_goes : (w : Frame) (kept : Option (List Step)) (result : Result (Unit {0}) AllocError) (old new more : List Ref) (fs : List Form) (Before : List Form → Type 0) → OnOk result (new ≡ old ++ more)
+    → ((forms : List Form) → Before forms → AreNamed w forms more fs) → Goes w kept kept Before (λ forms. OnOk result (Adds w old new fs forms))
+pure_goes w kept result old new more fs Before pushed named = goes_stay w kept kept Before (λ forms. OnOk result (Adds w old new fs forms)) refl (λ forms before. by result pushed forms before)
+  where
+    by : (result : Result (Unit {0}) AllocError) → OnOk result (new ≡ old ++ more) → (forms : List Form) → Before forms → OnOk result (Adds w old new fs forms)
+    by (Ok u) is forms before = record { more = more; front = is; named = named forms before }
+    by (Err e) is forms before = tt
+
+pub nogood_named : (q : Problem) (rows : List Row) (owner : ℕ) (w : Frame) (names : ℕ → Ref) (forms : List Form) (k : ℕ) → IsFrameOf q owner w → Sound q rows → IsNogoodRow rows k → AreRowsNamed q rows w names forms
+    → AreNamed w forms (nogood_refs q rows names k) (nogood_forms q (path_at rows k))
+nogood_named q rows owner w names forms k frame sound nogood named =
+    named_pushed w forms (at_least_refs q (vertices_of (path_at rows k))) (at_leasts q (vertices_of (path_at rows k))) (names k) (pairs_clause q (path_at rows k))
+    (at_leasts_named q owner w forms (vertices_of (path_at rows k)) frame (told_laws_hold.row_vertices q rows k sound)) (named k nogood)
+
+-- ---- causes
+
+module _ (q : Problem) (rows : List Row) (w : Frame) (names : ℕ → Ref) (knows now : List Form → Type 0) (a b : Option (List Step)) (numbers : List ℕ) (what : What) (from : ℕ) where
+  -- A first domain.
+  pub first_goes : (r : ℕ) (why : Cause) (old new : List Ref) (line : Ref) → what ≡ One r why → why ≡ cause.First → new ≡ old ++ line ∷ [] → Goes w a b knows (GivesFirst q w r (Ok line) now)
+      → Goes w a b (Knowing knows (AreRowsNamed q rows w names)) (IsChangePushed q rows (change_by numbers what from) w old new now (Ok tt))
+  first_goes r why old new line is by_first pushed given =
+      let at : what ≡ One r cause.First = is ∙ ap (λ (c : Cause). let x : What = One r c in x) by_first in
+      goes_as w a b knows (GivesFirst q w r (Ok line) now) (Knowing knows (AreRowsNamed q rows w names)) (IsChangePushed q rows (change_by numbers what from) w old new now (Ok tt)) (λ forms h. h.0)
+      (λ forms h. (
+        h.0,
+        record {
+          own = h.1.line ∷ [];
+          explains = subst (λ (x : What). ExplainsChange q rows (change_by numbers x from) (h.1.line ∷ [])) (sym at) (h.1.line, refl, h.1.forces);
+          adds = adds_one w old new line h.1.line forms pushed h.1.named;
+        },
+      )) given
+
+  -- A decided vertex.
+  pub row_goes : (owner p t r : ℕ) (why : Cause) (old mid new : List Ref) (first line : Ref) → IsFrameOf q owner w → p < size q.pattern → what ≡ One r why → why ≡ cause.Vertex p t → first ≡ at_least_ref q p
+      → mid ≡ old ++ first ∷ [] → new ≡ mid ++ line ∷ [] → Goes w a b knows (GivesRow q w p t r (Ok line) now)
+      → Goes w a b (Knowing knows (AreRowsNamed q rows w names)) (IsChangePushed q rows (change_by numbers what from) w old new now (Ok tt))
+  row_goes owner p t r why old mid new first line frame inside is by_vertex first_is begun pushed given =
+      let at : what ≡ One r (cause.Vertex p t) = is ∙ ap (λ (c : Cause). let x : What = One r c in x) by_vertex in
+      goes_as w a b knows (GivesRow q w p t r (Ok line) now) (Knowing knows (AreRowsNamed q rows w names)) (IsChangePushed q rows (change_by numbers what from) w old new now (Ok tt)) (λ forms h. h.0)
+      (λ forms h. (
+        h.0,
+        record {
+          own = at_least q p ∷ h.1.line ∷ [];
+          explains = subst (λ (x : What). ExplainsChange q rows (change_by numbers x from) (at_least q p ∷ h.1.line ∷ [])) (sym at) (h.1.line, refl, h.1.forces);
+          adds = adds_two w old mid new first line (at_least q p) h.1.line forms begun pushed (subst (λ (x : Ref). IsNamed w forms x (at_least q p)) (sym first_is) (at_least_named q owner w forms p frame inside)) h.1.named;
+        },
+      )) given
+
+  -- A set.
+  pub set_goes_on : (k : Place) (old new : List Ref) (result : Result (Unit {0}) AllocError) → Lasts knows → what ≡ Others k
+      → Goes w a b AnyForms (IsSetPushed q (slice_range numbers k.start k.middle) (slice_range numbers k.middle k.end) w old new result)
+      → Goes w a b (Knowing knows (AreRowsNamed q rows w names)) (IsChangePushed q rows (change_by numbers what from) w old new knows result)
+  set_goes_on k old new result lasts is goes =
+      goes_as w a b (λ forms. AnyForms forms × knows forms) (λ forms. IsSetPushed q (slice_range numbers k.start k.middle) (slice_range numbers k.middle k.end) w old new result forms × knows forms)
+      (Knowing knows (AreRowsNamed q rows w names)) (IsChangePushed q rows (change_by numbers what from) w old new knows result) (λ forms h. (tt, h.0)) (λ forms h. by result forms h.0 h.1)
+      (goes_beside w a b AnyForms (IsSetPushed q (slice_range numbers k.start k.middle) (slice_range numbers k.middle k.end) w old new result) knows lasts goes)
+    where
+      by : (result : Result (Unit {0}) AllocError) (forms : List Form) → IsSetPushed q (slice_range numbers k.start k.middle) (slice_range numbers k.middle k.end) w old new result forms → knows forms
+          → IsChangePushed q rows (change_by numbers what from) w old new knows result forms
+      by (Ok u) forms adds known = (
+        known,
+        record {
+          own = set_forms q (slice_range numbers k.start k.middle) (slice_range numbers k.middle k.end);
+          explains = subst (λ (x : What). ExplainsChange q rows (change_by numbers x from) (set_forms q (slice_range numbers k.start k.middle) (slice_range numbers k.middle k.end))) (sym is) refl;
+          adds = adds;
+        },
+      )
+      by (Err e) forms adds known = tt
+
+module _ (q : Problem) (rows : List Row) (w : Frame) (names : ℕ → Ref) (knows : List Form → Type 0) (kept : Option (List Step)) (numbers : List ℕ) (what : What) (from : ℕ) where
+  -- A guess.
+  pub guess_goes : (owner t r : ℕ) (why : Cause) (old new : List Ref) (ref : Ref) → IsFrameOf q owner w → r < size q.pattern → what ≡ One r why → why ≡ cause.Guess t → ref ≡ at_most_ref q r → new ≡ old ++ ref ∷ []
+      → Goes w kept kept (Knowing knows (AreRowsNamed q rows w names)) (IsChangePushed q rows (change_by numbers what from) w old new knows (Ok tt))
+  guess_goes owner t r why old new ref frame inside is by_guess ref_is pushed =
+      let at : what ≡ One r (cause.Guess t) = is ∙ ap (λ (c : Cause). let x : What = One r c in x) by_guess in
+      goes_stay w kept kept (Knowing knows (AreRowsNamed q rows w names)) (IsChangePushed q rows (change_by numbers what from) w old new knows (Ok tt)) refl
+      (λ forms h. (
+        h.0,
+        record {
+          own = at_most q r ∷ [];
+          explains = subst (λ (x : What). ExplainsChange q rows (change_by numbers x from) (at_most q r ∷ [])) (sym at) refl;
+          adds = adds_one w old new ref (at_most q r) forms pushed (subst (λ (x : Ref). IsNamed w forms x (at_most q r)) (sym ref_is) (at_most_named q owner w forms r frame inside));
+        },
+      ))
+
+  -- A nogood.
+  pub nogood_goes : (owner name r : ℕ) (why : Cause) (old new : List Ref) (result : Result (Unit {0}) AllocError) → IsFrameOf q owner w → Sound q rows → IsNogoodRow rows name → what ≡ One r why
+      → why ≡ cause.Nogood name → OnOk result (new ≡ old ++ nogood_refs q rows names name)
+      → Goes w kept kept (Knowing knows (AreRowsNamed q rows w names)) (IsChangePushed q rows (change_by numbers what from) w old new knows result)
+  nogood_goes owner name r why old new result frame sound nogood is by_nogood pushed =
+      let at : what ≡ One r (cause.Nogood name) = is ∙ ap (λ (c : Cause). let x : What = One r c in x) by_nogood in
+      goes_stay w kept kept (Knowing knows (AreRowsNamed q rows w names)) (IsChangePushed q rows (change_by numbers what from) w old new knows result) refl (λ forms h. by at result pushed forms h)
+    where
+      by : what ≡ One r (cause.Nogood name) → (result : Result (Unit {0}) AllocError) → OnOk result (new ≡ old ++ nogood_refs q rows names name) → (forms : List Form)
+          → Knowing knows (AreRowsNamed q rows w names) forms → IsChangePushed q rows (change_by numbers what from) w old new knows result forms
+      by at (Ok u) front forms h = (
+        h.0,
+        record {
+          own = nogood_forms q (path_at rows name);
+          explains = subst (λ (x : What). ExplainsChange q rows (change_by numbers x from) (nogood_forms q (path_at rows name))) (sym at) refl;
+          adds = record { more = nogood_refs q rows names name; front = front; named = nogood_named q rows owner w names forms name frame sound nogood h.1 };
+        },
+      )
+      by at (Err e) front forms h = tt
+
+  -- After a refusal nothing is claimed.
+  pub none_goes : (c : Change) (old new : List Ref) (e : AllocError) → Goes w kept kept (Knowing knows (AreRowsNamed q rows w names)) (IsChangePushed q rows c w old new knows (Err e))
+  none_goes c old new e = goes_stay w kept kept (Knowing knows (AreRowsNamed q rows w names)) (IsChangePushed q rows c w old new knows (Err e)) refl (λ forms h. tt)
+
+-- ---- changes one after the other
+
+pub rows_last : (q : Problem) (rows : List Row) (w : Frame) (names : ℕ → Ref) → Lasts (AreRowsNamed q rows w names)
+rows_last q rows w names = λ forms more named k nogood. named_later w forms more (names k) (pairs_clause q (path_at rows k)) (named k nogood)
+
+pub explained_last : (q : Problem) (rows : List Row) (w : Frame) (names : ℕ → Ref) (cs : List Change) (refs : List Ref) → Lasts (Explained q rows w names cs refs)
+explained_last q rows w names cs refs = λ forms more h. record {
+  rows_named = rows_last q rows w names forms more h.rows_named;
+  own = h.own;
+  explained = h.explained;
+  named = are_named_later w forms more refs h.own h.named;
+}
+
+-- One more.
+explained_next : (q : Problem) (rows : List Row) (w : Frame) (names : ℕ → Ref) (cs : List Change) (c : Change) (old new : List Ref) (forms : List Form) → Explained q rows w names cs old forms
+    → AddsFor q rows c w old new forms → Explained q rows w names (c ∷ cs) new forms
+explained_next q rows w names cs c old new forms h adds = record {
+  rows_named = h.rows_named;
+  own = h.own ++ adds.own;
+  explained = (h.own, adds.own, refl, h.explained, adds.explains);
+  named = subst (λ (rs : List Ref). AreNamed w forms rs (h.own ++ adds.own)) (sym adds.adds.front) (named_behind w forms old h.own adds.adds.more adds.own h.named adds.adds.named);
+}
+
+pub explained_goes : (q : Problem) (rows : List Row) (w : Frame) (names : ℕ → Ref) (knows mid now : List Form → Type 0) (a b c : Option (List Step)) (cs : List Change) (change : Change) (old new : List Ref)
+    → Goes w a b (Knowing knows (AreRowsNamed q rows w names)) (Knowing mid (Explained q rows w names cs old))
+    → Goes w b c (Knowing mid (AreRowsNamed q rows w names)) (IsChangePushed q rows change w old new now (Ok tt))
+    → Goes w a c (Knowing knows (AreRowsNamed q rows w names)) (Knowing now (Explained q rows w names (change ∷ cs) new))
+explained_goes q rows w names knows mid now a b c cs change old new before one =
+    goes_then w a b c (Knowing knows (AreRowsNamed q rows w names)) (Knowing mid (Explained q rows w names cs old)) (Knowing now (Explained q rows w names (change ∷ cs) new)) before
+    (goes_as w b c (λ forms. Knowing mid (AreRowsNamed q rows w names) forms × Explained q rows w names cs old forms)
+    (λ forms. IsChangePushed q rows change w old new now (Ok tt) forms × Explained q rows w names cs old forms) (Knowing mid (Explained q rows w names cs old)) (Knowing now (Explained q rows w names (change ∷ cs) new))
+    (λ forms h. ((h.0, h.1.rows_named), h.1)) (λ forms h. (h.0.0, explained_next q rows w names cs change old new forms h.1 h.0.1))
+    (goes_beside w b c (Knowing mid (AreRowsNamed q rows w names)) (IsChangePushed q rows change w old new now (Ok tt)) (Explained q rows w names cs old) (explained_last q rows w names cs old) one))
+
+-- None yet.
+pub explained_none : (q : Problem) (rows : List Row) (w : Frame) (names : ℕ → Ref) (knows : List Form → Type 0) (kept : Option (List Step)) (cs : List Change) (refs : List Ref) → cs ≡ [] → refs ≡ []
+    → Goes w kept kept (Knowing knows (AreRowsNamed q rows w names)) (Knowing knows (Explained q rows w names cs refs))
+explained_none q rows w names knows kept cs refs none empty =
+    goes_stay w kept kept (Knowing knows (AreRowsNamed q rows w names)) (Knowing knows (Explained q rows w names cs refs)) refl (λ forms h. (
+      h.0,
+      record {
+        rows_named = h.1;
+        own = [];
+        explained = subst (λ (xs : List Change). ExplainAll q rows xs []) (sym none) refl;
+        named = subst (λ (rs : List Ref). AreNamed w forms rs []) (sym empty) tt;
+      },
+    ))

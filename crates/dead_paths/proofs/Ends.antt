@@ -1,0 +1,238 @@
+-- What an end comes to, and the line of a dead path.
+use Rattle.std.proofs.Common.{◌≡◌, ℕ, zero, suc, ◌*◌, ◌^◌, ◌<◌, ◌≤◌, Bool, false, List, [], ◌∷◌, ◌++◌, length, take, drop, get_or, Option, Some, None, Result, Ok, Err, OnOk, is_some, refl, sym, ap, subst, ◌∙◌, append_assoc, append-nil, length-append, arith}
+use Rattle.std.specs.Prelude.{map}
+use Rattle.std.proofs.Math.Nat.{mul-le-mul}
+use Rattle.std.specs.declared.alloc.AllocError.{AllocError}
+use Rattle.graph_theory.specs.Graph.{size}
+use Rattle.graph_theory.specs.Embedding.{Problem}
+use Rattle.proof_theory.specs.Forms.{Form}
+use Rattle.log_theory.specs.declared.step.Name.{Name}
+use Rattle.log_theory.specs.declared.step.Ref.{Ref}
+use Rattle.log_theory.specs.declared.step.Step.{Step}
+use Rattle.log_theory.specs.declared.step.Step.TheVariants.{U}
+use Rattle.log_theory.specs.LogText.{AreRefs, AreLiterals}
+use Rattle.log_theory.specs.Lookups.{variables_of}
+use Rattle.log_theory.specs.Verdicts.{in_range}
+use Rattle.encoding_theory.specs.Variables.{variable, variables}
+use Rattle.reason_theory.specs.Reasons.{not_there, pairs_clause, value_clauses}
+use Rattle.nogood_book.specs.declared.row.Row.{Row}
+use Rattle.nogood_book.specs.Rows.{AreInRange}
+use Rattle.propagation.specs.declared.change.Entry.{Entry}
+use Rattle.propagation.specs.declared.change.Failure.{Failure}
+use Rattle.propagation.specs.declared.change.Failure.TheVariants as failure
+use Rattle.propagation.specs.Recording.{Change, CountedSet, change_of}
+use Rattle.dead_theory.specs.Changes.{AreGuessed, IsInProblem}
+use Rattle.dead_theory.specs.Ends as ends
+use Rattle.dead_theory.specs.Ends.{End, Empty, Whole, Short, Exhausted, end_of, end_forms, end_needs}
+use Rattle.dead_theory.specs.Walks.{among_these, IsChoice, nothing, keeps, passes, IsWithin}
+use Rattle.dead_theory.specs.Laws.{Dies}
+use Rattle.dead_theory.proofs.Dying.{dead_laws_hold, told_laws_hold}
+use Rattle.dead_theory.proofs.Choosing.{walk_laws_hold}
+use Rattle.journal_theory.specs.Journals.{named}
+use Rattle.journal_theory.proofs.Placing.{take_all}
+use Rattle.journals.specs.Keeping.{Keeps}
+use Rattle.kept_lines.specs.Frames.{Frame, IsFrameOf, AreNamed, MayFollow, Goes, AnyForms, Lasts, IsKept}
+use Rattle.kept_lines.proofs.Going.{goes_stay, goes_as, goes_then, goes_beside}
+use Rattle.kept_lines.proofs.Naming.{are_named_later, named_behind, all_found, named_rows}
+use Rattle.dead_paths.specs.declared.dead_line.PathEnd.{PathEnd}
+use Rattle.dead_paths.specs.declared.dead_line.PathEnd.TheVariants as path_end
+use Rattle.dead_paths.specs.Making.{AreRowsNamed}
+use Rattle.dead_paths.specs.Choosing.{changes_in, IsOfRow, AreNameable}
+use Rattle.dead_paths.specs.Explaining.{IsLimited, Explained, Knowing, AreRefuted, end_by, IsEndIn, IsBegun, EndExplained, IsEndPushed, IsSetPushed, AreChangesPushed, AreGathered, IsDeadName, IsLastOf}
+use Rattle.dead_paths.proofs.LineRefs.{refs_behind}
+use Rattle.dead_paths.proofs.Causes.{pure_goes, explained_last}
+
+-- ---- frames
+
+pub frame_owner : (q : Problem) (a b : ℕ) (w : Frame) → b ≡ a → IsFrameOf q a w → IsFrameOf q b w
+frame_owner q a b w same frame = record { problem_is = frame.problem_is; owner_is = frame.owner_is ∙ sym same; model = frame.model }
+
+-- ---- chosen changes by place
+
+pub nameable_at : (q : Problem) (rows : List Row) (numbers : List ℕ) (chosen : List Entry) (k : ℕ) (d : Entry) → k < length chosen → AreNameable q rows (changes_in numbers chosen)
+    → IsInProblem q (change_of numbers (get_or chosen k d)) × IsOfRow rows (change_of numbers (get_or chosen k d))
+nameable_at q rows numbers [] k d below h = absurd (omega (arith, below))
+nameable_at q rows numbers (e ∷ chosen) zero d below h = h.0
+nameable_at q rows numbers (e ∷ chosen) (suc k) d below h = nameable_at q rows numbers chosen k d (omega (arith, below)) h.1
+
+pub changes_drop : (numbers : List ℕ) (chosen : List Entry) (k left : ℕ) (d : Entry) → k < length chosen → left ≡ suc k
+    → changes_in numbers (drop k chosen) ≡ change_of numbers (get_or chosen k d) ∷ changes_in numbers (drop left chosen)
+changes_drop numbers chosen k left d below is = by chosen k below ∙ ap (λ (n : ℕ). change_of numbers (get_or chosen k d) ∷ changes_in numbers (drop n chosen)) (sym is)
+  where
+    by : (chosen : List Entry) (k : ℕ) → k < length chosen → changes_in numbers (drop k chosen) ≡ change_of numbers (get_or chosen k d) ∷ changes_in numbers (drop (suc k) chosen)
+    by [] k below = absurd (omega (arith, below))
+    by (e ∷ chosen) zero below = refl
+    by (e ∷ chosen) (suc k) below = by chosen k (omega (arith, below))
+
+pub drop_past : {A : Type 0} (chosen : List A) (k : ℕ) → length chosen ≤ k → drop k chosen ≡ []
+drop_past [] zero h = refl
+drop_past [] (suc k) h = refl
+drop_past (e ∷ chosen) zero h = absurd (omega (arith, h))
+drop_past (e ∷ chosen) (suc k) h = drop_past chosen k (omega (arith, h))
+
+-- ---- ends
+
+-- What an end rests on does not hang on what is refuted.
+pub needs_same : (rows : List Row) (e : PathEnd) (short : Option CountedSet) (values : List ℕ) → end_needs rows (end_by e short values) ≡ end_needs rows (end_by e short [])
+needs_same rows (path_end.Failed f) short values = refl
+needs_same rows (path_end.Exhausted p) short values = refl
+
+pub refuted_last : (q : Problem) (path : List (ℕ × ℕ)) (e : End) (w : Frame) (refuted : List Ref) → Lasts (AreRefuted q path e w refuted)
+refuted_last q path (Empty p) w refuted = λ forms more h. tt
+refuted_last q path (Whole name) w refuted = λ forms more h. tt
+refuted_last q path (Short vertices values) w refuted = λ forms more h. tt
+refuted_last q path (Exhausted p values) w refuted = λ forms more h. are_named_later w forms more refuted (value_clauses q path p values) h
+
+-- ---- literals
+
+pub variable_fits : (q : Problem) (p t : ℕ) → IsLimited q → p < size q.pattern → t < size q.target → variable q p t < 2 ^ 32
+variable_fits q p t few p_in t_in =
+    let a = few.pattern in
+    let b = few.target in
+    let le : p ≤ 1024 = omega (arith, a, p_in) in
+    let m : p * size q.target ≤ 1024 * 8192 = mul-le-mul le b in
+    omega (arith, m, b, t_in)
+
+pub literals_fit : (q : Problem) (path : List (ℕ × ℕ)) → IsLimited q → AreInRange q path → AreLiterals (map (not_there q) path)
+literals_fit q [] few range = tt
+literals_fit q (x ∷ path) few range = (variable_fits q x.0 x.1 few range.0 range.1, literals_fit q path few range.2)
+
+pub range_at : (q : Problem) (path : List (ℕ × ℕ)) (i : ℕ) (d : ℕ × ℕ) → i < length path → AreInRange q path → ((get_or path i d).0 < size q.pattern) × ((get_or path i d).1 < size q.target)
+range_at q [] i d below range = absurd (omega (arith, below))
+range_at q (x ∷ path) zero d below range = (range.0, range.1)
+range_at q (x ∷ path) (suc i) d below range = range_at q path i d (omega (arith, below)) range.2
+
+-- ---- guesses
+
+-- What is chosen of guesses of the path are guesses of the path.
+pub guessed_chosen : (rows : List Row) (path : List (ℕ × ℕ)) (cs chosen : List Change) (needed : ℕ → Bool) → IsChoice rows cs chosen needed → AreGuessed path cs → AreGuessed path chosen
+guessed_chosen rows path _ _ _ (nothing needed) g = tt
+guessed_chosen rows path _ _ _ (keeps c cs chosen needed rest) g = (g.0, guessed_chosen rows path cs chosen _ rest g.1)
+guessed_chosen rows path _ _ _ (passes c cs chosen needed may rest) g = guessed_chosen rows path cs chosen needed rest g.1
+
+-- ---- the line
+
+-- Both are pushed: the changes, then the end.
+gathered : (q : Problem) (rows : List Row) (w : Frame) (path : List (ℕ × ℕ)) (e : End) (refuted : List Ref) (now : List Form → Type 0) (names : ℕ → Ref) (cs : List Change) (old new : List Ref) (result : Result (Unit {0}) AllocError)
+    (forms : List Form) → IsEndPushed q rows path e w old new result forms → now forms → Explained q rows w names cs old forms → AreGathered q rows w path cs e new now result forms
+gathered q rows w path e refuted now names cs old new (Ok u) forms pushed known h = (
+  known,
+  record {
+    own = h.own;
+    explained = h.explained;
+    named = subst (λ (rs : List Ref). AreNamed w forms rs (h.own ++ end_forms q rows path e)) (sym pushed.front) (named_behind w forms old h.own pushed.more (end_forms q rows path e) h.named pushed.named);
+  },
+)
+gathered q rows w path e refuted now names cs old new (Err x) forms pushed known h = tt
+
+pub gather_goes : (q : Problem) (rows : List Row) (w : Frame) (names : ℕ → Ref) (path : List (ℕ × ℕ)) (e : End) (refuted : List Ref) (knows now : List Form → Type 0) (a b c : Option (List Step)) (cs : List Change)
+    (old new : List Ref) (result : Result (Unit {0}) AllocError) → Lasts now → Goes w a b (Knowing knows (AreRowsNamed q rows w names)) (AreChangesPushed q rows w names cs old now (Ok tt))
+    → Goes w b c (IsBegun q rows w names path e refuted) (IsEndPushed q rows path e w old new result)
+    → Goes w a c (Knowing knows (IsBegun q rows w names path e refuted)) (AreGathered q rows w path cs e new now result)
+gather_goes q rows w names path e refuted knows now a b c cs old new result lasts changes ends =
+    goes_then w a b c (Knowing knows (IsBegun q rows w names path e refuted)) (λ forms. now forms × Explained q rows w names cs old forms × AreRefuted q path e w refuted forms) (AreGathered q rows w path cs e new now result)
+    (goes_as w a b (λ forms. Knowing knows (AreRowsNamed q rows w names) forms × AreRefuted q path e w refuted forms) (λ forms. AreChangesPushed q rows w names cs old now (Ok tt) forms × AreRefuted q path e w refuted forms)
+    (Knowing knows (IsBegun q rows w names path e refuted)) (λ forms. now forms × Explained q rows w names cs old forms × AreRefuted q path e w refuted forms)
+    (λ forms h. ((h.0, h.1.rows_named), h.1.refuted_named)) (λ forms h. (h.0.0, h.0.1, h.1))
+    (goes_beside w a b (Knowing knows (AreRowsNamed q rows w names)) (AreChangesPushed q rows w names cs old now (Ok tt)) (AreRefuted q path e w refuted) (refuted_last q path e w refuted) changes))
+    (goes_as w b c (λ forms. IsBegun q rows w names path e refuted forms × Knowing now (Explained q rows w names cs old) forms)
+    (λ forms. IsEndPushed q rows path e w old new result forms × Knowing now (Explained q rows w names cs old) forms)
+    (λ forms. now forms × Explained q rows w names cs old forms × AreRefuted q path e w refuted forms) (AreGathered q rows w path cs e new now result)
+    (λ forms h. (record { rows_named = h.1.rows_named; refuted_named = h.2 }, (h.0, h.1)))
+    (λ forms h. gathered q rows w path e refuted now names cs old new result forms h.0 h.1.0 h.1.1)
+    (goes_beside w b c (IsBegun q rows w names path e refuted) (IsEndPushed q rows path e w old new result) (Knowing now (Explained q rows w names cs old))
+    (λ forms more h. (lasts forms more h.0, explained_last q rows w names cs old forms more h.1)) ends))
+
+-- The path's clause may follow.
+pub dead_follows : (q : Problem) (rows : List Row) (owner : ℕ) (w : Frame) (path : List (ℕ × ℕ)) (changes chosen : List Change) (e : End) (refs : List Ref) (name : Name) (forms : List Form) → IsFrameOf q owner w
+    → Dies q rows path changes e → IsChoice rows changes chosen (among_these (end_needs rows e)) → AreGuessed path chosen → EndExplained q rows w path chosen e refs forms
+    → MayFollow w forms (U name (map (not_there q) path) refs) (pairs_clause q path)
+dead_follows q rows owner w path changes chosen e refs name forms frame dies choice guessed ended = record {
+  made = λ look finds own. dead_laws_hold.line q rows path changes e dies chosen ended.own choice ended.explained guessed look name refs (all_found w forms refs (ended.own ++ end_forms q rows path e) look ended.named finds own);
+  rows = λ k names. named_rows w forms refs (ended.own ++ end_forms q rows path e) ended.named k names;
+  ranges = ap (λ (p : Problem). in_range (variables p) (variables_of (map (not_there q) path))) frame.problem_is ∙ told_laws_hold.range q path dies.range;
+}
+
+-- And is kept.
+pub dead_goes : (q : Problem) (rows : List Row) (w : Frame) (path : List (ℕ × ℕ)) (cs : List Change) (e : End) (refs : List Ref) (now : List Form → Type 0) (a b c : Option (List Step)) (Before : List Form → Type 0) (n : Name)
+    → Lasts now → Goes w a b Before (AreGathered q rows w path cs e refs now (Ok tt)) → Goes w b c (EndExplained q rows w path cs e refs) (IsKept w (Ok n) (pairs_clause q path))
+    → Goes w a c Before (IsDeadName q path w now (Ok (Some n)))
+dead_goes q rows w path cs e refs now a b c Before n lasts first kept =
+    goes_then w a b c Before (AreGathered q rows w path cs e refs now (Ok tt)) (IsDeadName q path w now (Ok (Some n))) first
+    (goes_as w b c (λ forms. EndExplained q rows w path cs e refs forms × now forms) (λ forms. IsKept w (Ok n) (pairs_clause q path) forms × now forms) (AreGathered q rows w path cs e refs now (Ok tt)) (IsDeadName q path w now (Ok (Some n)))
+    (λ forms h. (h.1, h.0)) (λ forms h. (h.1, h.0)) (goes_beside w b c (EndExplained q rows w path cs e refs) (IsKept w (Ok n) (pairs_clause q path)) now lasts kept))
+
+-- After a refusal nothing is claimed.
+pub dead_none : (q : Problem) (path : List (ℕ × ℕ)) (w : Frame) (now : List Form → Type 0) (a b c : Option (List Step)) (Before Claim : List Form → Type 0) (x : AllocError) → Goes w a b Before Claim → c ≡ b
+    → Goes w a c Before (IsDeadName q path w now (Err x))
+dead_none q path w now a b c Before Claim x first same =
+    goes_then w a b c Before Claim (IsDeadName q path w now (Err x)) first (goes_stay w b c Claim (IsDeadName q path w now (Err x)) same (λ forms h. tt))
+
+pub dead_refused : (q : Problem) (path : List (ℕ × ℕ)) (w : Frame) (now : List Form → Type 0) (kept : Option (List Step)) (Before : List Form → Type 0) (x : AllocError) → Goes w kept kept Before (IsDeadName q path w now (Err x))
+dead_refused q path w now kept Before x = goes_stay w kept kept Before (IsDeadName q path w now (Err x)) refl (λ forms h. tt)
+
+-- Where nothing is kept there is no name.
+pub dead_off : (q : Problem) (path : List (ℕ × ℕ)) (w : Frame) (now : List Form → Type 0) (kept : Option (List Step)) (Before : List Form → Type 0) → is_some kept ≡ false → Goes w kept kept Before (IsDeadName q path w now (Ok None))
+dead_off q path w now None Before off = tt
+dead_off q path w now (Some steps) Before off = absurd cc
+
+-- What is chosen for the end.
+pub chosen_for : (rows : List Row) (cs chosen : List Change) (e : PathEnd) (short : Option CountedSet) (values : List ℕ) → IsChoice rows cs chosen (among_these (end_needs rows (end_by e short [])))
+    → IsChoice rows cs chosen (among_these (end_needs rows (end_by e short values)))
+chosen_for rows cs chosen e short values choice = subst (λ (ps : List ℕ). IsChoice rows cs chosen (among_these ps)) (sym (needs_same rows e short values)) choice
+
+-- ---- what is pushed for an end
+
+pub ok_fits : (result : Result (Unit {0}) AllocError) (old new more : List Ref) → OnOk result (new ≡ old ++ more) → AreRefs old → AreRefs more → OnOk result (AreRefs new)
+ok_fits (Ok u) old new more is a b = subst AreRefs (sym is) (refs_behind old more a b)
+ok_fits (Err e) old new more is a b = tt
+
+pub ok_behind : (result : Result (Unit {0}) AllocError) (old mid new more last : List Ref) → mid ≡ old ++ more → OnOk result (new ≡ mid ++ last) → OnOk result (new ≡ old ++ (more ++ last))
+ok_behind (Ok u) old mid new more last first is = is ∙ ap (λ (xs : List Ref). xs ++ last) first ∙ append_assoc old more last
+ok_behind (Err e) old mid new more last first is = tt
+
+pub end_pushed : (q : Problem) (rows : List Row) (w : Frame) (names : ℕ → Ref) (path : List (ℕ × ℕ)) (e f : End) (refuted : List Ref) (kept : Option (List Step)) (result : Result (Unit {0}) AllocError) (old new more : List Ref)
+    → e ≡ f → OnOk result (new ≡ old ++ more) → ((forms : List Form) → IsBegun q rows w names path f refuted forms → AreNamed w forms more (end_forms q rows path f))
+    → Goes w kept kept (IsBegun q rows w names path e refuted) (IsEndPushed q rows path e w old new result)
+end_pushed q rows w names path e f refuted kept result old new more is pushed named =
+    subst (λ (x : End). Goes w kept kept (IsBegun q rows w names path x refuted) (IsEndPushed q rows path x w old new result)) (sym is)
+    (pure_goes w kept result old new more (end_forms q rows path f) (IsBegun q rows w names path f refuted) pushed named)
+
+-- The line of a set.
+pub set_pushed : (q : Problem) (rows : List Row) (w : Frame) (names : ℕ → Ref) (path : List (ℕ × ℕ)) (e : End) (vertices values : List ℕ) (refuted : List Ref) (a b : Option (List Step))
+    (result : Result (Unit {0}) AllocError) (old new : List Ref) → e ≡ Short vertices values → Goes w a b AnyForms (IsSetPushed q vertices values w old new result)
+    → Goes w a b (IsBegun q rows w names path e refuted) (IsEndPushed q rows path e w old new result)
+set_pushed q rows w names path e vertices values refuted a b result old new is goes =
+    subst (λ (x : End). Goes w a b (IsBegun q rows w names path x refuted) (IsEndPushed q rows path x w old new result)) (sym is)
+    (goes_as w a b AnyForms (IsSetPushed q vertices values w old new result) (IsBegun q rows w names path (Short vertices values) refuted) (IsEndPushed q rows path (Short vertices values) w old new result)
+    (λ forms h. tt) (λ forms h. h) goes)
+
+-- After a refusal nothing is claimed.
+pub end_none : (q : Problem) (rows : List Row) (w : Frame) (names : ℕ → Ref) (path : List (ℕ × ℕ)) (e : End) (refuted : List Ref) (kept : Option (List Step)) (old new : List Ref) (x : AllocError)
+    → Goes w kept kept (IsBegun q rows w names path e refuted) (IsEndPushed q rows path e w old new (Err x))
+end_none q rows w names path e refuted kept old new x = goes_stay w kept kept (IsBegun q rows w names path e refuted) (IsEndPushed q rows path e w old new (Err x)) refl (λ forms h. tt)
+
+-- More needed vertices are as good.
+pub choice_fewer : (rows : List Row) (cs chosen : List Change) (more fewer : ℕ → Bool) (result : Result (Unit {0}) AllocError) → IsWithin fewer more → OnOk result (IsChoice rows cs chosen more) → OnOk result (IsChoice rows cs chosen fewer)
+choice_fewer rows cs chosen more fewer (Ok u) within choice = walk_laws_hold.fewer rows cs chosen more fewer within choice
+choice_fewer rows cs chosen more fewer (Err e) within choice = tt
+
+-- Marks that were written back are those that were written.
+pub written_back : (xs ys : List Bool) (n : ℕ) → length xs ≡ length ys → n ≡ length ys → take n (xs ++ drop (length xs) ys) ≡ xs
+written_back xs ys n same is =
+    ap (λ (zs : List Bool). take n (xs ++ zs)) (drop_past ys (length xs) (omega (arith, same))) ∙ ap (λ (zs : List Bool). take n zs) (append-nil xs) ∙ take_all xs n (omega (arith, same, is))
+
+-- What propagation tells is in range where its end is.
+pub failed_in : (q : Problem) (rows : List Row) (f : Failure) (short : Option CountedSet) → ends.IsEndIn q rows (end_of f short) → IsEndIn q rows (end_by (path_end.Failed f) short [])
+failed_in q rows (failure.Empty p) short h = h
+failed_in q rows (failure.Whole name) short h = h
+failed_in q rows (failure.Short n) (Some set) h = (h.0, h.1)
+failed_in q rows (failure.Short n) None h = (h.0, h.1)
+
+-- A line that is kept is the last one.
+pub last_kept : (owner : ℕ) (n : Name) (old new : Option (List Step)) (step : Step) → Keeps {E = AllocError} (Ok n) owner old new step → IsLastOf new n
+last_kept owner n None None step k = tt
+last_kept owner n None (Some ys) step k = absurd k
+last_kept owner n (Some xs) None step k = absurd k
+last_kept owner n (Some xs) (Some ys) step k =
+    omega (arith, ap (λ (m : Name). m.number) k.0, ap (λ (ss : List Step). length ss) k.1, length-append xs (named owner (length xs) step ∷ []))

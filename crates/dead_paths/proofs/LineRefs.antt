@@ -1,0 +1,171 @@
+-- References to lines of the encoding: they are in range, name their forms, and a set's forms can be added up.
+use Rattle.std.proofs.Common.{◌≡◌, ℕ, suc, ◌+◌, ◌-◌, ◌^◌, ◌<◌, ◌≤◌, ◌==◌, Bool, true, false, ◌||◌, List, [], ◌∷◌, ◌++◌, length, slice_index, refl, sym, ap, subst, ◌∙◌, length-append, arith, Option, Some, Result, Ok, Err, append-nil, ℤ, pos, negsuc, unsigned_abs}
+use Rattle.std.specs.Prelude.{map, slice_get}
+use Rattle.std.proofs.lemmas.Bool.{eq-eqb}
+use Rattle.std.specs.declared.alloc.AllocError.{AllocError}
+use Rattle.graph_theory.specs.Graph.{size}
+use Rattle.graph_theory.specs.Embedding.{Problem}
+use Rattle.proof_theory.specs.Forms.{Form, form_of}
+use Rattle.log_theory.specs.declared.step.Name.{Name}
+use Rattle.log_theory.specs.declared.step.Step.{Step}
+use Rattle.log_theory.specs.declared.step.Ref.{Ref}
+use Rattle.log_theory.specs.declared.step.Ref.TheVariants.{Line, Made}
+use Rattle.log_theory.specs.LogText.{IsRef, AreRefs}
+use Rattle.log_theory.specs.Lookups.{is_among}
+use Rattle.encoding_theory.specs.Variables.{variable}
+use Rattle.encoding_theory.specs.Encoding.{encoding, every, terms_where, at_least, at_most, at_most_target}
+use Rattle.encoding_theory.specs.Places.{at_least_place, at_most_place, at_most_target_place}
+use Rattle.encoding_theory.proofs.PlaceProofs.{place_laws}
+use Rattle.pb_terms.proofs.Ruled.{size-sorted}
+use Rattle.pb_encoding.proofs.TermLists.{size-terms}
+use Rattle.pb_encoding.proofs.LineNumbers.{at_least_line, at_most_line, at_most_target_line}
+use Rattle.forcing_theory.specs.Sums.{sum_from, IsSmall, AreSmall}
+use Rattle.reason_theory.specs.Reasons.{at_leasts, set_form}
+use Rattle.kept_lines.specs.Frames.{Frame, IsFrameOf, IsNamed, AreNamed, IsAddable, Goes, Named, AnyForms, IsKept}
+use Rattle.kept_lines.proofs.Going.{goes_as}
+use Rattle.kept_lines.proofs.Naming.{line_named, named_behind}
+use Rattle.dead_paths.specs.Lines.{at_least_ref, at_most_ref, at_most_target_ref, at_least_refs, set_refs, AreVertices, AreValues, IsSetKept}
+use Rattle.dead_theory.specs.Changes.{set_forms}
+use Rattle.dead_paths.specs.Explaining.{IsLimited, Adds}
+use Rattle.dead_paths.proofs.Marking.{among_at}
+
+-- ---- in lists
+
+pub vertex_in : (q : Problem) (vertices : List ℕ) (i p : ℕ) → AreVertices q vertices → i < length vertices → slice_index vertices i ≡ p → p < size q.pattern
+vertex_in q vertices i p h below is = h p (among_at vertices i p below is)
+
+among_first : (p : ℕ) (ps : List ℕ) → is_among p (p ∷ ps) ≡ true
+among_first p ps = ap (λ (b : Bool). b || is_among p ps) (eq-eqb p p refl)
+
+among_later : (r p : ℕ) (ps : List ℕ) → is_among r ps ≡ true → is_among r (p ∷ ps) ≡ true
+among_later r p ps h = by (p == r)
+  where
+    by : (b : Bool) → (b || is_among r ps) ≡ true
+    by true = refl
+    by false = h
+
+-- ---- one reference
+
+pub at_least_fits : (q : Problem) (p : ℕ) → IsLimited q → p < size q.pattern → IsRef (at_least_ref q p)
+at_least_fits q p few inside = let e = at_least_line q p in let l = few.pattern in omega (arith, e, l, inside)
+
+pub at_most_fits : (q : Problem) (p : ℕ) → IsLimited q → p < size q.pattern → IsRef (at_most_ref q p)
+at_most_fits q p few inside = let e = at_most_line q p in let l = few.pattern in omega (arith, e, l, inside)
+
+pub at_most_target_fits : (q : Problem) (t : ℕ) → IsLimited q → t < size q.target → IsRef (at_most_target_ref q t)
+at_most_target_fits q t few inside = let e = at_most_target_line q (size q.pattern) t refl in let l = few.pattern in let m = few.target in omega (arith, e, l, m, inside)
+
+at_place : (q : Problem) (owner : ℕ) (w : Frame) (forms : List Form) (place : ℕ) (f : Form) → IsFrameOf q owner w → slice_get (encoding q) place ≡ Some f → IsNamed w forms (Line (place + 1)) f
+at_place q owner w forms place f frame at =
+    let e : place + 1 - 1 ≡ place = omega arith in line_named q owner w forms (place + 1) f frame (omega arith) (ap (slice_get (encoding q)) e ∙ at)
+
+pub at_least_named : (q : Problem) (owner : ℕ) (w : Frame) (forms : List Form) (p : ℕ) → IsFrameOf q owner w → p < size q.pattern → IsNamed w forms (at_least_ref q p) (at_least q p)
+at_least_named q owner w forms p frame inside = at_place q owner w forms (at_least_place q p) (at_least q p) frame ((place_laws q).at_least p inside)
+
+pub at_most_named : (q : Problem) (owner : ℕ) (w : Frame) (forms : List Form) (p : ℕ) → IsFrameOf q owner w → p < size q.pattern → IsNamed w forms (at_most_ref q p) (at_most q p)
+at_most_named q owner w forms p frame inside = at_place q owner w forms (at_most_place q p) (at_most q p) frame ((place_laws q).at_most p inside)
+
+at_most_target_named : (q : Problem) (owner : ℕ) (w : Frame) (forms : List Form) (t : ℕ) → IsFrameOf q owner w → t < size q.target → IsNamed w forms (at_most_target_ref q t) (at_most_target q t)
+at_most_target_named q owner w forms t frame inside = at_place q owner w forms (at_most_target_place q t) (at_most_target q t) frame ((place_laws q).at_most_target t inside)
+
+-- ---- several
+
+pub refs_behind : (rs ss : List Ref) → AreRefs rs → AreRefs ss → AreRefs (rs ++ ss)
+refs_behind [] ss a b = b
+refs_behind (r ∷ rs) ss a b = (a.0, refs_behind rs ss a.1 b)
+
+pub at_leasts_fit : (q : Problem) (vertices : List ℕ) → IsLimited q → AreVertices q vertices → AreRefs (at_least_refs q vertices)
+at_leasts_fit q [] few h = tt
+at_leasts_fit q (p ∷ ps) few h = (at_least_fits q p few (h p (among_first p ps)), at_leasts_fit q ps few (λ r among. h r (among_later r p ps among)))
+
+at_mosts_fit : (q : Problem) (values : List ℕ) → IsLimited q → AreValues q values → AreRefs (map (at_most_target_ref q) values)
+at_mosts_fit q [] few h = tt
+at_mosts_fit q (p ∷ ps) few h = (at_most_target_fits q p few (h p (among_first p ps)), at_mosts_fit q ps few (λ r among. h r (among_later r p ps among)))
+
+pub set_refs_fit : (q : Problem) (vertices values : List ℕ) → IsLimited q → AreVertices q vertices → AreValues q values → AreRefs (set_refs q vertices values)
+set_refs_fit q vertices values few vs us = refs_behind (at_least_refs q vertices) (map (at_most_target_ref q) values) (at_leasts_fit q vertices few vs) (at_mosts_fit q values few us)
+
+pub at_leasts_named : (q : Problem) (owner : ℕ) (w : Frame) (forms : List Form) (vertices : List ℕ) → IsFrameOf q owner w → AreVertices q vertices → AreNamed w forms (at_least_refs q vertices) (at_leasts q vertices)
+at_leasts_named q owner w forms [] frame h = tt
+at_leasts_named q owner w forms (p ∷ ps) frame h =
+    (at_least_named q owner w forms p frame (h p (among_first p ps)), at_leasts_named q owner w forms ps frame (λ r among. h r (among_later r p ps among)))
+
+at_mosts_named : (q : Problem) (owner : ℕ) (w : Frame) (forms : List Form) (values : List ℕ) → IsFrameOf q owner w → AreValues q values → AreNamed w forms (map (at_most_target_ref q) values) (map (at_most_target q) values)
+at_mosts_named q owner w forms [] frame h = tt
+at_mosts_named q owner w forms (p ∷ ps) frame h =
+    (at_most_target_named q owner w forms p frame (h p (among_first p ps)), at_mosts_named q owner w forms ps frame (λ r among. h r (among_later r p ps among)))
+
+pub set_refs_named : (q : Problem) (owner : ℕ) (w : Frame) (forms : List Form) (p : ℕ) (rest values : List ℕ) → IsFrameOf q owner w → AreVertices q (p ∷ rest) → AreValues q values
+    → AreNamed w forms (set_refs q (p ∷ rest) values) (at_least q p ∷ (at_leasts q rest ++ map (at_most_target q) values))
+set_refs_named q owner w forms p rest values frame vs us =
+    named_behind w forms (at_least_refs q (p ∷ rest)) (at_leasts q (p ∷ rest)) (map (at_most_target_ref q) values) (map (at_most_target q) values)
+    (at_leasts_named q owner w forms (p ∷ rest) frame vs) (at_mosts_named q owner w forms values frame us)
+
+-- ---- sizes
+
+small_form : (c b : ℤ) (number : ℕ → ℕ) (n : ℕ) → n ≤ 8192 → unsigned_abs c ≤ 1 → unsigned_abs b ≤ 1 → IsSmall 8192 (form_of (terms_where c every number n) b)
+small_form c b number n few small low =
+    let s = size-terms c every number n small in
+    let t = size-sorted (terms_where c every number n) in
+    record { bound_fits = omega (arith, low); sum_fits = omega (arith, s, t, few) }
+
+at_leasts_small : (q : Problem) (vertices : List ℕ) → IsLimited q → AreSmall 8192 (at_leasts q vertices)
+at_leasts_small q [] few = tt
+at_leasts_small q (p ∷ ps) few = (small_form (pos 1) (pos 1) (variable q p) (size q.target) few.target (omega arith) (omega arith), at_leasts_small q ps few)
+
+at_mosts_small : (q : Problem) (values : List ℕ) → IsLimited q → AreSmall 8192 (map (at_most_target q) values)
+at_mosts_small q [] few = tt
+at_mosts_small q (t ∷ ts) few =
+    (let l = few.pattern in small_form (negsuc 0) (negsuc 0) (λ p. variable q p t) (size q.pattern) (omega (arith, l)) (omega arith) (omega arith), at_mosts_small q ts few)
+
+small_behind : (n : ℕ) (fs gs : List Form) → AreSmall n fs → AreSmall n gs → AreSmall n (fs ++ gs)
+small_behind n [] gs a b = b
+small_behind n (f ∷ fs) gs a b = (a.0, small_behind n fs gs a.1 b)
+
+long_of : {A B : Type 0} (f : A → B) (xs : List A) → length (map f xs) ≡ length xs
+long_of f [] = refl
+long_of f (x ∷ xs) = ap (λ (n : ℕ). suc n) (long_of f xs)
+
+-- The forms of a set add up.
+set_addable : (q : Problem) (p : ℕ) (rest values : List ℕ) → IsLimited q → length (set_refs q (p ∷ rest) values) < 2 ^ 64 → IsAddable (at_least q p ∷ (at_leasts q rest ++ map (at_most_target q) values))
+set_addable q p rest values few short = record {
+  most = 8192;
+  small = small_behind 8192 (at_leasts q (p ∷ rest)) (map (at_most_target q) values) (at_leasts_small q (p ∷ rest) few) (at_mosts_small q values few);
+  fits = (
+      let e = length-append (at_leasts q (p ∷ rest)) (map (at_most_target q) values) in
+      let d = length-append (at_least_refs q (p ∷ rest)) (map (at_most_target_ref q) values) in
+      let a = long_of (at_least q) (p ∷ rest) in
+      let b = long_of (at_most_target q) values in
+      let g = long_of (at_least_ref q) (p ∷ rest) in
+      let h = long_of (at_most_target_ref q) values in
+      omega (arith, a, b, d, e, g, h, short));
+}
+
+-- What summing the references of a set keeps.
+pub set_goes : (q : Problem) (owner : ℕ) (old new : Option (List Step)) (result : Result Name AllocError) (vertices values : List ℕ) (refs : List Ref) → IsLimited q → 0 < length vertices
+    → refs ≡ set_refs q vertices values → length refs < 2 ^ 64 → AreVertices q vertices → AreValues q values
+    → ((w : Frame) (f : Form) (gs : List Form) → w.owner ≡ owner → IsAddable (f ∷ gs) → Goes w old new (Named w refs (f ∷ gs)) (IsKept w result (sum_from f gs)))
+    → (w : Frame) → IsFrameOf q owner w → Goes w old new AnyForms (IsSetKept q vertices values w result)
+set_goes q owner old new result [] values refs few some is short vs us goes w frame = absurd (omega (arith, some))
+set_goes q owner old new result (p ∷ rest) values refs few some is short vs us goes w frame =
+    goes_as w old new (Named w refs (at_least q p ∷ (at_leasts q rest ++ map (at_most_target q) values))) (IsKept w result (set_form q p rest values)) AnyForms (IsSetKept q (p ∷ rest) values w result)
+    (λ forms any. subst (λ (rs : List Ref). AreNamed w forms rs (at_least q p ∷ (at_leasts q rest ++ map (at_most_target q) values))) (sym is) (set_refs_named q owner w forms p rest values frame vs us))
+    (λ forms kept. kept)
+    (goes w (at_least q p) (at_leasts q rest ++ map (at_most_target q) values) frame.owner_is
+    (set_addable q p rest values few (let e = ap (λ (rs : List Ref). length rs) is in omega (arith, e, short))))
+
+-- After a refusal nothing is claimed.
+pub set_none : (q : Problem) (vertices values : List ℕ) (w : Frame) (e : AllocError) (forms : List Form) → 0 < length vertices → IsSetKept q vertices values w (Err e) forms
+set_none q [] values w e forms some = absurd (omega (arith, some))
+set_none q (p ∷ rest) values w e forms some = tt
+
+-- ---- the reference to a set's line
+
+pub set_pushed_none : (q : Problem) (vertices values : List ℕ) (w : Frame) (refs : List Ref) (forms : List Form) → length vertices ≡ 0 → Adds w refs refs (set_forms q vertices values) forms
+set_pushed_none q [] values w refs forms none = record { more = []; front = sym (append-nil refs); named = tt }
+set_pushed_none q (p ∷ rest) values w refs forms none = absurd (omega (arith, none))
+
+pub set_pushed_made : (q : Problem) (vertices values : List ℕ) (w : Frame) (n : Name) (old new : List Ref) (forms : List Form) → new ≡ old ++ Made n ∷ [] → IsSetKept q vertices values w (Ok n) forms
+    → Adds w old new (set_forms q vertices values) forms
+set_pushed_made q [] values w n old new forms pushed kept = absurd kept
+set_pushed_made q (p ∷ rest) values w n old new forms pushed kept = record { more = Made n ∷ []; front = pushed; named = (kept, tt) }

@@ -1,0 +1,66 @@
+use Rattle.std.proofs.Common.{◌≡◌, ◌-◌, ◌<◌, ◌∷◌, suc, List, ap, ◌∙◌, refl, length, drop, subst, sym, arith}
+use Rattle.propagation.specs.declared.change.Entry.{Entry}
+use Rattle.log_theory.specs.LogText.{AreRefs}
+use Rattle.propagation.specs.Recording.{Change, change_of}
+use Rattle.dead_theory.specs.Changes.{IsInProblem}
+use Rattle.kept_lines.specs.Frames.{Goes}
+use Rattle.dead_paths.specs.Making.{AreRowsNamed}
+use Rattle.dead_paths.specs.Choosing.{changes_in, IsOfRow}
+use Rattle.dead_paths.specs.Explaining.{Explained, Knowing}
+use Rattle.dead_paths.proofs.Causes.{explained_goes, explained_none}
+use Rattle.dead_paths.proofs.Ends.{frame_owner, nameable_at, changes_drop, drop_past}
+use Rattle.dead_paths.proofs.dead_line.push_chosen.Goals as goal
+
+pub loop-left-init : goal.loop-left-init
+loop-left-init g c = record {
+  within = omega arith;
+  fits = subst AreRefs (sym c.requires.none) tt;
+  owner = refl;
+  notes = refl;
+  spare = refl;
+  goes = λ w frame. explained_none c.args.q.now c.args.rows.now w (g.N.RowNames.names c.args.names.now) (g.M.LineMaker.knows c.args.maker.now c.args.q.now w) (g.K.Keeper.kept c.args.keeper.now)
+      (changes_in c.args.numbers.now (drop (length c.args.chosen.now) c.args.chosen.now)) c.args.refs.now.items (ap (changes_in c.args.numbers.now) (drop_past c.args.chosen.now (length c.args.chosen.now) (omega arith))) c.requires.none;
+}
+
+pub push_change-requires-clause-in_problem : goal.push_change-requires-clause-in_problem
+push_change-requires-clause-in_problem g c =
+    let within = c.loop-left.invariant.within in
+    let some = c.loop-left-test.true in
+    let below : c.loop-left.left - 1 < length c.args.chosen.now = omega (arith, within, some) in
+    let h = nameable_at c.args.q.now c.args.rows.now c.args.numbers.now c.args.chosen.now (c.loop-left.left - 1) c.index-chosen-left.result below c.requires.nameable in
+    subst (λ (e : Entry). IsInProblem c.args.q.now (change_of c.args.numbers.now e)) (sym c.index-chosen-left.is) h.0
+
+pub push_change-requires-clause-of_row : goal.push_change-requires-clause-of_row
+push_change-requires-clause-of_row g c =
+    let within = c.loop-left.invariant.within in
+    let some = c.loop-left-test.true in
+    let below : c.loop-left.left - 1 < length c.args.chosen.now = omega (arith, within, some) in
+    let h = nameable_at c.args.q.now c.args.rows.now c.args.numbers.now c.args.chosen.now (c.loop-left.left - 1) c.index-chosen-left.result below c.requires.nameable in
+    subst (λ (e : Entry). IsOfRow c.args.rows.now (change_of c.args.numbers.now e)) (sym c.index-chosen-left.is) h.1
+
+pub loop-left-preserved : goal.loop-left-preserved
+loop-left-preserved g c =
+    let i = c.loop-left.invariant in
+    let within = i.within in
+    let some = c.loop-left-test.true in
+    let below : c.loop-left.left - 1 < length c.args.chosen.now = omega (arith, within, some) in
+    let is : c.loop-left.left ≡ suc (c.loop-left.left - 1) = omega (arith, some) in
+    let e = c.index-chosen-left.result in
+    let more : changes_in c.args.numbers.now (drop (c.loop-left.left - 1) c.args.chosen.now) ≡ change_of c.args.numbers.now c.index-chosen-left.result ∷ changes_in c.args.numbers.now (drop c.loop-left.left c.args.chosen.now) =
+    changes_drop c.args.numbers.now c.args.chosen.now (c.loop-left.left - 1) c.loop-left.left c.index-chosen-left.result below is
+    ∙ ap (λ (x : Entry). change_of c.args.numbers.now x ∷ changes_in c.args.numbers.now (drop c.loop-left.left c.args.chosen.now)) (sym c.index-chosen-left.is) in
+    record {
+      within = omega (arith, within);
+      fits = c.in_ok-push_change.ensures.fits;
+      owner = c.push_change.ensures.owner ∙ i.owner;
+      notes = c.push_change.ensures.notes ∙ i.notes;
+      spare = c.push_change.ensures.spare ∙ i.spare;
+      goes = λ w frame.
+          subst (λ (cs : List Change). Goes w (g.K.Keeper.kept c.args.keeper.now) (g.K.Keeper.kept c.push_change.new.keeper)
+          (Knowing (g.M.LineMaker.knows c.args.maker.now c.args.q.now w) (AreRowsNamed c.args.q.now c.args.rows.now w (g.N.RowNames.names c.args.names.now)))
+          (Knowing (g.M.LineMaker.knows c.push_change.new.maker c.args.q.now w) (Explained c.args.q.now c.args.rows.now w (g.N.RowNames.names c.args.names.now) cs c.push_change.new.refs.items))) (sym more)
+          (explained_goes c.args.q.now c.args.rows.now w (g.N.RowNames.names c.args.names.now) (g.M.LineMaker.knows c.args.maker.now c.args.q.now w) (g.M.LineMaker.knows c.loop-left.maker c.args.q.now w)
+          (g.M.LineMaker.knows c.push_change.new.maker c.args.q.now w) (g.K.Keeper.kept c.args.keeper.now) (g.K.Keeper.kept c.loop-left.keeper) (g.K.Keeper.kept c.push_change.new.keeper)
+          (changes_in c.args.numbers.now (drop c.loop-left.left c.args.chosen.now)) (change_of c.args.numbers.now c.index-chosen-left.result) c.loop-left.refs.items c.push_change.new.refs.items (i.goes w frame)
+          (c.in_ok-push_change.ensures.goes w (frame_owner c.args.q.now (g.K.Keeper.owner c.args.keeper.now) (g.K.Keeper.owner c.loop-left.keeper) w i.owner frame)));
+    }

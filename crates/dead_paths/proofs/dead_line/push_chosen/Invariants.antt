@@ -1,0 +1,22 @@
+use Rattle.std.proofs.Common.{◌≡◌, drop, ◌≤◌, length}
+use Rattle.log_theory.specs.LogText.{AreRefs}
+use Rattle.kept_lines.specs.Frames.{Frame, IsFrameOf, Goes}
+use Rattle.dead_paths.specs.Making.{AreRowsNamed}
+use Rattle.dead_paths.specs.Choosing.{changes_in}
+use Rattle.dead_paths.specs.Explaining.{Explained, Knowing}
+use Rattle.dead_paths.proofs.dead_line.push_chosen.Given as goal
+
+abbrev pub decreases-loop-left : goal.decreases-loop-left
+decreases-loop-left g l = l.left
+
+abbrev pub invariant-loop-left : goal.invariant-loop-left
+invariant-loop-left g l = record {
+  within : l.left ≤ length l.chosen;
+  fits : AreRefs l.refs.items;
+  owner : g.K.Keeper.owner l.keeper ≡ g.K.Keeper.owner l.initial.keeper;
+  notes : g.K.Keeper.notes l.keeper ≡ g.K.Keeper.notes l.initial.keeper;
+  spare : g.K.Keeper.spare l.keeper ≡ g.K.Keeper.spare l.initial.keeper;
+  goes : (w : Frame) → IsFrameOf l.q (g.K.Keeper.owner l.initial.keeper) w → Goes w (g.K.Keeper.kept l.initial.keeper) (g.K.Keeper.kept l.keeper)
+      (Knowing (g.M.LineMaker.knows l.initial.maker l.q w) (AreRowsNamed l.q l.rows w (g.N.RowNames.names l.names)))
+      (Knowing (g.M.LineMaker.knows l.maker l.q w) (Explained l.q l.rows w (g.N.RowNames.names l.names) (changes_in l.numbers (drop l.left l.chosen)) l.refs.items));
+}

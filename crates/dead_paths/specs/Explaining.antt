@@ -1,0 +1,129 @@
+-- References to forms that explain changes, to those that an end comes to, and the name of a dead path's clause.
+
+use Rattle.std.specs.Prelude.{◌≡◌, ℕ, ◌<◌, ◌≤◌, List, [], ◌∷◌, ◌++◌, length, Option, Some, None, Result, Ok, Err, OnOk}
+use Rattle.std.specs.declared.alloc.AllocError.{AllocError}
+use Rattle.graph_theory.specs.Graph.{size}
+use Rattle.graph_theory.specs.Embedding.{Problem}
+use Rattle.proof_theory.specs.Forms.{Form}
+use Rattle.log_theory.specs.declared.step.Name.{Name}
+use Rattle.log_theory.specs.declared.step.Step.{Step}
+use Rattle.log_theory.specs.declared.step.Ref.{Ref}
+use Rattle.log_theory.specs.declared.step.Ref.TheVariants.{Made}
+use Rattle.reason_theory.specs.Reasons.{pairs_clause, value_clauses, vertices_of}
+use Rattle.nogood_book.specs.Rows.{path_at}
+use Rattle.nogood_book.specs.declared.row.Row.{Row}
+use Rattle.nogood_book.specs.Places.{IsNogoodRow}
+use Rattle.propagation.specs.Recording.{Change, CountedSet}
+use Rattle.dead_theory.specs.Changes.{ExplainsChange, ExplainAll, set_forms}
+use Rattle.dead_theory.specs.Ends.{End, Empty, Whole, Short, Exhausted, end_of, end_forms}
+use Rattle.kept_lines.specs.Frames.{Frame, IsNamed, AreNamed}
+use Rattle.dead_paths.specs.declared.dead_line.PathEnd.{PathEnd}
+use Rattle.dead_paths.specs.declared.dead_line.PathEnd.TheVariants as path_end
+use Rattle.dead_paths.specs.Lines.{at_least_refs, AreVertices, AreValues}
+use Rattle.dead_paths.specs.Making.{AreRowsNamed}
+
+-- ---- limits
+
+-- The limits on the graphs.
+pub record IsLimited (q : Problem) : Type 0 where
+  pub pattern : size q.pattern ≤ 1024
+  pub target : size q.target ≤ 8192
+
+-- ---- changes
+
+-- The references name forms that explain the changes, and those of nogood rows their clauses.
+pub record Explained (q : Problem) (rows : List Row) (w : Frame) (names : ℕ → Ref) (cs : List Change) (refs : List Ref) (forms : List Form) : Type 0 where
+  pub rows_named : AreRowsNamed q rows w names forms
+  pub own : List Form
+  pub explained : ExplainAll q rows cs own
+  pub named : AreNamed w forms refs own
+
+-- What a maker knows beside it.
+abbrev pub Knowing : (List Form → Type 0) → (List Form → Type 0) → List Form → Type 0
+Knowing knows claim forms = knows forms × claim forms
+
+-- So it is where memory sufficed.
+abbrev pub Sufficing : Result (Unit {0}) AllocError → (List Form → Type 0) → (List Form → Type 0) → List Form → Type 0
+Sufficing result knows claim forms = OnOk result (knows forms × claim forms)
+
+-- ---- ends
+
+-- The end that the search tells, with the set that was found short, and the values that were refuted.
+abbrev pub end_by : PathEnd → Option CountedSet → List ℕ → End
+end_by (path_end.Failed f) short values = end_of f short
+end_by (path_end.Exhausted p) short values = Exhausted p values
+
+-- Its numbers are in range.
+abbrev pub IsEndIn : Problem → List Row → End → Type 0
+IsEndIn q rows (Empty p) = p < size q.pattern
+IsEndIn q rows (Whole name) = IsNogoodRow rows name
+IsEndIn q rows (Short vertices values) = AreVertices q vertices × AreValues q values
+IsEndIn q rows (Exhausted p values) = p < size q.pattern
+
+-- The references of refuted values name their clauses.
+abbrev pub AreRefuted : Problem → List (ℕ × ℕ) → End → Frame → List Ref → List Form → Type 0
+AreRefuted q path (Exhausted p values) w refs forms = AreNamed w forms refs (value_clauses q path p values)
+AreRefuted q path (Empty p) w refs forms = Unit {0}
+AreRefuted q path (Whole name) w refs forms = Unit {0}
+AreRefuted q path (Short vertices values) w refs forms = Unit {0}
+
+-- The references name forms that explain the changes, and then those that the end comes to.
+pub record EndExplained (q : Problem) (rows : List Row) (w : Frame) (path : List (ℕ × ℕ)) (cs : List Change) (e : End) (refs : List Ref) (forms : List Form) : Type 0 where
+  pub own : List Form
+  pub explained : ExplainAll q rows cs own
+  pub named : AreNamed w forms refs (own ++ end_forms q rows path e)
+
+-- ---- dead paths
+
+-- What has to be so of the forms before: what the maker knows, and that the references of rows and of refuted values name their clauses.
+pub record IsBegun (q : Problem) (rows : List Row) (w : Frame) (names : ℕ → Ref) (path : List (ℕ × ℕ)) (e : End) (refuted : List Ref) (forms : List Form) : Type 0 where
+  pub rows_named : AreRowsNamed q rows w names forms
+  pub refuted_named : AreRefuted q path e w refuted forms
+
+-- The name that is answered is that of the path's clause. There is one wherever lines are kept.
+abbrev pub IsDeadName : Problem → List (ℕ × ℕ) → Frame → (List Form → Type 0) → Result (Option Name) AllocError → List Form → Type 0
+IsDeadName q path w knows (Ok (Some n)) forms = knows forms × IsNamed w forms (Made n) (pairs_clause q path)
+IsDeadName q path w knows (Ok None) forms = ⊥
+IsDeadName q path w knows (Err e) forms = Unit {0}
+
+-- The name is that of the last line, where lines are kept.
+abbrev pub IsLastOf : Option (List Step) → Name → Type 0
+IsLastOf None n = Unit {0}
+IsLastOf (Some lines) n = n.number ≡ length lines
+
+-- ---- what is pushed
+
+-- References are pushed that name these forms.
+pub record Adds (w : Frame) (old new : List Ref) (fs : List Form) (forms : List Form) : Type 0 where
+  pub more : List Ref
+  pub front : new ≡ old ++ more
+  pub named : AreNamed w forms more fs
+
+-- To the lines that a nogood row needs: its vertices', and its own.
+abbrev pub nogood_refs : Problem → List Row → (ℕ → Ref) → ℕ → List Ref
+nogood_refs q rows names k = at_least_refs q (vertices_of (path_at rows k)) ++ names k ∷ []
+
+-- To the line of a set.
+abbrev pub IsSetPushed : Problem → List ℕ → List ℕ → Frame → List Ref → List Ref → Result (Unit {0}) AllocError → List Form → Type 0
+IsSetPushed q vertices values w old new result forms = OnOk result (Adds w old new (set_forms q vertices values) forms)
+
+-- To forms that explain a change.
+pub record AddsFor (q : Problem) (rows : List Row) (c : Change) (w : Frame) (old new : List Ref) (forms : List Form) : Type 0 where
+  pub own : List Form
+  pub explains : ExplainsChange q rows c own
+  pub adds : Adds w old new own forms
+
+abbrev pub IsChangePushed : Problem → List Row → Change → Frame → List Ref → List Ref → (List Form → Type 0) → Result (Unit {0}) AllocError → List Form → Type 0
+IsChangePushed q rows c w old new knows result forms = OnOk result (knows forms × AddsFor q rows c w old new forms)
+
+-- To forms that explain changes.
+abbrev pub AreChangesPushed : Problem → List Row → Frame → (ℕ → Ref) → List Change → List Ref → (List Form → Type 0) → Result (Unit {0}) AllocError → List Form → Type 0
+AreChangesPushed q rows w names cs refs knows result forms = OnOk result (knows forms × Explained q rows w names cs refs forms)
+
+-- To the forms that an end comes to.
+abbrev pub IsEndPushed : Problem → List Row → List (ℕ × ℕ) → End → Frame → List Ref → List Ref → Result (Unit {0}) AllocError → List Form → Type 0
+IsEndPushed q rows path e w old new result forms = OnOk result (Adds w old new (end_forms q rows path e) forms)
+
+-- To the forms that explain changes, and then to those that the end comes to.
+abbrev pub AreGathered : Problem → List Row → Frame → List (ℕ × ℕ) → List Change → End → List Ref → (List Form → Type 0) → Result (Unit {0}) AllocError → List Form → Type 0
+AreGathered q rows w path cs e refs knows result forms = OnOk result (knows forms × EndExplained q rows w path cs e refs forms)

@@ -1,0 +1,4 @@
+pub mod Lines
+pub mod Making
+pub mod Choosing
+pub mod Explaining

@@ -1,0 +1,43 @@
+-- References to lines of the encoding, and the lines of sets.
+
+use Rattle.std.specs.Prelude.{◌≡◌, ℕ, ◌+◌, ◌<◌, true, List, [], ◌∷◌, ◌++◌, map, Result}
+use Rattle.std.specs.declared.alloc.AllocError.{AllocError}
+use Rattle.graph_theory.specs.Graph.{size}
+use Rattle.graph_theory.specs.Embedding.{Problem}
+use Rattle.proof_theory.specs.Forms.{Form}
+use Rattle.log_theory.specs.declared.step.Name.{Name}
+use Rattle.log_theory.specs.declared.step.Ref.{Ref}
+use Rattle.log_theory.specs.declared.step.Ref.TheVariants.{Line}
+use Rattle.log_theory.specs.Lookups.{is_among}
+use Rattle.encoding_theory.specs.Places.{at_least_place, at_most_place, at_most_target_place}
+use Rattle.reason_theory.specs.Reasons.{set_form}
+use Rattle.kept_lines.specs.Frames.{Frame, IsKept}
+
+-- That p goes somewhere; that it goes to one place; that one vertex goes to t.
+abbrev pub at_least_ref : Problem → ℕ → Ref
+at_least_ref q p = Line (at_least_place q p + 1)
+
+abbrev pub at_most_ref : Problem → ℕ → Ref
+at_most_ref q p = Line (at_most_place q p + 1)
+
+abbrev pub at_most_target_ref : Problem → ℕ → Ref
+at_most_target_ref q t = Line (at_most_target_place q t + 1)
+
+abbrev pub at_least_refs : Problem → List ℕ → List Ref
+at_least_refs q vertices = map (at_least_ref q) vertices
+
+-- What the line of a set sums.
+abbrev pub set_refs : Problem → List ℕ → List ℕ → List Ref
+set_refs q vertices values = at_least_refs q vertices ++ map (at_most_target_ref q) values
+
+-- All are vertices of the pattern; all are vertices of the target.
+abbrev pub AreVertices : Problem → List ℕ → Type 0
+AreVertices q vertices = (p : ℕ) → is_among p vertices ≡ true → p < size q.pattern
+
+abbrev pub AreValues : Problem → List ℕ → Type 0
+AreValues q values = (u : ℕ) → is_among u values ≡ true → u < size q.target
+
+-- The name that is answered is that of the set's form.
+abbrev pub IsSetKept : Problem → List ℕ → List ℕ → Frame → Result Name AllocError → List Form → Type 0
+IsSetKept q [] values w result forms = ⊥
+IsSetKept q (p ∷ rest) values w result forms = IsKept w result (set_form q p rest values) forms

@@ -1,0 +1,87 @@
+//! References to lines of the encoding, and the line of a set.
+
+ghost use Rattle.std.specs.Prelude.{◌≡◌, ◌<◌, ◌++◌, length, map, OnOk, IfOk};
+ghost use Rattle.log_theory.specs.LogText.{IsName};
+ghost use Rattle.reason_theory.specs.Reasons.{vertices_of};
+ghost use Rattle.kept_lines.specs.Frames.{Frame, IsFrameOf, AnyForms, Goes};
+ghost use Rattle.dead_paths.specs.Lines.{at_least_refs, at_most_target_ref, AreVertices, AreValues, IsSetKept};
+ghost use Rattle.dead_paths.specs.Explaining.{IsLimited};
+
+use journals::Keeper;
+use kept_lines::keep_sum;
+use log_theory::{Name, Ref};
+use pb_encoding::Encoding;
+use std::alloc::{AllocError, Global};
+
+/// Puts references to the lines by which these vertices go somewhere.
+pub(crate) fn push_at_least(
+    lines: &Encoding<'_>,
+    vertices: &[u16],
+    refs: &mut Vec<Ref>,
+) -> Result<(), AllocError>
+    requires { AreVertices lines.now vertices.now }
+    ensures { OnOk result (refs.new.items ≡ refs.old.items ++ at_least_refs lines.now vertices.now) }
+{
+    for p in vertices {
+        refs.push(Ref::Line(lines.at_least(*p)))?;
+    }
+    Ok(())
+}
+
+/// The same for the vertices of pairs.
+pub(crate) fn push_at_least_of(
+    lines: &Encoding<'_>,
+    pairs: &[(u16, u16)],
+    refs: &mut Vec<Ref>,
+) -> Result<(), AllocError>
+    requires { AreVertices lines.now (vertices_of pairs.now) }
+    ensures { OnOk result (refs.new.items ≡ refs.old.items ++ at_least_refs lines.now
+        (vertices_of pairs.now)) }
+{
+    for x in pairs {
+        refs.push(Ref::Line(lines.at_least(x.0)))?;
+    }
+    Ok(())
+}
+
+/// Puts references to the lines by which one vertex at most goes to each of these values.
+pub(crate) fn push_at_most(
+    lines: &Encoding<'_>,
+    values: &[u16],
+    refs: &mut Vec<Ref>,
+) -> Result<(), AllocError>
+    requires { AreValues lines.now values.now }
+    ensures { OnOk result (refs.new.items ≡ refs.old.items ++ map (at_most_target_ref lines.now)
+        values.now) }
+{
+    for t in values {
+        refs.push(Ref::Line(lines.at_most_target(*t)))?;
+    }
+    Ok(())
+}
+
+/// Keeps the line of a set: that its vertices go somewhere and that one vertex at most goes to each of its values, summed. Cost: a reference
+/// for each vertex and value.
+pub(crate) fn keep_set<K: Keeper>(
+    alloc: Global,
+    lines: &Encoding<'_>,
+    keeper: &mut K,
+    vertices: &[u16],
+    values: &[u16],
+) -> Result<Name, AllocError>
+    requires limited { IsLimited lines.now }
+    requires some { 0 < length vertices.now }
+    requires vertices { AreVertices lines.now vertices.now }
+    requires values { AreValues lines.now values.now }
+    ensures goes { (w : Frame) → IsFrameOf lines.now (K.owner keeper.old) w → Goes w (K.kept keeper.old) (K.kept keeper.new) AnyForms
+        (IsSetKept lines.now vertices.now values.now w result) }
+    ensures name { IfOk result IsName }
+    ensures owner { K.owner keeper.new ≡ K.owner keeper.old }
+    ensures notes { K.notes keeper.new ≡ K.notes keeper.old }
+    ensures spare { K.spare keeper.new ≡ K.spare keeper.old }
+{
+    let mut refs = Vec::new(alloc);
+    push_at_least(lines, vertices, &mut refs)?;
+    push_at_most(lines, values, &mut refs)?;
+    keep_sum(alloc, keeper, &refs)
+}

@@ -1,0 +1,138 @@
+//! References to the forms that explain a change, and to those that an end comes to.
+
+ghost use Rattle.std.specs.Prelude.{◌≡◌, ℕ, ◌^◌, ◌≤◌, ◌<◌, ◌++◌, length, OnOk};
+ghost use Rattle.graph_theory.specs.Graph.{size};
+ghost use Rattle.log_theory.specs.LogText.{AreRefs};
+ghost use Rattle.nogood_book.specs.Rows.{Sound};
+ghost use Rattle.nogood_book.specs.Places.{IsNogoodRow};
+ghost use Rattle.propagation.specs.Recording.{change_of};
+ghost use Rattle.dead_theory.specs.Changes.{IsInProblem};
+ghost use Rattle.kept_lines.specs.Frames.{Frame, IsFrameOf, AnyForms, Goes};
+ghost use Rattle.dead_paths.specs.Lines.{AreVertices, AreValues};
+ghost use Rattle.dead_paths.specs.Making.{AreRowsNamed};
+ghost use Rattle.dead_paths.specs.Choosing.{IsOfRow, changes_in, AreNameable};
+ghost use Rattle.dead_paths.specs.Explaining.{IsLimited, Knowing, nogood_refs, IsSetPushed, IsChangePushed};
+
+use crate::lines::{keep_set, push_at_least_of};
+use crate::maker::{LineMaker, RowNames};
+use crate::walk::part;
+use graph_rows::Problem;
+use journals::Keeper;
+use log_theory::Ref;
+use nogood_book::{Row, push_path};
+use pb_encoding::Encoding;
+use propagation::{Cause, Entry, What};
+use std::alloc::{AllocError, Global};
+
+/// Puts references to the lines that a nogood row needs. Cost: one for each of its vertices, and its own.
+pub(crate) fn push_nogood<N: RowNames>(
+    q: &Problem,
+    lines: &Encoding<'_>,
+    rows: &[Row],
+    names: &N,
+    name: u32,
+    pairs: &mut Vec<(u16, u16)>,
+    refs: &mut Vec<Ref>,
+) -> Result<(), AllocError>
+    requires limited { IsLimited q.now }
+    requires sound { Sound q.now rows.now }
+    requires few { length rows.now ≤ 2 ^ 22 }
+    requires lines { lines.now ≡ q.now }
+    requires nogood { IsNogoodRow rows.now name }
+    requires fits { AreRefs refs.old.items }
+    ensures pushed { OnOk result (refs.new.items ≡ refs.old.items ++ nogood_refs q.now rows.now (N.names names.now) name) }
+    ensures fits { OnOk result (AreRefs refs.new.items) }
+{
+    pairs.clear();
+    push_path(q, rows, name, pairs)?;
+    push_at_least_of(lines, pairs, refs)?;
+    refs.push(names.name(name))?;
+    Ok(())
+}
+
+/// Keeps the line of a set, if it has a vertex, and puts the reference to it.
+pub(crate) fn push_set<K: Keeper>(
+    alloc: Global,
+    lines: &Encoding<'_>,
+    keeper: &mut K,
+    vertices: &[u16],
+    values: &[u16],
+    refs: &mut Vec<Ref>,
+) -> Result<(), AllocError>
+    requires limited { IsLimited lines.now }
+    requires vertices { AreVertices lines.now vertices.now }
+    requires values { AreValues lines.now values.now }
+    requires fits { AreRefs refs.old.items }
+    ensures goes { (w : Frame) → IsFrameOf lines.now (K.owner keeper.old) w → Goes w (K.kept keeper.old) (K.kept keeper.new) AnyForms
+        (IsSetPushed lines.now vertices.now values.now w refs.old.items refs.new.items result) }
+    ensures fits { OnOk result (AreRefs refs.new.items) }
+    ensures owner { K.owner keeper.new ≡ K.owner keeper.old }
+    ensures notes { K.notes keeper.new ≡ K.notes keeper.old }
+    ensures spare { K.spare keeper.new ≡ K.spare keeper.old }
+{
+    if vertices.is_empty() {
+        return Ok(());
+    }
+    let name = keep_set(alloc, lines, keeper, vertices, values)?;
+    refs.push(Ref::Made(name))?;
+    Ok(())
+}
+
+/// Puts references to forms that explain a change, after lines were kept that it needs.
+pub(crate) fn push_change<M: LineMaker, N: RowNames, K: Keeper>(
+    alloc: Global,
+    q: &Problem,
+    lines: &Encoding<'_>,
+    rows: &[Row],
+    names: &N,
+    numbers: &[u16],
+    entry: &Entry,
+    maker: &mut M,
+    keeper: &mut K,
+    pairs: &mut Vec<(u16, u16)>,
+    refs: &mut Vec<Ref>,
+) -> Result<(), AllocError>
+    requires limited { IsLimited q.now }
+    requires sound { Sound q.now rows.now }
+    requires few { length rows.now ≤ 2 ^ 22 }
+    requires lines { lines.now ≡ q.now }
+    requires in_problem { IsInProblem q.now (change_of numbers.now entry.now) }
+    requires of_row { IsOfRow rows.now (change_of numbers.now entry.now) }
+    requires fits { AreRefs refs.old.items }
+    ensures goes { (w : Frame) → IsFrameOf q.now (K.owner keeper.old) w → Goes w (K.kept keeper.old) (K.kept keeper.new)
+        (Knowing (M.knows maker.old q.now w) (AreRowsNamed q.now rows.now w (N.names names.now)))
+        (IsChangePushed q.now rows.now (change_of numbers.now entry.now) w refs.old.items refs.new.items (M.knows maker.new q.now w) result) }
+    ensures fits { OnOk result (AreRefs refs.new.items) }
+    ensures owner { K.owner keeper.new ≡ K.owner keeper.old }
+    ensures notes { K.notes keeper.new ≡ K.notes keeper.old }
+    ensures spare { K.spare keeper.new ≡ K.spare keeper.old }
+{
+    match entry.what {
+        What::One(r, cause) => match cause {
+            Cause::First => {
+                let line = maker.first(alloc, q, lines, keeper, r)?;
+                refs.push(line)?;
+                Ok(())
+            }
+            Cause::Guess(_) => {
+                refs.push(Ref::Line(lines.at_most(r)))?;
+                Ok(())
+            }
+            Cause::Vertex(p, t) => {
+                refs.push(Ref::Line(lines.at_least(p)))?;
+                let line = maker.row(alloc, q, lines, keeper, p, t, r)?;
+                refs.push(line)?;
+                Ok(())
+            }
+            Cause::Nogood(name) => push_nogood(q, lines, rows, names, name, pairs, refs),
+        },
+        What::Others(place) => push_set(
+            alloc,
+            lines,
+            keeper,
+            part(numbers, place.start, place.middle),
+            part(numbers, place.middle, place.end),
+            refs,
+        ),
+    }
+}

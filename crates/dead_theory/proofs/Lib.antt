@@ -1,0 +1,8 @@
+pub mod Choosing
+pub mod Naming
+pub mod Padding
+pub mod Literals
+pub mod Explaining
+pub mod Ending
+pub mod Dying
+mod Worked

@@ -1,0 +1,63 @@
+-- How a path of a search ends, what that says of the domains, and the forms that it comes to.
+
+use Rattle.std.specs.Prelude.{◌≡◌, ℕ, ◌<◌, true, List, [], ◌∷◌, ◌++◌, length, Option, Some, None}
+use Rattle.graph_theory.specs.Graph.{size}
+use Rattle.graph_theory.specs.Embedding.{Problem}
+use Rattle.proof_theory.specs.Forms.{Form}
+use Rattle.log_theory.specs.Lookups.{is_among}
+use Rattle.encoding_theory.specs.Encoding.{at_least}
+use Rattle.reason_theory.specs.Reasons.{vertices_of, value_clauses}
+use Rattle.domain_bits.specs.Removals.{State, in_domain}
+use Rattle.nogood_watch.specs.Nogoods as watched
+use Rattle.nogood_book.specs.declared.row.Row.{Row}
+use Rattle.nogood_book.specs.Rows.{path_at}
+use Rattle.nogood_book.specs.Places.{IsNogoodRow}
+use Rattle.propagation.specs.declared.change.Failure.{Failure}
+use Rattle.propagation.specs.declared.change.Failure.TheVariants as failure
+use Rattle.propagation.specs.Recording.{CountedSet}
+use Rattle.propagation.specs.Telling.{HasNone, HaveOnly, IsDecided}
+use Rattle.dead_theory.specs.Changes.{nogood_forms, set_forms}
+
+-- A vertex has no value; all pairs of the nogood of a name are decided; vertices have fewer values together than they are; or each value
+-- that is left for a vertex is one of these, which were refuted below the path.
+pub data End : Type 0 where
+  Empty : ℕ → End
+  Whole : ℕ → End
+  Short : List ℕ → List ℕ → End
+  Exhausted : ℕ → List ℕ → End
+
+-- What propagation tells is one, with the set that it shows.
+abbrev pub end_of : Failure → Option CountedSet → End
+end_of (failure.Empty p) short = Empty p
+end_of (failure.Whole name) short = Whole name
+end_of (failure.Short n) (Some set) = Short set.vertices set.values
+end_of (failure.Short n) None = Short [] []
+
+-- What it says of the domains.
+abbrev pub EndsBy : End → Problem → Option watched.State → State → Type 0
+EndsBy (Empty p) q s d = HasNone q d p
+EndsBy (Whole name) q s d = IsDecided s d name
+EndsBy (Short vertices values) q s d = HaveOnly q d vertices values × (length values < length vertices)
+EndsBy (Exhausted p values) q s d = (u : ℕ) → in_domain d p u ≡ true → is_among u values ≡ true
+
+-- The forms that it comes to, in their order.
+abbrev pub end_forms : Problem → List Row → List (ℕ × ℕ) → End → List Form
+end_forms q rows path (Empty p) = at_least q p ∷ []
+end_forms q rows path (Whole name) = nogood_forms q (path_at rows name)
+end_forms q rows path (Short vertices values) = set_forms q vertices values
+end_forms q rows path (Exhausted p values) = value_clauses q path p values ++ at_least q p ∷ []
+
+-- The vertices whose domains it rests on.
+abbrev pub end_needs : List Row → End → List ℕ
+end_needs rows (Empty p) = p ∷ []
+end_needs rows (Whole name) = vertices_of (path_at rows name)
+end_needs rows (Short vertices values) = vertices
+end_needs rows (Exhausted p values) = p ∷ []
+
+-- Its numbers are of the problem, and its name of a nogood row. Of what is refuted nothing is said.
+abbrev pub IsEndIn : Problem → List Row → End → Type 0
+IsEndIn q rows (Empty p) = p < size q.pattern
+IsEndIn q rows (Whole name) = IsNogoodRow rows name
+IsEndIn q rows (Short vertices values) =
+    ((p : ℕ) → is_among p vertices ≡ true → p < size q.pattern) × ((u : ℕ) → is_among u values ≡ true → u < size q.target) × (length values < length vertices)
+IsEndIn q rows (Exhausted p values) = Unit {0}

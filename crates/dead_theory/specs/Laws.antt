@@ -1,0 +1,91 @@
+-- The laws of dead paths: what a search was told, and what its path ended by, is what a line of a log refutes.
+
+use Rattle.std.specs.Prelude.{◌≡◌, ℕ, ◌<◌, Bool, true, false, List, [], ◌∷◌, ◌++◌, map, Option, Some, Ok}
+use Rattle.graph_theory.specs.Graph.{size}
+use Rattle.graph_theory.specs.Embedding.{Problem}
+use Rattle.graph_theory.specs.Path.{IsPath}
+use Rattle.proof_theory.specs.Forms.{Form}
+use Rattle.proof_theory.specs.Rules.{is_contradiction}
+use Rattle.proof_theory.specs.Slack.{refutes, negations}
+use Rattle.log_theory.specs.declared.step.Name.{Name}
+use Rattle.log_theory.specs.declared.step.Ref.{Ref}
+use Rattle.log_theory.specs.declared.step.Step.TheVariants.{U}
+use Rattle.log_theory.specs.Lookups.{Lookup, find_all, makes, is_among, are_distinct, variables_of}
+use Rattle.log_theory.specs.Verdicts.{in_range}
+use Rattle.encoding_theory.specs.Variables.{variables}
+use Rattle.forcing_theory.specs.Chains.{either}
+use Rattle.reason_theory.specs.Reasons.{not_there, pairs_clause, vertices_of}
+use Rattle.search_theory.specs.Account.{NotAmong, InRange}
+use Rattle.domain_bits.specs.Removals.{State, in_domain}
+use Rattle.nogood_watch.specs.Nogoods as watched
+use Rattle.nogood_book.specs.declared.row.Row.{Row}
+use Rattle.nogood_book.specs.Rows.{path_at, Sound, AreInRange}
+use Rattle.nogood_book.specs.Places.{StartsWith}
+use Rattle.propagation.specs.declared.change.Failure.{Failure}
+use Rattle.propagation.specs.Holding.{HoldsRows}
+use Rattle.propagation.specs.Recording.{Change, CountedSet}
+use Rattle.propagation.specs.Telling.{KeepsNames, Told, Fails}
+use Rattle.dead_theory.specs.Changes.{NamesRows, ExplainsChange, ExplainAll, needs_of, IsGuessed, AreGuessed, AreInProblem}
+use Rattle.dead_theory.specs.Ends.{End, Exhausted, end_of, EndsBy, IsEndIn, end_forms, end_needs}
+use Rattle.dead_theory.specs.Walks.{among_these, MayPass, IsChoice, Walked, IsWithin}
+
+-- ---- dead paths
+
+-- The changes, the last one first, have led to domains in which the path ends by this; the path is one in range, and nogoods are rows.
+pub record Dies (q : Problem) (rows : List Row) (path : List (ℕ × ℕ)) (changes : List Change) (e : End) : Type 0 where
+  pub sound : Sound q rows
+  pub nogoods : Option watched.State
+  pub names : NamesRows rows nogoods
+  pub domains : State
+  pub values_is : domains.values ≡ size q.target
+  pub told : Told q nogoods domains changes
+  pub distinct : IsPath path
+  pub range : AreInRange q path
+  pub ends : EndsBy e q nogoods domains
+
+-- Where a path dies, the forms of the changes that are chosen for its end, each guess among them one of the path, and then the end's, refute
+-- it; so a line that names them makes its clause. The clause of the empty path is plainly false.
+pub record DeadLaws : Type 0 where
+  pub refuted : (q : Problem) (rows : List Row) (path : List (ℕ × ℕ)) (changes : List Change) (e : End) → Dies q rows path changes e → (chosen : List Change) (forms : List Form)
+      → IsChoice rows changes chosen (among_these (end_needs rows e)) → ExplainAll q rows chosen forms → AreGuessed path chosen
+      → refutes (negations (map (not_there q) path)) (forms ++ end_forms q rows path e) ≡ true
+  pub line : (q : Problem) (rows : List Row) (path : List (ℕ × ℕ)) (changes : List Change) (e : End) → Dies q rows path changes e → (chosen : List Change) (forms : List Form)
+      → IsChoice rows changes chosen (among_these (end_needs rows e)) → ExplainAll q rows chosen forms → AreGuessed path chosen
+      → (look : Lookup) (name : Name) (refs : List Ref) → find_all look refs ≡ Ok (forms ++ end_forms q rows path e)
+      → makes look (U name (map (not_there q) path) refs) ≡ Ok (pairs_clause q path)
+  pub empty : (q : Problem) → is_contradiction (pairs_clause q []) ≡ true
+
+-- ---- the walk back
+
+-- A walk begins with what is needed, keeps a change or passes it, and chooses once it has seen all changes, or once nothing is needed. It may
+-- go on with more needed vertices. A change that is chosen before the others brings its forms in front of theirs.
+pub record WalkLaws : Type 0 where
+  pub begins : (rows : List Row) (needed : ℕ → Bool) → Walked rows [] [] needed needed
+  pub keeps : (rows : List Row) (seen chosen : List Change) (needed now next : ℕ → Bool) (c : Change) → Walked rows seen chosen needed now
+      → IsWithin (either now (among_these (needs_of rows c))) next → Walked rows (seen ++ c ∷ []) (chosen ++ c ∷ []) needed next
+  pub passes : (rows : List Row) (seen chosen : List Change) (needed now : ℕ → Bool) (c : Change) → Walked rows seen chosen needed now
+      → MayPass rows c now → Walked rows (seen ++ c ∷ []) chosen needed now
+  pub more : (rows : List Row) (seen chosen : List Change) (needed now next : ℕ → Bool) → Walked rows seen chosen needed now
+      → IsWithin now next → Walked rows seen chosen needed next
+  pub ends : (rows : List Row) (seen chosen : List Change) (needed now : ℕ → Bool) → Walked rows seen chosen needed now → IsChoice rows seen chosen needed
+  pub fewer : (rows : List Row) (changes chosen : List Change) (more fewer : ℕ → Bool) → IsWithin fewer more → IsChoice rows changes chosen more → IsChoice rows changes chosen fewer
+  pub behind : (q : Problem) (rows : List Row) (chosen : List Change) (c : Change) (forms own : List Form) → ExplainAll q rows chosen forms → ExplainsChange q rows c own
+      → ExplainAll q rows (chosen ++ c ∷ []) (own ++ forms)
+  pub guessed : (path : List (ℕ × ℕ)) (chosen : List Change) (c : Change) → AreGuessed path chosen → IsGuessed path c → AreGuessed path (chosen ++ c ∷ [])
+  pub stops : (rows : List Row) (seen rest chosen : List Change) (needed now : ℕ → Bool) → Walked rows seen chosen needed now → ((r : ℕ) → now r ≡ false) → IsChoice rows (seen ++ rest) chosen needed
+
+-- ---- what is told is in range, and what is named is a row
+
+pub record ToldLaws : Type 0 where
+  pub failed : (q : Problem) (s : Option watched.State) (d : State) (cs : List Change) (short : Option CountedSet) (f : Failure) → Fails q s d (Some cs) short f → EndsBy (end_of f short) q s d
+  pub exhausted : (q : Problem) (s : Option watched.State) (d : State) (p : ℕ) (values : List ℕ) → ((u : ℕ) → in_domain d p u ≡ true → NotAmong values u → ⊥) → EndsBy (Exhausted p values) q s d
+  pub in_problem : (q : Problem) (s : Option watched.State) (d : State) (cs : List Change) → d.values ≡ size q.target → Told q s d cs → AreInProblem q cs
+  pub end_in_problem : (q : Problem) (rows : List Row) (s : Option watched.State) (d : State) (e : End) → NamesRows rows s → EndsBy e q s d → IsEndIn q rows e
+  pub names : (rows : List Row) (s : Option watched.State) → HoldsRows rows s → NamesRows rows s
+  pub names_more : (seen rows : List Row) (s : Option watched.State) → StartsWith rows seen → NamesRows seen s → NamesRows rows s
+  pub keeps_names : (seen rows : List Row) (old new : Option watched.State) → StartsWith rows seen → HoldsRows seen old → HoldsRows rows new → KeepsNames old new
+  pub row_vertices : (q : Problem) (rows : List Row) (k : ℕ) → Sound q rows → (p : ℕ) → is_among p (vertices_of (path_at rows k)) ≡ true → p < size q.pattern
+  pub path_range : (q : Problem) (path : List (ℕ × ℕ)) → InRange (size q.pattern) (size q.target) path → AreInRange q path
+  pub row_path : (q : Problem) (rows : List Row) (k : ℕ) → Sound q rows → IsPath (path_at rows k) × AreInRange q (path_at rows k)
+  pub distinct : (q : Problem) (path : List (ℕ × ℕ)) → IsPath path → AreInRange q path → are_distinct (variables_of (map (not_there q) path)) ≡ true
+  pub range : (q : Problem) (path : List (ℕ × ℕ)) → AreInRange q path → in_range (variables q) (variables_of (map (not_there q) path)) ≡ true

@@ -1,0 +1,5 @@
+pub mod Lines
+pub mod Entries
+pub mod Numbers
+pub mod Ends
+pub mod Closing
