@@ -1,0 +1,5 @@
+pub mod Lines
+pub mod Notes
+pub mod Steps
+pub mod Answers
+pub mod Premises
