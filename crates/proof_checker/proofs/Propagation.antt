@@ -1,7 +1,7 @@
 -- The steps of unit propagation along references, and of the walk that sets the negations of a clause's literals.
 use Rattle.std.proofs.Common.{inl, inr, ◌⊎◌, not, ◌≡◌, ℕ, zero, suc, ◌+◌, ◌<◌, ◌≤◌, Bool, true, false, cond, ◌&&◌, ◌||◌, nat_lt, nat_le, List, [], ◌∷◌, length, get_or, drop, Option, Some, None, is_some, MatchOption, Result, Ok, Err, ℤ, pos, ◌-ℤ◌, ◌==◌, unsigned_abs, int_lt, refl, sym, ap, ◌∙◌, arith, subst}
 use Rattle.std.proofs.lemmas.Bool.{ne_eqb, eq-eqb}
-use Rattle.std.proofs.lemmas.Bool.{cases_eq, and_parts, leb-true}
+use Rattle.std.proofs.lemmas.Bool.{cases_eq, and_parts}
 use Rattle.std.proofs.lemmas.List.{drop_more}
 use Rattle.proof_theory.specs.declared.literal.Literal.{Literal}
 use Rattle.proof_theory.specs.Forms.{Form, Rises}
@@ -15,7 +15,6 @@ use Rattle.log_theory.specs.declared.step.Name.{Name}
 use Rattle.log_theory.specs.declared.step.Step.TheVariants.{U}
 use Rattle.log_theory.specs.Steps.{◌>>=◌, or_fault}
 use Rattle.log_theory.specs.Lookups.{Lookup, makes, find_all, is_among, are_distinct, variables_of}
-use Rattle.log_theory.specs.Verdicts.{in_range}
 use Rattle.pb_terms.proofs.Combining.{none}
 use Rattle.proof_checker.specs.Reach.{Reaches, AllReach, LiteralsReach, AllNamed, found_first, forms_of, NegatesOne}
 
@@ -168,14 +167,7 @@ twice_behind (suc i) (l ∷ ls) h = ap (λ (b : Bool). not (is_among l.variable 
     and_false true = refl
     and_false false = refl
 
--- Literals of a model's variables reach no further.
-pub in_range_reach : (n : ℕ) (ls : List Literal) → in_range n (variables_of ls) ≡ true → LiteralsReach (n + 1) ls
-in_range_reach n [] h = tt
-in_range_reach n (l ∷ ls) h =
-    let p : ((nat_lt 0 l.variable && nat_le l.variable n) ≡ true) × (in_range n (variables_of ls) ≡ true) = and_parts _ _ h in
-    let k : l.variable ≤ n = leb-true l.variable n (and_parts (nat_lt 0 l.variable) (nat_le l.variable n) p.0).1 in
-    (omega arith, in_range_reach n ls p.1)
-
+-- What reaches below n does so below a greater number.
 pub literals_wider : (n m : ℕ) (ls : List Literal) → n ≤ m → LiteralsReach n ls → LiteralsReach m ls
 literals_wider n m [] l h = tt
 literals_wider n m (x ∷ xs) l h = let a = h.0 in (omega arith, literals_wider n m xs l h.1)

@@ -3,7 +3,6 @@
 ghost use Rattle.std.specs.Prelude.{◌≡◌, true};
 ghost use Rattle.proof_theory.specs.Forms.{Form};
 ghost use Rattle.log_theory.specs.declared.step.Step.TheVariants.{P, U};
-ghost use Rattle.log_theory.specs.Lookups.{variables_of};
 ghost use Rattle.log_theory.specs.Tables.{find, step_of};
 ghost use Rattle.log_theory.specs.Verdicts.{Stage, Proving, in_range, progress_of, refuted_by, step_variables};
 ghost use Rattle.proof_checker.specs.Told.{Leads};
@@ -45,18 +44,16 @@ fn make_by_operations(
 fn make_by_propagation(
     alloc: Global,
     set: &mut Literals,
-    variables: u32,
     model: &[Constraint],
     table: &mut Table,
     name: Name,
     literals: &[Literal],
     refs: &[Ref],
 ) -> Result<(), LineFault>
-    requires { in_range variables (variables_of literals.now) ≡ true }
     ensures { Leads result (step_of model.now table.old (U name literals.now refs.now)) table.new }
 {
     table.fresh_name(name)?;
-    let made = derive(alloc, set, variables, model, table, literals, refs)?;
+    let made = derive(alloc, set, model, table, literals, refs)?;
     table.push_made(name, made)?;
     Ok(())
 }
@@ -95,7 +92,6 @@ pub fn prove(
             make_by_propagation(
                 alloc,
                 set,
-                variables,
                 model,
                 table,
                 *name,

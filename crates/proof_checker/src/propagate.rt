@@ -9,7 +9,6 @@ ghost use Rattle.proof_theory.specs.Slack.{setting, or_else, forced_by, forced_a
 ghost use Rattle.log_theory.specs.Lookups.{are_distinct, variables_of, find_all, makes};
 ghost use Rattle.log_theory.specs.declared.step.Step.TheVariants.{U};
 ghost use Rattle.log_theory.specs.Tables.{find};
-ghost use Rattle.log_theory.specs.Verdicts.{in_range};
 ghost use Rattle.proof_checker.specs.Told.{Told};
 ghost use Rattle.proof_checker.specs.Reach.{AllReach, Reaches, LiteralsReach, AllNamed, Follows, NegatesOne, forms_of};
 
@@ -117,18 +116,33 @@ fn reach_of(model: &[Constraint], table: &Table, refs: &[Ref]) -> Result<u64, Ca
     Ok(most)
 }
 
-/// Unsets every variable, with room for the variables up to `variables` and below `reach`. The room is made anew only where it is too
-/// small, so once for a model that keeps to its variables.
-fn clear(alloc: Global, set: &mut Literals, variables: u32, reach: u64) -> Result<(), AllocError>
-    requires { reach ≤ 2 ^ 32 }
-    ensures { OnOk result ((set.new ≡ replicate (length set.new) None) × (variables < length set.new) × (reach ≤ length set.new)) }
+/// A number above the variables of all literals. One pass.
+fn above(literals: &[Literal]) -> u64
+    ensures reach { LiteralsReach result literals.now }
+    ensures small { result ≤ 2 ^ 32 }
 {
-    let most = u64::from(variables).max(reach.saturating_sub(1)) as u32;
-    if (most as usize) < set.values().len() {
-        set.clear();
-    } else {
-        *set = Literals::new(alloc, most)?;
+    let mut most: u64 = 0;
+    let mut i = literals.len();
+    while i > 0 {
+        i -= 1;
+        most = most.max(u64::from(literals[i].variable) + 1);
     }
+    most
+}
+
+/// Unsets every variable, with room for those below `room`. Where that is more than there was, it is made anew, twice as large at least,
+/// so that all of a log's lines together cost no more than four times the greatest variable that they name, whatever number a text states.
+fn clear(alloc: Global, set: &mut Literals, room: u64) -> Result<(), AllocError>
+    requires { room ≤ 2 ^ 32 }
+    ensures { OnOk result ((set.new ≡ replicate (length set.new) None) × (room ≤ length set.new)) }
+{
+    let old = set.values().len() as u64;
+    if room <= old {
+        set.clear();
+        return Ok(());
+    }
+    let places = room.max(old.saturating_mul(2).min(1 << 32));
+    *set = Literals::new(alloc, (places - 1) as u32)?;
     Ok(())
 }
 
@@ -167,21 +181,19 @@ fn negate_all(set: &mut Literals, literals: &[Literal]) -> bool
 }
 
 /// The clause of the literals, if the references refute its negation, or the first fault. Costs the literals, and the terms of the
-/// references up to the first conflict; the first such line of a log costs the model's variables besides.
+/// references up to the first conflict; and, where a line names a greater variable than all before it, memory for the variables up to it.
 pub fn derive(
     alloc: Global,
     set: &mut Literals,
-    variables: u32,
     model: &[Constraint],
     table: &Table,
     literals: &[Literal],
     refs: &[Ref],
 ) -> Result<Constraint, LineFault>
-    requires { in_range variables (variables_of literals.now) ≡ true }
     ensures { (name : Name) → Told result (makes (find model.now table.now) (U name literals.now refs.now)) }
 {
     let named = reach_of(model, table, refs);
-    clear(alloc, set, variables, named.unwrap_or(0))?;
+    clear(alloc, set, above(literals).max(named.unwrap_or(0)))?;
     if !negate_all(set, literals) {
         return Err(LineFault::Cause(Cause::Twice));
     }

@@ -110,6 +110,13 @@ fn head_lines_and_small_models(rt: HostRuntime) {
             "embedding proof 1\nm 2\ne 2\n",
             refused(3, Cause::NotFalse),
         ),
+        // A model that states all variables there can be, of which the log names two: memory goes by those.
+        (
+            u32::MAX,
+            &two,
+            "embedding proof 1\nm 2\nu 0.1 ; 1 2 ;\nu 0.2 x9 ; 0.1 ;\ne 0.1\n",
+            Verdict::Unsatisfiable,
+        ),
     ];
     for (variables, lines, log, expected) in rows {
         let verdict = check_parts(alloc, variables, lines, log.as_bytes());

@@ -4,13 +4,14 @@ use Rattle.log_theory.specs.declared.step.Cause.{Cause}
 use Rattle.log_theory.specs.Tables.{find}
 use Rattle.proof_theory.specs.Slack.{setting, negations}
 use Rattle.proof_checker.specs.Reach.{forms_of}
-use Rattle.proof_checker.proofs.Propagation.{in_range_reach, literals_wider, forms_wider, named_found, same_refutes, derived, not_derived}
+use Rattle.proof_checker.proofs.Propagation.{literals_wider, forms_wider, named_found, same_refutes, derived, not_derived}
 use Rattle.proof_checker.proofs.propagate.derive.Goals as goal
 
 pub negate_all-requires-clause-within : goal.negate_all-requires-clause-within
 negate_all-requires-clause-within c =
     let h = c.in_ok-clear.ensures.1 in
-    literals_wider (c.args.variables + 1) _ c.args.literals.now (omega arith) (in_range_reach c.args.variables c.args.literals.now c.requires)
+    let m = c.max.ensures in
+    literals_wider c.above.result _ c.args.literals.now (omega arith) c.above.ensures.reach
 
 -- The number that an answer has, or none.
 told : (r : Result ℕ Cause) (n m : ℕ) → r ≡ Ok n → m ≡ result_unwrap_or r 0 → m ≡ n
@@ -18,7 +19,8 @@ told r n m e f = f ∙ ap (λ (x : Result ℕ Cause). result_unwrap_or x 0) e
 
 pub refute-requires : goal.refute-requires
 refute-requires c =
-    let h = c.in_ok-clear.ensures.2 in
+    let h = c.in_ok-clear.ensures.1 in
+    let m = c.max.ensures in
     let l = c.negate_all.ensures.long in
     let u : c.unwrap_or.result ≡ c.in_ok-named.field-0 = told c.reach_of-named.result _ _ c.in_ok-named.was c.unwrap_or.ensures in
     forms_wider c.in_ok-named.field-0 _ _ (omega arith) (named_found _ _ c.args.refs.now c.in_ok-named.ensures.ok.0).1
