@@ -2,7 +2,8 @@
 #
 #   make install PREFIX=/usr/local    the program (proved and built first), its manual page and the Python package
 #   make uninstall PREFIX=..          takes them away again
-#   make test                         the package's tests, each answer that a page tells, and what is made from other files
+#   make test                         the package's tests, each answer that a page tells, both checkers of logs against each
+#                                     other, and what is made from other files
 #   make docs                         makes the manual page and the picture of the crates anew
 
 PREFIX ?= /usr/local
@@ -36,6 +37,8 @@ uninstall:
 test: build
 	cd python && SUBGRAPH_PROGRAM=$(abspath $(PROGRAM)) $(PYTHON) -m unittest
 	$(PYTHON) examples/check.py --program $(PROGRAM)
+	$(PYTHON) tools/test_plain_check.py
+	$(PYTHON) bench/check_logs.py '$(PROGRAM) check' '$(PYTHON) tools/plain_check.py' --cases --mutants 1
 	$(PYTHON) tools/man.py --check
 	$(PYTHON) docs/crates.py --check
 	$(PYTHON) tools/claims.py --check
