@@ -20,7 +20,7 @@ use Rattle.propagation.specs.declared.change.Place.{Place}
 use Rattle.propagation.specs.Recording.{Change, change_by}
 use Rattle.dead_theory.specs.Changes.{ExplainsChange, ExplainAll, nogood_forms, set_forms}
 use Rattle.dead_theory.proofs.Dying.{told_laws_hold}
-use Rattle.kept_lines.specs.Frames.{Frame, IsFrameOf, IsNamed, AreNamed, Goes, AnyForms, Lasts}
+use Rattle.kept_lines.specs.Frames.{Frame, IsFrameOf, IsNamed, AreNamed, Goes, Lasts}
 use Rattle.kept_lines.proofs.Going.{goes_stay, goes_as, goes_then, goes_beside}
 use Rattle.kept_lines.proofs.Naming.{named_later, are_named_later, named_behind, named_pushed}
 use Rattle.dead_paths.specs.Lines.{at_least_ref, at_most_ref, at_least_refs}
@@ -42,13 +42,14 @@ adds_two w old mid new r s f g forms first then_ n m = record {
 }
 
 -- What is pushed without a line being kept.
-pub pure_goes : (w : Frame) (kept : Option (List Step)) (result : Result (Unit {0}) AllocError) (old new more : List Ref) (fs : List Form) (Before : List Form → Type 0) → OnOk result (new ≡ old ++ more)
-    → ((forms : List Form) → Before forms → AreNamed w forms more fs) → Goes w kept kept Before (λ forms. OnOk result (Adds w old new fs forms))
-pure_goes w kept result old new more fs Before pushed named = goes_stay w kept kept Before (λ forms. OnOk result (Adds w old new fs forms)) refl (λ forms before. by result pushed forms before)
+pub pure_goes : (w : Frame) (kept : Option (List Step)) (result : Result (Unit {0}) AllocError) (old new more : List Ref) (fs : List Form) (knows Before : List Form → Type 0) → OnOk result (new ≡ old ++ more)
+    → ((forms : List Form) → Before forms → AreNamed w forms more fs) → Goes w kept kept (Knowing knows Before) (λ forms. OnOk result (knows forms × Adds w old new fs forms))
+pure_goes w kept result old new more fs knows Before pushed named =
+    goes_stay w kept kept (Knowing knows Before) (λ forms. OnOk result (knows forms × Adds w old new fs forms)) refl (λ forms h. by result pushed forms h)
   where
-    by : (result : Result (Unit {0}) AllocError) → OnOk result (new ≡ old ++ more) → (forms : List Form) → Before forms → OnOk result (Adds w old new fs forms)
-    by (Ok u) is forms before = record { more = more; front = is; named = named forms before }
-    by (Err e) is forms before = tt
+    by : (result : Result (Unit {0}) AllocError) → OnOk result (new ≡ old ++ more) → (forms : List Form) → Knowing knows Before forms → OnOk result (knows forms × Adds w old new fs forms)
+    by (Ok u) is forms h = (h.0, record { more = more; front = is; named = named forms h.1 })
+    by (Err e) is forms h = tt
 
 pub nogood_named : (q : Problem) (rows : List Row) (owner : ℕ) (w : Frame) (names : ℕ → Ref) (forms : List Form) (k : ℕ) → IsFrameOf q owner w → Sound q rows → IsNogoodRow rows k → AreRowsNamed q rows w names forms
     → AreNamed w forms (nogood_refs q rows names k) (nogood_forms q (path_at rows k))
@@ -91,25 +92,24 @@ module _ (q : Problem) (rows : List Row) (w : Frame) (names : ℕ → Ref) (know
       )) given
 
   -- A set.
-  pub set_goes_on : (k : Place) (old new : List Ref) (result : Result (Unit {0}) AllocError) → Lasts knows → what ≡ Others k
-      → Goes w a b AnyForms (IsSetPushed q (slice_range numbers k.start k.middle) (slice_range numbers k.middle k.end) w old new result)
-      → Goes w a b (Knowing knows (AreRowsNamed q rows w names)) (IsChangePushed q rows (change_by numbers what from) w old new knows result)
-  set_goes_on k old new result lasts is goes =
-      goes_as w a b (λ forms. AnyForms forms × knows forms) (λ forms. IsSetPushed q (slice_range numbers k.start k.middle) (slice_range numbers k.middle k.end) w old new result forms × knows forms)
-      (Knowing knows (AreRowsNamed q rows w names)) (IsChangePushed q rows (change_by numbers what from) w old new knows result) (λ forms h. (tt, h.0)) (λ forms h. by result forms h.0 h.1)
-      (goes_beside w a b AnyForms (IsSetPushed q (slice_range numbers k.start k.middle) (slice_range numbers k.middle k.end) w old new result) knows lasts goes)
+  pub set_goes_on : (k : Place) (old new : List Ref) (result : Result (Unit {0}) AllocError) → what ≡ Others k
+      → Goes w a b knows (IsSetPushed q (slice_range numbers k.start k.middle) (slice_range numbers k.middle k.end) w old new now result)
+      → Goes w a b (Knowing knows (AreRowsNamed q rows w names)) (IsChangePushed q rows (change_by numbers what from) w old new now result)
+  set_goes_on k old new result is goes =
+      goes_as w a b knows (IsSetPushed q (slice_range numbers k.start k.middle) (slice_range numbers k.middle k.end) w old new now result) (Knowing knows (AreRowsNamed q rows w names))
+      (IsChangePushed q rows (change_by numbers what from) w old new now result) (λ forms h. h.0) (λ forms h. by result forms h) goes
     where
-      by : (result : Result (Unit {0}) AllocError) (forms : List Form) → IsSetPushed q (slice_range numbers k.start k.middle) (slice_range numbers k.middle k.end) w old new result forms → knows forms
-          → IsChangePushed q rows (change_by numbers what from) w old new knows result forms
-      by (Ok u) forms adds known = (
-        known,
+      by : (result : Result (Unit {0}) AllocError) (forms : List Form) → IsSetPushed q (slice_range numbers k.start k.middle) (slice_range numbers k.middle k.end) w old new now result forms
+          → IsChangePushed q rows (change_by numbers what from) w old new now result forms
+      by (Ok u) forms h = (
+        h.0,
         record {
           own = set_forms q (slice_range numbers k.start k.middle) (slice_range numbers k.middle k.end);
           explains = subst (λ (x : What). ExplainsChange q rows (change_by numbers x from) (set_forms q (slice_range numbers k.start k.middle) (slice_range numbers k.middle k.end))) (sym is) refl;
-          adds = adds;
+          adds = h.1;
         },
       )
-      by (Err e) forms adds known = tt
+      by (Err e) forms h = tt
 
 module _ (q : Problem) (rows : List Row) (w : Frame) (names : ℕ → Ref) (knows : List Form → Type 0) (kept : Option (List Step)) (numbers : List ℕ) (what : What) (from : ℕ) where
   -- A guess.

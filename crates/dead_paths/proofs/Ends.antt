@@ -31,7 +31,7 @@ use Rattle.dead_theory.proofs.Choosing.{walk_laws_hold}
 use Rattle.journal_theory.specs.Journals.{named}
 use Rattle.journal_theory.proofs.Placing.{take_all}
 use Rattle.journals.specs.Keeping.{Keeps}
-use Rattle.kept_lines.specs.Frames.{Frame, IsFrameOf, AreNamed, MayFollow, Goes, AnyForms, Lasts, IsKept}
+use Rattle.kept_lines.specs.Frames.{Frame, IsFrameOf, AreNamed, MayFollow, Goes, Lasts, IsKept}
 use Rattle.kept_lines.proofs.Going.{goes_stay, goes_as, goes_then, goes_beside}
 use Rattle.kept_lines.proofs.Naming.{are_named_later, named_behind, all_found, named_rows}
 use Rattle.dead_paths.specs.declared.dead_line.PathEnd.{PathEnd}
@@ -114,34 +114,33 @@ guessed_chosen rows path _ _ _ (passes c cs chosen needed may rest) g = guessed_
 
 -- Both are pushed: the changes, then the end.
 gathered : (q : Problem) (rows : List Row) (w : Frame) (path : List (ℕ × ℕ)) (e : End) (refuted : List Ref) (now : List Form → Type 0) (names : ℕ → Ref) (cs : List Change) (old new : List Ref) (result : Result (Unit {0}) AllocError)
-    (forms : List Form) → IsEndPushed q rows path e w old new result forms → now forms → Explained q rows w names cs old forms → AreGathered q rows w path cs e new now result forms
-gathered q rows w path e refuted now names cs old new (Ok u) forms pushed known h = (
-  known,
+    (forms : List Form) → IsEndPushed q rows path e w old new now result forms → Explained q rows w names cs old forms → AreGathered q rows w path cs e new now result forms
+gathered q rows w path e refuted now names cs old new (Ok u) forms pushed h = (
+  pushed.0,
   record {
     own = h.own;
     explained = h.explained;
-    named = subst (λ (rs : List Ref). AreNamed w forms rs (h.own ++ end_forms q rows path e)) (sym pushed.front) (named_behind w forms old h.own pushed.more (end_forms q rows path e) h.named pushed.named);
+    named = subst (λ (rs : List Ref). AreNamed w forms rs (h.own ++ end_forms q rows path e)) (sym pushed.1.front) (named_behind w forms old h.own pushed.1.more (end_forms q rows path e) h.named pushed.1.named);
   },
 )
-gathered q rows w path e refuted now names cs old new (Err x) forms pushed known h = tt
+gathered q rows w path e refuted now names cs old new (Err x) forms pushed h = tt
 
-pub gather_goes : (q : Problem) (rows : List Row) (w : Frame) (names : ℕ → Ref) (path : List (ℕ × ℕ)) (e : End) (refuted : List Ref) (knows now : List Form → Type 0) (a b c : Option (List Step)) (cs : List Change)
-    (old new : List Ref) (result : Result (Unit {0}) AllocError) → Lasts now → Goes w a b (Knowing knows (AreRowsNamed q rows w names)) (AreChangesPushed q rows w names cs old now (Ok tt))
-    → Goes w b c (IsBegun q rows w names path e refuted) (IsEndPushed q rows path e w old new result)
+pub gather_goes : (q : Problem) (rows : List Row) (w : Frame) (names : ℕ → Ref) (path : List (ℕ × ℕ)) (e : End) (refuted : List Ref) (knows mid now : List Form → Type 0) (a b c : Option (List Step)) (cs : List Change)
+    (old new : List Ref) (result : Result (Unit {0}) AllocError) → Goes w a b (Knowing knows (AreRowsNamed q rows w names)) (AreChangesPushed q rows w names cs old mid (Ok tt))
+    → Goes w b c (Knowing mid (IsBegun q rows w names path e refuted)) (IsEndPushed q rows path e w old new now result)
     → Goes w a c (Knowing knows (IsBegun q rows w names path e refuted)) (AreGathered q rows w path cs e new now result)
-gather_goes q rows w names path e refuted knows now a b c cs old new result lasts changes ends =
-    goes_then w a b c (Knowing knows (IsBegun q rows w names path e refuted)) (λ forms. now forms × Explained q rows w names cs old forms × AreRefuted q path e w refuted forms) (AreGathered q rows w path cs e new now result)
-    (goes_as w a b (λ forms. Knowing knows (AreRowsNamed q rows w names) forms × AreRefuted q path e w refuted forms) (λ forms. AreChangesPushed q rows w names cs old now (Ok tt) forms × AreRefuted q path e w refuted forms)
-    (Knowing knows (IsBegun q rows w names path e refuted)) (λ forms. now forms × Explained q rows w names cs old forms × AreRefuted q path e w refuted forms)
+gather_goes q rows w names path e refuted knows mid now a b c cs old new result changes ends =
+    goes_then w a b c (Knowing knows (IsBegun q rows w names path e refuted)) (λ forms. mid forms × Explained q rows w names cs old forms × AreRefuted q path e w refuted forms) (AreGathered q rows w path cs e new now result)
+    (goes_as w a b (λ forms. Knowing knows (AreRowsNamed q rows w names) forms × AreRefuted q path e w refuted forms) (λ forms. AreChangesPushed q rows w names cs old mid (Ok tt) forms × AreRefuted q path e w refuted forms)
+    (Knowing knows (IsBegun q rows w names path e refuted)) (λ forms. mid forms × Explained q rows w names cs old forms × AreRefuted q path e w refuted forms)
     (λ forms h. ((h.0, h.1.rows_named), h.1.refuted_named)) (λ forms h. (h.0.0, h.0.1, h.1))
-    (goes_beside w a b (Knowing knows (AreRowsNamed q rows w names)) (AreChangesPushed q rows w names cs old now (Ok tt)) (AreRefuted q path e w refuted) (refuted_last q path e w refuted) changes))
-    (goes_as w b c (λ forms. IsBegun q rows w names path e refuted forms × Knowing now (Explained q rows w names cs old) forms)
-    (λ forms. IsEndPushed q rows path e w old new result forms × Knowing now (Explained q rows w names cs old) forms)
-    (λ forms. now forms × Explained q rows w names cs old forms × AreRefuted q path e w refuted forms) (AreGathered q rows w path cs e new now result)
-    (λ forms h. (record { rows_named = h.1.rows_named; refuted_named = h.2 }, (h.0, h.1)))
-    (λ forms h. gathered q rows w path e refuted now names cs old new result forms h.0 h.1.0 h.1.1)
-    (goes_beside w b c (IsBegun q rows w names path e refuted) (IsEndPushed q rows path e w old new result) (Knowing now (Explained q rows w names cs old))
-    (λ forms more h. (lasts forms more h.0, explained_last q rows w names cs old forms more h.1)) ends))
+    (goes_beside w a b (Knowing knows (AreRowsNamed q rows w names)) (AreChangesPushed q rows w names cs old mid (Ok tt)) (AreRefuted q path e w refuted) (refuted_last q path e w refuted) changes))
+    (goes_as w b c (λ forms. Knowing mid (IsBegun q rows w names path e refuted) forms × Explained q rows w names cs old forms)
+    (λ forms. IsEndPushed q rows path e w old new now result forms × Explained q rows w names cs old forms)
+    (λ forms. mid forms × Explained q rows w names cs old forms × AreRefuted q path e w refuted forms) (AreGathered q rows w path cs e new now result)
+    (λ forms h. ((h.0, record { rows_named = h.1.rows_named; refuted_named = h.2 }), h.1))
+    (λ forms h. gathered q rows w path e refuted now names cs old new result forms h.0 h.1)
+    (goes_beside w b c (Knowing mid (IsBegun q rows w names path e refuted)) (IsEndPushed q rows path e w old new now result) (Explained q rows w names cs old) (explained_last q rows w names cs old) ends))
 
 -- The path's clause may follow.
 pub dead_follows : (q : Problem) (rows : List Row) (owner : ℕ) (w : Frame) (path : List (ℕ × ℕ)) (changes chosen : List Change) (e : End) (refs : List Ref) (name : Name) (forms : List Form) → IsFrameOf q owner w
@@ -191,26 +190,27 @@ pub ok_behind : (result : Result (Unit {0}) AllocError) (old mid new more last :
 ok_behind (Ok u) old mid new more last first is = is ∙ ap (λ (xs : List Ref). xs ++ last) first ∙ append_assoc old more last
 ok_behind (Err e) old mid new more last first is = tt
 
-pub end_pushed : (q : Problem) (rows : List Row) (w : Frame) (names : ℕ → Ref) (path : List (ℕ × ℕ)) (e f : End) (refuted : List Ref) (kept : Option (List Step)) (result : Result (Unit {0}) AllocError) (old new more : List Ref)
-    → e ≡ f → OnOk result (new ≡ old ++ more) → ((forms : List Form) → IsBegun q rows w names path f refuted forms → AreNamed w forms more (end_forms q rows path f))
-    → Goes w kept kept (IsBegun q rows w names path e refuted) (IsEndPushed q rows path e w old new result)
-end_pushed q rows w names path e f refuted kept result old new more is pushed named =
-    subst (λ (x : End). Goes w kept kept (IsBegun q rows w names path x refuted) (IsEndPushed q rows path x w old new result)) (sym is)
-    (pure_goes w kept result old new more (end_forms q rows path f) (IsBegun q rows w names path f refuted) pushed named)
+pub end_pushed : (q : Problem) (rows : List Row) (w : Frame) (names : ℕ → Ref) (path : List (ℕ × ℕ)) (e f : End) (refuted : List Ref) (knows : List Form → Type 0) (kept : Option (List Step))
+    (result : Result (Unit {0}) AllocError) (old new more : List Ref) → e ≡ f → OnOk result (new ≡ old ++ more) → ((forms : List Form) → IsBegun q rows w names path f refuted forms → AreNamed w forms more (end_forms q rows path f))
+    → Goes w kept kept (Knowing knows (IsBegun q rows w names path e refuted)) (IsEndPushed q rows path e w old new knows result)
+end_pushed q rows w names path e f refuted knows kept result old new more is pushed named =
+    subst (λ (x : End). Goes w kept kept (Knowing knows (IsBegun q rows w names path x refuted)) (IsEndPushed q rows path x w old new knows result)) (sym is)
+    (pure_goes w kept result old new more (end_forms q rows path f) knows (IsBegun q rows w names path f refuted) pushed named)
 
 -- The line of a set.
-pub set_pushed : (q : Problem) (rows : List Row) (w : Frame) (names : ℕ → Ref) (path : List (ℕ × ℕ)) (e : End) (vertices values : List ℕ) (refuted : List Ref) (a b : Option (List Step))
-    (result : Result (Unit {0}) AllocError) (old new : List Ref) → e ≡ Short vertices values → Goes w a b AnyForms (IsSetPushed q vertices values w old new result)
-    → Goes w a b (IsBegun q rows w names path e refuted) (IsEndPushed q rows path e w old new result)
-set_pushed q rows w names path e vertices values refuted a b result old new is goes =
-    subst (λ (x : End). Goes w a b (IsBegun q rows w names path x refuted) (IsEndPushed q rows path x w old new result)) (sym is)
-    (goes_as w a b AnyForms (IsSetPushed q vertices values w old new result) (IsBegun q rows w names path (Short vertices values) refuted) (IsEndPushed q rows path (Short vertices values) w old new result)
-    (λ forms h. tt) (λ forms h. h) goes)
+pub set_pushed : (q : Problem) (rows : List Row) (w : Frame) (names : ℕ → Ref) (path : List (ℕ × ℕ)) (e : End) (vertices values : List ℕ) (refuted : List Ref) (knows now : List Form → Type 0) (a b : Option (List Step))
+    (result : Result (Unit {0}) AllocError) (old new : List Ref) → e ≡ Short vertices values → Goes w a b knows (IsSetPushed q vertices values w old new now result)
+    → Goes w a b (Knowing knows (IsBegun q rows w names path e refuted)) (IsEndPushed q rows path e w old new now result)
+set_pushed q rows w names path e vertices values refuted knows now a b result old new is goes =
+    subst (λ (x : End). Goes w a b (Knowing knows (IsBegun q rows w names path x refuted)) (IsEndPushed q rows path x w old new now result)) (sym is)
+    (goes_as w a b knows (IsSetPushed q vertices values w old new now result) (Knowing knows (IsBegun q rows w names path (Short vertices values) refuted)) (IsEndPushed q rows path (Short vertices values) w old new now result)
+    (λ forms h. h.0) (λ forms h. h) goes)
 
 -- After a refusal nothing is claimed.
-pub end_none : (q : Problem) (rows : List Row) (w : Frame) (names : ℕ → Ref) (path : List (ℕ × ℕ)) (e : End) (refuted : List Ref) (kept : Option (List Step)) (old new : List Ref) (x : AllocError)
-    → Goes w kept kept (IsBegun q rows w names path e refuted) (IsEndPushed q rows path e w old new (Err x))
-end_none q rows w names path e refuted kept old new x = goes_stay w kept kept (IsBegun q rows w names path e refuted) (IsEndPushed q rows path e w old new (Err x)) refl (λ forms h. tt)
+pub end_none : (q : Problem) (rows : List Row) (w : Frame) (names : ℕ → Ref) (path : List (ℕ × ℕ)) (e : End) (refuted : List Ref) (knows : List Form → Type 0) (kept : Option (List Step)) (old new : List Ref) (x : AllocError)
+    → Goes w kept kept (Knowing knows (IsBegun q rows w names path e refuted)) (IsEndPushed q rows path e w old new knows (Err x))
+end_none q rows w names path e refuted knows kept old new x =
+    goes_stay w kept kept (Knowing knows (IsBegun q rows w names path e refuted)) (IsEndPushed q rows path e w old new knows (Err x)) refl (λ forms h. tt)
 
 -- More needed vertices are as good.
 pub choice_fewer : (rows : List Row) (cs chosen : List Change) (more fewer : ℕ → Bool) (result : Result (Unit {0}) AllocError) → IsWithin fewer more → OnOk result (IsChoice rows cs chosen more) → OnOk result (IsChoice rows cs chosen fewer)

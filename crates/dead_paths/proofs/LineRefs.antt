@@ -21,10 +21,11 @@ use Rattle.pb_encoding.proofs.TermLists.{size-terms}
 use Rattle.pb_encoding.proofs.LineNumbers.{at_least_line, at_most_line, at_most_target_line}
 use Rattle.forcing_theory.specs.Sums.{sum_from, IsSmall, AreSmall}
 use Rattle.reason_theory.specs.Reasons.{at_leasts, set_form}
-use Rattle.kept_lines.specs.Frames.{Frame, IsFrameOf, IsNamed, AreNamed, IsAddable, Goes, Named, AnyForms, IsKept}
-use Rattle.kept_lines.proofs.Going.{goes_as}
+use Rattle.kept_lines.specs.Frames.{Frame, IsFrameOf, IsNamed, AreNamed, IsAddable, Goes, Lasts, Named, AnyForms, IsKept}
+use Rattle.kept_lines.proofs.Going.{goes_as, goes_beside}
 use Rattle.kept_lines.proofs.Naming.{line_named, named_behind}
 use Rattle.dead_paths.specs.Lines.{at_least_ref, at_most_ref, at_most_target_ref, at_least_refs, set_refs, AreVertices, AreValues, IsSetKept}
+use Rattle.dead_paths.specs.Making.{GivesSet}
 use Rattle.dead_theory.specs.Changes.{set_forms}
 use Rattle.dead_paths.specs.Explaining.{IsLimited, Adds}
 use Rattle.dead_paths.proofs.Marking.{among_at}
@@ -158,6 +159,17 @@ set_goes q owner old new result (p ∷ rest) values refs few some is short vs us
 pub set_none : (q : Problem) (vertices values : List ℕ) (w : Frame) (e : AllocError) (forms : List Form) → 0 < length vertices → IsSetKept q vertices values w (Err e) forms
 set_none q [] values w e forms some = absurd (omega (arith, some))
 set_none q (p ∷ rest) values w e forms some = tt
+
+-- Who makes a set's line gives it, where what is known beside it stays so.
+pub set_given : (q : Problem) (w : Frame) (vertices values : List ℕ) (result : Result Name AllocError) (old new : Option (List Step)) (knows : List Form → Type 0) → Lasts knows
+    → Goes w old new AnyForms (IsSetKept q vertices values w result) → Goes w old new knows (GivesSet q w vertices values result knows)
+set_given q w vertices values result old new knows lasts goes =
+    goes_as w old new (λ forms. AnyForms forms × knows forms) (λ forms. IsSetKept q vertices values w result forms × knows forms) knows (GivesSet q w vertices values result knows) (λ forms known. (tt, known))
+    (λ forms h. by result h.0 h.1) (goes_beside w old new AnyForms (IsSetKept q vertices values w result) knows lasts goes)
+  where
+    by : {forms : List Form} (result : Result Name AllocError) → IsSetKept q vertices values w result forms → knows forms → GivesSet q w vertices values result knows forms
+    by (Ok n) kept known = (known, kept)
+    by (Err e) kept known = tt
 
 -- ---- the reference to a set's line
 

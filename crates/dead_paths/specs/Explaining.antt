@@ -104,8 +104,8 @@ abbrev pub nogood_refs : Problem → List Row → (ℕ → Ref) → ℕ → List
 nogood_refs q rows names k = at_least_refs q (vertices_of (path_at rows k)) ++ names k ∷ []
 
 -- To the line of a set.
-abbrev pub IsSetPushed : Problem → List ℕ → List ℕ → Frame → List Ref → List Ref → Result (Unit {0}) AllocError → List Form → Type 0
-IsSetPushed q vertices values w old new result forms = OnOk result (Adds w old new (set_forms q vertices values) forms)
+abbrev pub IsSetPushed : Problem → List ℕ → List ℕ → Frame → List Ref → List Ref → (List Form → Type 0) → Result (Unit {0}) AllocError → List Form → Type 0
+IsSetPushed q vertices values w old new knows result forms = OnOk result (knows forms × Adds w old new (set_forms q vertices values) forms)
 
 -- To forms that explain a change.
 pub record AddsFor (q : Problem) (rows : List Row) (c : Change) (w : Frame) (old new : List Ref) (forms : List Form) : Type 0 where
@@ -121,8 +121,8 @@ abbrev pub AreChangesPushed : Problem → List Row → Frame → (ℕ → Ref) �
 AreChangesPushed q rows w names cs refs knows result forms = OnOk result (knows forms × Explained q rows w names cs refs forms)
 
 -- To the forms that an end comes to.
-abbrev pub IsEndPushed : Problem → List Row → List (ℕ × ℕ) → End → Frame → List Ref → List Ref → Result (Unit {0}) AllocError → List Form → Type 0
-IsEndPushed q rows path e w old new result forms = OnOk result (Adds w old new (end_forms q rows path e) forms)
+abbrev pub IsEndPushed : Problem → List Row → List (ℕ × ℕ) → End → Frame → List Ref → List Ref → (List Form → Type 0) → Result (Unit {0}) AllocError → List Form → Type 0
+IsEndPushed q rows path e w old new knows result forms = OnOk result (knows forms × Adds w old new (end_forms q rows path e) forms)
 
 -- To the forms that explain changes, and then to those that the end comes to.
 abbrev pub AreGathered : Problem → List Row → Frame → List (ℕ × ℕ) → List Change → End → List Ref → (List Form → Type 0) → Result (Unit {0}) AllocError → List Form → Type 0

@@ -1,15 +1,17 @@
--- Lines for first domains and for pairs of vertices, as those who make them answer.
+-- Lines for first domains, for pairs of vertices and for sets, as those who make them answer.
 
 use Rattle.std.specs.Prelude.{ℕ, List, Result, Ok, Err}
 use Rattle.std.specs.declared.alloc.AllocError.{AllocError}
 use Rattle.graph_theory.specs.Embedding.{Problem}
 use Rattle.proof_theory.specs.Forms.{Form}
+use Rattle.log_theory.specs.declared.step.Name.{Name}
 use Rattle.log_theory.specs.declared.step.Ref.{Ref}
 use Rattle.reason_theory.specs.Reasons.{pairs_clause, ForcesFirst, ForcesBeside}
 use Rattle.nogood_book.specs.declared.row.Row.{Row}
 use Rattle.nogood_book.specs.Rows.{path_at}
 use Rattle.nogood_book.specs.Places.{IsNogoodRow}
 use Rattle.kept_lines.specs.Frames.{Frame, IsNamed}
+use Rattle.dead_paths.specs.Lines.{IsSetKept}
 
 -- The reference names a form that takes from p whatever is not in its first domain.
 pub record IsFirstLine (q : Problem) (w : Frame) (p : ℕ) (r : Ref) (forms : List Form) : Type 0 where
@@ -31,6 +33,11 @@ GivesFirst q w p (Err e) knows forms = Unit {0}
 abbrev pub GivesRow : Problem → Frame → ℕ → ℕ → ℕ → Result Ref AllocError → (List Form → Type 0) → List Form → Type 0
 GivesRow q w p t r (Ok ref) knows forms = knows forms × IsRowLine q w p t r ref forms
 GivesRow q w p t r (Err e) knows forms = Unit {0}
+
+-- The answer is the name of the set's form, and the maker knows what it is to know of the forms.
+abbrev pub GivesSet : Problem → Frame → List ℕ → List ℕ → Result Name AllocError → (List Form → Type 0) → List Form → Type 0
+GivesSet q w vertices values (Ok n) knows forms = knows forms × IsSetKept q vertices values w (Ok n) forms
+GivesSet q w vertices values (Err e) knows forms = Unit {0}
 
 -- Each nogood row's reference names the clause of its path.
 abbrev pub AreRowsNamed : Problem → List Row → Frame → (ℕ → Ref) → List Form → Type 0

@@ -10,7 +10,7 @@ ghost use Rattle.dead_theory.specs.Changes.{AreGuessed, AreInProblem};
 ghost use Rattle.dead_theory.specs.Ends.{end_needs};
 ghost use Rattle.dead_theory.specs.Walks.{among_these, IsChoice, IsWithin};
 ghost use Rattle.dead_theory.specs.Laws.{Dies};
-ghost use Rattle.kept_lines.specs.Frames.{Frame, IsFrameOf, AnyForms, Goes};
+ghost use Rattle.kept_lines.specs.Frames.{Frame, IsFrameOf, Goes};
 ghost use Rattle.dead_paths.specs.Making.{AreRowsNamed};
 ghost use Rattle.dead_paths.specs.Choosing.{is_needed, changes_in, AreNameable};
 ghost use Rattle.dead_paths.specs.Explaining.{IsLimited, Knowing, AreChangesPushed, IsEndPushed, AreRefuted, end_by, IsEndIn, IsBegun, AreGathered, IsDeadName, IsLastOf};
@@ -139,7 +139,7 @@ fn push_chosen<M: LineMaker, N: RowNames, K: Keeper>(
 }
 
 /// Puts references to the forms that an end comes to.
-fn push_end<N: RowNames, K: Keeper>(
+fn push_end<M: LineMaker, N: RowNames, K: Keeper>(
     alloc: Global,
     q: &Problem,
     lines: &Encoding<'_>,
@@ -150,6 +150,7 @@ fn push_end<N: RowNames, K: Keeper>(
     path: &[(u16, u16)],
     end: PathEnd,
     refuted: &[Ref],
+    maker: &mut M,
     keeper: &mut K,
     pairs: &mut Vec<(u16, u16)>,
     refs: &mut Vec<Ref>,
@@ -162,8 +163,8 @@ fn push_end<N: RowNames, K: Keeper>(
     requires refuted { AreRefs refuted.now }
     requires fits { AreRefs refs.old.items }
     ensures goes { (w : Frame) (values : List ℕ) → IsFrameOf q.now (K.owner keeper.old) w → Goes w (K.kept keeper.old) (K.kept keeper.new)
-        (IsBegun q.now rows.now w (N.names names.now) path.now (end_by end (set_at numbers.now short) values) refuted.now)
-        (IsEndPushed q.now rows.now path.now (end_by end (set_at numbers.now short) values) w refs.old.items refs.new.items result) }
+        (Knowing (M.knows maker.old q.now w) (IsBegun q.now rows.now w (N.names names.now) path.now (end_by end (set_at numbers.now short) values) refuted.now))
+        (IsEndPushed q.now rows.now path.now (end_by end (set_at numbers.now short) values) w refs.old.items refs.new.items (M.knows maker.new q.now w) result) }
     ensures fits { OnOk result (AreRefs refs.new.items) }
     ensures owner { K.owner keeper.new ≡ K.owner keeper.old }
     ensures notes { K.notes keeper.new ≡ K.notes keeper.old }
@@ -176,7 +177,9 @@ fn push_end<N: RowNames, K: Keeper>(
             Failure::Short(_) => match short {
                 Some(place) => push_set(
                     alloc,
+                    q,
                     lines,
+                    maker,
                     keeper,
                     part(numbers, place.start, place.middle),
                     part(numbers, place.middle, place.end),
@@ -281,7 +284,8 @@ fn gather<M: LineMaker, N: RowNames, K: Keeper>(
         alloc, q, lines, rows, names, numbers, chosen, maker, keeper, pairs, refs,
     )?;
     push_end(
-        alloc, q, lines, rows, names, numbers, short, path, end, refuted, keeper, pairs, refs,
+        alloc, q, lines, rows, names, numbers, short, path, end, refuted, maker, keeper, pairs,
+        refs,
     )
 }
 

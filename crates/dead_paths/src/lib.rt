@@ -3,8 +3,8 @@
 //! A search tells why values left its domains, and how its path ended. This layer goes back from the end over the changes, chooses those that
 //! the end rests on, has the lines made that they need and are not there yet, and gives the keeper one line that names them all:
 //! the clause that not all pairs of the path hold. So a log says of a dead path a few lines, whatever else was removed. Lines for first
-//! domains and for pairs of vertices come from a maker, which makes each when it is first asked; a set of vertices that were counted
-//! together gets its line where it is needed. (Lazily explained changes are those of Ohrimenko, Stuckey and Codish 2009; the lines of a
+//! domains, for pairs of vertices and for sets of vertices that were counted together come from a maker, which makes each when it is first
+//! asked. (Lazily explained changes are those of Ohrimenko, Stuckey and Codish 2009; the lines of a
 //! search those of Gocht, McCreesh and Nordström 2020.)
 #![tactic(auto)]
 
@@ -17,5 +17,6 @@ mod tests;
 mod walk;
 
 pub use dead_line::{PathEnd, explain};
+pub use lines::keep_set;
 pub use maker::{LineMaker, RowNames};
 pub use walk::Scratch;

@@ -62,7 +62,7 @@ pub(crate) fn push_at_most(
 
 /// Keeps the line of a set: that its vertices go somewhere and that one vertex at most goes to each of its values, summed. Cost: a reference
 /// for each vertex and value.
-pub(crate) fn keep_set<K: Keeper>(
+pub fn keep_set<K: Keeper>(
     alloc: Global,
     lines: &Encoding<'_>,
     keeper: &mut K,

@@ -1,17 +1,19 @@
-//! Who makes lines for first domains and for pairs of vertices, and who knows the names of rows.
+//! Who makes lines for first domains, for pairs of vertices and for sets, and who knows the names of rows.
 
-ghost use Rattle.std.specs.Prelude.{◌≡◌, ℕ, ◌^◌, ◌<◌, ◌++◌, List, IfOk};
+ghost use Rattle.std.specs.Prelude.{◌≡◌, ℕ, ◌^◌, ◌<◌, ◌++◌, List, length, IfOk};
 ghost use Rattle.graph_theory.specs.Graph.{size};
 ghost use Rattle.graph_theory.specs.Embedding.{Problem as TheProblem};
 ghost use Rattle.proof_theory.specs.Forms.{Form};
-ghost use Rattle.log_theory.specs.LogText.{IsRef};
+ghost use Rattle.log_theory.specs.LogText.{IsName, IsRef};
 ghost use Rattle.kept_lines.specs.Frames.{Frame, IsFrameOf, Goes, Lasts};
 ghost use Rattle.kept_lines.specs.Rows.{Widens};
-ghost use Rattle.dead_paths.specs.Making.{GivesFirst, GivesRow};
+ghost use Rattle.dead_paths.specs.Lines.{AreVertices, AreValues};
+ghost use Rattle.dead_paths.specs.Making.{GivesFirst, GivesRow, GivesSet};
+ghost use Rattle.dead_paths.specs.Explaining.{IsLimited};
 
 use graph_rows::Problem;
 use journals::Keeper;
-use log_theory::Ref;
+use log_theory::{Name, Ref};
 use pb_encoding::Encoding;
 use std::alloc::{AllocError, Global};
 
@@ -63,6 +65,28 @@ pub trait LineMaker: Drop {
         ensures goes { (w : Frame) → IsFrameOf q.now (K.owner keeper.old) w → Goes w (K.kept keeper.old) (K.kept keeper.new)
             (knows self.old q.now w) (GivesRow q.now w p t r result (knows self.new q.now w)) }
         ensures fits { IfOk result IsRef }
+        ensures owner { K.owner keeper.new ≡ K.owner keeper.old }
+        ensures notes { K.notes keeper.new ≡ K.notes keeper.old }
+        ensures spare { K.spare keeper.new ≡ K.spare keeper.old };
+
+    /// The line of a set: that its vertices go somewhere and that one vertex at most goes to each of its values, summed.
+    fn set<K: Keeper>(
+        &mut self,
+        alloc: Global,
+        q: &Problem,
+        lines: &Encoding<'_>,
+        keeper: &mut K,
+        vertices: &[u16],
+        values: &[u16],
+    ) -> Result<Name, AllocError>
+        requires limited { IsLimited q.now }
+        requires lines { lines.now ≡ q.now }
+        requires some { 0 < length vertices.now }
+        requires vertices { AreVertices q.now vertices.now }
+        requires values { AreValues q.now values.now }
+        ensures goes { (w : Frame) → IsFrameOf q.now (K.owner keeper.old) w → Goes w (K.kept keeper.old) (K.kept keeper.new)
+            (knows self.old q.now w) (GivesSet q.now w vertices.now values.now result (knows self.new q.now w)) }
+        ensures fits { IfOk result IsName }
         ensures owner { K.owner keeper.new ≡ K.owner keeper.old }
         ensures notes { K.notes keeper.new ≡ K.notes keeper.old }
         ensures spare { K.spare keeper.new ≡ K.spare keeper.old };

@@ -7,13 +7,13 @@ ghost use Rattle.nogood_book.specs.Rows.{Sound};
 ghost use Rattle.nogood_book.specs.Places.{IsNogoodRow};
 ghost use Rattle.propagation.specs.Recording.{change_of};
 ghost use Rattle.dead_theory.specs.Changes.{IsInProblem};
-ghost use Rattle.kept_lines.specs.Frames.{Frame, IsFrameOf, AnyForms, Goes};
+ghost use Rattle.kept_lines.specs.Frames.{Frame, IsFrameOf, Goes};
 ghost use Rattle.dead_paths.specs.Lines.{AreVertices, AreValues};
 ghost use Rattle.dead_paths.specs.Making.{AreRowsNamed};
 ghost use Rattle.dead_paths.specs.Choosing.{IsOfRow, changes_in, AreNameable};
 ghost use Rattle.dead_paths.specs.Explaining.{IsLimited, Knowing, nogood_refs, IsSetPushed, IsChangePushed};
 
-use crate::lines::{keep_set, push_at_least_of};
+use crate::lines::push_at_least_of;
 use crate::maker::{LineMaker, RowNames};
 use crate::walk::part;
 use graph_rows::Problem;
@@ -50,21 +50,24 @@ pub(crate) fn push_nogood<N: RowNames>(
     Ok(())
 }
 
-/// Keeps the line of a set, if it has a vertex, and puts the reference to it.
-pub(crate) fn push_set<K: Keeper>(
+/// Puts the reference to the line of a set, if it has a vertex.
+pub(crate) fn push_set<M: LineMaker, K: Keeper>(
     alloc: Global,
+    q: &Problem,
     lines: &Encoding<'_>,
+    maker: &mut M,
     keeper: &mut K,
     vertices: &[u16],
     values: &[u16],
     refs: &mut Vec<Ref>,
 ) -> Result<(), AllocError>
-    requires limited { IsLimited lines.now }
-    requires vertices { AreVertices lines.now vertices.now }
-    requires values { AreValues lines.now values.now }
+    requires limited { IsLimited q.now }
+    requires lines { lines.now ≡ q.now }
+    requires vertices { AreVertices q.now vertices.now }
+    requires values { AreValues q.now values.now }
     requires fits { AreRefs refs.old.items }
-    ensures goes { (w : Frame) → IsFrameOf lines.now (K.owner keeper.old) w → Goes w (K.kept keeper.old) (K.kept keeper.new) AnyForms
-        (IsSetPushed lines.now vertices.now values.now w refs.old.items refs.new.items result) }
+    ensures goes { (w : Frame) → IsFrameOf q.now (K.owner keeper.old) w → Goes w (K.kept keeper.old) (K.kept keeper.new) (M.knows maker.old q.now w)
+        (IsSetPushed q.now vertices.now values.now w refs.old.items refs.new.items (M.knows maker.new q.now w) result) }
     ensures fits { OnOk result (AreRefs refs.new.items) }
     ensures owner { K.owner keeper.new ≡ K.owner keeper.old }
     ensures notes { K.notes keeper.new ≡ K.notes keeper.old }
@@ -73,7 +76,7 @@ pub(crate) fn push_set<K: Keeper>(
     if vertices.is_empty() {
         return Ok(());
     }
-    let name = keep_set(alloc, lines, keeper, vertices, values)?;
+    let name = maker.set(alloc, q, lines, keeper, vertices, values)?;
     refs.push(Ref::Made(name))?;
     Ok(())
 }
@@ -128,7 +131,9 @@ pub(crate) fn push_change<M: LineMaker, N: RowNames, K: Keeper>(
         },
         What::Others(place) => push_set(
             alloc,
+            q,
             lines,
+            maker,
             keeper,
             part(numbers, place.start, place.middle),
             part(numbers, place.middle, place.end),

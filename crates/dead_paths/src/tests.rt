@@ -8,19 +8,20 @@ ghost use Rattle.dead_theory.specs.Changes.{AreInProblem};
 ghost use Rattle.dead_paths.specs.Explaining.{end_by, IsEndIn};
 
 use crate::dead_line::{PathEnd, explain};
+use crate::lines::keep_set;
 use crate::maker::{LineMaker, RowNames};
 use crate::walk::Scratch;
 use domain_bits::{Domains, Mark};
 use graph_rows::{Graph, Problem};
 use journals::{Journal, Keeper};
 use lad_reader::{LadKind, read_lad};
-use log_theory::Ref;
+use log_theory::{Name, Ref};
 use pb_encoding::Encoding;
 use propagation::{Cause, Entry, Failure, Place, What};
 use std::alloc::{AllocError, Global};
 use std::test::Fail;
 
-/// Has no lines for first domains and pairs of vertices.
+/// Has no lines for first domains and pairs of vertices, and makes the line of a set whenever it is asked.
 #[derive(Drop)]
 struct NoLines {}
 
@@ -49,6 +50,18 @@ impl LineMaker for NoLines {
         _r: u16,
     ) -> Result<Ref, AllocError> {
         Err(AllocError)
+    }
+
+    fn set<K: Keeper>(
+        &mut self,
+        alloc: Global,
+        _q: &Problem,
+        lines: &Encoding<'_>,
+        keeper: &mut K,
+        vertices: &[u16],
+        values: &[u16],
+    ) -> Result<Name, AllocError> {
+        keep_set(alloc, lines, keeper, vertices, values)
     }
 
     ghost lasts = { λ m q w forms more known. tt };

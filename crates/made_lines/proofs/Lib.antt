@@ -1,1 +1,4 @@
+pub mod Orders
+pub mod Seating
+pub mod Known
 pub mod Giving

@@ -6,6 +6,7 @@ use Rattle.proof_theory.specs.Forms.{Form}
 use Rattle.log_theory.specs.declared.step.Name.{Name}
 use Rattle.log_theory.specs.declared.step.Ref.TheVariants.{Made}
 use Rattle.reason_theory.specs.Reasons.{ForcesFirst}
+use Rattle.propagation.specs.Recording.{CountedSet}
 use Rattle.row_theory.specs.Rows.{spread_form}
 use Rattle.kept_lines.specs.Frames.{Frame, IsNamed}
 use Rattle.kept_lines.specs.Rows.{Widens}
@@ -14,22 +15,24 @@ use Rattle.kept_lines.proofs.Rows.{named_wider}
 use Rattle.first_lines.specs.Named.{name_at, AreUnits, is_false}
 use Rattle.row_lines.specs.declared.row_lines.RowLines.{RowLines}
 use Rattle.row_lines.specs.Claims.{Knows}
+use Rattle.made_lines.specs.Sets.{AreSets, sets_last, sets_wider}
 
 -- Each name is that of a line that forces the first domain of its vertex.
 abbrev pub AreFirsts : Problem → Frame → List (ℕ × Name) → List Form → Type 0
 AreFirsts q w names forms = (p : ℕ) (n : Name) → name_at names p ≡ Some n → (f : Form) × IsNamed w forms (Made n) f × ForcesFirst q f p
 
 -- The names were made for this problem, and each is right.
-pub record IsMade (q made_for : Problem) (w : Frame) (units firsts : List (ℕ × Name)) (lines : RowLines) (forms : List Form) : Type 0 where
+pub record IsMade (q made_for : Problem) (w : Frame) (units firsts : List (ℕ × Name)) (lines : RowLines) (sets : List (CountedSet × Name)) (forms : List Form) : Type 0 where
   pub problem_is : made_for ≡ q
   pub units_are : AreUnits w units forms
   pub firsts_are : AreFirsts q w firsts forms
   pub rows_are : Knows w q lines forms
+  pub sets_are : AreSets q w sets forms
 
 -- So it stays as forms are added, and as more is found beside them.
-pub made_last : (q made_for : Problem) (w : Frame) (units firsts : List (ℕ × Name)) (lines : RowLines) (forms more : List Form) → IsMade q made_for w units firsts lines forms
-    → IsMade q made_for w units firsts lines (forms ++ more)
-made_last q made_for w units firsts lines forms more h = record {
+pub made_last : (q made_for : Problem) (w : Frame) (units firsts : List (ℕ × Name)) (lines : RowLines) (sets : List (CountedSet × Name)) (forms more : List Form) → IsMade q made_for w units firsts lines sets forms
+    → IsMade q made_for w units firsts lines sets (forms ++ more)
+made_last q made_for w units firsts lines sets forms more h = record {
   problem_is = h.problem_is;
   units_are = λ v n e. named_later w forms more (Made n) (is_false v) (h.units_are v n e);
   firsts_are = λ p n e. let x = h.firsts_are p n e in (x.0, named_later w forms more (Made n) x.0 x.1, x.2);
@@ -37,11 +40,12 @@ made_last q made_for w units firsts lines forms more h = record {
     record { named = λ p r v n a b c e. named_later w forms more (Made n) (spread_form q p r v) (h.rows_are.0.named p r v n a b c e) },
     record { named = λ p t r n a b c e. let x = h.rows_are.1.named p t r n a b c e in (x.0, named_later w forms more (Made n) x.0 x.1, x.2) },
   );
+  sets_are = sets_last q w sets forms more h.sets_are;
 }
 
-pub made_wider : (q made_for : Problem) (w v : Frame) (units firsts : List (ℕ × Name)) (lines : RowLines) (forms : List Form) → Widens w v → IsMade q made_for w units firsts lines forms
-    → IsMade q made_for v units firsts lines forms
-made_wider q made_for w v units firsts lines forms wider h = record {
+pub made_wider : (q made_for : Problem) (w v : Frame) (units firsts : List (ℕ × Name)) (lines : RowLines) (sets : List (CountedSet × Name)) (forms : List Form) → Widens w v → IsMade q made_for w units firsts lines sets forms
+    → IsMade q made_for v units firsts lines sets forms
+made_wider q made_for w v units firsts lines sets forms wider h = record {
   problem_is = h.problem_is;
   units_are = λ x n e. named_wider w v forms (Made n) (is_false x) wider (h.units_are x n e);
   firsts_are = λ p n e. let x = h.firsts_are p n e in (x.0, named_wider w v forms (Made n) x.0 wider x.1, x.2);
@@ -49,4 +53,5 @@ made_wider q made_for w v units firsts lines forms wider h = record {
     record { named = λ p r u n a b c e. named_wider w v forms (Made n) (spread_form q p r u) wider (h.rows_are.0.named p r u n a b c e) },
     record { named = λ p t r n a b c e. let x = h.rows_are.1.named p t r n a b c e in (x.0, named_wider w v forms (Made n) x.0 wider x.1, x.2) },
   );
+  sets_are = sets_wider q w v sets forms wider h.sets_are;
 }

@@ -6,16 +6,19 @@ ghost use Rattle.graph_theory.specs.Embedding.{Problem as TheProblem};
 ghost use Rattle.kept_lines.specs.Frames.{Frame};
 ghost use Rattle.made_lines.specs.Made.{IsMade, made_last, made_wider};
 
+use crate::set_lines::set_line;
+use crate::set_names::SetNames;
 use dead_paths::LineMaker;
 use first_lines::{FirstLines, Units};
 use graph_rows::Problem;
 use journals::Keeper;
-use log_theory::Ref;
+use log_theory::{Name, Ref};
 use pb_encoding::Encoding;
 use row_lines::RowLines;
 use std::alloc::{AllocError, Global};
 
-/// The names of the lines that were made so far for a problem. Cost of a line that is there: logarithmic in how many there are.
+/// The names of the lines that were made so far for a problem. Cost of a line that is there: logarithmic in how many there are, and for a
+/// set a sort of its vertices and one step for each vertex and value.
 #[derive(Drop)]
 pub struct MadeLines<'a> {
     problem: &'a Problem,
@@ -23,6 +26,7 @@ pub struct MadeLines<'a> {
     units: Units,
     firsts: Units,
     rows: RowLines,
+    sets: SetNames,
     ghost same: { first ≡ problem.now },
 }
 
@@ -34,7 +38,7 @@ impl<'a> MadeLines<'a> {
         lines: &'a Encoding<'a>,
     ) -> Result<MadeLines<'a>, AllocError>
         requires { lines.now ≡ problem.now }
-        ensures { IfOk result (λ m. (w : Frame) → IsMade problem.now m.problem.now w m.units m.firsts m.rows []) }
+        ensures { IfOk result (λ m. (w : Frame) → IsMade problem.now m.problem.now w m.units m.firsts m.rows m.sets []) }
     {
         let first = FirstLines::new(alloc, problem, lines)?;
         Ok(MadeLines {
@@ -43,12 +47,13 @@ impl<'a> MadeLines<'a> {
             units: Units::new(alloc),
             firsts: Units::new(alloc),
             rows: RowLines::new(alloc),
+            sets: SetNames::new(alloc),
         })
     }
 }
 
 impl<'a> LineMaker for MadeLines<'a> {
-    ghost knows = { λ m q w forms. IsMade q m.problem.now w m.units m.firsts m.rows forms };
+    ghost knows = { λ m q w forms. IsMade q m.problem.now w m.units m.firsts m.rows m.sets forms };
 
     fn first<K: Keeper>(
         &mut self,
@@ -86,7 +91,21 @@ impl<'a> LineMaker for MadeLines<'a> {
         self.rows.row(alloc, q, lines, keeper, p, t, r)
     }
 
-    ghost lasts = { λ m q w forms more h. made_last q m.problem.now w m.units m.firsts m.rows forms more h };
+    fn set<K: Keeper>(
+        &mut self,
+        alloc: Global,
+        _q: &Problem,
+        lines: &Encoding<'_>,
+        keeper: &mut K,
+        vertices: &[u16],
+        values: &[u16],
+    ) -> Result<Name, AllocError> {
+        let mut members = Vec::from_slice(alloc, vertices)?;
+        members.sort_unstable();
+        set_line(alloc, lines, &mut self.sets, keeper, &members, values)
+    }
 
-    ghost wider = { λ m q w v forms wider h. made_wider q m.problem.now w v m.units m.firsts m.rows forms wider h };
+    ghost lasts = { λ m q w forms more h. made_last q m.problem.now w m.units m.firsts m.rows m.sets forms more h };
+
+    ghost wider = { λ m q w v forms wider h. made_wider q m.problem.now w v m.units m.firsts m.rows m.sets forms wider h };
 }

@@ -22,13 +22,13 @@ use Rattle.dead_paths.proofs.dead_line.push_end.Goals as goal
 pub returns-in_err-extend_from_slice-in-Exhausted-clause-goes : goal.returns-in_err-extend_from_slice-in-Exhausted-clause-goes
 returns-in_err-extend_from_slice-in-Exhausted-clause-goes g c = λ w values frame.
     let err = err_from_is_err_and c.from_residual.result c.from_residual.ensures.1 in
-    rw err.1 (end_none c.args.q.now c.args.rows.now w (g.N.RowNames.names c.args.names.now) c.args.path.now (end_by c.args.end (set_at c.args.numbers.now c.args.short) values) c.args.refuted.now (g.K.Keeper.kept c.args.keeper.now) c.args.refs.now.items c.extend_from_slice.new.self.items err.0)
+    rw err.1 (end_none c.args.q.now c.args.rows.now w (g.N.RowNames.names c.args.names.now) c.args.path.now (end_by c.args.end (set_at c.args.numbers.now c.args.short) values) c.args.refuted.now (g.M.LineMaker.knows c.args.maker.now c.args.q.now w) (g.K.Keeper.kept c.args.keeper.now) c.args.refs.now.items c.extend_from_slice.new.self.items err.0)
 
 pub returns-in-Empty-clause-goes : goal.returns-in-Empty-clause-goes
 returns-in-Empty-clause-goes g c = λ w values frame.
     let is = (ap (λ (y : PathEnd). end_by y (set_at c.args.numbers.now c.args.short) values) c.in-Failed.is ∙ ap (λ (f : Failure). end_of f (set_at c.args.numbers.now c.args.short)) c.in-Empty.is) in
     let inside : c.in-Empty.p < size c.args.q.now.pattern = subst (IsEndIn c.args.q.now c.args.rows.now) (ap (λ (y : PathEnd). end_by y (set_at c.args.numbers.now c.args.short) []) c.in-Failed.is ∙ ap (λ (f : Failure). end_of f (set_at c.args.numbers.now c.args.short)) c.in-Empty.is) c.requires.end in
-    end_pushed c.args.q.now c.args.rows.now w (g.N.RowNames.names c.args.names.now) c.args.path.now (end_by c.args.end (set_at c.args.numbers.now c.args.short) values) (Empty c.in-Empty.p) c.args.refuted.now (g.K.Keeper.kept c.args.keeper.now) c.push_at_least.result c.args.refs.now.items c.push_at_least.new.refs.items (at_least_refs c.args.q.now (c.in-Empty.p ∷ [])) is
+    end_pushed c.args.q.now c.args.rows.now w (g.N.RowNames.names c.args.names.now) c.args.path.now (end_by c.args.end (set_at c.args.numbers.now c.args.short) values) (Empty c.in-Empty.p) c.args.refuted.now (g.M.LineMaker.knows c.args.maker.now c.args.q.now w) (g.K.Keeper.kept c.args.keeper.now) c.push_at_least.result c.args.refs.now.items c.push_at_least.new.refs.items (at_least_refs c.args.q.now (c.in-Empty.p ∷ [])) is
     (subst (λ (p : Problem). OnOk c.push_at_least.result (c.push_at_least.new.refs.items ≡ c.args.refs.now.items ++ at_least_refs p (c.in-Empty.p ∷ []))) c.requires.lines c.push_at_least.ensures)
     (λ forms h. (at_least_named c.args.q.now (g.K.Keeper.owner c.args.keeper.now) w forms c.in-Empty.p frame inside, tt))
 
@@ -43,20 +43,20 @@ pub returns-in-Whole-clause-goes : goal.returns-in-Whole-clause-goes
 returns-in-Whole-clause-goes g c = λ w values frame.
     let is = (ap (λ (y : PathEnd). end_by y (set_at c.args.numbers.now c.args.short) values) c.in-Failed.is ∙ ap (λ (f : Failure). end_of f (set_at c.args.numbers.now c.args.short)) c.in-Whole.is) in
     let nogood = subst (IsEndIn c.args.q.now c.args.rows.now) (ap (λ (y : PathEnd). end_by y (set_at c.args.numbers.now c.args.short) []) c.in-Failed.is ∙ ap (λ (f : Failure). end_of f (set_at c.args.numbers.now c.args.short)) c.in-Whole.is) c.requires.end in
-    end_pushed c.args.q.now c.args.rows.now w (g.N.RowNames.names c.args.names.now) c.args.path.now (end_by c.args.end (set_at c.args.numbers.now c.args.short) values) (Whole c.in-Whole.name) c.args.refuted.now (g.K.Keeper.kept c.args.keeper.now) c.push_nogood.result c.args.refs.now.items c.push_nogood.new.refs.items
+    end_pushed c.args.q.now c.args.rows.now w (g.N.RowNames.names c.args.names.now) c.args.path.now (end_by c.args.end (set_at c.args.numbers.now c.args.short) values) (Whole c.in-Whole.name) c.args.refuted.now (g.M.LineMaker.knows c.args.maker.now c.args.q.now w) (g.K.Keeper.kept c.args.keeper.now) c.push_nogood.result c.args.refs.now.items c.push_nogood.new.refs.items
     (nogood_refs c.args.q.now c.args.rows.now (g.N.RowNames.names c.args.names.now) c.in-Whole.name) is c.push_nogood.ensures.pushed
     (λ forms h. nogood_named c.args.q.now c.args.rows.now (g.K.Keeper.owner c.args.keeper.now) w (g.N.RowNames.names c.args.names.now) forms c.in-Whole.name frame c.requires.sound nogood h.rows_named)
 
 pub returns-in-None-clause-goes : goal.returns-in-None-clause-goes
 returns-in-None-clause-goes g c = λ w values frame.
     let is = (ap (λ (y : PathEnd). end_by y (set_at c.args.numbers.now c.args.short) values) c.in-Failed.is ∙ ap (λ (f : Failure). end_of f (set_at c.args.numbers.now c.args.short)) c.in-Short.is) ∙ ap (λ (k : Option Place). end_of (failure.Short c.in-Short.field-0) (set_at c.args.numbers.now k)) c.in-None.is in
-    end_pushed c.args.q.now c.args.rows.now w (g.N.RowNames.names c.args.names.now) c.args.path.now (end_by c.args.end (set_at c.args.numbers.now c.args.short) values) (Short [] []) c.args.refuted.now (g.K.Keeper.kept c.args.keeper.now) (Ok tt) c.args.refs.now.items c.args.refs.now.items [] is (sym (append-nil c.args.refs.now.items)) (λ forms h. tt)
+    end_pushed c.args.q.now c.args.rows.now w (g.N.RowNames.names c.args.names.now) c.args.path.now (end_by c.args.end (set_at c.args.numbers.now c.args.short) values) (Short [] []) c.args.refuted.now (g.M.LineMaker.knows c.args.maker.now c.args.q.now w) (g.K.Keeper.kept c.args.keeper.now) (Ok tt) c.args.refs.now.items c.args.refs.now.items [] is (sym (append-nil c.args.refs.now.items)) (λ forms h. tt)
 
 pub returns-in_ok-extend_from_slice-in-Exhausted-clause-goes : goal.returns-in_ok-extend_from_slice-in-Exhausted-clause-goes
 returns-in_ok-extend_from_slice-in-Exhausted-clause-goes g c = λ w values frame.
     let is = (ap (λ (y : PathEnd). end_by y (set_at c.args.numbers.now c.args.short) values) c.in-Exhausted.is) in
     let inside : c.in-Exhausted.p < size c.args.q.now.pattern = subst (IsEndIn c.args.q.now c.args.rows.now) (ap (λ (y : PathEnd). end_by y (set_at c.args.numbers.now c.args.short) []) c.in-Exhausted.is) c.requires.end in
-    end_pushed c.args.q.now c.args.rows.now w (g.N.RowNames.names c.args.names.now) c.args.path.now (end_by c.args.end (set_at c.args.numbers.now c.args.short) values) (Exhausted c.in-Exhausted.p values) c.args.refuted.now (g.K.Keeper.kept c.args.keeper.now) c.push_at_least-in-Exhausted.result c.args.refs.now.items c.push_at_least-in-Exhausted.new.refs.items
+    end_pushed c.args.q.now c.args.rows.now w (g.N.RowNames.names c.args.names.now) c.args.path.now (end_by c.args.end (set_at c.args.numbers.now c.args.short) values) (Exhausted c.in-Exhausted.p values) c.args.refuted.now (g.M.LineMaker.knows c.args.maker.now c.args.q.now w) (g.K.Keeper.kept c.args.keeper.now) c.push_at_least-in-Exhausted.result c.args.refs.now.items c.push_at_least-in-Exhausted.new.refs.items
     (c.args.refuted.now ++ at_least_refs c.args.q.now (c.in-Exhausted.p ∷ [])) is
     (ok_behind c.push_at_least-in-Exhausted.result c.args.refs.now.items c.extend_from_slice.new.self.items c.push_at_least-in-Exhausted.new.refs.items c.args.refuted.now (at_least_refs c.args.q.now (c.in-Exhausted.p ∷ []))
     c.in_ok-extend_from_slice-in-Exhausted.ensures.items

@@ -1,4 +1,4 @@
-use Rattle.std.proofs.Common.{◌≡◌, ℕ, ◌+◌, ◌-◌, ◌*◌, ◌<◌, ◌≤◌, ◌==◌, ◌^◌, cond, List, Option, Some, None, Result, Ok, Err, refl, sym, ap, subst, ◌∙◌, arith, rules}
+use Rattle.std.proofs.Common.{◌≡◌, ℕ, ◌-◌, ◌≤◌, ◌==◌, cond, Option, Some, None, Ok, Err, refl, sym, ap, subst, ◌∙◌, arith}
 use Rattle.std.proofs.lemmas.Result.{err_from_is_err_and}
 use Rattle.std.specs.Prelude.{slice_get}
 use Rattle.graph_theory.specs.Embedding.{Problem}
@@ -20,9 +20,9 @@ returns-in-Some-clause-goes g c = λ w frame.
     let j = c.args.self.now in
     let q = c.args.q.now in
     let is : name_at j.firsts c.args.p ≡ Some c.in-Some.name = ap (name_at j.firsts) (sym c.from.ensures) ∙ sym c.in-Some.ensures.name in
-    goes_stay w (g.K.Keeper.kept c.args.keeper.now) (g.K.Keeper.kept c.args.keeper.now) (IsMade q j.problem.now w j.units j.firsts j.rows)
-    (GivesFirst q w c.args.p (Ok (Made c.in-Some.name)) (IsMade q j.problem.now w j.units j.firsts j.rows)) refl
-    (λ forms h. first_there q j.problem.now w j.units j.firsts j.rows c.args.p c.in-Some.name forms is h)
+    goes_stay w (g.K.Keeper.kept c.args.keeper.now) (g.K.Keeper.kept c.args.keeper.now) (IsMade q j.problem.now w j.units j.firsts j.rows j.sets)
+    (GivesFirst q w c.args.p (Ok (Made c.in-Some.name)) (IsMade q j.problem.now w j.units j.firsts j.rows j.sets)) refl
+    (λ forms h. first_there q j.problem.now w j.units j.firsts j.rows j.sets c.args.p c.in-Some.name forms is h)
 
 pub returns-in_err-first_line-clause-goes : goal.returns-in_err-first_line-clause-goes
 returns-in_err-first_line-clause-goes g c = λ w frame.
@@ -35,8 +35,8 @@ returns-in_err-first_line-clause-goes g c = λ w frame.
     let goes : (v : Frame) → IsFrameOf made_for owner v → Goes v old new (AreUnits v j.units) (IsGiven v made_for c.args.p c.first_line.result c.first_line.new.units) =
     subst (λ (x : Problem). (v : Frame) → IsFrameOf x owner v → Goes v old new (AreUnits v j.units) (IsGiven v x c.args.p c.first_line.result c.first_line.new.units)) j.same c.first_line.ensures.goes in
     let err = err_from_is_err_and c.from_residual.result c.from_residual.ensures.1 in
-    rw err.1 (goes_for q made_for owner w old new (λ v. AreUnits v j.units) (λ v. IsGiven v made_for c.args.p c.first_line.result c.first_line.new.units) (IsMade q made_for w j.units j.firsts j.rows)
-    (GivesFirst q w c.args.p (Err err.0) (IsMade q made_for w c.first_line.new.units j.firsts j.rows))
+    rw err.1 (goes_for q made_for owner w old new (λ v. AreUnits v j.units) (λ v. IsGiven v made_for c.args.p c.first_line.result c.first_line.new.units) (IsMade q made_for w j.units j.firsts j.rows j.sets)
+    (GivesFirst q w c.args.p (Err err.0) (IsMade q made_for w c.first_line.new.units j.firsts j.rows j.sets))
     frame goes (λ forms h. h.problem_is) (λ forms h. h.units_are) (λ forms more h given. tt))
 
 pub returns-in_err-add-in-Some-2-clause-goes : goal.returns-in_err-add-in-Some-2-clause-goes
@@ -50,8 +50,8 @@ returns-in_err-add-in-Some-2-clause-goes g c = λ w frame.
     let goes : (v : Frame) → IsFrameOf made_for owner v → Goes v old new (AreUnits v j.units) (IsGiven v made_for c.args.p c.first_line.result c.first_line.new.units) =
     subst (λ (x : Problem). (v : Frame) → IsFrameOf x owner v → Goes v old new (AreUnits v j.units) (IsGiven v x c.args.p c.first_line.result c.first_line.new.units)) j.same c.first_line.ensures.goes in
     let err = err_from_is_err_and c.from_residual-in_err-add-in-Some-2.result c.from_residual-in_err-add-in-Some-2.ensures.1 in
-    rw err.1 (goes_for q made_for owner w old new (λ v. AreUnits v j.units) (λ v. IsGiven v made_for c.args.p c.first_line.result c.first_line.new.units) (IsMade q made_for w j.units j.firsts j.rows)
-    (GivesFirst q w c.args.p (Err err.0) (IsMade q made_for w c.first_line.new.units c.add.new.self j.rows))
+    rw err.1 (goes_for q made_for owner w old new (λ v. AreUnits v j.units) (λ v. IsGiven v made_for c.args.p c.first_line.result c.first_line.new.units) (IsMade q made_for w j.units j.firsts j.rows j.sets)
+    (GivesFirst q w c.args.p (Err err.0) (IsMade q made_for w c.first_line.new.units c.add.new.self j.rows j.sets))
     frame goes (λ forms h. h.problem_is) (λ forms h. h.units_are) (λ forms more h given. tt))
 
 pub returns-in-None-clause-goes : goal.returns-in-None-clause-goes
@@ -66,9 +66,9 @@ returns-in-None-clause-goes g c = λ w frame.
     subst (λ (x : Problem). (v : Frame) → IsFrameOf x owner v → Goes v old new (AreUnits v j.units) (IsGiven v x c.args.p (Ok None) c.first_line.new.units)) j.same (subst (λ (o : Option Name). (v : Frame) → IsFrameOf j.first owner v → Goes v old new (AreUnits v j.units) (IsGiven v j.first c.args.p (Ok o) c.first_line.new.units)) c.in-None.is c.in_ok-first_line.ensures.goes) in
     let positive : 1 ≤ c.at_least.result = omega (arith, c.at_least.ensures.line) in
     let form = subst (λ (x : Problem). slice_get (encoding x) (c.at_least.result - 1) ≡ Some (at_least x c.args.p)) c.requires.lines c.at_least.ensures.form in
-    goes_for q made_for owner w old new (λ v. AreUnits v j.units) (λ v. IsGiven v made_for c.args.p (Ok None) c.first_line.new.units) (IsMade q made_for w j.units j.firsts j.rows)
-    (GivesFirst q w c.args.p (Ok (Line c.at_least.result)) (IsMade q made_for w c.first_line.new.units j.firsts j.rows))
-    frame goes (λ forms h. h.problem_is) (λ forms h. h.units_are) (λ forms more h given. first_whole q made_for owner w j.units c.first_line.new.units j.firsts j.rows c.args.p c.at_least.result forms more frame positive form h given)
+    goes_for q made_for owner w old new (λ v. AreUnits v j.units) (λ v. IsGiven v made_for c.args.p (Ok None) c.first_line.new.units) (IsMade q made_for w j.units j.firsts j.rows j.sets)
+    (GivesFirst q w c.args.p (Ok (Line c.at_least.result)) (IsMade q made_for w c.first_line.new.units j.firsts j.rows j.sets))
+    frame goes (λ forms h. h.problem_is) (λ forms h. h.units_are) (λ forms more h given. first_whole q made_for owner w j.units c.first_line.new.units j.firsts j.rows j.sets c.args.p c.at_least.result forms more frame positive form h given)
 
 pub returns-in-None-clause-fits : goal.returns-in-None-clause-fits
 returns-in-None-clause-fits g c =
@@ -86,6 +86,6 @@ returns-in_ok-add-in-Some-2-clause-goes g c = λ w frame.
     subst (λ (x : Problem). (v : Frame) → IsFrameOf x owner v → Goes v old new (AreUnits v j.units) (IsGiven v x c.args.p (Ok (Some c.in-Some-2.name)) c.first_line.new.units)) j.same (subst (λ (o : Option Name). (v : Frame) → IsFrameOf j.first owner v → Goes v old new (AreUnits v j.units) (IsGiven v j.first c.args.p (Ok o) c.first_line.new.units)) c.in-Some-2.is c.in_ok-first_line.ensures.goes) in
     let added : (v : ℕ) → name_at c.add.new.self v ≡ cond (c.args.p == v) (Some c.in-Some-2.name) (name_at j.firsts v) =
     subst (λ (p : ℕ). (v : ℕ) → name_at c.add.new.self v ≡ cond (p == v) (Some c.in-Some-2.name) (name_at j.firsts v)) c.from-in-Some-2.ensures c.in_ok-add-in-Some-2.ensures.added in
-    goes_for q made_for owner w old new (λ v. AreUnits v j.units) (λ v. IsGiven v made_for c.args.p (Ok (Some c.in-Some-2.name)) c.first_line.new.units) (IsMade q made_for w j.units j.firsts j.rows)
-    (GivesFirst q w c.args.p (Ok (Made c.in-Some-2.name)) (IsMade q made_for w c.first_line.new.units c.add.new.self j.rows))
-    frame goes (λ forms h. h.problem_is) (λ forms h. h.units_are) (λ forms more h given. first_made q made_for w j.units c.first_line.new.units j.firsts c.add.new.self j.rows c.args.p c.in-Some-2.name forms more added h given)
+    goes_for q made_for owner w old new (λ v. AreUnits v j.units) (λ v. IsGiven v made_for c.args.p (Ok (Some c.in-Some-2.name)) c.first_line.new.units) (IsMade q made_for w j.units j.firsts j.rows j.sets)
+    (GivesFirst q w c.args.p (Ok (Made c.in-Some-2.name)) (IsMade q made_for w c.first_line.new.units c.add.new.self j.rows j.sets))
+    frame goes (λ forms h. h.problem_is) (λ forms h. h.units_are) (λ forms more h given. first_made q made_for w j.units c.first_line.new.units j.firsts c.add.new.self j.rows j.sets c.args.p c.in-Some-2.name forms more added h given)
