@@ -1,5 +1,5 @@
 -- What was told at a dead end, and what is named there, as the line of the dead path asks for it.
-use Rattle.std.proofs.Common.{inl, inr, ◌⊎◌, ◌≡◌, ℕ, zero, suc, ◌+◌, ◌<◌, ◌≤◌, ◌==◌, Bool, true, false, cond, List, [], ◌∷◌, ◌++◌, length, take, drop, map, Contains, Option, Some, None, Result, Ok, refl, sym, ap, subst, ◌∙◌, length-append, arith}
+use Rattle.std.proofs.Common.{inl, inr, ◌⊎◌, ◌≡◌, ℕ, suc, ◌+◌, ◌<◌, ◌≤◌, ◌==◌, Bool, true, false, cond, List, [], ◌∷◌, ◌++◌, length, take, drop, Contains, Option, Some, None, Result, Ok, refl, sym, ap, subst, ◌∙◌, length-append, arith}
 use Rattle.std.specs.Prelude.{slice_get}
 use Rattle.std.proofs.lemmas.Bool.{eq-eqb, ne_eqb, cases_eq}
 use Rattle.std.specs.declared.alloc.AllocError.{AllocError}
@@ -13,18 +13,14 @@ use Rattle.log_theory.specs.declared.step.Name.{Name}
 use Rattle.log_theory.specs.declared.step.Ref.{Ref}
 use Rattle.log_theory.specs.declared.step.Ref.TheVariants.{Made, Shared}
 use Rattle.log_theory.specs.Tables.{from_one}
-use Rattle.encoding_theory.specs.Encoding.{encoding}
 use Rattle.reason_theory.specs.Reasons.{pairs_clause, value_clauses}
-use Rattle.nogood_watch.specs.Nogoods as watched
 use Rattle.nogood_book.specs.declared.row.Row.{Row}
 use Rattle.nogood_book.specs.Rows.{path_at, Sound, AreInRange}
-use Rattle.nogood_book.specs.Places.{is_nogood, IsNogoodRow}
 use Rattle.propagation.specs.declared.change.Cause.TheVariants as cause
-use Rattle.propagation.specs.declared.change.Failure.{Failure}
 use Rattle.propagation.specs.declared.change.Failure.TheVariants as failure
-use Rattle.propagation.specs.Recording.{Change, LeftOne, LeftOthers, CountedSet, IsAmong}
+use Rattle.propagation.specs.Recording.{Change, LeftOne, LeftOthers, CountedSet}
 use Rattle.dead_theory.specs.Changes.{AreInProblem, IsGuessed, AreGuessed}
-use Rattle.dead_theory.specs.Ends.{End, Empty, Whole, Short, Exhausted, end_of, EndsBy}
+use Rattle.dead_theory.specs.Ends.{Whole, Short, EndsBy}
 use Rattle.dead_theory.specs.Laws.{Dies}
 use Rattle.dead_theory.proofs.Dying.{dead_laws_hold, told_laws_hold}
 use Rattle.journal_theory.specs.Journals.{note_of, IsNogoodOf}
@@ -41,8 +37,8 @@ use Rattle.dead_paths.specs.Explaining.{end_by, IsEndIn, AreRefuted, Knowing, Is
 use Rattle.path_journal.specs.declared.refuted.Refuted.{Refuted}
 use Rattle.path_journal.specs.Ends.{end_as}
 use Rattle.path_journal.specs.Closing.{IsLined}
-use Rattle.path_journal.specs.Lines.{log_row, log_rows, row_clause, row_frame, StandsBeside, Steps, Refutes}
-use Rattle.path_journal.specs.Entries.{AreFrom, AreBelow, IsEntry, AreEntries, HasEntry, AreCovered, IsFreshWithout, entry_ref, entry_refs, entry_value, entry_values, Writes}
+use Rattle.path_journal.specs.Lines.{log_rows, row_clause, row_frame, StandsBeside, Steps, Refutes}
+use Rattle.path_journal.specs.Entries.{AreFrom, AreBelow, IsEntry, AreEntries, HasEntry, AreCovered, IsFreshWithout, entry_ref, entry_refs, entry_values, Writes}
 use Rattle.path_journal.specs.Numbers.{is_by, noted_ref, row_ref}
 use Rattle.path_journal.proofs.Levels.{level_within, length-path_of, path_of_more}
 use Rattle.path_journal.proofs.Lists.{has_drop, entries_drop}

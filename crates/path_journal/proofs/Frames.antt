@@ -1,33 +1,33 @@
 -- The owner's own names, rows as a log speaks of them, and lines as rows come.
-use Rattle.std.proofs.Common.{inl, inr, ◌⊎◌, ◌≡◌, ℕ, zero, suc, ◌+◌, ◌<◌, ◌≤◌, ◌==◌, Bool, true, false, cond, List, [], ◌∷◌, ◌++◌, length, map, Option, Some, None, refl, sym, ap, subst, ◌∙◌, length-append, arith}
+use Rattle.std.proofs.Common.{inl, inr, ◌≡◌, ℕ, zero, suc, ◌+◌, ◌<◌, ◌==◌, Bool, true, false, cond, List, [], ◌∷◌, ◌++◌, length, Option, Some, None, refl, sym, ap, subst, ◌∙◌, length-append, arith}
 use Rattle.std.specs.Prelude.{slice_get}
 use Rattle.std.proofs.lemmas.Bool.{eq-eqb, eqb-true}
 use Rattle.std.proofs.lemmas.List.{length-map}
-use Rattle.std.proofs.lemmas.Option.{slice_get_within}
 use Rattle.graph_theory.specs.Embedding.{Problem}
 use Rattle.search_theory.specs.Account.{Account}
 use Rattle.proof_theory.specs.Forms.{Form}
 use Rattle.log_theory.specs.declared.step.Name.{Name}
 use Rattle.log_theory.specs.declared.step.Ref.{Ref}
 use Rattle.log_theory.specs.declared.step.Ref.TheVariants.{Line, Made, Shared}
-use Rattle.log_theory.specs.declared.step.Step.{Step}
 use Rattle.log_theory.specs.Lookups.{Lookup}
 use Rattle.log_theory.specs.Tables.{from_one}
 use Rattle.encoding_theory.specs.Encoding.{encoding}
 use Rattle.nogood_book.specs.declared.row.Row.{Row}
 use Rattle.nogood_book.specs.declared.row.RowKind.{RowKind}
 use Rattle.nogood_book.specs.declared.row.RowKind.TheVariants.{Nogood, Step as Guess}
-use Rattle.nogood_book.specs.Places.{is_nogood, IsNogoodRow}
+use Rattle.nogood_book.specs.Places.{is_nogood}
 use Rattle.nogood_book.proofs.Paths.{path_at_more}
 use Rattle.reason_theory.specs.Reasons.{pairs_clause}
-use Rattle.journal_theory.specs.Journals.{own_name, Finds, HoldsOwn, base_of, Row as LogRow, IsNogoodOf, Journaled, GrowsFor, PublishesAt}
+use Rattle.journal_theory.specs.Journals.{own_name, Finds, HoldsOwn, Row as LogRow, IsNogoodOf, Journaled, GrowsFor, PublishesAt}
 use Rattle.journal_theory.proofs.Growing.{base_more, growth}
 use Rattle.journals.specs.Keeping.{Keeping}
-use Rattle.kept_lines.specs.Frames.{Frame, IsFrameOf, Stands, IsNamed, After}
+use Rattle.kept_lines.specs.Frames.{Frame, Stands, IsNamed, After}
 use Rattle.kept_lines.specs.Rows.{Widens}
-use Rattle.kept_lines.proofs.Rows.{frame_is, others_of, is_other, journaled_on, stands_wider}
+use Rattle.kept_lines.proofs.Rows.{others_of, is_other, journaled_on, stands_wider}
 use Rattle.proof_logger.specs.Logging.{IsNogoodBy, GrowsBeside, Publishes}
 use Rattle.path_journal.specs.Lines.{log_row, log_rows, row_clause, row_frame, StandsBeside}
+use Rattle.path_journal.specs.Numbers.{RowsBelow, RowsRise}
+use Rattle.path_journal.proofs.Numbers.{rise_snoc, below_noted}
 
 -- ---- the owner's own names
 
@@ -174,6 +174,7 @@ beside_grown q rows more j forms g beside = record {
       (grows_for j.owner rows more g);
   stands = subst (λ (rs : List Row). Stands (row_frame q rs j.owner) j.steps forms) (sym g.front)
       (stands_wider (row_frame q rows j.owner) (row_frame q (rows ++ g.rest) j.owner) j.steps forms (rows_widen q rows g.rest j.owner) beside.stands);
+  notes = beside.notes;
 }
 
 -- The journal that notes a row with the number of its clause.
@@ -187,7 +188,11 @@ beside_noted q a level value rows more old new forms k n p line owner_same steps
       (publishes_at a old.owner level value rows more k p) line;
   stands = subst (λ (rs : List Row). Stands (row_frame q rs old.owner) old.steps forms) (sym p.front)
       (stands_wider (row_frame q rows old.owner) (row_frame q (rows ++ p.rest) old.owner) old.steps forms (rows_widen q rows p.rest old.owner) beside.stands);
+  notes = rise_snoc old.notes (k, n) beside.notes all_before;
 })
+  where
+    all_before : RowsBelow k old.notes
+    all_before = below_noted old.notes k (λ i m is. let l = beside.journaled.notes_in i m is in let b = p.behind in omega (arith, l, b, length-log_rows rows))
 
 -- The journal that has further lines which stand.
 pub beside_on : (q : Problem) (rows : List Row) (old new : Keeping) (forms : List Form) (Claim : List Form → Type 0) → new.owner ≡ old.owner → new.notes ≡ old.notes
@@ -197,6 +202,7 @@ beside_on q rows old new forms Claim owner_same notes_same beside m = record {
       (subst (λ (ns : List (ℕ × ℕ)). Journaled (encoding q) (log_rows rows) (row_clause q rows) [] old.owner (record { lines = new.steps; notes = ns }) (forms ++ m.more)) (sym notes_same)
       (journaled_on q (log_rows rows) (row_clause q rows) [] old.owner (record { lines = old.steps; notes = old.notes }) forms m.more m.rest new.steps beside.journaled m.stands m.front));
   stands = subst (λ (o : ℕ). Stands (row_frame q rows o) new.steps (forms ++ m.more)) (sym owner_same) m.stands;
+  notes = subst RowsRise (sym notes_same) beside.notes;
 }
 
 -- No line and no note stand beside rows without a nogood of the owner.
@@ -204,6 +210,7 @@ pub beside_begun : (q : Problem) (rows : List Row) (j : Keeping) → j.steps ≡
 beside_begun q rows j steps_none notes_none none = rw (steps_none, notes_none) (record {
   journaled = begun;
   stands = record { journal = begun.journal; rows = λ i k s at names. absurd cc; fits = λ i s at. absurd cc; ranges = λ i s at. absurd cc };
+  notes = tt;
 })
   where
     begun : Journaled (encoding q) (log_rows rows) (row_clause q rows) [] j.owner (record { lines = []; notes = [] }) []

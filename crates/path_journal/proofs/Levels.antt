@@ -1,5 +1,5 @@
 -- Levels of an account after a guess and after a fail: their vertices, the path up to them, and what is refuted there.
-use Rattle.std.proofs.Common.{inl, inr, ◌⊎◌, ◌≡◌, ℕ, zero, suc, ◌+◌, ◌<◌, ◌≤◌, nat_lt, if◌then◌else◌, Bool, true, false, List, [], ◌∷◌, ◌++◌, length, take, Contains, Option, Some, None, refl, sym, ap, subst, ◌∙◌, arith}
+use Rattle.std.proofs.Common.{inl, inr, ◌⊎◌, ◌≡◌, ℕ, zero, suc, ◌≤◌, nat_lt, if◌then◌else◌, Bool, true, false, List, [], ◌∷◌, ◌++◌, length, take, Contains, Option, Some, None, refl, sym, ap, subst, ◌∙◌, arith}
 use Rattle.search_theory.specs.Account.{Step, path_of, level_among, IsAt, inserted}
 use Rattle.path_journal.specs.Entries.{IsFreshWithout}
 

@@ -1,9 +1,9 @@
 -- Rows that were noted: each is found by a look in the middle, and one behind all others stands at the end.
-use Rattle.std.proofs.Common.{inl, inr, ◌⊎◌, ◌≡◌, ℕ, zero, suc, ◌+◌, ◌^◌, ◌<◌, ◌≤◌, ◌==◌, Bool, true, false, cond, List, [], ◌∷◌, ◌++◌, length, take, Option, Some, None, refl, sym, ap, subst, ◌∙◌, arith}
+use Rattle.std.proofs.Common.{inl, inr, ◌⊎◌, ◌≡◌, ℕ, zero, suc, ◌+◌, ◌^◌, ◌<◌, ◌≤◌, Bool, cond, List, [], ◌∷◌, ◌++◌, length, take, Option, Some, None, refl, sym, ap, subst, ◌∙◌, arith}
 use Rattle.std.specs.Prelude.{slice_get}
-use Rattle.std.proofs.lemmas.Bool.{eq-eqb, ne_eqb, eqb-true, cases_eq}
+use Rattle.std.proofs.lemmas.Bool.{eq-eqb, ne_eqb, cases_eq}
 use Rattle.journal_theory.specs.Journals.{note_of}
-use Rattle.journal_theory.proofs.Placing.{take_all, some_same}
+use Rattle.journal_theory.proofs.Placing.{take_all}
 use Rattle.path_journal.specs.Numbers.{RowsFrom, RowsBelow, RowsRise, NumbersFit}
 
 -- ---- in order

@@ -1,21 +1,19 @@
 -- What is written stays so through a search: at a guess, at a restart, as rows come, as a row is noted, and as a path is closed.
 use Rattle.std.proofs.Common.{inl, inr, ◌⊎◌, ◌≡◌, ℕ, zero, suc, ◌+◌, ◌<◌, ◌≤◌, List, [], ◌∷◌, ◌++◌, length, take, drop, Contains, Option, Some, None, refl, sym, ap, subst, ◌∙◌, arith, length-append}
-use Rattle.std.specs.Prelude.{slice_get}
 use Rattle.graph_theory.specs.Embedding.{Problem}
 use Rattle.search_theory.specs.Account.{Account, Step, path, path_of, level_at, level_among, fresh, deepened, restarted, failed, IsAt, FailsTo, inserted}
 use Rattle.proof_theory.specs.Forms.{Form}
-use Rattle.log_theory.specs.declared.step.Name.{Name}
 use Rattle.log_theory.specs.Tables.{from_one}
 use Rattle.nogood_book.specs.declared.row.Row.{Row}
 use Rattle.reason_theory.specs.Reasons.{pairs_clause}
 use Rattle.journal_theory.proofs.Placing.{from_one_more, take_all}
 use Rattle.journals.specs.Keeping.{Keeping}
-use Rattle.kept_lines.specs.Frames.{Frame, After}
+use Rattle.kept_lines.specs.Frames.{Frame}
 use Rattle.kept_lines.specs.Rows.{Widens}
 use Rattle.proof_logger.specs.Logging.{IsNogoodBy, GrowsBeside, Publishes}
 use Rattle.path_journal.specs.declared.refuted.Refuted.{Refuted}
 use Rattle.path_journal.specs.Lines.{row_clause, row_frame, StandsBeside, Steps, Refutes}
-use Rattle.path_journal.specs.Entries.{AreFrom, AreBelow, AreRising, IsEntry, AreEntries, HasEntry, AreCovered, IsFreshWithout, Writes}
+use Rattle.path_journal.specs.Entries.{AreFrom, AreBelow, AreRising, IsEntry, AreEntries, HasEntry, AreCovered, Writes}
 use Rattle.path_journal.proofs.Levels.{level_within, length-path_of, path_of_more, path_deeper, deeper_vertex, deeper_refuted, failed_vertex, failed_last, failed_refuted}
 use Rattle.path_journal.proofs.Lists.{rising_take, rising_snoc, entries_as, entries_below, entries_take, entries_snoc, has_front, has_last, has_take}
 use Rattle.path_journal.proofs.Frames.{rows_widen, beside_grown, beside_noted, beside_begun}

@@ -1,6 +1,6 @@
 -- What giving the line of a dead path does.
 
-use Rattle.std.specs.Prelude.{◌≡◌, ℕ, List, length, take, drop, Option, Result}
+use Rattle.std.specs.Prelude.{ℕ, List, length, take, drop, Option, Result}
 use Rattle.std.specs.declared.alloc.AllocError.{AllocError}
 use Rattle.graph_theory.specs.Embedding.{Problem}
 use Rattle.search_theory.specs.Account.{Account, path}

@@ -14,6 +14,7 @@ use Rattle.journal_theory.specs.Journals.{Row as LogRow, Journaled}
 use Rattle.journals.specs.Keeping.{Keeping}
 use Rattle.kept_lines.specs.Frames.{Frame, Stands}
 use Rattle.kept_lines.specs.Rows.{frame_of}
+use Rattle.path_journal.specs.Numbers.{RowsRise}
 
 -- A row of a book as a log speaks of it.
 abbrev pub log_row : Row → LogRow
@@ -30,10 +31,11 @@ row_clause q rows k = pairs_clause q (path_at rows k)
 abbrev pub row_frame : Problem → List Row → ℕ → Frame
 row_frame q rows owner = frame_of q (log_rows rows) (row_clause q rows) [] owner
 
--- The lines make these forms beside the rows, and each row of the owner has its clause noted.
+-- The lines make these forms beside the rows, and each row of the owner has its clause noted, the rows rising.
 pub record StandsBeside (q : Problem) (rows : List Row) (j : Keeping) (forms : List Form) : Type 0 where
   pub journaled : Journaled (encoding q) (log_rows rows) (row_clause q rows) [] j.owner (record { lines = j.steps; notes = j.notes }) forms
   pub stands : Stands (row_frame q rows j.owner) j.steps forms
+  pub notes : RowsRise j.notes
 
 -- They do so for some forms.
 pub record Steps (lines : Problem) (j : Keeping) (q : Problem) (rows : List Row) : Type 0 where

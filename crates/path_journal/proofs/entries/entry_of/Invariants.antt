@@ -1,4 +1,4 @@
-use Rattle.std.proofs.Common.{ℕ, ◌≤◌, length, drop}
+use Rattle.std.proofs.Common.{◌≤◌, length, drop}
 use Rattle.path_journal.specs.Entries.{HasEntry}
 use Rattle.path_journal.proofs.entries.entry_of.Given as goal
 

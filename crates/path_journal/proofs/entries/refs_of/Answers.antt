@@ -1,9 +1,9 @@
-use Rattle.std.proofs.Common.{refl, ℕ, ◌≡◌, ◌+◌, ◌<◌, ◌≤◌, [], ◌∷◌, ◌++◌, List, length, take, Some, sym, ap, ◌∙◌, subst, arith, rules}
+use Rattle.std.proofs.Common.{refl, ◌≡◌, ◌<◌, [], ◌∷◌, ◌++◌, List, length, Some, sym, ap, ◌∙◌, subst, rules}
 use Rattle.std.specs.Prelude.{slice_get}
 use Rattle.std.proofs.lemmas.Option.{slice_get_read}
 use Rattle.log_theory.specs.declared.step.Ref.{Ref}
 use Rattle.log_theory.specs.LogText.{AreRefs, IsRef}
-use Rattle.path_journal.specs.Entries.{entry_ref, entry_refs}
+use Rattle.path_journal.specs.Entries.{entry_ref}
 use Rattle.path_journal.proofs.Lists.{refs_snoc, entry_refs_next}
 use Rattle.path_journal.proofs.entries.refs_of.Goals as goal
 

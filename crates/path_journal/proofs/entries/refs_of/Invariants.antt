@@ -1,4 +1,4 @@
-use Rattle.std.proofs.Common.{ℕ, ◌≡◌, ◌≤◌, take}
+use Rattle.std.proofs.Common.{◌≡◌, take}
 use Rattle.log_theory.specs.LogText.{AreRefs}
 use Rattle.path_journal.specs.Entries.{entry_refs}
 use Rattle.path_journal.proofs.entries.refs_of.Given as goal

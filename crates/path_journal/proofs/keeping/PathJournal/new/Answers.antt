@@ -1,5 +1,4 @@
-use Rattle.std.proofs.Common.{ℕ, ◌≡◌, [], List, subst, sym, ◌∙◌}
-use Rattle.nogood_book.specs.declared.row.Row.{Row}
+use Rattle.std.proofs.Common.{ℕ, ◌≡◌, [], subst, sym}
 use Rattle.kept_lines.proofs.Rows.{frame_is}
 use Rattle.proof_logger.specs.Logging.{IsNogoodBy}
 use Rattle.path_journal.specs.Lines.{log_rows, row_clause, row_frame}

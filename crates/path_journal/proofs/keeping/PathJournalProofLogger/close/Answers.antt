@@ -1,6 +1,6 @@
-use Rattle.std.proofs.Common.{ℕ, ◌≡◌, ◌+◌, ◌-◌, ◌<◌, ◌∷◌, ◌++◌, [], List, length, take, drop, Option, Some, Ok, IfSome, refl, subst, sym, ap, ◌∙◌, arith}
+use Rattle.std.proofs.Common.{ℕ, ◌≡◌, ◌+◌, ◌-◌, ◌<◌, List, length, take, drop, Option, Some, Ok, IfSome, refl, subst, sym, ap, ◌∙◌, arith}
 use Rattle.std.specs.Prelude.{slice_get}
-use Rattle.search_theory.specs.Account.{Account, path}
+use Rattle.search_theory.specs.Account.{path}
 use Rattle.log_theory.specs.declared.step.Name.{Name}
 use Rattle.proof_logger.specs.Logging.{Closed}
 use Rattle.dead_paths.specs.Explaining.{IsDeadName, IsLastOf}
@@ -8,7 +8,6 @@ use Rattle.path_journal.specs.declared.refuted.Refuted.{Refuted}
 use Rattle.path_journal.specs.Lines.{row_frame, Refutes}
 use Rattle.path_journal.specs.Entries.{AreFrom, AreBelow, AreRising, Writes}
 use Rattle.path_journal.specs.Closing.{IsLined}
-use Rattle.path_journal.specs.Numbers.{Numbering}
 use Rattle.path_journal.proofs.Closing.{steps_after, closed_empty, closed_failed}
 use Rattle.path_journal.proofs.keeping.PathJournalProofLogger.close.Goals as goal
 

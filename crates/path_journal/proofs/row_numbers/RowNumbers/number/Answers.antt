@@ -1,7 +1,7 @@
-use Rattle.std.proofs.Common.{refl, slice_index_or, ◌⊎◌, inl, inr, ℕ, ◌≡◌, ◌+◌, ◌-◌, ◌/◌, ◌<◌, ◌≤◌, ◌^◌, List, length, Option, Some, None, sym, ap, subst, ◌∙◌, arith, rules}
+use Rattle.std.proofs.Common.{refl, slice_index_or, ◌⊎◌, inl, inr, ℕ, ◌≡◌, ◌+◌, ◌-◌, ◌/◌, ◌<◌, ◌≤◌, List, length, Some, sym, ap, ◌∙◌, arith}
 use Rattle.std.specs.Prelude.{slice_get}
 use Rattle.std.proofs.lemmas.Bool.{cases_lt}
-use Rattle.std.proofs.lemmas.Option.{slice_get_read, slice_get_within}
+use Rattle.std.proofs.lemmas.Option.{slice_get_read}
 use Rattle.journal_theory.specs.Journals.{note_of}
 use Rattle.journal_theory.proofs.Placing.{some_same}
 use Rattle.path_journal.specs.Numbers.{Numbering, RowsRise}

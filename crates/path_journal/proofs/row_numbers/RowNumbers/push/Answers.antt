@@ -1,4 +1,4 @@
-use Rattle.std.proofs.Common.{ℕ, ◌≡◌, ◌∷◌, ◌++◌, [], List, true, false, not, sym, subst, ap, ◌∙◌, rules}
+use Rattle.std.proofs.Common.{ℕ, ◌≡◌, ◌∷◌, ◌++◌, [], true, sym, subst, rules}
 use Rattle.path_journal.specs.Numbers.{RowsBelow, RowsRise, NumbersFit, Numbering}
 use Rattle.path_journal.proofs.Numbers.{rise_snoc, fit_snoc}
 use Rattle.path_journal.proofs.row_numbers.RowNumbers.push.Goals as goal

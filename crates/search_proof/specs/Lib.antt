@@ -1,0 +1,4 @@
+pub mod Proofs
+pub mod Making
+pub mod Parts
+pub mod Logs
