@@ -1,2 +1,6 @@
 mod Numbers
 mod Accounts
+mod Gathering
+mod Runs
+mod Told
+mod Growth

@@ -1,2 +1,4 @@
+pub mod Jobs
 pub mod Solving
 pub mod Teaming
+pub mod Gathering

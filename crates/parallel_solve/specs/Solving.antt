@@ -1,10 +1,11 @@
 -- What several workers decide together.
 
-use Rattle.std.specs.Prelude.{◌≡◌, ℕ, ◌<◌, List, length, All}
+use Rattle.std.specs.Prelude.{◌≡◌, ℕ, ◌<◌, Bool, List, length, All}
 use Rattle.graph_theory.specs.Graph.{size}
 use Rattle.graph_theory.specs.Embedding.{Problem, Embeds, HasNone}
 use Rattle.search_theory.specs.Bounds.{enough}
 use Rattle.search_theory.specs.Account.{Account, Spends}
+use Rattle.search_proof.specs.Proofs.{IsProven}
 use Rattle.parallel_solve.specs.declared.answers.Solved.{Solved}
 use Rattle.parallel_solve.specs.declared.answers.Solved.TheVariants.{Yes, NoEmbedding, Unknown, NoMemory}
 
@@ -14,9 +15,10 @@ pub record AreSpent (q : Problem) (workers budget : ℕ) (accounts : List Accoun
   pub spend : All (Spends q budget) accounts
   pub not_enough : budget < enough (size q.pattern) (size q.target)
 
--- What an answer says of the problem: the list embeds, none exists, or so many workers spent this budget.
-abbrev pub IsSolved : Solved → Problem → ℕ → ℕ → Type 0
-IsSolved (Yes m) q workers budget = Embeds q m.items
-IsSolved (NoEmbedding proof) q workers budget = HasNone q
-IsSolved (Unknown accounts) q workers budget = AreSpent q workers budget accounts.items
-IsSolved NoMemory q workers budget = Unit {0}
+-- What an answer says of the problem: the list embeds; none exists, with a proof where one was asked for; or so many workers spent this
+-- budget.
+abbrev pub IsSolved : Solved → Problem → ℕ → ℕ → Bool → Type 0
+IsSolved (Yes m) q workers budget prove = Embeds q m.items
+IsSolved (NoEmbedding proof) q workers budget prove = HasNone q × IsProven prove q proof
+IsSolved (Unknown accounts) q workers budget prove = AreSpent q workers budget accounts.items
+IsSolved NoMemory q workers budget prove = Unit {0}

@@ -1,36 +1,48 @@
 -- The workers of one solve: before they run, after it, and what their outcomes say together.
 
-use Rattle.std.specs.Prelude.{◌≡◌, ◌≢◌, ℕ, ◌<◌, Bool, true, List, [], ◌∷◌, All, IfSome}
+use Rattle.std.specs.Prelude.{◌≡◌, ◌≢◌, ℕ, ◌<◌, ◌≤◌, Bool, true, List, [], ◌∷◌, length, All, Option, Some, IfSome, unwrap_or}
 use Rattle.graph_theory.specs.Graph.{size}
 use Rattle.graph_theory.specs.Embedding.{Problem, Embeds, HasNone}
 use Rattle.search_theory.specs.Bounds.{enough}
 use Rattle.search_theory.specs.Account.{Account, Spends}
-use Rattle.nogood_book.specs.Seats.{BookName, SeatName, IsSeatOf}
+use Rattle.nogood_book.specs.declared.row.Row.{Row}
+use Rattle.nogood_book.specs.Seats.{BookName, SeatName, IsSeatOf, facts_of}
+use Rattle.proof_logger.specs.Logging.{GrowsBeside}
 use Rattle.restart_search.specs.declared.outcome.Outcome.{Outcome}
+use Rattle.restart_search.specs.declared.outcome.Outcome.TheVariants.{Found, Refuted, Spent, Stopped, NoMemory}
 use Rattle.restart_search.specs.declared.outcome.Stage.{Stage}
 use Rattle.restart_search.specs.declared.outcome.Stage.TheVariants.{Over}
 use Rattle.parallel_solve.specs.declared.tally.Tally.{Tally}
 use Rattle.restart_search.specs.Searching.{Search, Ends, stage_after}
+use Rattle.restart_search.specs.Sharing.{IsSeatFor}
+use Rattle.restart_search.specs.Logging.{IfRefuted}
+use Rattle.search_proof.specs.Making.{IsFinisher}
 
 -- Each of these numbers is below n.
 abbrev pub AreBelow : List ℕ → ℕ → Type 0
 AreBelow [] n = Unit {0}
 AreBelow (x ∷ xs) n = (x < n) × AreBelow xs n
 
--- The worker may run: its seat is the book's, it is of this problem and budget, and it has not ended.
-pub record IsJob {K : Type 0} (b : BookName) (q : Problem) (budget : ℕ) (w : Search SeatName K) : Type 0 where
+-- The worker may run: its seat is the book's, it is of this problem and budget, its log is its own, and it has not ended.
+pub record IsJob {K : Type 0} (owner : K → ℕ) (b : BookName) (q : Problem) (budget : ℕ) (w : Search SeatName K) : Type 0 where
   pub seat_of : IsSeatOf b w.seat
   pub problem_is : w.problem ≡ q
   pub budget_is : w.account.budget ≡ budget
+  pub owner_is : owner w.log ≡ w.number
   pub goes_on : w.stage ≢ Over
 
--- The worker has run to this outcome.
-pub record HasRun {K : Type 0} (b : BookName) (q : Problem) (budget : ℕ) (w : Search SeatName K) (o : Outcome) : Type 0 where
+-- The worker has run to this outcome, and its log says so beside the rows that its seat has seen.
+pub record HasRun {K : Type 0} (owner : K → ℕ) (steps refutes : K → Problem → List Row → Type 0) (b : BookName) (q : Problem) (budget : ℕ) (w : Search SeatName K) (o : Outcome) : Type 0 where
   pub seat_of : IsSeatOf b w.seat
+  pub facts_are : w.facts ≡ facts_of w.seat
+  pub seat_for : IsSeatFor w.problem w.number w.facts
   pub problem_is : w.problem ≡ q
   pub budget_is : w.account.budget ≡ budget
+  pub owner_is : owner w.log ≡ w.number
   pub ends : Ends o q w.account
   pub stage_is : w.stage ≡ stage_after o
+  pub steps_of : steps w.log q w.facts.seen
+  pub refutes_of : IfRefuted o (refutes w.log q w.facts.seen)
 
 -- The budget was spent where a guess was due, and it is less than enough.
 pub record IsSpent (q : Problem) (budget : ℕ) (a : Account) : Type 0 where
@@ -40,5 +52,27 @@ pub record IsSpent (q : Problem) (budget : ℕ) (a : Account) : Type 0 where
 -- What has been heard of the workers so far is true: a map embeds, a refutation is one, and where all were spent these are their accounts.
 pub record IsTally (q : Problem) (budget : ℕ) (t : Tally) : Type 0 where
   pub map_of : IfSome t.map (λ m. Embeds q m.items)
-  pub refuted_of : t.refuted ≡ true → HasNone q
+  pub refuted_of : IfSome t.refuted (λ _. HasNone q)
   pub spent_of : t.spent ≡ true → All (IsSpent q budget) t.accounts.items
+
+-- ---- who refuted
+
+-- The first that refuted, after one more of this number.
+abbrev pub refuted_by : Option ℕ → ℕ → Outcome → Option ℕ
+refuted_by refuted number (Found m) = refuted
+refuted_by refuted number Refuted = Some (unwrap_or refuted number)
+refuted_by refuted number Spent = refuted
+refuted_by refuted number (Stopped n) = refuted
+refuted_by refuted number NoMemory = refuted
+
+-- The number is that of one of these, and this one refutes.
+pub record IsRefuter {X : Type 0} (refutes : X → Type 0) (xs : List X) (number : ℕ) : Type 0 where
+  pub some : 1 ≤ number
+  pub there : number ≤ length xs
+  pub finisher : IsFinisher refutes xs number
+
+-- ---- what stays as rows of others come
+
+-- What is so beside some rows of a problem is so beside more of them, none of which is a nogood of the owner.
+abbrev pub StaysBeside : ℕ → (Problem → List Row → Type 0) → Type 0
+StaysBeside owner says = (q : Problem) (rows more : List Row) → GrowsBeside owner rows more → says q rows → says q more

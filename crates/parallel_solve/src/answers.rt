@@ -1,6 +1,7 @@
 //! What several workers are asked, and what they answer.
 
 use fail_account::account::Account;
+use search_proof::Proof;
 
 /// How a problem is to be decided.
 #[derive(Clone, Copy, PartialEq, Eq, Debug)]
@@ -13,13 +14,8 @@ pub struct Settings {
     pub budget: u64,
     /// How many rows of nogoods the workers share, up to 4,194,304.
     pub rows: u32,
-}
-
-/// What shows that no embedding exists.
-#[derive(Clone, Copy, PartialEq, Eq, Debug)]
-pub enum Proof {
-    /// The search alone: no log was asked for.
-    Unlogged,
+    /// Whether a log is kept of what a refutation rests on.
+    pub prove: bool,
 }
 
 /// What the workers decide.

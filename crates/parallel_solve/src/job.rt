@@ -1,6 +1,7 @@
 //! Jobs that run beside each other, each in a thread where one can be made.
 
-ghost use Rattle.std.specs.Prelude.{◌≡◌, All, IfOk, vec_len};
+ghost use Rattle.std.specs.Prelude.{◌≡◌, length, All, IfOk};
+ghost use Rattle.parallel_solve.specs.Jobs.{AreRun};
 
 use std::alloc::AllocError;
 use std::thread::{self, Threads};
@@ -13,12 +14,12 @@ pub trait Job<C> {
     ghost ready: { C → Self → Type 0 };
 
     /// This is what it leaves.
-    ghost ran: { C → Self.Done → Type 0 };
+    ghost ran: { C → Self → Self.Done → Type 0 };
 
     /// Does it.
     fn go(self, shared: &C) -> Self::Done
         requires { ready shared.now self }
-        ensures { ran shared.now result };
+        ensures { ran shared.now self result };
 }
 
 /// Does all jobs beside each other, and gives what they left in their order. Where a thread cannot be made, jobs run one after another.
@@ -30,15 +31,15 @@ pub fn run_all<R: Threads + Sync, C: Sync, J: Job<C> + Send + Drop>(
 where
     J::Done: Send + Drop,
     requires jobs { All (λ j. J.ready shared.now j) jobs.items }
-    ensures run { IfOk result (λ v. All (λ d. J.ran shared.now d) v.items) }
-    ensures count { IfOk result (λ v. vec_len v ≡ vec_len jobs) }
+    ensures run { IfOk result (λ v. AreRun (J.ran shared.now) jobs.items v.items) }
+    ensures count { IfOk result (λ v. length v.items ≡ length jobs.items) }
 {
     thread::map_vec(
         rt,
         jobs,
         &|job| -> J::Done
             requires { J.ready shared.now job }
-            ensures { J.ran shared.entry.now result }
+            ensures { J.ran shared.entry.now job result }
         { job.go(shared) },
     )
 }

@@ -14,5 +14,6 @@ mod team;
 #[cfg(test)]
 mod tests;
 
-pub use answers::{Proof, Settings, Solved};
+pub use answers::{Settings, Solved};
+pub use search_proof::{Logged, Proof};
 pub use solving::{solve, solve_with};

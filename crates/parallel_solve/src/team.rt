@@ -1,49 +1,56 @@
 //! The workers of one solve: their making, their runs beside each other, and the runs of those that were stopped.
 
-ghost use Rattle.std.specs.Prelude.{◌≡◌, [], ◌≤◌, ◌<◌, ◌^◌, ◌+◌, true, length, All, IfOk, OnOk};
+ghost use Rattle.std.specs.Prelude.{◌≡◌, [], ◌≤◌, ◌<◌, ◌^◌, ◌+◌, None, length, All, IfOk, OnOk};
 ghost use Rattle.propagation.specs.Propagation.{IsOf};
 ghost use Rattle.nogood_book.specs.Seats.{IsSeatOf};
 ghost use Rattle.restart_search.specs.Searching.{AtRest, IsNotStopped};
-ghost use Rattle.parallel_solve.specs.Teaming.{AreBelow, IsJob, HasRun};
+ghost use Rattle.restart_search.specs.Logging.{IsTold};
+ghost use Rattle.search_proof.specs.Making.{AreOfOwners};
+ghost use Rattle.parallel_solve.specs.Gathering.{HasMade};
+ghost use Rattle.parallel_solve.specs.Teaming.{IsJob, HasRun};
 
 use crate::answers::Settings;
-use crate::job::Job;
+use crate::job::{Job, run_all};
 use domain_bits::{Domains, WordTrail};
 use graph_rows::Problem;
 use nogood_book::{BookSeat, RowBook};
 use pair_rows::{MOST_WORDS, PairKinds};
-use proof_logger::Unlogged;
-use propagation::{Filters, Recorder, Silent};
+use proof_logger::ProofLogger;
+use propagation::{Filters, Recorder};
 use restart_search::{Equipment, Outcome, Worker};
+use search_proof::ProofMaker;
 use std::alloc::{AllocError, Global};
+use std::thread::Threads;
 use worker_gate::{AnswerCell, Gate};
 
 /// What all workers of a solve read.
 #[derive(Drop)]
-pub(crate) struct Shared<'r, 'a, G: Gate> {
-    pub(crate) alloc: Global,
-    pub(crate) book: &'r RowBook,
-    pub(crate) cell: &'r AnswerCell<'a>,
-    pub(crate) gate: &'r G,
-    pub(crate) problem: &'a Problem,
-    pub(crate) budget: u64,
+struct Shared<'r, 'a, G: Gate> {
+    alloc: Global,
+    book: &'r RowBook,
+    cell: &'r AnswerCell<'a>,
+    gate: &'r G,
+    problem: &'a Problem,
+    budget: u64,
 }
 
 /// A worker that has run, and how its run ended.
 #[derive(Drop)]
-pub(crate) struct Done<'a> {
-    pub(crate) worker: Worker<'a, BookSeat, WordTrail, Unlogged>,
+pub(crate) struct Done<'a, L: ProofLogger> {
+    pub(crate) worker: Worker<'a, BookSeat, WordTrail, L>,
     pub(crate) outcome: Outcome<'a>,
 }
 
-impl<'r, 'a, G: Gate> Job<Shared<'r, 'a, G>> for Worker<'a, BookSeat, WordTrail, Unlogged> {
-    type Done = Done<'a>;
+impl<'r, 'a, G: Gate, L: ProofLogger> Job<Shared<'r, 'a, G>>
+    for Worker<'a, BookSeat, WordTrail, L> {
+    type Done = Done<'a, L>;
 
-    ghost ready = { λ c w. IsJob c.book.now c.problem.now c.budget w };
+    ghost ready = { λ c w. IsJob L.owner c.book.now c.problem.now c.budget w };
 
-    ghost ran = { λ c d. HasRun c.book.now c.problem.now c.budget d.worker d.outcome };
+    ghost ran = { λ c w d. HasRun L.owner L.steps L.refutes c.book.now c.problem.now c.budget d.worker d.outcome
+        × (d.worker.number ≡ w.number) };
 
-    fn go(self, shared: &Shared<'r, 'a, G>) -> Done<'a> {
+    fn go(self, shared: &Shared<'r, 'a, G>) -> Done<'a, L> {
         let mut worker = self;
         let outcome = worker.run(shared.alloc, shared.book, Some(shared.cell), shared.gate);
         Done { worker, outcome }
@@ -51,32 +58,36 @@ impl<'r, 'a, G: Gate> Job<Shared<'r, 'a, G>> for Worker<'a, BookSeat, WordTrail,
 }
 
 /// The worker of this number, its seat split from the first one. All that may be refused for memory is made before the seat.
-fn make_job<'a>(
+fn make_job<'a, L: ProofLogger, M: ProofMaker<L>>(
     alloc: Global,
     q: &'a Problem,
     kinds: &'a PairKinds<'a>,
     domains: &Domains<WordTrail>,
-    told: &Silent,
+    told: &L::Told,
+    maker: &M,
     s: &Settings,
     number: u8,
     book: &RowBook,
     first: &mut BookSeat,
-) -> Result<Worker<'a, BookSeat, WordTrail, Unlogged>, AllocError>
+) -> Result<Worker<'a, BookSeat, WordTrail, L>, AllocError>
     requires kinds { kinds.now.problem ≡ q.now }
     requires is_of { IsOf q.now domains.now }
     requires rest { AtRest q.now [] domains.now }
+    requires told { IsTold q.now None domains.now [] [] (L.Told.changes told.now) }
+    requires maker { M.problem maker.now ≡ q.now }
     requires threads { 1 ≤ s.now.threads }
     requires some { 1 ≤ number }
     requires few { number ≤ 64 }
     requires budget { s.now.budget < 2 ^ 63 }
     requires book { book.now.problem ≡ q.now }
     requires of { IsSeatOf book.now first.old }
-    requires first { first.old.view.first ≡ true }
-    requires made { AreBelow first.old.view.made number }
-    ensures job { IfOk result (λ w. IsJob book.now q.entry.now s.now.budget w) }
+    requires made { HasMade number first.old.view }
+    requires unseen { first.old.view.seen ≡ [] }
+    ensures job { IfOk result (λ w. IsJob L.owner book.now q.entry.now s.now.budget w) }
+    ensures number { IfOk result (λ w. w.number ≡ number) }
     ensures of { IsSeatOf book.now first.new }
-    ensures first { first.new.view.first ≡ true }
-    ensures made { OnOk result (AreBelow first.new.view.made (number + 1)) }
+    ensures unseen { first.new.view.seen ≡ [] }
+    ensures made { OnOk result (HasMade (number + 1) first.new.view) }
 {
     let copy = domains.copy(alloc)?;
     let filters = Filters::new(alloc, q, kinds, MOST_WORDS / s.threads as usize)?;
@@ -90,41 +101,49 @@ fn make_job<'a>(
         s.seed,
         s.budget,
     )?;
+    let log = maker.logger(alloc, number)?;
     let seat = book.split(alloc, first, number)?;
-    Ok(Worker::new(equipment, seat, Unlogged::new(number)))
+    Ok(Worker::new(equipment, seat, log))
 }
 
 /// Adds the workers of a solve. Where memory is refused, those that were made so far are there.
-pub(crate) fn make_jobs<'a>(
+pub(crate) fn make_jobs<'a, L: ProofLogger, M: ProofMaker<L>>(
     alloc: Global,
     q: &'a Problem,
     kinds: &'a PairKinds<'a>,
     domains: &Domains<WordTrail>,
-    told: &Silent,
+    told: &L::Told,
+    maker: &M,
     s: &Settings,
     book: &RowBook,
     first: &mut BookSeat,
-    jobs: &mut Vec<Worker<'a, BookSeat, WordTrail, Unlogged>>,
+    jobs: &mut Vec<Worker<'a, BookSeat, WordTrail, L>>,
 ) -> Result<(), AllocError>
     requires kinds { kinds.now.problem ≡ q.now }
     requires is_of { IsOf q.now domains.now }
     requires rest { AtRest q.now [] domains.now }
+    requires told { IsTold q.now None domains.now [] [] (L.Told.changes told.now) }
+    requires maker { M.problem maker.now ≡ q.now }
     requires some { 1 ≤ s.now.threads }
     requires few { s.now.threads ≤ 64 }
     requires budget { s.now.budget < 2 ^ 63 }
     requires book { book.now.problem ≡ q.now }
     requires of { IsSeatOf book.now first.old }
-    requires first { first.old.view.first ≡ true }
-    requires made { AreBelow first.old.view.made 1 }
+    requires made { HasMade 1 first.old.view }
+    requires unseen { first.old.view.seen ≡ [] }
     requires none { jobs.old.items ≡ [] }
-    ensures jobs { All (λ w. IsJob book.now q.entry.now s.now.budget w) jobs.new.items }
+    ensures jobs { All (λ w. IsJob L.owner book.now q.entry.now s.now.budget w) jobs.new.items }
+    ensures numbers { AreOfOwners (λ w. w.number) jobs.new.items }
     ensures count { OnOk result (length jobs.new.items ≡ s.now.threads) }
     ensures of { IsSeatOf book.now first.new }
+    ensures made { OnOk result (HasMade (s.now.threads + 1) first.new.view) }
 {
     for worker in 0..s.threads {
         jobs.reserve(1)?;
         let number = worker as u8 + 1;
-        let job = make_job(alloc, q, kinds, domains, told, s, number, book, first)?;
+        let job = make_job(
+            alloc, q, kinds, domains, told, maker, s, number, book, first,
+        )?;
         jobs.push_reserved(job);
     }
     Ok(())
@@ -142,16 +161,17 @@ fn decides(outcome: &Outcome) -> bool {
 }
 
 /// Runs a stopped worker again, without a cell, and says whether it decides the problem.
-fn go_on<'a, G: Gate>(
+fn go_on<'a, G: Gate, L: ProofLogger>(
     alloc: Global,
     q: &Problem,
     budget: u64,
     book: &RowBook,
     gate: &G,
-    one: &mut Done<'a>,
+    one: &mut Done<'a, L>,
 ) -> bool
-    requires { HasRun book.now q.now budget one.old.worker one.old.outcome }
-    ensures ran { HasRun book.now q.now budget one.new.worker one.new.outcome }
+    requires { HasRun L.owner L.steps L.refutes book.now q.now budget one.old.worker one.old.outcome }
+    ensures ran { HasRun L.owner L.steps L.refutes book.now q.now budget one.new.worker one.new.outcome }
+    ensures number { one.new.worker.number ≡ one.old.worker.number }
     ensures alone { IsNotStopped one.new.outcome }
 {
     match &one.outcome {
@@ -166,16 +186,20 @@ fn go_on<'a, G: Gate>(
 }
 
 /// Where no worker has decided the problem, runs those that were stopped again, in their order, until one decides.
-pub(crate) fn finish<'a, G: Gate>(
+fn finish<'a, G: Gate, L: ProofLogger>(
     alloc: Global,
     q: &Problem,
     budget: u64,
     book: &RowBook,
     gate: &G,
-    done: &mut Vec<Done<'a>>,
+    done: &mut Vec<Done<'a, L>>,
 )
-    requires { All (λ d. HasRun book.now q.now budget d.worker d.outcome) done.old.items }
-    ensures ran { All (λ d. HasRun book.now q.now budget d.worker d.outcome) done.new.items }
+    requires ran { All (λ d. HasRun L.owner L.steps L.refutes book.now q.now budget d.worker d.outcome)
+        done.old.items }
+    requires numbers { AreOfOwners (λ d. d.worker.number) done.old.items }
+    ensures ran { All (λ d. HasRun L.owner L.steps L.refutes book.now q.now budget d.worker d.outcome)
+        done.new.items }
+    ensures numbers { AreOfOwners (λ d. d.worker.number) done.new.items }
     ensures count { length done.new.items ≡ length done.old.items }
 {
     if done.iter().any(|one| decides(&one.outcome)) {
@@ -186,4 +210,37 @@ pub(crate) fn finish<'a, G: Gate>(
             return;
         }
     }
+}
+
+/// Runs all workers beside each other; where none of them has decided the problem, then those that were stopped, one after another.
+pub(crate) fn run_team<'a, R: Threads + Sync, G: Gate + Sync, L: ProofLogger + Send>(
+    rt: &R,
+    alloc: Global,
+    q: &'a Problem,
+    budget: u64,
+    book: &RowBook,
+    gate: &G,
+    jobs: Vec<Worker<'a, BookSeat, WordTrail, L>>,
+) -> Result<Vec<Done<'a, L>>, AllocError>
+where
+    L::Told: Send,
+    requires jobs { All (λ w. IsJob L.owner book.now q.now budget w) jobs.items }
+    requires numbers { AreOfOwners (λ w. w.number) jobs.items }
+    ensures ran { IfOk result (λ v. All
+        (λ d. HasRun L.owner L.steps L.refutes book.now q.entry.now budget d.worker d.outcome) v.items) }
+    ensures numbers { IfOk result (λ v. AreOfOwners (λ d. d.worker.number) v.items) }
+    ensures count { IfOk result (λ v. length v.items ≡ length jobs.entry.items) }
+{
+    let cell = AnswerCell::new(alloc);
+    let shared = Shared {
+        alloc,
+        book,
+        cell: &cell,
+        gate,
+        problem: q,
+        budget,
+    };
+    let mut done = run_all(rt, &shared, jobs)?;
+    finish(alloc, q, budget, book, gate, &mut done);
+    Ok(done)
 }

@@ -3,7 +3,7 @@
 ghost use Rattle.std.specs.Prelude.{◌≤◌, ◌<◌, ◌^◌, IfSome};
 ghost use Rattle.graph_theory.specs.Graph.{size};
 
-use crate::{Settings, Solved, solve_with};
+use crate::{Proof, Settings, Solved, solve_with};
 use graph_rows::{Graph, Problem};
 use lad_reader::{LadKind, read_lad};
 use std::alloc::Global;
@@ -30,8 +30,10 @@ const SIDES: &[u8] =
 enum End {
     /// With an embedding that `Problem::is_embedding` finds to be one.
     Yes,
-    /// With none.
+    /// With none, and no log.
     None,
+    /// With none, and the log of a proof.
+    Proved,
     /// With so many accounts.
     Unknown(usize),
     /// In none of these ways.
@@ -54,7 +56,8 @@ fn graph(alloc: Global, text: &[u8]) -> Option<Graph>
     Some(graph)
 }
 
-/// How so many workers, each with this budget and all with a book of so many rows, end the search for an embedding.
+/// How so many workers, each with this budget and all with a book of so many rows, end the search for an embedding; with a log where one
+/// is asked for.
 fn end_of<R: Threads + Sync, G: Gate + Sync>(
     rt: &R,
     alloc: Global,
@@ -63,6 +66,7 @@ fn end_of<R: Threads + Sync, G: Gate + Sync>(
     threads: u32,
     budget: u64,
     rows: u32,
+    prove: bool,
     gate: &G,
 ) -> End
     requires some { 1 ≤ threads }
@@ -82,6 +86,7 @@ fn end_of<R: Threads + Sync, G: Gate + Sync>(
         seed: 0,
         budget,
         rows,
+        prove,
     };
     match solve_with(rt, alloc, &q, &settings, gate) {
         Solved::Yes(map) => {
@@ -91,7 +96,8 @@ fn end_of<R: Threads + Sync, G: Gate + Sync>(
                 End::Other
             }
         }
-        Solved::NoEmbedding(_) => End::None,
+        Solved::NoEmbedding(Proof::Unlogged) => End::None,
+        Solved::NoEmbedding(Proof::Logged(_)) => End::Proved,
         Solved::Unknown(accounts) => End::Unknown(accounts.len()),
         Solved::NoMemory => End::Other,
     }
@@ -102,10 +108,12 @@ fn any_number_of_workers_decides_alike(rt: HostRuntime) -> Result<(), Fail> {
     for threads in 1..=8 {
         for rows in [0, 1, 64] {
             let alloc = rt.alloc();
-            let found = end_of(&rt, alloc, EDGE, FOUR_CYCLE, threads, 100, rows, &OpenGate);
+            let found = end_of(
+                &rt, alloc, EDGE, FOUR_CYCLE, threads, 100, rows, false, &OpenGate,
+            );
             assert_eq!(rt; found, End::Yes, "{threads} {rows}");
             let refuted = end_of(
-                &rt, alloc, TRIANGLE, FOUR_CYCLE, threads, 4, rows, &OpenGate,
+                &rt, alloc, TRIANGLE, FOUR_CYCLE, threads, 4, rows, false, &OpenGate,
             );
             assert_eq!(rt; refuted, End::None, "{threads} {rows}");
         }
@@ -117,7 +125,9 @@ fn any_number_of_workers_decides_alike(rt: HostRuntime) -> Result<(), Fail> {
 fn workers_that_restart_share_a_book(rt: HostRuntime) -> Result<(), Fail> {
     for (threads, rows) in [(1, 65536), (4, 65536), (4, 3), (4, 0)] {
         let alloc = rt.alloc();
-        let end = end_of(&rt, alloc, CLIQUE, SIDES, threads, 1000000, rows, &OpenGate);
+        let end = end_of(
+            &rt, alloc, CLIQUE, SIDES, threads, 1000000, rows, false, &OpenGate,
+        );
         assert_eq!(rt; end, End::None, "{threads} {rows}");
     }
     Ok(())
@@ -127,7 +137,9 @@ fn workers_that_restart_share_a_book(rt: HostRuntime) -> Result<(), Fail> {
 fn a_spent_solve_has_an_account_for_each_worker(rt: HostRuntime) -> Result<(), Fail> {
     for (threads, accounts) in [(1, 1), (3, 3), (64, 64)] {
         let alloc = rt.alloc();
-        let end = end_of(&rt, alloc, TRIANGLE, FOUR_CYCLE, threads, 0, 8, &OpenGate);
+        let end = end_of(
+            &rt, alloc, TRIANGLE, FOUR_CYCLE, threads, 0, 8, false, &OpenGate,
+        );
         assert_eq!(rt; end, End::Unknown(accounts), "{threads}");
     }
     Ok(())
@@ -174,10 +186,22 @@ fn two_workers_search_beside_each_other(rt: HostRuntime) -> Result<(), Fail> {
         late: AtomicU64::new(0),
     };
     let alloc = rt.alloc();
-    let end = end_of(&rt, alloc, TRIANGLE, FOUR_CYCLE, 2, 1000, 64, &meeting);
+    let end = end_of(
+        &rt, alloc, TRIANGLE, FOUR_CYCLE, 2, 1000, 64, false, &meeting,
+    );
     assert_eq!(rt; end, End::None);
     assert_eq!(rt; meeting.first.load(Ordering::SeqCst), 1);
     assert_eq!(rt; meeting.second.load(Ordering::SeqCst), 1);
     assert_eq!(rt; meeting.late.load(Ordering::SeqCst), 0);
+    Ok(())
+}
+
+#[test]
+fn a_log_is_kept_where_one_is_asked_for(rt: HostRuntime) -> Result<(), Fail> {
+    for (pattern, target) in [(TRIANGLE, FOUR_CYCLE), (CLIQUE, FOUR_CYCLE)] {
+        let alloc = rt.alloc();
+        let end = end_of(&rt, alloc, pattern, target, 2, 1000, 64, true, &OpenGate);
+        assert_eq!(rt; end, End::Proved);
+    }
     Ok(())
 }

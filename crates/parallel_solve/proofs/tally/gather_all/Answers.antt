@@ -1,28 +1,110 @@
-use Rattle.std.proofs.Common.{◌≡◌, ◌∷◌, List, length, ap, ◌∙◌, arith}
+use Rattle.std.proofs.Common.{◌≡◌, ℕ, ◌+◌, ◌∷◌, [], ◌++◌, List, length, map, append_assoc, append-nil, length-append, Option, sym, subst, ap, ◌∙◌, arith, rules}
+use Rattle.std.specs.Prelude.{All, IfSome, slice_index_or}
 use Rattle.std.specs.Vec.Iter.{into_iter_items}
-use Rattle.std.proofs.lemmas.List.Elements.{All-rest}
-use Rattle.nogood_book.specs.declared.view.View.{View}
+use Rattle.std.proofs.lemmas.List.Elements.{All-push}
+use Rattle.search_theory.specs.Account.{Account}
+use Rattle.nogood_book.specs.Seats.{SeatName, IsSeatOf}
+use Rattle.restart_search.specs.Searching.{Ends}
 use Rattle.parallel_solve.specs.declared.team.Done.{Done}
-use Rattle.parallel_solve.specs.Teaming.{HasRun}
+use Rattle.parallel_solve.specs.Gathering.{TookIn}
+use Rattle.parallel_solve.specs.Teaming.{HasRun, IsRefuter}
+use Rattle.parallel_solve.proofs.Gathering.{authors, rows_came}
+use Rattle.parallel_solve.proofs.Growth.{refuter_heard}
+use Rattle.parallel_solve.proofs.Runs.{at_place, one_there, nothing_left, pushed_map}
 use Rattle.parallel_solve.proofs.tally.gather_all.Goals as goal
 
+pub loop-one-init : goal.loop-one-init
+loop-one-init g c = record {
+  whole = c.into_iter-one-iterator.ensures.into_iter_gives.0;
+  left = search rules;
+  tally = record { map_of = tt; refuted_of = tt; spent_of = λ e k d lt. absurd (omega (arith, c.requires.none, lt)) };
+  count = c.requires.none;
+  room = c.requires.room;
+  logs = c.requires.no_logs;
+  log_room = c.requires.log_room;
+  refuter = tt;
+  of = c.requires.of;
+  honest = c.rows-rows.ensures.honest;
+  made = c.requires.made;
+  taken = λ k d lt. absurd (omega (arith, lt));
+}
+
+pub take_in-requires-clause-seat : goal.take_in-requires-clause-seat
+take_in-requires-clause-seat g c =
+    let there = one_there c.loop-one.yielded c.in-Some.one (into_iter_items c.loop-one.one-iterator) (into_iter_items c.next.new.self) c.args.done.items c.in-Some.ensures.steps.0 c.loop-one.invariant.whole in
+    let ran = at_place (λ (d : Done g.row.L.Denot g.row.L-Told.Denot). HasRun g.L.ProofLogger.owner g.L.ProofLogger.steps g.L.ProofLogger.refutes c.args.book.now c.args.q.now c.args.budget d.worker d.outcome) c.args.done.items (length c.loop-one.yielded) c.in-Some.one c.requires.ran there in
+    subst (λ (s : SeatName). IsSeatOf c.args.book.now s) (sym c.into_parts-account.ensures.seat) ran.seat_of
+
+pub hear-requires-clause-ends : goal.hear-requires-clause-ends
+hear-requires-clause-ends g c =
+    let there = one_there c.loop-one.yielded c.in-Some.one (into_iter_items c.loop-one.one-iterator) (into_iter_items c.next.new.self) c.args.done.items c.in-Some.ensures.steps.0 c.loop-one.invariant.whole in
+    let ran = at_place (λ (d : Done g.row.L.Denot g.row.L-Told.Denot). HasRun g.L.ProofLogger.owner g.L.ProofLogger.steps g.L.ProofLogger.refutes c.args.book.now c.args.q.now c.args.budget d.worker d.outcome) c.args.done.items (length c.loop-one.yielded) c.in-Some.one c.requires.ran there in
+    subst (λ (a : Account). Ends c.in-Some.one.outcome c.args.q.now a) (sym c.into_parts-account.ensures.account) ran.ends
+
+pub hear-requires-clause-budget : goal.hear-requires-clause-budget
+hear-requires-clause-budget g c =
+    let there = one_there c.loop-one.yielded c.in-Some.one (into_iter_items c.loop-one.one-iterator) (into_iter_items c.next.new.self) c.args.done.items c.in-Some.ensures.steps.0 c.loop-one.invariant.whole in
+    let ran = at_place (λ (d : Done g.row.L.Denot g.row.L-Told.Denot). HasRun g.L.ProofLogger.owner g.L.ProofLogger.steps g.L.ProofLogger.refutes c.args.book.now c.args.q.now c.args.budget d.worker d.outcome) c.args.done.items (length c.loop-one.yielded) c.in-Some.one c.requires.ran there in
+    ap (λ (a : Account). a.budget) c.into_parts-account.ensures.account ∙ ran.budget_is
+
 pub loop-one-preserved : goal.loop-one-preserved
-loop-one-preserved c =
+loop-one-preserved g c =
     let at = c.loop-one in
     let before = at.invariant in
-    let steps : into_iter_items at.one-iterator ≡ c.in-Some.one ∷ into_iter_items c.next.new.self = c.in-Some.ensures.steps.0 in
+    let one = c.in-Some.one in
+    let left = into_iter_items c.next.new.self in
+    let steps : into_iter_items at.one-iterator ≡ one ∷ left = c.in-Some.ensures.steps.0 in
     let gone = c.in-Some.ensures.steps.1 in
-    let short = ap (λ (ds : List Done). length ds) steps in
-    let was = before.1 in
-    let count = before.3 in
-    let room = before.4 in (
-      All-rest (λ (d : Done). HasRun c.args.book.now c.args.q.now c.args.budget d.worker d.outcome) c.in-Some.one (into_iter_items c.next.new.self) (into_iter_items at.one-iterator) steps before.0,
-      omega (arith, was, gone, short),
-      c.hear.ensures.tally,
-      omega (arith, c.hear.ensures.count, short, count),
-      omega (arith, c.hear.ensures.room, room),
-      record {
-        table = c.gather.ensures.same.table ∙ before.5.table;
-        problem = ap (λ (v : View). v.problem) c.gather.ensures.gathered.view_is ∙ before.5.problem;
-      },
-    )
+    let short = ap (λ (ds : List (Done g.row.L.Denot g.row.L-Told.Denot)). length ds) steps in
+    let more = length-append at.yielded (one ∷ []) in
+    let there = one_there c.loop-one.yielded c.in-Some.one (into_iter_items c.loop-one.one-iterator) (into_iter_items c.next.new.self) c.args.done.items c.in-Some.ensures.steps.0 c.loop-one.invariant.whole in
+    let ran = at_place (λ (d : Done g.row.L.Denot g.row.L-Told.Denot). HasRun g.L.ProofLogger.owner g.L.ProofLogger.steps g.L.ProofLogger.refutes c.args.book.now c.args.q.now c.args.budget d.worker d.outcome) c.args.done.items (length c.loop-one.yielded) c.in-Some.one c.requires.ran there in
+    let number = c.number-number.ensures ∙ c.requires.numbers (length at.yielded) one there in
+    let refutes = λ (d : Done g.row.L.Denot g.row.L-Told.Denot). g.L.ProofLogger.refutes d.worker.log c.args.q.now d.worker.facts.seen in
+    let taken = subst (λ (s : SeatName). TookIn s.view c.take_in.new.first.view) c.into_parts-account.ensures.seat c.take_in.ensures.taken in
+    record {
+      whole = append_assoc at.yielded (one ∷ []) left ∙ (ap (λ (ds : List (Done g.row.L.Denot g.row.L-Told.Denot)). at.yielded ++ ds) (sym steps) ∙ before.whole);
+      left = omega (arith, before.left, gone, short);
+      tally = c.hear.ensures.tally;
+      count = omega (arith, c.hear.ensures.count, before.count, more);
+      room = omega (arith, c.hear.ensures.room, before.room);
+      logs = c.push_reserved.ensures.items ∙ pushed_map (λ (d : Done g.row.L.Denot g.row.L-Told.Denot). d.worker.log) at.yielded one at.logs.items c.into_parts-account.result.2 before.logs c.into_parts-account.ensures.log;
+      log_room = omega (arith, c.push_reserved.ensures.capacity, before.log_room);
+      refuter = subst (λ (o : Option ℕ). IfSome o (IsRefuter refutes (at.yielded ++ one ∷ []))) (sym c.hear.ensures.refuted)
+          (refuter_heard refutes at.yielded one at.tally.refuted c.number-number.result one.outcome number ran.refutes_of before.refuter);
+      of = c.take_in.ensures.first;
+      honest = c.take_in.ensures.told;
+      made = c.take_in.ensures.kept.made _ before.made;
+      taken = All-push (λ (d : Done g.row.L.Denot g.row.L-Told.Denot). TookIn d.worker.seat.view c.take_in.new.first.view) at.yielded one (λ k d k_in. c.take_in.ensures.kept.taken _ (before.taken k d k_in)) taken;
+    }
+
+pub returns-clause-count : goal.returns-clause-count
+returns-clause-count g c =
+    let none : into_iter_items c.loop-one.one-iterator ≡ [] = nothing_left _ (sym c.in-None.ensures.steps.0 ∙ c.loop-one.invariant.left) in
+    let all : c.loop-one.yielded ≡ c.args.done.items = sym (append-nil c.loop-one.yielded) ∙ (ap (λ (ds : List (Done g.row.L.Denot g.row.L-Told.Denot)). c.loop-one.yielded ++ ds) (sym none) ∙ c.loop-one.invariant.whole) in
+    c.loop-one.invariant.count ∙ ap (λ (ds : List (Done g.row.L.Denot g.row.L-Told.Denot)). length ds) all
+
+pub returns-clause-logs : goal.returns-clause-logs
+returns-clause-logs g c =
+    let none : into_iter_items c.loop-one.one-iterator ≡ [] = nothing_left _ (sym c.in-None.ensures.steps.0 ∙ c.loop-one.invariant.left) in
+    let all : c.loop-one.yielded ≡ c.args.done.items = sym (append-nil c.loop-one.yielded) ∙ (ap (λ (ds : List (Done g.row.L.Denot g.row.L-Told.Denot)). c.loop-one.yielded ++ ds) (sym none) ∙ c.loop-one.invariant.whole) in
+    c.loop-one.invariant.logs ∙ ap (λ (ds : List (Done g.row.L.Denot g.row.L-Told.Denot)). map (λ (d : Done g.row.L.Denot g.row.L-Told.Denot). d.worker.log) ds) all
+
+pub returns-clause-refuter : goal.returns-clause-refuter
+returns-clause-refuter g c =
+    let none : into_iter_items c.loop-one.one-iterator ≡ [] = nothing_left _ (sym c.in-None.ensures.steps.0 ∙ c.loop-one.invariant.left) in
+    let all : c.loop-one.yielded ≡ c.args.done.items = sym (append-nil c.loop-one.yielded) ∙ (ap (λ (ds : List (Done g.row.L.Denot g.row.L-Told.Denot)). c.loop-one.yielded ++ ds) (sym none) ∙ c.loop-one.invariant.whole) in
+    subst (λ (ds : List (Done g.row.L.Denot g.row.L-Told.Denot)). IfSome c.loop-one.tally.refuted (IsRefuter (λ (d : Done g.row.L.Denot g.row.L-Told.Denot). g.L.ProofLogger.refutes d.worker.log c.args.q.now d.worker.facts.seen) ds)) all c.loop-one.invariant.refuter
+
+pub returns-clause-grown : goal.returns-clause-grown
+returns-clause-grown g c =
+    let none : into_iter_items c.loop-one.one-iterator ≡ [] = nothing_left _ (sym c.in-None.ensures.steps.0 ∙ c.loop-one.invariant.left) in
+    let all : c.loop-one.yielded ≡ c.args.done.items = sym (append-nil c.loop-one.yielded) ∙ (ap (λ (ds : List (Done g.row.L.Denot g.row.L-Told.Denot)). c.loop-one.yielded ++ ds) (sym none) ∙ c.loop-one.invariant.whole) in
+    let taken = subst (All (λ (d : Done g.row.L.Denot g.row.L-Told.Denot). TookIn d.worker.seat.view c.loop-one.first.view)) all c.loop-one.invariant.taken in
+    λ k d k_in.
+    let ran = c.requires.ran k d k_in in
+    let worker = (slice_index_or c.args.done.items k d).worker in
+    rows_came worker.problem worker.number worker.facts worker.seat c.loop-one.first ran.seat_for ran.facts_are c.loop-one.invariant.honest (taken k d k_in)
+
+pub returns-clause-authors : goal.returns-clause-authors
+returns-clause-authors g c = authors (length c.args.done.items) c.loop-one.first c.loop-one.invariant.honest c.loop-one.invariant.made

@@ -1,6 +1,11 @@
 use Rattle.std.specs.Prelude.{◌≡◌, length, All}
+use Rattle.search_proof.specs.Making.{AreOfOwners}
 use Rattle.parallel_solve.specs.Teaming.{HasRun}
 use Rattle.parallel_solve.proofs.team.finish.Given as goal
 
 abbrev pub invariant-loop-place : goal.invariant-loop-place
-invariant-loop-place g l = All (λ d. HasRun l.book l.q l.budget d.worker d.outcome) l.done.items × (length l.done.items ≡ length l.fn.done.items)
+invariant-loop-place g l = record {
+  ran : All (λ d. HasRun g.L.ProofLogger.owner g.L.ProofLogger.steps g.L.ProofLogger.refutes l.book l.q l.budget d.worker d.outcome) l.done.items;
+  numbers : AreOfOwners (λ d. d.worker.number) l.done.items;
+  count : length l.done.items ≡ length l.fn.done.items;
+}

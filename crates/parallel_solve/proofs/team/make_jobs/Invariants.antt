@@ -1,8 +1,16 @@
-use Rattle.std.specs.Prelude.{◌≡◌, ◌+◌, ◌≤◌, true, length, All}
+use Rattle.std.specs.Prelude.{◌≡◌, ◌+◌, ◌≤◌, [], length, All}
 use Rattle.nogood_book.specs.Seats.{IsSeatOf}
-use Rattle.parallel_solve.specs.Teaming.{AreBelow, IsJob}
+use Rattle.search_proof.specs.Making.{AreOfOwners}
+use Rattle.parallel_solve.specs.Gathering.{HasMade}
+use Rattle.parallel_solve.specs.Teaming.{IsJob}
 use Rattle.parallel_solve.proofs.team.make_jobs.Given as goal
 
 abbrev pub invariant-loop-worker : goal.invariant-loop-worker
-invariant-loop-worker l = All (λ w. IsJob l.book l.q l.s.budget w) l.jobs.items × (length l.jobs.items ≡ l.worker) × IsSeatOf l.book l.first × (l.first.view.first ≡ true)
-    × AreBelow l.first.view.made (l.worker + 1)
+invariant-loop-worker g l = record {
+  jobs : All (λ w. IsJob g.L.ProofLogger.owner l.book l.q l.s.budget w) l.jobs.items;
+  numbers : AreOfOwners (λ w. w.number) l.jobs.items;
+  count : length l.jobs.items ≡ l.worker;
+  of : IsSeatOf l.book l.first;
+  made : HasMade (l.worker + 1) l.first.view;
+  unseen : l.first.view.seen ≡ [];
+}
