@@ -6,7 +6,7 @@ use Rattle.clap.proofs.OnLiterals.{clap_on_literals}
 use Rattle.graph_theory.specs.Text.{words}
 use Rattle.graph_theory.specs.declared.lad_text.LadKind.TheVariants.{Lad, VertexLabelledLad}
 use Rattle.command_line.specs.CommandLine.{command}
-use Rattle.command_line.specs.Grammar.{grammar, answering, solve_grammar, verify_grammar, encode_grammar, check_grammar, reading, demo_grammar, with_graphs, with_kind, with_mapping, with_search}
+use Rattle.command_line.specs.Grammar.{grammar, answering, solve_grammar, verify_grammar, encode_grammar, check_grammar, reading, demo_grammar, with_graphs, with_kind, with_mapping, with_search, with_proof}
 use Rattle.command_line.specs.declared.commands.Command.TheVariants.{Solve, Verify, Encode, Check, Demo}
 
 -- the words of the line are no command
@@ -22,7 +22,7 @@ pub wrong_count : list_all is_refused (
     ∷ codes "subgraph solve p t --induced=true" ∷ codes "solve p t" ∷ codes "subgraph encode p" ∷ codes "subgraph encode p t u"
     ∷ codes "subgraph encode p t --budget 4" ∷ codes "subgraph check e" ∷ codes "subgraph check e l m" ∷ codes "subgraph check e l --induced"
     ∷ codes "subgraph demo" ∷ codes "subgraph demo 7 8" ∷ codes "subgraph demo 7 --seed 8" ∷ codes "subgraph demo 7 --induced" ∷ []) ≡ true
-unfolding command grammar answering solve_grammar verify_grammar encode_grammar check_grammar reading demo_grammar with_graphs with_kind with_mapping with_search clap_on_literals
+unfolding command grammar answering solve_grammar verify_grammar encode_grammar check_grammar reading demo_grammar with_graphs with_kind with_mapping with_search with_proof clap_on_literals
 wrong_count = refl
 
 -- words that the grammar does not have, abbreviations among them
@@ -30,11 +30,21 @@ pub unknown_words : list_all is_refused (
     codes "subgraph help" ∷ codes "subgraph --help" ∷ codes "subgraph -h" ∷ codes "subgraph solve -h" ∷ codes "subgraph solve p t --help"
     ∷ codes "subgraph --version" ∷ codes "subgraph -V" ∷ codes "subgraph sol p t" ∷ codes "subgraph SOLVE p t" ∷ codes "subgraph p t"
     ∷ codes "subgraph solve p t --bud 4" ∷ codes "subgraph solve p t --induce" ∷ codes "subgraph solve p t --thread 4"
-    ∷ codes "subgraph verify p t m --seed 1" ∷ codes "subgraph solve p t --prove e" ∷ codes "subgraph verify p t m --budget 4"
+    ∷ codes "subgraph verify p t m --seed 1" ∷ codes "subgraph encode p t --prove e --log l" ∷ codes "subgraph verify p t m --budget 4"
     ∷ codes "subgraph demo 7 --book 4" ∷ codes "subgraph verify p t m --threads 4" ∷ codes "subgraph --induced solve p t"
     ∷ codes "subgraph -- solve p t" ∷ codes "subgraph solve -p t" ∷ codes "subgraph solve p -1" ∷ []) ≡ true
-unfolding command grammar answering solve_grammar verify_grammar encode_grammar check_grammar reading demo_grammar with_graphs with_kind with_mapping with_search clap_on_literals
+unfolding command grammar answering solve_grammar verify_grammar encode_grammar check_grammar reading demo_grammar with_graphs with_kind with_mapping with_search with_proof clap_on_literals
 unknown_words = refl
+
+-- a proof with one file alone, or with two that are one or one of the graphs', and too long a name
+pub wrong_proofs : list_all is_refused (
+    codes "subgraph solve p t --prove e" ∷ codes "subgraph solve p t --log l" ∷ codes "subgraph solve p t --prove a --log a"
+    ∷ codes "subgraph solve p t --prove p --log l" ∷ codes "subgraph solve p t --prove t --log l" ∷ codes "subgraph solve p t --prove e --log p"
+    ∷ codes "subgraph solve p t --prove e --log t" ∷ codes "subgraph solve p t --prove e --log" ∷ codes "subgraph solve p t --prove --log l"
+    ∷ codes "subgraph solve p t --prove e --log l --log m" ∷ codes "subgraph solve p t --prove= --log=" ∷ codes "subgraph check e l --log m"
+    ∷ codes "subgraph demo 7 --prove e --log l" ∷ []) ≡ true
+unfolding command grammar answering solve_grammar verify_grammar encode_grammar check_grammar reading demo_grammar with_graphs with_kind with_mapping with_search with_proof clap_on_literals
+wrong_proofs = refl
 
 -- numbers out of range or form, and formats that are none
 pub wrong_values : list_all is_refused (
@@ -50,7 +60,7 @@ pub wrong_values : list_all is_refused (
     ∷ codes "subgraph solve p t --threads 0" ∷ codes "subgraph solve p t --threads 65" ∷ codes "subgraph solve p t --threads +4"
     ∷ codes "subgraph solve p t --threads 4294967297" ∷ codes "subgraph solve p t --book 4194305" ∷ codes "subgraph solve p t --book -1"
     ∷ codes "subgraph demo 7 --threads 0" ∷ codes "subgraph demo 7 --threads 65" ∷ []) ≡ true
-unfolding command grammar answering solve_grammar verify_grammar encode_grammar check_grammar reading demo_grammar with_graphs with_kind with_mapping with_search clap_on_literals
+unfolding command grammar answering solve_grammar verify_grammar encode_grammar check_grammar reading demo_grammar with_graphs with_kind with_mapping with_search with_proof clap_on_literals
 wrong_values = refl
 
 -- solves
@@ -59,19 +69,28 @@ pub solves : map (λ (text : List ℕ). command (words text)) (
     ∷ codes "subgraph solve p t --budget=004" ∷ codes "subgraph solve --format=lad -- p --induced" ∷ codes "subgraph solve - solve"
     ∷ codes "subgraph solve p t --seed 18446744073709551615" ∷ codes "subgraph solve --budget 4 --seed=00 p t"
     ∷ codes "subgraph solve p t --threads 64 --book 4194304" ∷ codes "subgraph solve --book=0 p --threads=008 t" ∷ [])
-    ≡ Some (Solve (record { pattern = codes "p"; target = codes "t"; induced = false; format = Lad; threads = 1; seed = 0; budget = 9223372036854775807; book = 65536 }))
-    ∷ Some (Solve (record { pattern = codes "same"; target = codes "same"; induced = true; format = Lad; threads = 1; seed = 0; budget = 9223372036854775807; book = 65536 }))
-    ∷ Some (Solve (record { pattern = codes "p"; target = codes "t"; induced = false; format = VertexLabelledLad; threads = 1; seed = 0; budget = 4; book = 65536 }))
-    ∷ Some (Solve (record { pattern = codes "p"; target = codes "t"; induced = false; format = Lad; threads = 1; seed = 0; budget = 4; book = 65536 }))
-    ∷ Some (Solve (record { pattern = codes "p"; target = codes "--induced"; induced = false; format = Lad; threads = 1; seed = 0; budget = 9223372036854775807; book = 65536 }))
-    ∷ Some (Solve (record { pattern = codes "-"; target = codes "solve"; induced = false; format = Lad; threads = 1; seed = 0; budget = 9223372036854775807; book = 65536 }))
-    ∷ Some (Solve (record { pattern = codes "p"; target = codes "t"; induced = false; format = Lad; threads = 1; seed = 18446744073709551615; budget = 9223372036854775807; book = 65536 }))
-    ∷ Some (Solve (record { pattern = codes "p"; target = codes "t"; induced = false; format = Lad; threads = 1; seed = 0; budget = 4; book = 65536 }))
-    ∷ Some (Solve (record { pattern = codes "p"; target = codes "t"; induced = false; format = Lad; threads = 64; seed = 0; budget = 9223372036854775807; book = 4194304 }))
-    ∷ Some (Solve (record { pattern = codes "p"; target = codes "t"; induced = false; format = Lad; threads = 8; seed = 0; budget = 9223372036854775807; book = 0 }))
+    ≡ Some (Solve (record { pattern = codes "p"; target = codes "t"; induced = false; format = Lad; threads = 1; seed = 0; budget = 9223372036854775807; book = 65536; prove = None }))
+    ∷ Some (Solve (record { pattern = codes "same"; target = codes "same"; induced = true; format = Lad; threads = 1; seed = 0; budget = 9223372036854775807; book = 65536; prove = None }))
+    ∷ Some (Solve (record { pattern = codes "p"; target = codes "t"; induced = false; format = VertexLabelledLad; threads = 1; seed = 0; budget = 4; book = 65536; prove = None }))
+    ∷ Some (Solve (record { pattern = codes "p"; target = codes "t"; induced = false; format = Lad; threads = 1; seed = 0; budget = 4; book = 65536; prove = None }))
+    ∷ Some (Solve (record { pattern = codes "p"; target = codes "--induced"; induced = false; format = Lad; threads = 1; seed = 0; budget = 9223372036854775807; book = 65536; prove = None }))
+    ∷ Some (Solve (record { pattern = codes "-"; target = codes "solve"; induced = false; format = Lad; threads = 1; seed = 0; budget = 9223372036854775807; book = 65536; prove = None }))
+    ∷ Some (Solve (record { pattern = codes "p"; target = codes "t"; induced = false; format = Lad; threads = 1; seed = 18446744073709551615; budget = 9223372036854775807; book = 65536; prove = None }))
+    ∷ Some (Solve (record { pattern = codes "p"; target = codes "t"; induced = false; format = Lad; threads = 1; seed = 0; budget = 4; book = 65536; prove = None }))
+    ∷ Some (Solve (record { pattern = codes "p"; target = codes "t"; induced = false; format = Lad; threads = 64; seed = 0; budget = 9223372036854775807; book = 4194304; prove = None }))
+    ∷ Some (Solve (record { pattern = codes "p"; target = codes "t"; induced = false; format = Lad; threads = 8; seed = 0; budget = 9223372036854775807; book = 0; prove = None }))
     ∷ []
-unfolding command grammar answering solve_grammar verify_grammar encode_grammar check_grammar reading demo_grammar with_graphs with_kind with_mapping with_search clap_on_literals
+unfolding command grammar answering solve_grammar verify_grammar encode_grammar check_grammar reading demo_grammar with_graphs with_kind with_mapping with_search with_proof clap_on_literals
 solves = refl
+
+-- solves with a proof
+pub proves : map (λ (text : List ℕ). command (words text)) (
+    codes "subgraph solve p t --prove e --log l" ∷ codes "subgraph solve --log=t --prove= p p" ∷ [])
+    ≡ Some (Solve (record { pattern = codes "p"; target = codes "t"; induced = false; format = Lad; threads = 1; seed = 0; budget = 9223372036854775807; book = 65536; prove = Some (record { encoding = codes "e"; log = codes "l" }) }))
+    ∷ Some (Solve (record { pattern = codes "p"; target = codes "p"; induced = false; format = Lad; threads = 1; seed = 0; budget = 9223372036854775807; book = 65536; prove = Some (record { encoding = []; log = codes "t" }) }))
+    ∷ []
+unfolding command grammar answering solve_grammar verify_grammar encode_grammar check_grammar reading demo_grammar with_graphs with_kind with_mapping with_search with_proof clap_on_literals
+proves = refl
 
 -- verifies
 pub verifies : map (λ (text : List ℕ). command (words text)) (
@@ -79,7 +98,7 @@ pub verifies : map (λ (text : List ℕ). command (words text)) (
     ≡ Some (Verify (record { pattern = codes "p"; target = codes "t"; mapping = codes "m"; induced = false; format = Lad }))
     ∷ Some (Verify (record { pattern = codes "p"; target = codes "t"; mapping = codes "m"; induced = true; format = VertexLabelledLad }))
     ∷ []
-unfolding command grammar answering solve_grammar verify_grammar encode_grammar check_grammar reading demo_grammar with_graphs with_kind with_mapping with_search clap_on_literals
+unfolding command grammar answering solve_grammar verify_grammar encode_grammar check_grammar reading demo_grammar with_graphs with_kind with_mapping with_search with_proof clap_on_literals
 verifies = refl
 
 -- encodes
@@ -88,27 +107,27 @@ pub encodes : map (λ (text : List ℕ). command (words text)) (
     ≡ Some (Encode (record { pattern = codes "p"; target = codes "t"; induced = false; format = Lad }))
     ∷ Some (Encode (record { pattern = codes "p"; target = codes "t"; induced = true; format = VertexLabelledLad }))
     ∷ []
-unfolding command grammar answering solve_grammar verify_grammar encode_grammar check_grammar reading demo_grammar with_graphs with_kind with_mapping with_search clap_on_literals
+unfolding command grammar answering solve_grammar verify_grammar encode_grammar check_grammar reading demo_grammar with_graphs with_kind with_mapping with_search with_proof clap_on_literals
 encodes = refl
 
 -- checks
 pub checks : map (λ (text : List ℕ). command (words text)) (codes "subgraph check e l" ∷ codes "subgraph check e e" ∷ [])
     ≡ Some (Check (record { encoding = codes "e"; log = codes "l" })) ∷ Some (Check (record { encoding = codes "e"; log = codes "e" })) ∷ []
-unfolding command grammar answering solve_grammar verify_grammar encode_grammar check_grammar reading demo_grammar with_graphs with_kind with_mapping with_search clap_on_literals
+unfolding command grammar answering solve_grammar verify_grammar encode_grammar check_grammar reading demo_grammar with_graphs with_kind with_mapping with_search with_proof clap_on_literals
 checks = refl
 
 -- demos
 pub demos : map (λ (text : List ℕ). command (words text)) (codes "subgraph demo 7" ∷ codes "subgraph demo --budget 4 18446744073709551615" ∷ codes "subgraph demo 007 --budget=1 --threads 4" ∷ [])
     ≡ Some (Demo (record { seed = 7; threads = 1; budget = 9223372036854775807 })) ∷ Some (Demo (record { seed = 18446744073709551615; threads = 1; budget = 4 }))
     ∷ Some (Demo (record { seed = 7; threads = 4; budget = 1 })) ∷ []
-unfolding command grammar answering solve_grammar verify_grammar encode_grammar check_grammar reading demo_grammar with_graphs with_kind with_mapping with_search clap_on_literals
+unfolding command grammar answering solve_grammar verify_grammar encode_grammar check_grammar reading demo_grammar with_graphs with_kind with_mapping with_search with_proof clap_on_literals
 demos = refl
 
 -- an empty word is a name, and no words at all are no command
 pub empty_words : (command (codes "subgraph" ∷ codes "solve" ∷ [] ∷ codes "t" ∷ [])
-    ≡ Some (Solve (record { pattern = []; target = codes "t"; induced = false; format = Lad; threads = 1; seed = 0; budget = 9223372036854775807; book = 65536 })))
+    ≡ Some (Solve (record { pattern = []; target = codes "t"; induced = false; format = Lad; threads = 1; seed = 0; budget = 9223372036854775807; book = 65536; prove = None })))
     × (command [] ≡ None)
-unfolding command grammar answering solve_grammar verify_grammar encode_grammar check_grammar reading demo_grammar with_graphs with_kind with_mapping with_search clap_on_literals
+unfolding command grammar answering solve_grammar verify_grammar encode_grammar check_grammar reading demo_grammar with_graphs with_kind with_mapping with_search with_proof clap_on_literals
 empty_words = (refl, refl)
 
 -- a name of 4,095 bytes is taken, and one of 4,096 is not
@@ -117,5 +136,5 @@ pub long_names : (is_some (command (codes "subgraph" ∷ codes "solve" ∷ repli
     × (command (codes "subgraph" ∷ codes "solve" ∷ replicate 4096 112 ∷ codes "t" ∷ []) ≡ None)
     × (command (codes "subgraph" ∷ codes "solve" ∷ codes "p" ∷ replicate 4096 116 ∷ []) ≡ None)
     × (command (codes "subgraph" ∷ codes "verify" ∷ codes "p" ∷ codes "t" ∷ replicate 4096 109 ∷ []) ≡ None)
-unfolding command grammar answering solve_grammar verify_grammar encode_grammar check_grammar reading demo_grammar with_graphs with_kind with_mapping with_search clap_on_literals
+unfolding command grammar answering solve_grammar verify_grammar encode_grammar check_grammar reading demo_grammar with_graphs with_kind with_mapping with_search with_proof clap_on_literals
 long_names = (refl, refl, refl, refl, refl)

@@ -1,6 +1,6 @@
 -- Which command a list of words is.
 
-use Rattle.std.specs.Prelude.{ℕ, ◌<◌, ◌≤◌, ◌^◌, Bool, false, if◌then◌else◌, List, length, Option, Some, None, option_and_then, codes}
+use Rattle.std.specs.Prelude.{◌≢◌, ℕ, ◌<◌, ◌≤◌, ◌^◌, Bool, true, false, not, ◌&&◌, if◌then◌else◌, List, length, Option, Some, None, IfSome, option_and_then, codes}
 use Rattle.std.specs.Option.{option_map_or}
 use Rattle.std.specs.Str.{bytes_eq}
 use Rattle.clap.specs.Words.{Row, Text, first_of, fault_of, subcommand_of}
@@ -12,6 +12,7 @@ use Rattle.command_line.specs.Grammar.{grammar}
 use Rattle.command_line.specs.declared.commands.Command.{Command}
 use Rattle.command_line.specs.declared.commands.Command.TheVariants.{Solve, Verify, Encode, Check, Demo}
 use Rattle.command_line.specs.declared.commands.SolveWords.{SolveWords}
+use Rattle.command_line.specs.declared.commands.ProveWords.{ProveWords}
 use Rattle.command_line.specs.declared.commands.VerifyWords.{VerifyWords}
 use Rattle.command_line.specs.declared.commands.EncodeWords.{EncodeWords}
 use Rattle.command_line.specs.declared.commands.CheckWords.{CheckWords}
@@ -50,9 +51,31 @@ threads_at rows = or_default 1 threads (first_of (codes "threads") rows)
 abbrev pub book_at : List Row → Option ℕ
 book_at rows = or_default 65536 book (first_of (codes "book") rows)
 
--- A solve, where each of its words is good.
-abbrev pub solve_from : Option Text → Option Text → Bool → Option LadKind → Option ℕ → Option ℕ → Option ℕ → Option ℕ → Option Command
-solve_from (Some p) (Some t) induced (Some f) (Some n) (Some s) (Some b) (Some k) = Some (Solve (record {
+-- The files of a proof, where both names are good.
+abbrev pub prove_named : Option Text → Option Text → Option (Option ProveWords)
+prove_named (Some e) (Some l) = Some (Some (record { encoding = e; log = l }))
+prove_named _ _ = None
+
+-- The files of a proof, where both are named, or that none is asked for, where neither is.
+abbrev pub prove_from : Option Text → Option Text → Option (Option ProveWords)
+prove_from None None = Some None
+prove_from (Some e) (Some l) = prove_named (file_name e) (file_name l)
+prove_from _ _ = None
+
+-- Whether the files of a proof differ from each other, and from the pattern's and the target's.
+abbrev pub are_apart : Text → Text → Option ProveWords → Bool
+are_apart p t None = true
+are_apart p t (Some w) = not (bytes_eq w.encoding w.log) && (not (bytes_eq w.encoding p) && (not (bytes_eq w.encoding t)
+    && (not (bytes_eq w.log p) && not (bytes_eq w.log t))))
+
+-- The files of a proof that the words name, `--prove` and `--log` together.
+abbrev pub prove_at : List Row → Option (Option ProveWords)
+prove_at rows = prove_from (first_of (codes "prove") rows) (first_of (codes "log") rows)
+
+-- A solve, where each of its words is good, and the files of its proof are apart.
+abbrev pub solve_from : Option Text → Option Text → Bool → Option LadKind → Option ℕ → Option ℕ → Option ℕ → Option ℕ
+    → Option (Option ProveWords) → Option Command
+solve_from (Some p) (Some t) induced (Some f) (Some n) (Some s) (Some b) (Some k) (Some w) = if are_apart p t w then Some (Solve (record {
   pattern = p;
   target = t;
   induced = induced;
@@ -61,8 +84,9 @@ solve_from (Some p) (Some t) induced (Some f) (Some n) (Some s) (Some b) (Some k
   seed = s;
   budget = b;
   book = k;
-}))
-solve_from _ _ _ _ _ _ _ _ = None
+  prove = w;
+})) else None
+solve_from _ _ _ _ _ _ _ _ _ = None
 
 -- A verify, where each of its words is good.
 abbrev pub verify_from : Option Text → Option Text → Option Text → Bool → Option LadKind → Option Command
@@ -88,7 +112,7 @@ demo_from _ _ _ = None
 -- The solve that the words after `solve` are.
 abbrev pub solve_of : List Row → Option Command
 solve_of rows = solve_from (name_at (codes "pattern") rows) (name_at (codes "target") rows)
-    (flag_at (codes "induced") rows) (format_at rows) (threads_at rows) (seed_at rows) (budget_at rows) (book_at rows)
+    (flag_at (codes "induced") rows) (format_at rows) (threads_at rows) (seed_at rows) (budget_at rows) (book_at rows) (prove_at rows)
 
 -- The verify that the words after `verify` are.
 abbrev pub verify_of : List Row → Option Command
@@ -123,6 +147,16 @@ entered_command (Some p) = named_command p.0 p.1
 unfoldable pub command : List Text → Option Command
 command words = if is_empty (fault_of grammar words) then entered_command (subcommand_of grammar words) else None
 
+-- The names of a proof's files have at most 4,095 bytes, and differ from each other and from the pattern's and the target's.
+pub record IsProveInRange (pattern target : List ℕ) (w : ProveWords) : Type 0 where
+  pub encoding : length w.encoding ≤ 4095
+  pub log : length w.log ≤ 4095
+  pub apart : w.encoding ≢ w.log
+  pub encoding_not_pattern : w.encoding ≢ pattern
+  pub encoding_not_target : w.encoding ≢ target
+  pub log_not_pattern : w.log ≢ pattern
+  pub log_not_target : w.log ≢ target
+
 -- The ranges of a command's names and numbers.
 pub record IsSolveInRange (w : SolveWords) : Type 0 where
   pub pattern : length w.pattern ≤ 4095
@@ -132,6 +166,7 @@ pub record IsSolveInRange (w : SolveWords) : Type 0 where
   pub least : 1 ≤ w.budget
   pub most : w.budget < 2 ^ 63
   pub book : w.book ≤ 4194304
+  pub prove : IfSome w.prove (λ p. IsProveInRange w.pattern w.target p)
 
 pub record IsVerifyInRange (w : VerifyWords) : Type 0 where
   pub pattern : length w.pattern ≤ 4095

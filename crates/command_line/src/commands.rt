@@ -37,6 +37,17 @@ pub struct SolveWords<'a> {
     pub budget: u64,
     /// How many rows of nogoods the workers share, up to 4,194,304.
     pub book: u32,
+    /// Where the answer is to be shown by an encoding and a log.
+    pub prove: Option<ProveWords<'a>>,
+}
+
+/// The files that show an answer of `solve`; no two of them, the pattern's and the target's are one, but the last two may be.
+#[derive(Drop)]
+pub struct ProveWords<'a> {
+    /// The file of the encoding.
+    pub encoding: FileName<'a>,
+    /// The file of the log.
+    pub log: FileName<'a>,
 }
 
 /// What the words of `verify` tell.

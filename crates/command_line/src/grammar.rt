@@ -81,7 +81,17 @@ fn add_search<'a>(alloc: Global, command: Command<'a>) -> Result<Command<'a>, Al
     add(with_seed, option(alloc, "budget"))
 }
 
-/// `solve P T [--induced] [--format F] [--threads N] [--seed N] [--budget N] [--book N]`
+/// The command with the files of a proof.
+#[tactic(auto, unfolding(crate::specs::Grammar::with_proof))]
+fn add_proof<'a>(alloc: Global, command: Command<'a>) -> Result<Command<'a>, AllocError>
+    ensures app { IfOk result (λ c. app_of c ≡ spec.with_proof (app_of command.entry)) }
+    ensures local { IfOk result (λ c. (fields_of c).has_globals ≡ (fields_of command.entry).has_globals) }
+{
+    let with_prove = add(command, option(alloc, "prove"))?;
+    add(with_prove, option(alloc, "log"))
+}
+
+/// `solve P T [--induced] [--format F] [--threads N] [--seed N] [--budget N] [--book N] [--prove ENC --log LOG]`
 #[tactic(auto, unfolding(crate::specs::Grammar::solve_grammar))]
 fn solve_command<'a>(alloc: Global) -> Result<Command<'a>, AllocError>
     ensures app { IfOk result (λ c. app_of c ≡ spec.solve_grammar) }
@@ -90,7 +100,8 @@ fn solve_command<'a>(alloc: Global) -> Result<Command<'a>, AllocError>
     let with_graphs = add_graphs(alloc, Command::new(alloc, "solve"))?;
     let with_kind = add_kind(alloc, with_graphs)?;
     let with_search = add_search(alloc, with_kind)?;
-    add(with_search, option(alloc, "book"))
+    let with_book = add(with_search, option(alloc, "book"))?;
+    add_proof(alloc, with_book)
 }
 
 /// `verify P T MAP [--induced] [--format F]`

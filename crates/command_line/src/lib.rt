@@ -13,7 +13,9 @@ pub mod file_name;
 mod grammar;
 pub mod reading;
 
-pub use commands::{CheckWords, Command, DemoWords, EncodeWords, SolveWords, VerifyWords};
+pub use commands::{
+    CheckWords, Command, DemoWords, EncodeWords, ProveWords, SolveWords, VerifyWords,
+};
 pub use file_name::FileName;
 pub use reading::{Refusal, command_of};
 

@@ -1,6 +1,6 @@
 //! From words to a command: what `clap` finds among the words, and the project's own tests of it.
 
-ghost use Rattle.std.specs.Prelude.{◌≡◌, ◌≢◌, ◌≤◌, ◌<◌, ◌^◌, IfOk, IfSome, IsErrOf, Some, None, [], false, map, codes, option_map, option_and_then, string_bytes};
+ghost use Rattle.std.specs.Prelude.{◌≡◌, ◌≢◌, ◌≤◌, ◌<◌, ◌^◌, IsTrue, IfOk, IfSome, IsErrOf, Some, None, [], false, map, codes, option_map, option_and_then, string_bytes};
 ghost use Rattle.std.specs.Char.{is_ascii_digit};
 ghost use Rattle.std.specs.List.{list_all};
 ghost use Rattle.clap.specs.Words.{fault_of, first_of, found_of, rows_of, subcommand_of, subcommand_rows_of};
@@ -12,7 +12,9 @@ ghost use Rattle.command_line.specs.Words as word;
 ghost use Rattle.command_line.specs.Grammar.{grammar};
 ghost use Rattle.command_line.specs.CommandLine as line;
 
-use crate::commands::{CheckWords, Command, DemoWords, EncodeWords, SolveWords, VerifyWords};
+use crate::commands::{
+    CheckWords, Command, DemoWords, EncodeWords, ProveWords, SolveWords, VerifyWords,
+};
 use crate::file_name::FileName;
 use crate::grammar::whole_grammar;
 use clap::error::ErrorKind;
@@ -195,6 +197,39 @@ fn book_at(matches: &ArgMatches) -> Option<u32>
     }
 }
 
+/// The files of a proof, by both of their words.
+fn prove_named<'a>(encoding: &'a str, log: &'a str) -> Option<Option<ProveWords<'a>>>
+    ensures { result ≡ line.prove_named (word.file_name encoding.entry.now) (word.file_name log.entry.now) }
+{
+    let encoding = FileName::new(encoding)?;
+    let log = FileName::new(log)?;
+    Some(Some(ProveWords { encoding, log }))
+}
+
+/// The files of a proof, where both are named, or that none is asked for.
+fn prove_at<'a>(matches: &ArgMatches<'a>) -> Option<Option<ProveWords<'a>>>
+    ensures { result ≡ line.prove_at (rows_of (found_of matches.now)) }
+{
+    match (word_at(matches, "prove"), word_at(matches, "log")) {
+        (None, None) => Some(None),
+        (Some(encoding), Some(log)) => prove_named(encoding, log),
+        (Some(_), None) | (None, Some(_)) => None,
+    }
+}
+
+/// Whether the files of a proof differ from each other, and from the pattern's and the target's.
+fn are_apart(pattern: &FileName, target: &FileName, prove: &Option<ProveWords>) -> bool
+    ensures answer { result ≡ line.are_apart pattern.now target.now prove.now }
+    ensures apart { IsTrue result → IfSome prove.now (λ p. line.IsProveInRange pattern.now target.now p) }
+{
+    let Some(words) = prove else {
+        return true;
+    };
+    let (pattern, target) = (pattern.as_str(), target.as_str());
+    let (encoding, log) = (words.encoding.as_str(), words.log.as_str());
+    encoding != log && encoding != pattern && encoding != target && log != pattern && log != target
+}
+
 /// The solve that was found.
 fn solve_words<'a>(matches: &ArgMatches<'a>) -> Option<Command<'a>>
     ensures words { result ≡ line.solve_of (rows_of (found_of matches.now)) }
@@ -208,6 +243,10 @@ fn solve_words<'a>(matches: &ArgMatches<'a>) -> Option<Command<'a>>
     let seed = seed_at(matches)?;
     let budget = budget_at(matches)?;
     let book = book_at(matches)?;
+    let prove = prove_at(matches)?;
+    if !are_apart(&pattern, &target, &prove) {
+        return None;
+    }
     Some(Command::Solve(SolveWords {
         pattern,
         target,
@@ -217,6 +256,7 @@ fn solve_words<'a>(matches: &ArgMatches<'a>) -> Option<Command<'a>>
         seed,
         budget,
         book,
+        prove,
     }))
 }
 

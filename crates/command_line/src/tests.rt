@@ -1,6 +1,6 @@
 //! That `command_of` gives what it should with ample memory, from words to what a command tells.
 
-use crate::{Command, Refusal, command_of};
+use crate::{Command, ProveWords, Refusal, SolveWords, command_of};
 use std::alloc::{AllocError, Global};
 use std::test::Fail;
 
@@ -13,20 +13,35 @@ fn words_of(alloc: Global, line: &str) -> Result<Vec<String>, AllocError> {
     Ok(words)
 }
 
+/// What a proof's words tell, as text.
+fn told_proof(alloc: Global, prove: &Option<ProveWords>) -> Result<String, AllocError> {
+    match prove {
+        None => String::from_str(alloc, "unproved"),
+        Some(words) => format!(in alloc; "{} {}", words.encoding.as_str(), words.log.as_str()),
+    }
+}
+
+/// What a solve tells, as text.
+fn told_solve(alloc: Global, words: &SolveWords) -> Result<String, AllocError> {
+    let proof = told_proof(alloc, &words.prove)?;
+    format!(in alloc;
+        "solve {} {} {} {:?} {} {} {} {} {}",
+        words.pattern.as_str(),
+        words.target.as_str(),
+        words.induced,
+        words.format,
+        words.threads,
+        words.seed,
+        words.budget,
+        words.book,
+        proof.as_str()
+    )
+}
+
 /// What a command tells, as text.
 fn told(alloc: Global, command: &Command) -> Result<String, AllocError> {
     match command {
-        Command::Solve(words) => format!(in alloc;
-            "solve {} {} {} {:?} {} {} {} {}",
-            words.pattern.as_str(),
-            words.target.as_str(),
-            words.induced,
-            words.format,
-            words.threads,
-            words.seed,
-            words.budget,
-            words.book
-        ),
+        Command::Solve(words) => told_solve(alloc, words),
         Command::Verify(words) => format!(in alloc;
             "verify {} {} {} {} {:?}",
             words.pattern.as_str(),
@@ -64,42 +79,50 @@ fn answer(alloc: Global, line: &str) -> Result<String, AllocError> {
 }
 
 /// Lines, and what they come to.
-static ROWS: [(&str, &str); 16] = [
+static ROWS: [(&str, &str); 18] = [
     (
         "subgraph solve p t",
-        "solve p t false Lad 1 0 9223372036854775807 65536",
+        "solve p t false Lad 1 0 9223372036854775807 65536 unproved",
     ),
     (
         "subgraph solve p p --induced",
-        "solve p p true Lad 1 0 9223372036854775807 65536",
+        "solve p p true Lad 1 0 9223372036854775807 65536 unproved",
     ),
     (
         "subgraph solve --budget 4 p --format vertexlabelledlad t",
-        "solve p t false VertexLabelledLad 1 0 4 65536",
+        "solve p t false VertexLabelledLad 1 0 4 65536 unproved",
     ),
     (
         "subgraph solve p t --budget=09223372036854775807",
-        "solve p t false Lad 1 0 9223372036854775807 65536",
+        "solve p t false Lad 1 0 9223372036854775807 65536 unproved",
     ),
     (
         "subgraph solve -- --induced t",
-        "solve --induced t false Lad 1 0 9223372036854775807 65536",
+        "solve --induced t false Lad 1 0 9223372036854775807 65536 unproved",
     ),
     (
         "subgraph solve  t",
-        "solve  t false Lad 1 0 9223372036854775807 65536",
+        "solve  t false Lad 1 0 9223372036854775807 65536 unproved",
     ),
     (
         "subgraph solve p t --seed 18446744073709551615 --budget 4",
-        "solve p t false Lad 1 18446744073709551615 4 65536",
+        "solve p t false Lad 1 18446744073709551615 4 65536 unproved",
     ),
     (
         "subgraph solve p t --threads 64 --book 4194304",
-        "solve p t false Lad 64 0 9223372036854775807 4194304",
+        "solve p t false Lad 64 0 9223372036854775807 4194304 unproved",
     ),
     (
         "subgraph solve --book 0 --threads 008 p t",
-        "solve p t false Lad 8 0 9223372036854775807 0",
+        "solve p t false Lad 8 0 9223372036854775807 0 unproved",
+    ),
+    (
+        "subgraph solve p t --prove e --log l",
+        "solve p t false Lad 1 0 9223372036854775807 65536 e l",
+    ),
+    (
+        "subgraph solve --log=p. --prove . p t",
+        "solve p t false Lad 1 0 9223372036854775807 65536 . p.",
     ),
     ("subgraph verify p t m", "verify p t m false Lad"),
     (
@@ -117,7 +140,7 @@ static ROWS: [(&str, &str); 16] = [
 ];
 
 /// Lines that are no command.
-static REFUSED: [&str; 34] = [
+static REFUSED: [&str; 39] = [
     "",
     "subgraph solve p",
     "subgraph solve p t m",
@@ -144,6 +167,11 @@ static REFUSED: [&str; 34] = [
     "subgraph solve p t --seed 1 --seed 1",
     "subgraph solve p t --induced --induced",
     "subgraph solve p t --induced=true",
+    "subgraph solve p t --prove e",
+    "subgraph solve p t --log l",
+    "subgraph solve p t --prove a --log a",
+    "subgraph solve p t --prove p --log l",
+    "subgraph solve p t --prove e --log t",
     "subgraph solve p t --bud 4",
     "subgraph sol p t",
     "subgraph --help",
@@ -183,14 +211,17 @@ fn long_word(alloc: Global, bytes: usize) -> Result<String, AllocError> {
 
 #[test]
 fn a_name_has_at_most_4095_bytes(rt: HostRuntime) -> Result<(), Fail> {
-    for (bytes, is_command) in [(4095, true), (4096, false)] {
-        let mut words = words_of(rt.alloc(), "subgraph solve p")?;
-        words.push(long_word(rt.alloc(), bytes)?)?;
-        assert_eq!(rt;
-            command_of(rt.alloc(), &words).is_ok(),
-            is_command,
-            "{bytes}"
-        );
+    let lines = ["subgraph solve p", "subgraph solve p t --prove e --log"];
+    for line in lines {
+        for (bytes, is_command) in [(4095, true), (4096, false)] {
+            let mut words = words_of(rt.alloc(), line)?;
+            words.push(long_word(rt.alloc(), bytes)?)?;
+            assert_eq!(rt;
+                command_of(rt.alloc(), &words).is_ok(),
+                is_command,
+                "{line} {bytes}"
+            );
+        }
     }
     Ok(())
 }

@@ -1,0 +1,4 @@
+pub mod Findings
+pub mod OneFile
+pub mod TwoFiles
+pub mod Parts

@@ -1,0 +1,144 @@
+//! Writing the two files.
+
+ghost use Rattle.std.specs.Prelude.{◌≡◌, ◌≢◌, ◌≤◌, ◌⊎◌, true, length, IsTrue, OnOk, OnErr, IsErrOf, Some};
+ghost use Rattle.outer_io.specs.KnownText.{Wrote};
+ghost use Rattle.log_theory.specs.Acceptance.{Accepts};
+ghost use Rattle.pb_encoding.specs.Writing.{encoding_text};
+ghost use Rattle.merged_log.specs.Steps.{log_text};
+ghost use Rattle.encoding_theory.specs.Variables.{variables};
+ghost use Rattle.encoding_theory.specs.Encoding.{encoding as encoding_of};
+ghost use Rattle.proof_files.specs.Findings.{IsFound, IsAccepted, texts};
+ghost use Rattle.proof_files.specs.Parts.{MayBeWritten, part_steps, part_verdict};
+ghost use Rattle.proof_files.specs.OneFile.{IsCutShort, FailsAt, KeepsAllBut};
+ghost use Rattle.proof_files.specs.TwoFiles.{two_files, WritingSays, KeepsOthers};
+
+use crate::finding::Finding;
+use crate::log::{Parts, parts_of, write_log};
+use graph_rows::Problem;
+use outer_io::{Failed, FileSink, Files, PutFault};
+use pb_encoding::Encoding;
+use std::alloc::Global;
+
+/// Adds the encoding to its file, which is begun.
+fn add_encoding<F: Files>(
+    alloc: Global,
+    encoding: &Encoding,
+    name: &str,
+    files: &mut F,
+) -> Result<(), PutFault>
+    requires { F.begun files.old ≡ Some name.now }
+    ensures text { Wrote true (F.content files.old name.now) (F.content files.new name.now) result
+        (encoding_text encoding.now) }
+    ensures fault { IsErrOf result PutFault.Failed
+        → FailsAt name.now (F.faults files.old) (F.faults files.new) (F.fault_at files.new) }
+    ensures quiet { IsErrOf result PutFault.Failed ⊎ (F.faults files.new ≡ F.faults files.old) }
+    ensures files { KeepsAllBut F.tells F.content F.faults name.now files.old files.new }
+{
+    let mut sink = FileSink::new(files, name);
+    encoding.write(alloc, &mut sink)
+}
+
+/// Writes the encoding to its file.
+#[tactic(auto, using(crate::proofs::Cutting::cut_short_at))]
+fn put_encoding<F: Files>(
+    alloc: Global,
+    encoding: &Encoding,
+    name: &str,
+    files: &mut F,
+) -> Result<(), PutFault>
+    requires { length name.now ≤ 4095 }
+    ensures whole { OnOk result (IsTrue (F.tells files.old)
+        → F.content files.new name.now ≡ Some (encoding_text encoding.now)) }
+    ensures cut { OnErr result (IsTrue (F.tells files.old)
+        → IsCutShort (F.content files.old name.now) (F.content files.new name.now)
+        (encoding_text encoding.now)) }
+    ensures fault { IsErrOf result PutFault.Failed
+        → FailsAt name.now (F.faults files.old) (F.faults files.new) (F.fault_at files.new) }
+    ensures quiet { IsErrOf result PutFault.Failed ⊎ (F.faults files.new ≡ F.faults files.old) }
+    ensures files { KeepsAllBut F.tells F.content F.faults name.now files.old files.new }
+{
+    files.begin(name)?;
+    add_encoding(alloc, encoding, name, files)
+}
+
+/// Adds the log of these parts to its file, which is begun.
+fn add_log<F: Files>(
+    q: &Problem,
+    encoding: &Encoding,
+    parts: Parts,
+    name: &str,
+    files: &mut F,
+) -> Result<(), Failed>
+    requires same { encoding.now ≡ q.now }
+    requires ready { MayBeWritten q.now parts }
+    requires begun { F.begun files.old ≡ Some name.now }
+    ensures text { Wrote true (F.content files.old name.now) (F.content files.new name.now) result
+        (log_text (part_steps q.now parts.entry)) }
+    ensures fault { OnErr result (FailsAt name.now (F.faults files.old) (F.faults files.new)
+        (F.fault_at files.new)) }
+    ensures quiet { OnOk result (F.faults files.new ≡ F.faults files.old) }
+    ensures files { KeepsAllBut F.tells F.content F.faults name.now files.old files.new }
+    ensures accepted { Accepts (variables q.now) (encoding_of q.now)
+        (log_text (part_steps q.now parts.entry)) (part_verdict parts.entry) }
+{
+    let mut sink = FileSink::new(files, name);
+    write_log(q, encoding, parts, &mut sink)
+}
+
+/// Writes the log of these parts to its file.
+#[tactic(auto, using(crate::proofs::Cutting::cut_short_at))]
+fn put_log<F: Files>(
+    q: &Problem,
+    encoding: &Encoding,
+    parts: Parts,
+    name: &str,
+    files: &mut F,
+) -> Result<(), Failed>
+    requires same { encoding.now ≡ q.now }
+    requires ready { MayBeWritten q.now parts }
+    requires name { length name.now ≤ 4095 }
+    ensures whole { OnOk result (IsTrue (F.tells files.old)
+        → F.content files.new name.now ≡ Some (log_text (part_steps q.now parts.entry))) }
+    ensures cut { OnErr result (IsTrue (F.tells files.old)
+        → IsCutShort (F.content files.old name.now) (F.content files.new name.now)
+        (log_text (part_steps q.now parts.entry))) }
+    ensures fault { OnErr result (FailsAt name.now (F.faults files.old) (F.faults files.new)
+        (F.fault_at files.new)) }
+    ensures quiet { OnOk result (F.faults files.new ≡ F.faults files.old) }
+    ensures files { KeepsAllBut F.tells F.content F.faults name.now files.old files.new }
+    ensures accepted { OnOk result (Accepts (variables q.now) (encoding_of q.now)
+        (log_text (part_steps q.now parts.entry)) (part_verdict parts.entry)) }
+{
+    files.begin(name)?;
+    add_log(q, encoding, parts, name, files)
+}
+
+/// Writes the encoding of the problem whole, and then the log of what was found of it. The first piece that is added to the log's file is
+/// the log's two head lines alone.
+///
+/// The memory for a solution, and for what the encoding keeps, is taken before the first file is touched; the log wants none, so that memory
+/// is refused only before it is begun. Cost: that of making each constraint once, and of the texts' bytes.
+pub fn write_proof<F: Files>(
+    alloc: Global,
+    q: &Problem,
+    finding: &Finding,
+    encoding: &str,
+    log: &str,
+    files: &mut F,
+) -> Result<(), PutFault>
+    requires encoding { length encoding.now ≤ 4095 }
+    requires log { length log.now ≤ 4095 }
+    requires apart { encoding.now ≢ log.now }
+    requires found { IsFound q.now finding.now }
+    ensures says { WritingSays result (two_files F.tells F.content F.faults F.fault_at
+        encoding.now log.now files.old files.new) (texts q.now finding.now) }
+    ensures accepted { OnOk result (IsAccepted q.now finding.now) }
+    ensures quiet { IsErrOf result PutFault.Failed ⊎ (F.faults files.new ≡ F.faults files.old) }
+    ensures files { KeepsOthers F.tells F.content F.faults encoding.now log.now files.old files.new }
+{
+    let lines = Encoding::new(alloc, q)?;
+    let parts = parts_of(alloc, q, finding)?;
+    put_encoding(alloc, &lines, encoding, files)?;
+    put_log(q, &lines, parts, log, files)?;
+    Ok(())
+}
