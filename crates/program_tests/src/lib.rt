@@ -14,6 +14,8 @@ mod encode_tests;
 #[cfg(test)]
 mod fault_tests;
 #[cfg(test)]
+mod proof_tests;
+#[cfg(test)]
 mod running;
 #[cfg(test)]
 mod solve_tests;

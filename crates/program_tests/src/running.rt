@@ -17,6 +17,9 @@ pub const EDGE: &str = "2\n1 1\n1 0\n";
 /// The bytes that a sink has room for.
 const ROOM: u64 = 65536;
 
+/// The bytes that a file has room for which a proof is written to.
+const PROOF_ROOM: u64 = 1_048_576;
+
 /// The numbers of the calls that are to fail, 0 for none.
 #[derive(Clone, Copy)]
 pub struct Failing {
@@ -37,6 +40,7 @@ pub const CLEAN: Failing = Failing {
 pub struct Ran {
     pub status: u8,
     pub accounts: usize,
+    pub files: MemoryFiles,
     pub out: MemorySink,
     pub err: MemorySink,
 }
@@ -47,6 +51,14 @@ impl Ran {
         self.status == status
             && self.out.bytes() == out.as_bytes()
             && self.err.bytes() == err.as_bytes()
+    }
+
+    /// What the file of this name holds, nothing where it is not there.
+    pub fn file(&self, name: &str) -> &[u8] {
+        match self.files.content(name) {
+            Some(bytes) => bytes,
+            None => &[],
+        }
     }
 }
 
@@ -67,6 +79,16 @@ pub fn part(alloc: Global, name: &str, text: &[u8]) -> Result<MemoryPart, AllocE
         name,
         bytes,
         room: 0,
+    })
+}
+
+/// A file that is not there yet, with room for what is written to it.
+fn absent(alloc: Global, name: &str) -> Result<MemoryPart, AllocError> {
+    let name = String::from_str(alloc, name)?;
+    Ok(MemoryPart {
+        name,
+        bytes: None,
+        room: PROOF_ROOM,
     })
 }
 
@@ -107,6 +129,7 @@ pub fn run_over<R: Threads + Sync>(
     Ok(Ran {
         status,
         accounts: spent.len(),
+        files,
         out,
         err,
     })
@@ -141,4 +164,32 @@ pub fn run_three<R: Threads + Sync>(
     let mut files = parts(alloc, &[("p", pattern), ("t", target)])?;
     files.push(part(alloc, "m", mapping)?)?;
     run_over(rt, alloc, line, files, CLEAN)
+}
+
+/// Runs the program over a pattern in the file `p`, a target in the file `t`, and two files `e` and `l` that are not there yet.
+pub fn run_proof<R: Threads + Sync>(
+    rt: &R,
+    alloc: Global,
+    line: &str,
+    pattern: &str,
+    target: &str,
+    failing: Failing,
+) -> Result<Ran, AllocError> {
+    let mut files = parts(alloc, &[("p", pattern), ("t", target)])?;
+    files.push(absent(alloc, "e")?)?;
+    files.push(absent(alloc, "l")?)?;
+    run_over(rt, alloc, line, files, failing)
+}
+
+/// Checks the log over the encoding.
+pub fn check_over<R: Threads + Sync>(
+    rt: &R,
+    alloc: Global,
+    encoding: &[u8],
+    log: &[u8],
+) -> Result<Ran, AllocError> {
+    let mut files = Vec::new(alloc);
+    files.push(part(alloc, "e", encoding)?)?;
+    files.push(part(alloc, "l", log)?)?;
+    run_over(rt, alloc, "subgraph check e l", files, CLEAN)
 }

@@ -287,7 +287,7 @@ fn what_solve_prints_verifies(rt: HostRuntime) -> Result<(), Fail> {
 }
 
 /// Words that are no command.
-static NO_COMMAND: [&str; 8] = [
+static NO_COMMAND: [&str; 13] = [
     "subgraph",
     "subgraph solve p",
     "subgraph solve p t u",
@@ -295,6 +295,11 @@ static NO_COMMAND: [&str; 8] = [
     "subgraph solve p t --budget 0",
     "subgraph solve p t --threads +4",
     "subgraph solve p t --prove e",
+    "subgraph solve p t --log l",
+    "subgraph solve p t --prove a --log a",
+    "subgraph solve p t --prove p --log l",
+    "subgraph solve p t --prove e --log t",
+    "subgraph verify p t m --prove e --log l",
     "subgraph verify p t",
 ];
 

@@ -1,9 +1,7 @@
 //! Logs that are checked over the encodings that the program writes.
 
-use crate::running::{CLEAN, EDGE, FOUR_CYCLE, Ran, TRIANGLE, part, run_over, run_pair};
-use std::alloc::{AllocError, Global};
+use crate::running::{EDGE, FOUR_CYCLE, TRIANGLE, check_over, run_pair};
 use std::test::Fail;
-use std::thread::Threads;
 
 /// A refutation of a triangle in a cycle of four vertices: each image of the first vertex leaves its neighbours two values
 /// that have no edge between them.
@@ -74,25 +72,12 @@ static ROWS: [(&str, &str, &str, &str, &str); 6] = [
     ),
 ];
 
-/// Checks the log over the encoding that an encode wrote.
-fn check_over<R: Threads + Sync>(
-    rt: &R,
-    alloc: Global,
-    encoding: &[u8],
-    log: &str,
-) -> Result<Ran, AllocError> {
-    let mut files = Vec::new(alloc);
-    files.push(part(alloc, "e", encoding)?)?;
-    files.push(part(alloc, "l", log.as_bytes())?)?;
-    run_over(rt, alloc, "subgraph check e l", files, CLEAN)
-}
-
 #[test]
 fn each_log_is_accepted_over_the_encoding(rt: HostRuntime) -> Result<(), Fail> {
     for (line, pattern, target, log, out) in ROWS {
         let encoded = run_pair(&rt, rt.alloc(), line, pattern, target)?;
         assert!(rt; encoded.status == 0, "{line}: {pattern} into {target}");
-        let checked = check_over(&rt, rt.alloc(), encoded.out.bytes(), log)?;
+        let checked = check_over(&rt, rt.alloc(), encoded.out.bytes(), log.as_bytes())?;
         assert!(rt; checked.gave(0, out, ""), "{line}: {pattern} into {target}");
     }
     Ok(())
@@ -102,7 +87,7 @@ fn each_log_is_accepted_over_the_encoding(rt: HostRuntime) -> Result<(), Fail> {
 fn a_log_that_misses_a_step_is_refused(rt: HostRuntime) -> Result<(), Fail> {
     let encoded = run_pair(&rt, rt.alloc(), "subgraph encode p t", EDGE, EDGE)?;
     let log = "embedding proof 1\nm 10\nu 0.1 ; 1 ;\ne 0.1\n";
-    let checked = check_over(&rt, rt.alloc(), encoded.out.bytes(), log)?;
+    let checked = check_over(&rt, rt.alloc(), encoded.out.bytes(), log.as_bytes())?;
     assert!(rt; checked.gave(7, "", "log: line 3: NoConflict\n"));
     Ok(())
 }

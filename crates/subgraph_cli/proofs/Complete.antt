@@ -6,7 +6,7 @@ use Rattle.search_theory.specs.Account.{Account}
 use Rattle.command_line.specs.declared.commands.Command.{Command}
 use Rattle.command_line.specs.declared.commands.Command.TheVariants.{Solve, Verify, Encode, Check, Demo}
 use Rattle.subgraph_cli.specs.Lines.{stop_text}
-use Rattle.subgraph_cli.specs.Disk.{Disk}
+use Rattle.subgraph_cli.specs.Disk.{Disk, IsUntouched}
 use Rattle.subgraph_cli.specs.Streams.{Stream, IsAsBefore, Tells}
 use Rattle.subgraph_cli.specs.Outcomes.{Outcome, outcome, IsQuiet}
 use Rattle.subgraph_cli.specs.Stops.{TellsFault}
@@ -93,13 +93,15 @@ memory_status (Check w) = inr (inr (inr (inl refl)))
 memory_status (Demo w) = inr (inr (inr refl))
 
 -- What want of memory says before anything was done.
-memory_says : (c : Command) (accounts : List Account) (d : Disk) (out err : Stream) → IsAsBefore out → StatusSays c (outcome 6 accounts d out err)
-memory_says (Solve w) accounts d out err kept = λ told. record {
+memory_says : (c : Command) (accounts : List Account) (d : Disk) (out err : Stream) → IsAsBefore out → IsUntouched d → StatusSays c (outcome 6 accounts d out err)
+memory_says (Solve w) accounts d out err kept untouched = λ told. record {
   yes = λ e. absurd (omega arith);
   none = λ e. absurd (omega arith);
   unknown = λ e. absurd (omega arith);
+  proof = λ p asked. record { yes = λ e. absurd (omega arith); none = λ e. absurd (omega arith); unknown = λ e. absurd (omega arith) };
   refused = λ e. absurd (omega arith);
   fault = λ e. absurd (omega arith);
+  no_memory = λ e. inl untouched;
   leads = record {
     answered = λ q asks. inr (inr (inr (inr refl)));
     found = λ q m asks embeds. inr (inr (inr refl));
@@ -108,7 +110,7 @@ memory_says (Solve w) accounts d out err kept = λ told. record {
     refused = λ role fault is. inr (inr refl);
   };
 }
-memory_says (Verify w) accounts d out err kept = λ told. record {
+memory_says (Verify w) accounts d out err kept untouched = λ told. record {
   embedding = λ e. absurd (omega arith);
   not_embedding = λ e. absurd (omega arith);
   refused = λ e. absurd (omega arith);
@@ -120,14 +122,14 @@ memory_says (Verify w) accounts d out err kept = λ told. record {
     refused = λ role fault is. inr (inr refl);
   };
 }
-memory_says (Encode w) accounts d out err kept = λ told. record {
+memory_says (Encode w) accounts d out err kept untouched = λ told. record {
   encoded = λ e. absurd (omega arith);
   refused = λ e. absurd (omega arith);
   fault = λ e. absurd (omega arith);
   no_memory = λ e. inl kept;
   leads = record { encoded = λ q asks. inr (inr refl); refused = λ role fault is. inr (inr refl) };
 }
-memory_says (Check w) accounts d out err kept = λ told. record {
+memory_says (Check w) accounts d out err kept untouched = λ told. record {
   accepted = λ e. absurd (omega arith);
   refused_log = λ e. absurd (omega arith);
   refused = λ e. absurd (omega arith);
@@ -138,7 +140,7 @@ memory_says (Check w) accounts d out err kept = λ told. record {
     refused = λ role fault is. inr (inr refl);
   };
 }
-memory_says (Demo w) accounts d out err kept = record {
+memory_says (Demo w) accounts d out err kept untouched = record {
   decided = λ e. absurd (omega arith);
   unknown = λ e. absurd (omega arith);
   fault = λ e. absurd (omega arith);
@@ -147,8 +149,8 @@ memory_says (Demo w) accounts d out err kept = record {
 }
 
 -- A run for which memory was refused before it began.
-pub memory_ran : (c : Command) (accounts : List Account) (d : Disk) (out err : Stream) (status : ℕ) → status ≡ 6 → IsAsBefore out → Tells err (stop_text NoMemory)
+pub memory_ran : (c : Command) (accounts : List Account) (d : Disk) (out err : Stream) (status : ℕ) → status ≡ 6 → IsAsBefore out → IsUntouched d → Tells err (stop_text NoMemory)
     → IsQuiet (outcome 6 accounts d out err) → Ran c (outcome status accounts d out err)
-memory_ran c accounts d out err status is kept line quiet =
+memory_ran c accounts d out err status is kept untouched line quiet =
     subst (λ (n : ℕ). Ran c (outcome n accounts d out err)) (sym is)
-    (ran c (outcome 6 accounts d out err) (memory_says c accounts d out err kept) (memory_ends c accounts d out err (memory_status c) (λ e. kept) line quiet))
+    (ran c (outcome 6 accounts d out err) (memory_says c accounts d out err kept untouched) (memory_ends c accounts d out err (memory_status c) (λ e. kept) line quiet))

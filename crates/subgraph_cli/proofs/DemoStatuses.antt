@@ -10,7 +10,7 @@ use Rattle.subgraph_cli.specs.Disk.{Disk}
 use Rattle.subgraph_cli.specs.Streams.{Stream, Got, GotFront}
 use Rattle.subgraph_cli.specs.Outcomes.{outcome}
 use Rattle.subgraph_cli.specs.Solving.{IsOrStops}
-use Rattle.subgraph_cli.specs.Demonstrating.{IsSpentOn, ShowsOne, AreLeft, DemoSays, DemoStatus, IsEnoughFor, shown_text, shown_status, demo_status}
+use Rattle.subgraph_cli.specs.Demonstrating.{IsLogged, IsSpentOn, ShowsOne, AreLeft, DemoSays, DemoStatus, IsEnoughFor, shown_text, shown_status, demo_status}
 use Rattle.subgraph_cli.specs.declared.demo.Shown.{Shown}
 use Rattle.subgraph_cli.specs.declared.stop.Stop.{Stop}
 use Rattle.subgraph_cli.specs.declared.stop.Stop.TheVariants.{Refused, FilesFault, OutputFault, NoMemory}
@@ -37,14 +37,15 @@ left true false w old middle new empty p c =
 left false false w old middle new empty p c =
     (p.0, c.0, p.1, c.1, c.2 ∙ ap (λ (xs : List Account). xs ++ c.0) (sym (behind_none old middle p.0 empty p.2)))
 
-decided_by : (p c : Bool) (w : DemoWords) (accounts : List Account) (out : Stream) → AreLeft p c w accounts × Got out (shown_text p c) → shown_status p c ≡ 0 → AreLeft true true w accounts × Got out (shown_text true true)
+decided_by : (p c : Bool) (w : DemoWords) (accounts : List Account) (out : Stream) → AreLeft p c w accounts × IsLogged c w × Got out (shown_text p c) → shown_status p c ≡ 0
+    → AreLeft true true w accounts × IsLogged true w × Got out (shown_text true true)
 decided_by true true w accounts out says e = says
 decided_by true false w accounts out says e = absurd (omega arith)
 decided_by false true w accounts out says e = absurd (omega arith)
 decided_by false false w accounts out says e = absurd (omega arith)
 
 decided_says : (r : Result Shown Stop) (w : DemoWords) (accounts : List Account) (out : Stream) → DemoSays r w accounts out → demo_status r ≡ 0
-    → AreLeft true true w accounts × Got out (shown_text true true)
+    → AreLeft true true w accounts × IsLogged true w × Got out (shown_text true true)
 decided_says (Ok shown) w accounts out says e = decided_by shown.planted shown.cycle w accounts out says e
 decided_says (Err (Refused role fault)) w accounts out says e = absurd (omega arith)
 decided_says (Err FilesFault) w accounts out says e = absurd (omega arith)
@@ -58,8 +59,9 @@ not_both false true e = refl
 not_both false false e = refl
 
 unknown_says : (r : Result Shown Stop) (w : DemoWords) (accounts : List Account) (out : Stream) → DemoSays r w accounts out → demo_status r ≡ 2
-    → (planted cycle : Bool) × (planted && cycle ≡ false) × AreLeft planted cycle w accounts × Got out (shown_text planted cycle)
-unknown_says (Ok shown) w accounts out says e = (shown.planted, shown.cycle, not_both shown.planted shown.cycle e, says.0, says.1)
+    → (planted cycle : Bool) × (planted && cycle ≡ false) × AreLeft planted cycle w accounts × IsLogged cycle w
+    × Got out (shown_text planted cycle)
+unknown_says (Ok shown) w accounts out says e = (shown.planted, shown.cycle, not_both shown.planted shown.cycle e, says.0, says.1, says.2)
 unknown_says (Err (Refused role fault)) w accounts out says e = absurd (omega arith)
 unknown_says (Err FilesFault) w accounts out says e = absurd (omega arith)
 unknown_says (Err OutputFault) w accounts out says e = absurd (omega arith)
@@ -72,7 +74,7 @@ no_fault_status false true e = omega arith
 no_fault_status false false e = omega arith
 
 fault_says : (r : Result Shown Stop) (w : DemoWords) (accounts : List Account) (out : Stream) → DemoSays r w accounts out → demo_status r ≡ 5
-    → (planted cycle : Bool) × AreLeft planted cycle w accounts × GotFront out (shown_text planted cycle)
+    → (planted cycle : Bool) × AreLeft planted cycle w accounts × IsLogged cycle w × GotFront out (shown_text planted cycle)
 fault_says (Ok shown) w accounts out says e = absurd (no_fault_status shown.planted shown.cycle e)
 fault_says (Err (Refused role fault)) w accounts out says e = absurd says
 fault_says (Err FilesFault) w accounts out says e = absurd says

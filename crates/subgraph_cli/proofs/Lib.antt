@@ -1,4 +1,5 @@
 pub mod OneProblem
+pub mod Proofs
 pub mod Told
 pub mod SolveStatuses
 pub mod VerifyStatuses

@@ -17,6 +17,7 @@ use Rattle.subgraph_cli.specs.Streams.{Stream}
 use Rattle.subgraph_cli.specs.Outcomes.{outcome, IsQuiet}
 use Rattle.subgraph_cli.specs.Stops.{HasCause, SparesOutput, SparesInParts, TellsStop}
 use Rattle.subgraph_cli.specs.Questions.{IsFaultOfTwo}
+use Rattle.subgraph_cli.specs.Proving.{IsFaultOfSolve}
 use Rattle.subgraph_cli.specs.Solving.{SolveSays, solve_status}
 use Rattle.subgraph_cli.specs.Verifying.{VerifySays, KeepsWhenBad, IsFaultOfThree, TellsTested, verify_status}
 use Rattle.subgraph_cli.specs.Encoded.{EncodeSays, encode_status}
@@ -58,7 +59,7 @@ solve_stops w OutputFault = inr (inr (inr (inr (inl refl))))
 solve_stops w NoMemory = inr (inr (inr (inr (inr refl))))
 
 solve_ends : (r : Result Decision Stop) (w : SolveWords) (accounts : List Account) (d : Disk) (out err : Stream)
-    → IfErr r (λ (s : Stop). HasCause s (IsFaultOfTwo w.pattern w.target w.format) d) → IfErr r (λ (s : Stop). SparesOutput s out)
+    → IfErr r (λ (s : Stop). HasCause s (IsFaultOfSolve w) d) → IfErr r (λ (s : Stop). SparesOutput s out)
     → (IsErrOf r FilesFault ⊎ (d.faults_after ≡ d.faults_before)) → (IsErrOf r OutputFault ⊎ (out.faults_after ≡ out.faults_before))
     → TellsStop r err → IsEndOf (Solve w) (outcome (solve_status r) accounts d out err)
 solve_ends (Ok Yes) w accounts d out err cause spares files output line =
@@ -72,8 +73,8 @@ solve_ends (Err s) w accounts d out err cause spares files output line =
 
 -- A run of `solve`.
 pub solve_ran : TextLaws → (r : Result Decision Stop) (w : SolveWords) (accounts : List Account) (d : Disk) (out err : Stream) (status : ℕ)
-    → (IsTrue d.tells → SolveSays r w (d.content w.pattern) (d.content w.target) accounts out)
-    → IfErr r (λ (s : Stop). HasCause s (IsFaultOfTwo w.pattern w.target w.format) d) → IfErr r (λ (s : Stop). SparesOutput s out)
+    → (IsTrue d.tells → SolveSays r w (d.content w.pattern) (d.content w.target) accounts d out)
+    → IfErr r (λ (s : Stop). HasCause s (IsFaultOfSolve w) d) → IfErr r (λ (s : Stop). SparesOutput s out)
     → (IsErrOf r FilesFault ⊎ (d.faults_after ≡ d.faults_before)) → (IsErrOf r OutputFault ⊎ (out.faults_after ≡ out.faults_before))
     → TellsStop r err → status ≡ solve_status r → Ran (Solve w) (outcome status accounts d out err)
 solve_ran laws r w accounts d out err status says cause spares files output line is =

@@ -1,26 +1,26 @@
 -- What is told of an end says what the end says.
 
-use Rattle.std.specs.Prelude.{◌≡◌, ℕ, Bool, List, [], ◌++◌, Option, Result, Ok, Err}
-use Rattle.std.proofs.Common.{arith, ap, subst, sym, ◌∙◌}
+use Rattle.std.specs.Prelude.{◌≡◌, ℕ, Bool, IsTrue, List, Option, Result, Ok, Err, refl}
+use Rattle.std.proofs.Common.{arith, subst, sym, inl, inr, ◌∙◌}
 use Rattle.graph_theory.specs.Embedding.{Problem}
 use Rattle.search_theory.specs.Account.{Account}
+use Rattle.outer_io.specs.Faults.{Use}
 use Rattle.command_line.specs.declared.commands.SolveWords.{SolveWords}
 use Rattle.command_line.specs.declared.commands.VerifyWords.{VerifyWords}
-use Rattle.parallel_solve.specs.declared.answers.Solved.{Solved}
-use Rattle.parallel_solve.specs.declared.answers.Solved.TheVariants as solved
-use Rattle.parallel_solve.specs.Solving.{AreSpent, IsSolved}
-use Rattle.subgraph_cli.specs.Disk.{KeepsFiles}
-use Rattle.subgraph_cli.specs.Deciding.{IsToldAs, TellingSays}
+use Rattle.subgraph_cli.specs.Disk.{Disk, disk, KeepsFiles, KeepsAllBut, IsUntouched}
+use Rattle.subgraph_cli.specs.Deciding.{IsRight, AreKept, Shows, decision_of, answer_text, LeavingSays, TellingSays, IsOfWriting}
+use Rattle.subgraph_cli.specs.Proving.{IsWritingOfProof, IsFaultOfSolve}
 use Rattle.subgraph_cli.specs.Streams.{Stream, IsAsBefore}
-use Rattle.subgraph_cli.specs.Questions.{Asks}
-use Rattle.subgraph_cli.specs.Stops.{IsOfFiles, SparesOutput}
-use Rattle.subgraph_cli.specs.Solving.{IsAnswer, SolveSays}
+use Rattle.subgraph_cli.specs.Questions.{Asks, AskSays, IsFaultOfTwo}
+use Rattle.subgraph_cli.specs.Stops.{HasCause, IsOfFiles, SparesOutput}
+use Rattle.subgraph_cli.specs.Solving.{IsAnswer, IsWritten, SolveSays}
 use Rattle.subgraph_cli.specs.Verifying.{MappingSays, VerifySays}
+use Rattle.subgraph_cli.specs.declared.deciding.Answer.{Answer}
+use Rattle.subgraph_cli.specs.declared.deciding.Answer.TheVariants as answer
 use Rattle.subgraph_cli.specs.declared.stop.Role.TheVariants.{Pattern, Target, Mapping, Encoding, Log}
 use Rattle.subgraph_cli.specs.declared.stop.Stop.{Stop}
 use Rattle.subgraph_cli.specs.declared.stop.Stop.TheVariants.{Refused, FilesFault, OutputFault, NoMemory}
 use Rattle.subgraph_cli.specs.declared.solve.Decision.{Decision}
-use Rattle.subgraph_cli.specs.declared.solve.Decision.TheVariants.{Yes, Nothing, Unknown}
 
 -- Files that are kept twice are kept.
 pub keeps_on : {S : Type 0} (tells : S → Bool) (content : S → List ℕ → Option (List ℕ)) (faults : S → ℕ) (a b c : S)
@@ -38,39 +38,114 @@ loading_spares OutputFault out of_files kept = absurd of_files
 loading_spares (Refused role fault) out of_files kept = kept
 loading_spares NoMemory out of_files kept = kept
 
--- A told decision has its text.
-told_answers : (s : Solved) (decision : Decision) (q : Problem) (workers budget : ℕ) (text : List ℕ) (old new : List Account)
-    → IsToldAs s decision text old new → IsSolved s q workers budget → old ≡ [] → IsAnswer decision q workers budget new text
-told_answers (solved.Yes m) Yes q workers budget text old new told ends empty = (m.items, ends, told.1)
-told_answers (solved.Yes m) Nothing q workers budget text old new told ends empty = let e : Nothing ≡ Yes = told.0 in cc
-told_answers (solved.Yes m) Unknown q workers budget text old new told ends empty = let e : Unknown ≡ Yes = told.0 in cc
-told_answers (solved.NoEmbedding proof) Yes q workers budget text old new told ends empty = let e : Yes ≡ Nothing = told.0 in cc
-told_answers (solved.NoEmbedding proof) Nothing q workers budget text old new told ends empty = (ends, told.1)
-told_answers (solved.NoEmbedding proof) Unknown q workers budget text old new told ends empty = let e : Unknown ≡ Nothing = told.0 in cc
-told_answers (solved.Unknown a) Yes q workers budget text old new told ends empty = let e : Yes ≡ Unknown = told.0 in cc
-told_answers (solved.Unknown a) Nothing q workers budget text old new told ends empty = let e : Nothing ≡ Unknown = told.0 in cc
-told_answers (solved.Unknown a) Unknown q workers budget text old new told ends empty =
-    let same : a.items ≡ new = sym (told.2 ∙ ap (λ (xs : List Account). xs ++ a.items) empty) in
-    (subst (λ (xs : List Account). AreSpent q workers budget xs) same ends, told.1)
-told_answers solved.NoMemory decision q workers budget text old new told ends empty = absurd told
+-- Files that are kept while they are read are those of the whole run.
+pub disk_on : {S : Type 0} (tells : S → Bool) (content : S → List ℕ → Option (List ℕ)) (faults : S → ℕ) (fault_at : S → Option Use) (a b c : S)
+    → KeepsFiles tells content faults a b → faults b ≡ faults a → disk tells content faults fault_at b c ≡ disk tells content faults fault_at a c
+disk_on tells content faults fault_at a b c k quiet = λ i. record {
+  tells = k.told i;
+  content = λ file. k.same file i;
+  after = content c;
+  faults_before = quiet i;
+  faults_after = faults c;
+  fault_at = fault_at c;
+}
 
--- The answer to the problem that the files ask is what a solve says.
-pub telling_says : (r : Result Decision Stop) (d : Solved) (q : Problem) (w : SolveWords) (p t : Option (List ℕ)) (old new : List Account) (out : Stream)
-    → TellingSays r d old new out → Asks p t w.format w.induced q → IsSolved d q w.threads w.budget → old ≡ [] → SolveSays r w p t new out
-telling_says (Ok decision) d q w p t old new out says asks ends empty = record {
-  text = says.0;
-  answers = record { problem = q; asks = asks; is_answer = told_answers d decision q w.threads w.budget says.0 old new says.1 ends empty };
-  written = says.2;
+-- Files that are kept, and then but for some, are kept but for these.
+pub keeps_then : {S : Type 0} (tells : S → Bool) (content : S → List ℕ → Option (List ℕ)) (faults : S → ℕ) (written : List ℕ → Type 0) (a b c : S)
+    → KeepsFiles tells content faults a b → KeepsAllBut tells content faults written b c → KeepsAllBut tells content faults written a c
+keeps_then tells content faults written a b c x y = record {
+  told = y.told ∙ x.told;
+  others = λ file none. y.others file none ∙ x.same file;
+  later = let h = x.later in let k = y.later in omega arith;
 }
-telling_says (Err OutputFault) d q w p t old new out says asks ends empty = record {
-  decision = says.0;
-  text = says.1;
-  answers = record { problem = q; asks = asks; is_answer = told_answers d says.0 q w.threads w.budget says.1 old new says.2 ends empty };
-  front = says.3;
+
+-- Files that are kept are kept but for any.
+pub keeps_but : {S : Type 0} (tells : S → Bool) (content : S → List ℕ → Option (List ℕ)) (faults : S → ℕ) (written : List ℕ → Type 0) (a b : S)
+    → KeepsFiles tells content faults a b → KeepsAllBut tells content faults written a b
+keeps_but tells content faults written a b x = record { told = x.told; others = λ file none. x.same file; later = x.later }
+
+-- A stop while loading, where no file was written.
+pub loading_says : (s : Stop) (w : SolveWords) (p t : Option (List ℕ)) (accounts : List Account) (d : Disk) (out : Stream)
+    → IsOfFiles s → AskSays (Err s) p t w.format w.induced → HasCause s (IsFaultOfTwo w.pattern w.target w.format) d → IsUntouched d
+    → SolveSays (Err s) w p t accounts d out
+loading_says FilesFault w p t accounts d out of_files says cause kept = inl (cause.of_one, kept)
+loading_says OutputFault w p t accounts d out of_files says cause kept = absurd of_files
+loading_says (Refused role fault) w p t accounts d out of_files says cause kept = (says, kept)
+loading_says NoMemory w p t accounts d out of_files says cause kept = inl kept
+
+-- A stop where the proof is written, of the answer to the problem that the files ask.
+pub leaving_says : (s : Stop) (a : Answer) (q : Problem) (w : SolveWords) (p t : Option (List ℕ)) (accounts : List Account) (d : Disk) (out : Stream)
+    → LeavingSays (Err s) a q w.prove d → Asks p t w.format w.induced q → SolveSays (Err s) w p t accounts d out
+leaving_says FilesFault a q w p t accounts d out says asks = inr record {
+  names = says.names;
+  asked = says.asked;
+  problem = q;
+  asks = asks;
+  decision = decision_of a;
+  log = says.log;
+  log_is = says.log_is;
+  stopped = says.stopped;
 }
-telling_says (Err NoMemory) d q w p t old new out says asks ends empty = tt
-telling_says (Err FilesFault) d q w p t old new out says asks ends empty = absurd says
-telling_says (Err (Refused role fault)) d q w p t old new out says asks ends empty = absurd says
+leaving_says NoMemory a q w p t accounts d out says asks = inr record {
+  names = says.names;
+  asked = says.asked;
+  problem = q;
+  asks = asks;
+  decision = decision_of a;
+  log = says.log;
+  log_is = says.log_is;
+  stopped = says.stopped;
+}
+leaving_says OutputFault a q w p t accounts d out says asks = absurd says
+leaving_says (Refused role fault) a q w p t accounts d out says asks = absurd says
+
+-- A stop where the proof is written spares an output that nothing was put to.
+pub writing_spares : (s : Stop) (out : Stream) → IsOfWriting s → IsAsBefore out → SparesOutput s out
+writing_spares FilesFault out of_writing kept = kept
+writing_spares OutputFault out of_writing kept = absurd of_writing
+writing_spares (Refused role fault) out of_writing kept = absurd of_writing
+writing_spares NoMemory out of_writing kept = kept
+
+-- A cause of reading is one of a solve.
+pub reading_cause : (s : Stop) (w : SolveWords) (d : Disk) → HasCause s (IsFaultOfTwo w.pattern w.target w.format) d → HasCause s (IsFaultOfSolve w) d
+reading_cause FilesFault w d cause = record { rose = cause.rose; of_one = inl cause.of_one }
+reading_cause OutputFault w d cause = tt
+reading_cause (Refused role fault) w d cause = tt
+reading_cause NoMemory w d cause = tt
+
+-- So is one of writing the proof, where the files ask a problem.
+pub writing_cause : (s : Stop) (w : SolveWords) (d : Disk) → HasCause s (IsWritingOfProof w.prove) d
+    → (IsTrue d.tells → (q : Problem) × Asks (d.content w.pattern) (d.content w.target) w.format w.induced q) → HasCause s (IsFaultOfSolve w) d
+writing_cause FilesFault w d cause asks = record { rose = cause.rose; of_one = inr (cause.of_one, asks) }
+writing_cause OutputFault w d cause asks = tt
+writing_cause (Refused role fault) w d cause asks = tt
+writing_cause NoMemory w d cause asks = tt
+
+-- An answer that is right, shown and told is the answer of the decision that it is told as.
+answers_with : (a : Answer) (q : Problem) (w : SolveWords) (accounts : List Account) (held : List ℕ → Option (List ℕ)) (logged : Bool)
+    → IsRight a q logged → AreKept a q w accounts → Shows a w.prove held q → IsAnswer (decision_of a) q w accounts held (answer_text a)
+answers_with (answer.Yes m) q w accounts held logged right kept shows = (m.items, right, refl, shows)
+answers_with (answer.Nothing proof) q w accounts held logged right kept shows = (right.0, refl, shows)
+answers_with answer.Unknown q w accounts held logged right kept shows = (kept, refl, shows)
+
+-- What telling the answer to the problem that the files ask says.
+pub telling_says : (r : Result Decision Stop) (a : Answer) (q : Problem) (w : SolveWords) (p t : Option (List ℕ)) (accounts : List Account) (d : Disk) (out : Stream) (logged : Bool)
+    → TellingSays r a out → Asks p t w.format w.induced q → IsRight a q logged → AreKept a q w accounts → Shows a w.prove d.after q
+    → SolveSays r w p t accounts d out
+telling_says (Ok decision) a q w p t accounts d out logged says asks right kept shows = subst (λ (e : Decision). IsWritten e w p t accounts d out) (sym says.0) record {
+  text = answer_text a;
+  answers = record { problem = q; asks = asks; is_answer = answers_with a q w accounts d.after logged right kept shows };
+  written = says.1;
+}
+telling_says (Err OutputFault) a q w p t accounts d out logged says asks right kept shows = record {
+  decision = decision_of a;
+  text = answer_text a;
+  answers = record { problem = q; asks = asks; is_answer = answers_with a q w accounts d.after logged right kept shows };
+  front = says;
+}
+telling_says (Err NoMemory) a q w p t accounts d out logged says asks right kept shows = absurd says
+telling_says (Err FilesFault) a q w p t accounts d out logged says asks right kept shows = absurd says
+telling_says (Err (Refused role fault)) a q w p t accounts d out logged says asks right kept shows = absurd says
 
 -- A mapping that is not loaded stops a verify of a problem that is asked.
 pub mapping_stops : (s : Stop) (q : Problem) (w : VerifyWords) (p t m : Option (List ℕ)) (out : Stream)

@@ -3,6 +3,10 @@
 use Rattle.std.specs.Prelude.{◌≡◌, ℕ, ◌≤◌, ◌⊎◌, Bool, true, false, ◌&&◌, List, [], ◌++◌, Result, Ok, Err, codes}
 use Rattle.graph_theory.specs.Graph.{size}
 use Rattle.graph_theory.specs.Embedding.{Problem}
+use Rattle.encoding_theory.specs.Variables.{variables}
+use Rattle.encoding_theory.specs.Encoding.{encoding}
+use Rattle.log_theory.specs.declared.step.Verdict.TheVariants.{Unsatisfiable}
+use Rattle.log_theory.specs.Acceptance.{Accepts}
 use Rattle.search_theory.specs.Bounds.{enough}
 use Rattle.search_theory.specs.Account.{Account}
 use Rattle.parallel_solve.specs.Solving.{AreSpent}
@@ -21,12 +25,12 @@ abbrev pub planted_text : Bool → List ℕ
 planted_text true = line_of (codes "planted yes")
 planted_text false = line_of (codes "planted unknown")
 
--- The line of the cycle: none exists, or the budget is spent.
+-- The lines of the cycle: none exists, and a log that shows it is accepted; or the budget is spent.
 abbrev pub cycle_text : Bool → List ℕ
-cycle_text true = line_of (codes "cycle none")
+cycle_text true = line_of (codes "cycle none") ++ line_of (codes "log accepted")
 cycle_text false = line_of (codes "cycle unknown")
 
--- The two lines, by whether the problems were decided.
+-- The lines of both, by whether they were decided.
 abbrev pub shown_text : Bool → Bool → List ℕ
 shown_text planted cycle = planted_text planted ++ cycle_text cycle
 
@@ -45,6 +49,15 @@ ShowsOne (Ok false) description w old new = (more : List Account) × IsSpentOn d
     × (new ≡ old ++ more)
 ShowsOne (Err stop) description w old new = Unit {0}
 
+-- A log is accepted over the encoding of the problem as a refutation.
+abbrev pub HasRefutation : Problem → Type 0
+HasRefutation q = (log : List ℕ) × Accepts (variables q) (encoding q) log Unsatisfiable
+
+-- Where the cycle was decided, its problem has such a log.
+abbrev pub IsLogged : Bool → DemoWords → Type 0
+IsLogged true w = (q : Problem) × IsCycle w.seed q × HasRefutation q
+IsLogged false w = Unit {0}
+
 -- The accounts of the problems that were not decided, in order.
 abbrev pub AreLeft : Bool → Bool → DemoWords → List Account → Type 0
 AreLeft true true w accounts = accounts ≡ []
@@ -57,9 +70,11 @@ AreLeft false false w accounts = (first : List Account) × (second : List Accoun
 -- What a demo says: which of the two problems of the seed were decided, or why it stopped.
 abbrev pub DemoSays : Result Shown Stop → DemoWords → List Account → Stream → Type 0
 DemoSays (Ok shown) w accounts out =
-    AreLeft shown.planted shown.cycle w accounts × Got out (shown_text shown.planted shown.cycle)
+    AreLeft shown.planted shown.cycle w accounts × IsLogged shown.cycle w
+    × Got out (shown_text shown.planted shown.cycle)
 DemoSays (Err OutputFault) w accounts out = (planted cycle : Bool)
-    × AreLeft planted cycle w accounts × GotFront out (shown_text planted cycle)
+    × AreLeft planted cycle w accounts × IsLogged cycle w
+    × GotFront out (shown_text planted cycle)
 DemoSays (Err NoMemory) w accounts out = Unit {0}
 DemoSays (Err FilesFault) w accounts out = ⊥
 DemoSays (Err (Refused role fault)) w accounts out = ⊥
@@ -82,11 +97,12 @@ IsEnoughFor description budget = (q : Problem) → description q
 
 -- What the status of a demo says.
 pub record DemoStatus (o : Outcome) (w : DemoWords) : Type 0 where
-  pub decided : o.status ≡ 0 → AreLeft true true w o.accounts × Got o.out (shown_text true true)
+  pub decided : o.status ≡ 0 → AreLeft true true w o.accounts × IsLogged true w
+      × Got o.out (shown_text true true)
   pub unknown : o.status ≡ 2 → (planted cycle : Bool) × (planted && cycle ≡ false)
-      × AreLeft planted cycle w o.accounts × Got o.out (shown_text planted cycle)
+      × AreLeft planted cycle w o.accounts × IsLogged cycle w × Got o.out (shown_text planted cycle)
   pub fault : o.status ≡ 5 → (planted cycle : Bool) × AreLeft planted cycle w o.accounts
-      × GotFront o.out (shown_text planted cycle)
+      × IsLogged cycle w × GotFront o.out (shown_text planted cycle)
   pub answered : (o.status ≡ 0) ⊎ IsOrStops 2 o.status
   pub enough : IsEnoughFor (IsPlanted w.seed) w.budget → IsEnoughFor (IsCycle w.seed) w.budget
       → o.status ≡ 2 → ⊥

@@ -1,9 +1,11 @@
+pub mod Buffers
 pub mod Lines
 pub mod Disk
 pub mod Streams
 pub mod Outcomes
 pub mod Stops
 pub mod Questions
+pub mod Proving
 pub mod Solving
 pub mod Deciding
 pub mod Verifying
@@ -12,3 +14,4 @@ pub mod Checking
 pub mod Demonstrating
 pub mod Completeness
 pub mod Running
+pub mod Accepted

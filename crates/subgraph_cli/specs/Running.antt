@@ -1,6 +1,6 @@
 -- What the words ask for, and what the program's status says of it.
 
-use Rattle.std.specs.Prelude.{◌≡◌, ℕ, ◌⊎◌, Bool, true, false, IsTrue}
+use Rattle.std.specs.Prelude.{◌≡◌, ℕ, ◌⊎◌, Bool, true, false, IsTrue, List, Option, Some, None}
 use Rattle.log_theory.specs.declared.step.Cause.{Cause}
 use Rattle.command_line.specs.declared.commands.Command.{Command}
 use Rattle.command_line.specs.declared.commands.Command.TheVariants.{Solve, Verify, Encode, Check, Demo}
@@ -10,6 +10,7 @@ use Rattle.subgraph_cli.specs.Streams.{Stream, IsAsBefore, Tells}
 use Rattle.subgraph_cli.specs.Outcomes.{Outcome, TellsStatus, KeepsOutput, IsQuiet}
 use Rattle.subgraph_cli.specs.Stops.{TellsFault}
 use Rattle.subgraph_cli.specs.Questions.{IsFaultOfTwo}
+use Rattle.subgraph_cli.specs.Proving.{IsOfProof, IsFaultOfSolve}
 use Rattle.subgraph_cli.specs.Solving.{SolveStatus}
 use Rattle.subgraph_cli.specs.Verifying.{VerifyStatus, IsFaultOfThree}
 use Rattle.subgraph_cli.specs.Encoded.{EncodeStatus}
@@ -17,13 +18,22 @@ use Rattle.subgraph_cli.specs.Checking.{CheckStatus, IsFaultOfCheck}
 use Rattle.subgraph_cli.specs.Demonstrating.{DemoStatus}
 use Rattle.subgraph_cli.specs.Completeness.{HasNoFault, IsComplete}
 
--- The last fault of the files was of one that the command reads, and each that it reads before is good.
+-- The last fault of the files was of one that the command reads or writes, and each that it reads before is good.
 abbrev pub IsFaultOf : Command → Disk → Type 0
-IsFaultOf (Solve w) d = IsFaultOfTwo w.pattern w.target w.format d
+IsFaultOf (Solve w) d = IsFaultOfSolve w d
 IsFaultOf (Verify w) d = IsFaultOfThree w d
 IsFaultOf (Encode w) d = IsFaultOfTwo w.pattern w.target w.format d
 IsFaultOf (Check w) d = IsFaultOfCheck w d
 IsFaultOf (Demo w) d = ⊥
+
+-- The file is one that the command writes; without a command there is none.
+abbrev pub IsWritten : Option Command → List ℕ → Type 0
+IsWritten None file = ⊥
+IsWritten (Some (Solve w)) file = IsOfProof w.prove file
+IsWritten (Some (Verify w)) file = ⊥
+IsWritten (Some (Encode w)) file = ⊥
+IsWritten (Some (Check w)) file = ⊥
+IsWritten (Some (Demo w)) file = ⊥
 
 -- Whether the command writes its answer part by part, so that want of memory can come within it.
 abbrev pub writes_in_parts : Command → Bool

@@ -1,17 +1,22 @@
 -- What a `solve` answers.
 
-use Rattle.std.specs.Prelude.{◌≡◌, ℕ, ◌≤◌, ◌⊎◌, List, Option, Result, Ok, Err}
+use Rattle.std.specs.Prelude.{◌≡◌, ℕ, ◌≤◌, ◌⊎◌, List, Option, Some, Result, Ok, Err}
 use Rattle.graph_theory.specs.Graph.{size}
 use Rattle.graph_theory.specs.Embedding.{Problem, Embeds, HasNone}
 use Rattle.graph_theory.specs.Mapping.{yes_text}
 use Rattle.search_theory.specs.Bounds.{enough}
 use Rattle.search_theory.specs.Account.{Account}
 use Rattle.parallel_solve.specs.Solving.{AreSpent}
+use Rattle.proof_files.specs.TwoFiles.{StopsInEncoding, FailsInWriting}
+use Rattle.log_theory.specs.declared.step.Verdict.TheVariants.{Satisfiable, Unsatisfiable, Undecided}
+use Rattle.command_line.specs.declared.commands.ProveWords.{ProveWords}
 use Rattle.command_line.specs.declared.commands.SolveWords.{SolveWords}
 use Rattle.subgraph_cli.specs.Lines.{none_text, unknown_text, refusal_text, stop_status}
+use Rattle.subgraph_cli.specs.Disk.{Disk, IsUntouched}
 use Rattle.subgraph_cli.specs.Streams.{Stream, Got, GotFront, IsAsBefore, Tells}
 use Rattle.subgraph_cli.specs.Outcomes.{Outcome}
-use Rattle.subgraph_cli.specs.Questions.{Asks, IsFirstRefused}
+use Rattle.subgraph_cli.specs.Questions.{Asks, IsFirstRefused, IsFaultOfTwo}
+use Rattle.subgraph_cli.specs.Proving.{HoldProof, map_log, open_log, ShowsMap, ShowsNone, ShowsNothing, StopsInProof}
 use Rattle.subgraph_cli.specs.declared.stop.Role.{Role}
 use Rattle.subgraph_cli.specs.declared.stop.TextFault.{TextFault}
 use Rattle.subgraph_cli.specs.declared.stop.Stop.{Stop}
@@ -44,46 +49,59 @@ pub record UnknownWritten (w : SolveWords) (pattern target : Option (List ℕ))
   pub spent : AreSpent problem w.threads w.budget accounts
   pub written : Got out unknown_text
 
--- The text of each decision: an embedding, that none exists, or that each of so many workers spent the budget, as their accounts show.
-abbrev pub IsAnswer : Decision → Problem → ℕ → ℕ → List Account → List ℕ → Type 0
-IsAnswer Yes q workers budget accounts text = (m : List ℕ) × Embeds q m × (text ≡ yes_text m)
-IsAnswer Nothing q workers budget accounts text = HasNone q × (text ≡ none_text)
-IsAnswer Unknown q workers budget accounts text =
-    AreSpent q workers budget accounts × (text ≡ unknown_text)
+-- The text of each decision, and what the files of a proof hold: an embedding, that none exists, or that each worker spent the budget, as their accounts show.
+abbrev pub IsAnswer : Decision → Problem → SolveWords → List Account
+    → (List ℕ → Option (List ℕ)) → List ℕ → Type 0
+IsAnswer Yes q w accounts held text =
+    (m : List ℕ) × Embeds q m × (text ≡ yes_text m) × ShowsMap w.prove held q m
+IsAnswer Nothing q w accounts held text =
+    HasNone q × (text ≡ none_text) × ShowsNone w.prove held q
+IsAnswer Unknown q w accounts held text =
+    AreSpent q w.threads w.budget accounts × (text ≡ unknown_text) × ShowsNothing w.prove held q
 
--- The files ask a problem, and this is the text of the decision on it.
+-- The files ask a problem, and this is the text of the decision on it, with its proof.
 pub record Answers (decision : Decision) (w : SolveWords) (pattern target : Option (List ℕ))
-    (accounts : List Account) (text : List ℕ) : Type 0 where
+    (accounts : List Account) (d : Disk) (text : List ℕ) : Type 0 where
   pub problem : Problem
   pub asks : Asks pattern target w.format w.induced problem
-  pub is_answer : IsAnswer decision problem w.threads w.budget accounts text
+  pub is_answer : IsAnswer decision problem w accounts d.after text
 
 -- The decision is right, and its text was written.
 pub record IsWritten (decision : Decision) (w : SolveWords) (pattern target : Option (List ℕ))
-    (accounts : List Account) (out : Stream) : Type 0 where
+    (accounts : List Account) (d : Disk) (out : Stream) : Type 0 where
   pub text : List ℕ
-  pub answers : Answers decision w pattern target accounts text
+  pub answers : Answers decision w pattern target accounts d text
   pub written : Got out text
 
--- The output failed within an answer, of which it holds a front part.
+-- The output failed within an answer, of which it holds a front part; a proof was written before.
 pub record StopsInAnswer (w : SolveWords) (pattern target : Option (List ℕ))
-    (accounts : List Account) (out : Stream) : Type 0 where
+    (accounts : List Account) (d : Disk) (out : Stream) : Type 0 where
   pub decision : Decision
   pub text : List ℕ
-  pub answers : Answers decision w pattern target accounts text
+  pub answers : Answers decision w pattern target accounts d text
   pub front : GotFront out text
 
--- What a solve says: its decision of the problem that the files ask, or why it stopped.
+-- A call on the files failed: where the graphs are read, and no file was written, or where the proof is.
+abbrev pub StopsAtFiles : SolveWords → Option (List ℕ) → Option (List ℕ) → Disk → Type 0
+StopsAtFiles w pattern target d = (IsFaultOfTwo w.pattern w.target w.format d × IsUntouched d)
+    ⊎ StopsInProof FailsInWriting w pattern target d
+
+-- Memory was refused: before any file was written, or where the encoding is.
+abbrev pub StopsForMemory : SolveWords → Option (List ℕ) → Option (List ℕ) → Disk → Type 0
+StopsForMemory w pattern target d =
+    IsUntouched d ⊎ StopsInProof StopsInEncoding w pattern target d
+
+-- What a solve says: its decision of the problem that the files ask, or why it stopped, and what it left of the files of a proof.
 abbrev pub SolveSays : Result Decision Stop → SolveWords → Option (List ℕ) → Option (List ℕ)
-    → List Account → Stream → Type 0
-SolveSays (Ok decision) w pattern target accounts out =
-    IsWritten decision w pattern target accounts out
-SolveSays (Err (Refused role fault)) w pattern target accounts out =
-    IsFirstRefused pattern target w.format role fault
-SolveSays (Err OutputFault) w pattern target accounts out =
-    StopsInAnswer w pattern target accounts out
-SolveSays (Err FilesFault) w pattern target accounts out = Unit {0}
-SolveSays (Err NoMemory) w pattern target accounts out = Unit {0}
+    → List Account → Disk → Stream → Type 0
+SolveSays (Ok decision) w pattern target accounts d out =
+    IsWritten decision w pattern target accounts d out
+SolveSays (Err (Refused role fault)) w pattern target accounts d out =
+    IsFirstRefused pattern target w.format role fault × IsUntouched d
+SolveSays (Err OutputFault) w pattern target accounts d out =
+    StopsInAnswer w pattern target accounts d out
+SolveSays (Err FilesFault) w pattern target accounts d out = StopsAtFiles w pattern target d
+SolveSays (Err NoMemory) w pattern target accounts d out = StopsForMemory w pattern target d
 
 -- The status of an answer.
 abbrev pub decision_status : Decision → ℕ
@@ -113,22 +131,37 @@ pub record SolveLeads (status : ℕ) (w : SolveWords)
   pub refused : (role : Role) (fault : TextFault)
       → IsFirstRefused pattern target w.format role fault → IsOrStops 4 status
 
+-- What the two files of a proof hold at each answer: the encoding of the problem that the graphs' files ask, and a log that is accepted over it, that of the map which was written, a refutation, or one that claims nothing.
+pub record SolveProof (o : Outcome) (w : SolveWords) (p : ProveWords)
+    (pattern target : Option (List ℕ)) : Type 0 where
+  pub yes : o.status ≡ 0 → (q : Problem) × (m : List ℕ)
+      × Asks pattern target w.format w.induced q × Got o.out (yes_text m)
+      × HoldProof p o.disk.after q (map_log q m) Satisfiable
+  pub none : o.status ≡ 1 → (q : Problem) × (log : List ℕ)
+      × Asks pattern target w.format w.induced q × HoldProof p o.disk.after q log Unsatisfiable
+  pub unknown : o.status ≡ 2 → (q : Problem) × Asks pattern target w.format w.induced q
+      × HoldProof p o.disk.after q (open_log q) Undecided
+
 -- What the status of a solve says, where the files tell their contents.
 pub record SolveStatus (o : Outcome) (w : SolveWords)
     (pattern target : Option (List ℕ)) : Type 0 where
   pub yes : o.status ≡ 0 → YesWritten w pattern target o.out
   pub none : o.status ≡ 1 → NoneWritten w pattern target o.out
   pub unknown : o.status ≡ 2 → UnknownWritten w pattern target o.accounts o.out
+  pub proof : (p : ProveWords) → w.prove ≡ Some p → SolveProof o w p pattern target
   pub refused : o.status ≡ 4 → (role : Role) × (fault : TextFault)
       × IsFirstRefused pattern target w.format role fault × Tells o.err (refusal_text role fault)
-  pub fault : o.status ≡ 5 → IsAsBefore o.out ⊎ StopsInAnswer w pattern target o.accounts o.out
+      × IsUntouched o.disk
+  pub fault : o.status ≡ 5 → (IsAsBefore o.out × StopsAtFiles w pattern target o.disk)
+      ⊎ StopsInAnswer w pattern target o.accounts o.disk o.out
+  pub no_memory : o.status ≡ 6 → StopsForMemory w pattern target o.disk
   pub leads : SolveLeads o.status w pattern target
 
 -- The status is `yes` or `none`.
 abbrev pub IsDecided : ℕ → Type 0
 IsDecided status = (status ≡ 0) ⊎ (status ≡ 1)
 
--- Two runs over the same files with the same options that choose the problem, whatever their threads, seeds, budgets and books: where both decide, they decide alike.
+-- Two runs over the same files with the same options that choose the problem, whatever their threads, seeds, budgets, books and proofs: where both decide, they decide alike.
 abbrev pub OneVerdict : Type 0
 OneVerdict = (v w : SolveWords) (pattern target : Option (List ℕ)) (o u : Outcome)
     → v.format ≡ w.format → v.induced ≡ w.induced

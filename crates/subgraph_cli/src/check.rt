@@ -1,6 +1,7 @@
 //! The command `check`. It knows nothing of graphs: a model, a log, and the verdict of one over the other.
 
 ghost use Rattle.std.specs.Prelude.{◌≡◌, ◌⊎◌, IsTrue, IfErr, IsErrOf};
+ghost use Rattle.subgraph_cli.specs.Accepted.{ProofsAreAccepted};
 ghost use Rattle.subgraph_cli.specs.Disk.{disk, IsReadingOf, KeepsFiles};
 ghost use Rattle.subgraph_cli.specs.Checking.{CheckSays, ModelSays, LogSays, VerdictSays, ToldSays, KeepsWhenRefused, IsFaultOfCheck, claim_text};
 ghost use Rattle.subgraph_cli.specs.Stops.{HasCause, IsOfFiles, SparesOutput};
@@ -8,12 +9,13 @@ ghost use Rattle.subgraph_cli.specs.Streams.{stream, IsSameSink};
 
 use crate::stop::{Role, Stop, TextFault};
 use command_line::{CheckWords, FileName};
-use log_theory::{Cause, Verdict};
+use log_theory::{Cause, Verdict, answer_laws, opb_law};
 use opb_text::{Model, OpbFault, read_opb};
 use outer_io::fault::LoadFault;
 use outer_io::files::Files;
 use outer_io::reading::load;
 use outer_io::sink::Sink;
+use pb_encoding::model::encodings_are_models;
 use std::alloc::Global;
 
 /// How many bytes an encoding and a log have at most.
@@ -161,4 +163,13 @@ pub fn check<F: Files, O: Sink>(
     let checked = judge(alloc, &model, &log)?;
     tell_claim(checked, out)?;
     Ok(checked)
+}
+
+/// The files that `solve` leaves as a proof are accepted by a check, which knows nothing of the search.
+pub fn proofs_are_accepted()
+    ensures { ProofsAreAccepted }
+{
+    opb_law();
+    answer_laws();
+    encodings_are_models();
 }

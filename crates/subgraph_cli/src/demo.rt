@@ -3,10 +3,11 @@
 ghost use Rattle.std.specs.Prelude.{◌≡◌, ◌++◌, ◌⊎◌, false, [], IfOk, IfErr, IsErrOf};
 ghost use Rattle.command_line.specs.CommandLine.{IsDemoInRange};
 ghost use Rattle.demo_instances.specs.SeedProblems.{IsPlanted, IsCycle};
-ghost use Rattle.subgraph_cli.specs.Demonstrating.{ShowsOne, DemoSays, shown_text};
+ghost use Rattle.subgraph_cli.specs.Demonstrating.{ShowsOne, IsLogged, DemoSays, shown_text};
 ghost use Rattle.subgraph_cli.specs.Stops.{SparesOutput};
 ghost use Rattle.subgraph_cli.specs.Streams.{stream, IsSameSink};
 
+use crate::accepting::accept;
 use crate::kept::keep;
 use crate::stop::Stop;
 use command_line::DemoWords;
@@ -14,6 +15,7 @@ use demo_instances::{Words, cycle_has_none, cycle_problem, planted_embeds, plant
 use fail_account::account::Account;
 use outer_io::sink::Sink;
 use parallel_solve::{Settings, Solved, solve};
+use search_proof::Proof;
 use std::alloc::Global;
 use std::thread::Threads;
 
@@ -25,7 +27,7 @@ const ROWS: u32 = 65_536;
 pub struct Shown {
     /// Whether an embedding of the planted pattern was found.
     pub planted: bool,
-    /// Whether it was shown that the cycle has none.
+    /// Whether it was shown that the cycle has none, by a log that is accepted.
     pub cycle: bool,
 }
 
@@ -41,17 +43,19 @@ fn keep_undecided(accounts: Vec<Account>, spent: &mut Vec<Account>) -> Result<bo
     }
 }
 
-/// How the workers of a demo decide each of the two.
-fn settings_of(asked: &DemoWords) -> Settings
+/// How the workers of a demo decide one of the two, and whether a log is kept.
+fn settings_of(asked: &DemoWords, prove: bool) -> Settings
     ensures threads { result.threads ≡ asked.now.threads }
     ensures budget { result.budget ≡ asked.now.budget }
     ensures rows { result.rows ≡ ROWS }
+    ensures prove { result.prove ≡ prove }
 {
     Settings {
         threads: asked.threads,
         seed: asked.seed,
         budget: asked.budget,
         rows: ROWS,
+        prove,
     }
 }
 
@@ -74,7 +78,7 @@ fn show_planted<R: Threads + Sync>(
     let Ok(q) = planted_problem(alloc, words) else {
         return Err(Stop::NoMemory);
     };
-    match solve(rt, alloc, &q, &settings_of(asked)) {
+    match solve(rt, alloc, &q, &settings_of(asked, false)) {
         Solved::Yes(map) => {
             if q.is_embedding(&map) {
                 Ok(true)
@@ -89,7 +93,7 @@ fn show_planted<R: Threads + Sync>(
 }
 
 /// Decides the cycle's problem, and says whether it was decided within the budget. It does not embed, so that no other
-/// answer can come.
+/// answer can come. The log that shows this is written to memory and checked before the answer counts.
 fn show_cycle<R: Threads + Sync>(
     rt: &R,
     alloc: Global,
@@ -101,28 +105,33 @@ fn show_cycle<R: Threads + Sync>(
     requires words { words.now ≡ asked.now.seed }
     ensures shows { ShowsOne result
         (IsCycle asked.now.seed) asked.now spent.old.items spent.new.items }
+    ensures logged { IfOk result (λ decided. IsLogged decided asked.now) }
     ensures memory { IfErr result (λ stop. stop ≡ Stop.NoMemory) }
 {
     cycle_has_none();
     let Ok(q) = cycle_problem(alloc, words) else {
         return Err(Stop::NoMemory);
     };
-    match solve(rt, alloc, &q, &settings_of(asked)) {
+    match solve(rt, alloc, &q, &settings_of(asked, true)) {
         Solved::Yes(_) => unreachable!(),
-        Solved::NoEmbedding(_) => Ok(true),
+        Solved::NoEmbedding(Proof::Unlogged) => unreachable!(),
+        Solved::NoEmbedding(Proof::Logged(parts)) => match accept(alloc, &q, &parts) {
+            Ok(()) => Ok(true),
+            Err(_) => Err(Stop::NoMemory),
+        },
         Solved::Unknown(accounts) => keep_undecided(accounts, spent),
         Solved::NoMemory => Err(Stop::NoMemory),
     }
 }
 
-/// The two lines.
+/// The lines of both.
 fn lines_of(shown: Shown) -> &'static [u8]
     ensures { result.now ≡ shown_text shown.planted shown.cycle }
 {
     match (shown.planted, shown.cycle) {
-        (true, true) => b"planted yes\ncycle none\n",
+        (true, true) => b"planted yes\ncycle none\nlog accepted\n",
         (true, false) => b"planted yes\ncycle unknown\n",
-        (false, true) => b"planted unknown\ncycle none\n",
+        (false, true) => b"planted unknown\ncycle none\nlog accepted\n",
         (false, false) => b"planted unknown\ncycle unknown\n",
     }
 }

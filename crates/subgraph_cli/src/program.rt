@@ -4,9 +4,10 @@ ghost use Rattle.std.specs.Prelude.{◌≡◌, [], List, None, Some, map, string
 ghost use Rattle.search_theory.specs.Account.{Account as TheAccount};
 ghost use Rattle.command_line.specs.CommandLine as line;
 ghost use Rattle.command_line.specs.declared.commands.Command.{Command as TheCommand};
-ghost use Rattle.subgraph_cli.specs.Disk.{Disk, disk, KeepsFiles};
+ghost use Rattle.subgraph_cli.specs.Disk.{Disk, disk, KeepsFiles, KeepsAllBut};
 ghost use Rattle.subgraph_cli.specs.Outcomes.{outcome};
-ghost use Rattle.subgraph_cli.specs.Running.{Ran, EndsWithout};
+ghost use Rattle.subgraph_cli.specs.Proving.{IsOfProof};
+ghost use Rattle.subgraph_cli.specs.Running.{Ran, EndsWithout, IsWritten};
 ghost use Rattle.subgraph_cli.specs.Streams.{stream, IsSameSink};
 
 use crate::check::check;
@@ -30,11 +31,12 @@ use std::alloc::Global;
 use std::thread::Threads;
 
 /// The program: reads the words, the program's name first among them, does what they say, and answers the status to
-/// end with. Where a search ends undecided, the accounts of its workers are left in `spent`, in their order.
+/// end with. Where a search ends undecided, the accounts of its workers are left in `spent`, in their order. Where a proof is asked for,
+/// its two files are written before the answer of `solve`.
 ///
 /// | status | what it means |
 /// |---|---|
-/// | 0 | `solve` wrote `yes` and an embedding; `verify` wrote `embedding`; `encode` wrote the encoding; `check` wrote what the log claims; `demo` wrote that both problems are decided |
+/// | 0 | `solve` wrote `yes` and an embedding; `verify` wrote `embedding`; `encode` wrote the encoding; `check` wrote what the log claims; `demo` wrote that both problems are decided, and that the log of the second is accepted |
 /// | 1 | `solve` wrote `none`: no embedding exists |
 /// | 2 | `solve` wrote `unknown`: each worker spent its budget; `demo` wrote `unknown` of one of its problems or both |
 /// | 3 | the words are no command |
@@ -67,7 +69,9 @@ pub fn run<R: Threads + Sync, F: Files, O: Sink, E: Sink>(
         (stream O.spot O.contents O.faults out.old out.new)
         (stream E.spot E.contents E.faults err.old err.new)) }
 
-    ensures files { KeepsFiles F.tells F.content F.faults files.old files.new }
+    // No file is written but those that the words' command writes.
+    ensures files { KeepsAllBut F.tells F.content F.faults
+        (IsWritten (line.command (map string_bytes words.now))) files.old files.new }
     ensures output { IsSameSink O.spot O.rest O.faults out.old out.new }
     ensures error { IsSameSink E.spot E.rest E.faults err.old err.new }
 {
@@ -94,7 +98,8 @@ fn run_command<R: Threads + Sync, F: Files, O: Sink, E: Sink>(
         (disk F.tells F.content F.faults F.fault_at files.old files.new)
         (stream O.spot O.contents O.faults out.old out.new)
         (stream E.spot E.contents E.faults err.old err.new)) }
-    ensures files { KeepsFiles F.tells F.content F.faults files.old files.new }
+    ensures files { KeepsAllBut F.tells F.content F.faults (IsWritten (Some command.now))
+        files.old files.new }
     ensures output { IsSameSink O.spot O.rest O.faults out.old out.new }
     ensures error { IsSameSink E.spot E.rest E.faults err.old err.new }
 {
@@ -123,7 +128,8 @@ fn run_solve<R: Threads + Sync, F: Files, O: Sink, E: Sink>(
         (disk F.tells F.content F.faults F.fault_at files.old files.new)
         (stream O.spot O.contents O.faults out.old out.new)
         (stream E.spot E.contents E.faults err.old err.new)) }
-    ensures files { KeepsFiles F.tells F.content F.faults files.old files.new }
+    ensures files { KeepsAllBut F.tells F.content F.faults (IsOfProof asked.now.prove)
+        files.old files.new }
     ensures output { IsSameSink O.spot O.rest O.faults out.old out.new }
     ensures error { IsSameSink E.spot E.rest E.faults err.old err.new }
 {

@@ -1,4 +1,4 @@
--- No other answer can come, and spent budgets are shown by their accounts.
+-- No other answer can come, spent budgets are shown by their accounts, and a refutation by its log.
 
 use Rattle.std.proofs.Common.{ℕ, subst}
 use Rattle.demo_instances.specs.SeedProblems.{IsCycle}
@@ -16,3 +16,7 @@ returns-in-Unknown-clause-shows g c =
       is_described = subst (λ (seed : ℕ). IsCycle seed c.in-Ok.q) c.requires.words c.in-Ok.ensures;
       spent = rw (c.settings_of.ensures.threads, c.settings_of.ensures.budget) at c.in-Unknown.ensures;
     }
+
+pub returns-in-Ok-accept-clause-logged : goal.returns-in-Ok-accept-clause-logged
+returns-in-Ok-accept-clause-logged g c =
+    (c.in-Ok.q, subst (λ (seed : ℕ). IsCycle seed c.in-Ok.q) c.requires.words c.in-Ok.ensures, c.in-Ok-accept.ensures.accepted)

@@ -6,7 +6,7 @@ use Rattle.subgraph_cli.proofs.DemoStatuses.{kept_shows}
 use Rattle.subgraph_cli.proofs.demo.show_planted.Goals as goal
 
 pub unreachable-requires-in-NoEmbedding : goal.unreachable-requires-in-NoEmbedding
-unreachable-requires-in-NoEmbedding g c = c.in-NoEmbedding.ensures (chosen c.args.words.now) (c.planted_embeds.ensures c.args.words.now c.in-Ok.q c.in-Ok.ensures)
+unreachable-requires-in-NoEmbedding g c = c.in-NoEmbedding.ensures.0 (chosen c.args.words.now) (c.planted_embeds.ensures c.args.words.now c.in-Ok.q c.in-Ok.ensures)
 
 pub returns-in-Unknown-clause-shows : goal.returns-in-Unknown-clause-shows
 returns-in-Unknown-clause-shows g c =
