@@ -1,6 +1,6 @@
 //! Worked first domains: the lines to the letter, and what the checker says of a log of them.
 
-ghost use Rattle.std.specs.Prelude.{◌≤◌, IfSome};
+ghost use Rattle.std.specs.Prelude.{◌≡◌, ◌≤◌, IfSome};
 ghost use Rattle.graph_theory.specs.Graph.{size};
 
 use super::{FirstLines, Units};
@@ -8,11 +8,11 @@ use graph_rows::{Graph, Problem};
 use journals::{Journal, NoLog};
 use lad_reader::{LadKind, read_lad};
 use log_theory::Verdict;
-use opb_text::read_opb;
+use opb_text::{Model, read_opb};
 use outer_io::MemorySink;
 use pb_encoding::Encoding;
 use proof_checker::check;
-use std::alloc::Global;
+use std::alloc::{AllocError, Global};
 use std::test::Fail;
 
 const PATH: &[u8] = b"3 1 1 2 0 2 1 1";
@@ -47,6 +47,35 @@ fn problem(alloc: Global, pattern: &[u8], target: &[u8]) -> Option<Problem> {
     Some(Problem::new(pattern, target, false))
 }
 
+/// The lines for the first domains of so many pattern vertices, in order.
+fn made(alloc: Global, q: &Problem, encoding: &Encoding, count: u16) -> Result<Journal, AllocError>
+    requires { encoding.now ≡ q.now }
+{
+    let lines = FirstLines::new(alloc, q, encoding)?;
+    let mut journal = Journal::new(alloc, 1);
+    let mut units = Units::new(alloc);
+    for p in 0..q.pattern().size() {
+        if p < count {
+            let _name = lines.first_line(alloc, &mut journal, &mut units, p)?;
+        }
+    }
+    Ok(journal)
+}
+
+/// The model of an encoding, read from its text.
+fn model_of(alloc: Global, encoding: &Encoding) -> Option<Model> {
+    let mut sink = MemorySink::new(alloc, 4096, Vec::new(alloc)).ok()?;
+    encoding.write(alloc, &mut sink).ok()?;
+    read_opb(alloc, sink.bytes()).ok()
+}
+
+/// What a log of lines and an end shows.
+fn judged(alloc: Global, encoding: &Encoding, text: &str, end: &str) -> Result<Verdict, Fail> {
+    let model = model_of(alloc, encoding).ok_or("no model")?;
+    let log = format!(in alloc; "embedding proof 1\nm {}\n{text}{end}", encoding.len())?;
+    Ok(check(alloc, &model, log.as_bytes()))
+}
+
 /// The lines for the first domains of so many pattern vertices, in order, and what a log of these lines and an end shows.
 fn shown(
     alloc: Global,
@@ -57,20 +86,9 @@ fn shown(
 ) -> Result<(String, Verdict), Fail> {
     let q = problem(alloc, pattern, target).ok_or("no problem")?;
     let encoding = Encoding::new(alloc, &q)?;
-    let mut sink = MemorySink::new(alloc, 4096, Vec::new(alloc))?;
-    encoding.write(alloc, &mut sink).ok().ok_or("no text")?;
-    let model = read_opb(alloc, sink.bytes()).ok().ok_or("no model")?;
-    let lines = FirstLines::new(alloc, &q, &encoding)?;
-    let mut journal = Journal::new(alloc, 1);
-    let mut units = Units::new(alloc);
-    for p in 0..q.pattern().size() {
-        if p < count {
-            let _name = lines.first_line(alloc, &mut journal, &mut units, p)?;
-        }
-    }
+    let journal = made(alloc, &q, &encoding, count)?;
     let text = str::from_utf8(journal.text()).ok().ok_or("no text")?;
-    let log = format!(in alloc; "embedding proof 1\nm {}\n{text}{end}", encoding.len())?;
-    let verdict = check(alloc, &model, log.as_bytes());
+    let verdict = judged(alloc, &encoding, text, end)?;
     Ok((String::from_str(alloc, text)?, verdict))
 }
 

@@ -8,7 +8,7 @@ use graph_rows::{Graph, Problem};
 use journals::{Journal, Keeper};
 use lad_reader::{LadKind, read_lad};
 use log_theory::{Name, Ref, Verdict};
-use opb_text::read_opb;
+use opb_text::{Model, read_opb};
 use outer_io::MemorySink;
 use pb_encoding::Encoding;
 use proof_checker::check;
@@ -98,71 +98,51 @@ fn name_of(alloc: Global, line: Ref) -> Result<String, Fail> {
     }
 }
 
+/// The model of an encoding, read from its text.
+fn model_of(alloc: Global, lines: &Encoding) -> Option<Model> {
+    let mut sink = MemorySink::new(alloc, 4096, Vec::new(alloc)).ok()?;
+    lines.write(alloc, &mut sink).ok()?;
+    read_opb(alloc, sink.bytes()).ok()
+}
+
 /// What a checker says of the encoding and lines of owner 1.
-fn verdict(alloc: Global, lines: &Encoding, text: &[u8]) -> Result<Verdict, Fail> {
-    let mut sink = MemorySink::new(alloc, 4096, Vec::new(alloc))?;
-    lines.write(alloc, &mut sink).ok().ok_or("no text")?;
-    let model = read_opb(alloc, sink.bytes()).ok().ok_or("no model")?;
-    let text = str::from_utf8(text).ok().ok_or("no log")?;
+fn verdict(alloc: Global, lines: &Encoding, text: &str) -> Result<Verdict, Fail> {
+    let model = model_of(alloc, lines).ok_or("no model")?;
     let log = format!(in alloc; "embedding proof 1\nm {}\n{text}q\n", lines.len())?;
     Ok(check(alloc, &model, log.as_bytes()))
 }
 
-/// The lines of a problem for pairs, one table for all or none.
+/// The lines of a problem for pairs, with one table for all of them or none.
+fn made(
+    alloc: Global,
+    q: &Problem,
+    lines: &Encoding,
+    pairs: &[(u16, u16, u16)],
+    is_shared: bool,
+) -> Result<Journal, Fail>
+    requires { lines.now ≡ q.now }
+{
+    let mut spreads = PairNames::new(alloc);
+    let mut journal = Journal::new(alloc, 1);
+    for pair in pairs {
+        let table = if is_shared { Some(&mut spreads) } else { None };
+        give(alloc, q, lines, table, &mut journal, *pair)?;
+    }
+    Ok(journal)
+}
+
+/// The lines of a problem for pairs, and what a checker says of them.
 fn lines_of(
     alloc: Global,
     q: &Problem,
     pairs: &[(u16, u16, u16)],
     is_shared: bool,
-) -> Result<String, Fail> {
+) -> Result<(String, Verdict), Fail> {
     let lines = Encoding::new(alloc, q)?;
-    let mut spreads = PairNames::new(alloc);
-    let mut journal = Journal::new(alloc, 1);
-    for pair in pairs {
-        let table = if is_shared { Some(&mut spreads) } else { None };
-        give(alloc, q, &lines, table, &mut journal, *pair)?;
-    }
-    let said = verdict(alloc, &lines, journal.text())?;
-    if said != Verdict::Undecided {
-        return Err("not accepted")?;
-    }
+    let journal = made(alloc, q, &lines, pairs, is_shared)?;
     let text = str::from_utf8(journal.text()).ok().ok_or("no log")?;
-    Ok(String::from_str(alloc, text)?)
-}
-
-#[test]
-fn an_edge_asks_two_lines(rt: HostRuntime) -> Result<(), Fail> {
-    let q = problem(rt.alloc(), EDGE, CYCLE, false).ok_or("no problem")?;
-    let text = lines_of(rt.alloc(), &q, &[(0, 2, 1)], false)?;
-    assert_eq!(rt; text.as_str(), "p 1.1 11 4 + ;\n");
-    Ok(())
-}
-
-#[test]
-fn so_do_two_without_one_in_the_induced_kind(rt: HostRuntime) -> Result<(), Fail> {
-    let q = problem(rt.alloc(), TWO, CYCLE, true).ok_or("no problem")?;
-    let text = lines_of(rt.alloc(), &q, &[(1, 0, 0)], false)?;
-    assert_eq!(rt; text.as_str(), "p 1.1 13 2 + ;\n");
-    Ok(())
-}
-
-#[test]
-fn a_free_pair_asks_one(rt: HostRuntime) -> Result<(), Fail> {
-    let q = problem(rt.alloc(), TWO, CYCLE, false).ok_or("no problem")?;
-    let text = lines_of(rt.alloc(), &q, &[(0, 2, 1)], false)?;
-    assert_eq!(rt; text.as_str(), "p 1.1 7 ;\n");
-    Ok(())
-}
-
-#[test]
-fn one_shared_neighbour_is_counted_by_its_own_lines(rt: HostRuntime) -> Result<(), Fail> {
-    let q = problem(rt.alloc(), TRIANGLE, FOUR, false).ok_or("no problem")?;
-    let text = lines_of(rt.alloc(), &q, &[(0, 0, 1)], false)?;
-    assert_eq!(rt;
-        text.as_str(),
-        "p 1.1 4 2 * 11 + 4 * 15 + 32 + 33 + 34 + ;\n"
-    );
-    Ok(())
+    let said = verdict(alloc, &lines, text)?;
+    Ok((String::from_str(alloc, text)?, said))
 }
 
 const TWO_SHARED: &str = "p 1.1 10 x2 + x10 + 1 * 26 + 42 + 2 d ;
@@ -172,10 +152,43 @@ p 1.4 6 11 + 3 * 15 + 19 + 1.1 + 1.2 + ;
 ";
 
 #[test]
-fn two_shared_neighbours_have_lines_for_all_places(rt: HostRuntime) -> Result<(), Fail> {
-    let q = problem(rt.alloc(), CYCLE, CYCLE, false).ok_or("no problem")?;
-    let text = lines_of(rt.alloc(), &q, &[(0, 0, 2), (0, 2, 2)], true)?;
-    assert_eq!(rt; text.as_str(), TWO_SHARED);
+fn lines_to_the_letter(rt: HostRuntime) -> Result<(), Fail> {
+    let rows = [
+        // An edge asks two lines of the encoding.
+        (
+            EDGE,
+            CYCLE,
+            false,
+            [(0, 2, 1)].as_slice(),
+            "p 1.1 11 4 + ;\n",
+        ),
+        // So do two vertices without one in the induced kind.
+        (TWO, CYCLE, true, [(1, 0, 0)].as_slice(), "p 1.1 13 2 + ;\n"),
+        // A free pair asks one.
+        (TWO, CYCLE, false, [(0, 2, 1)].as_slice(), "p 1.1 7 ;\n"),
+        // One shared neighbour is counted by its own lines.
+        (
+            TRIANGLE,
+            FOUR,
+            false,
+            [(0, 0, 1)].as_slice(),
+            "p 1.1 4 2 * 11 + 4 * 15 + 32 + 33 + 34 + ;\n",
+        ),
+        // Two shared neighbours have lines for all places, which are made once.
+        (
+            CYCLE,
+            CYCLE,
+            false,
+            [(0, 0, 2), (0, 2, 2)].as_slice(),
+            TWO_SHARED,
+        ),
+    ];
+    for (pattern, target, induced, pairs, text) in rows {
+        let q = problem(rt.alloc(), pattern, target, induced).ok_or("no problem")?;
+        let (lines, said) = lines_of(rt.alloc(), &q, pairs, pairs.len() > 1)?;
+        assert_eq!(rt; lines.as_str(), text);
+        assert_eq!(rt; said, Verdict::Undecided);
+    }
     Ok(())
 }
 
