@@ -106,27 +106,31 @@ static SHOWN: [(&str, &str, &str, u8, &str, &str, &str, &str); 9] = [
     ),
 ];
 
+/// Whether a check of what shows an answer tells this.
+fn is_told<R: Threads + Sync>(
+    rt: &R,
+    alloc: Global,
+    ran: &Ran,
+    status: u8,
+    out: &str,
+    err: &str,
+) -> Result<bool, AllocError> {
+    let checked = check_over(rt, alloc, ran.file("e"), ran.file("l"))?;
+    Ok(checked.gave(status, out, err))
+}
+
+/// Whether the files that show an answer begin so.
+fn begins(ran: &Ran, encoding: &str, log: &str) -> bool {
+    ran.file("e").starts_with(encoding.as_bytes()) && ran.file("l").starts_with(log.as_bytes())
+}
+
 #[test]
 fn each_answer_is_shown(rt: HostRuntime) -> Result<(), Fail> {
     for (line, pattern, target, status, out, encoding, log, told) in SHOWN {
         let ran = run_proof(&rt, rt.alloc(), line, pattern, target, CLEAN)?;
-        assert!(rt;
-            ran.gave(status, out, ""),
-            "{line}: {pattern} into {target}"
-        );
-        assert!(rt;
-            ran.file("e").starts_with(encoding.as_bytes()),
-            "{line}: {pattern} into {target}"
-        );
-        assert!(rt;
-            ran.file("l").starts_with(log.as_bytes()),
-            "{line}: {pattern} into {target}"
-        );
-        let checked = check_over(&rt, rt.alloc(), ran.file("e"), ran.file("l"))?;
-        assert!(rt;
-            checked.gave(0, told, ""),
-            "{line}: {pattern} into {target}"
-        );
+        let is_shown = ran.gave(status, out, "") && begins(&ran, encoding, log);
+        let is_accepted = is_told(&rt, rt.alloc(), &ran, 0, told, "")?;
+        assert!(rt; is_shown && is_accepted, "{line}");
     }
     Ok(())
 }
@@ -137,6 +141,15 @@ const REFUTES: &str = "subgraph solve p t --prove e --log l";
 /// Refutes a triangle in a cycle of four vertices, with these calls failing.
 fn refute<R: Threads + Sync>(rt: &R, alloc: Global, failing: Failing) -> Result<Ran, AllocError> {
     run_proof(rt, alloc, REFUTES, TRIANGLE, FOUR_CYCLE, failing)
+}
+
+/// The same, with one call on the files failing.
+fn refute_but<R: Threads + Sync>(rt: &R, alloc: Global, number: u64) -> Result<Ran, AllocError> {
+    let failing = Failing {
+        files: number,
+        ..CLEAN
+    };
+    refute(rt, alloc, failing)
 }
 
 /// Whether the files are as a fault may leave them: the encoding's holds a front part, and the log's nothing before the encoding is whole.
@@ -151,27 +164,34 @@ fn is_front(ran: &Ran, whole: &Ran) -> bool {
 #[test]
 fn each_fault_of_a_file_leaves_a_front_part(rt: HostRuntime) -> Result<(), Fail> {
     let whole = refute(&rt, rt.alloc(), CLEAN)?;
-    let mut heads = 0;
     for number in 1..1000 {
-        let failing = Failing {
-            files: number,
-            ..CLEAN
-        };
-        let ran = refute(&rt, rt.alloc(), failing)?;
+        let ran = refute_but(&rt, rt.alloc(), number)?;
         if ran.status == 1 {
-            assert_eq!(rt; heads, 1);
             return Ok(());
         }
-        assert!(rt; ran.gave(5, "", "files: fault\n"), "{number}");
-        assert!(rt; is_front(&ran, &whole), "{number}");
-        assert!(rt; number > 6 || ran.file("e").is_empty(), "{number}");
+        let is_fault = ran.gave(5, "", "files: fault\n");
+        assert!(rt; is_fault && is_front(&ran, &whole), "{number}");
+    }
+    Err("some call fails always")?
+}
+
+/// The number of the first call on the files whose fault leaves the two head lines of the log, or 0.
+fn call_after_the_head<R: Threads + Sync>(rt: &R, alloc: Global) -> Result<u64, AllocError> {
+    for number in 1..1000 {
+        let ran = refute_but(rt, alloc, number)?;
         if ran.file("l") == HEAD.as_bytes() {
-            let checked = check_over(&rt, rt.alloc(), ran.file("e"), ran.file("l"))?;
-            assert!(rt; checked.gave(7, "", "log: line 3: EndsEarly\n"), "{number}");
-            heads += 1;
+            return Ok(number);
         }
     }
-    assert!(rt; false, "some call fails always");
+    Ok(0)
+}
+
+#[test]
+fn a_log_of_two_lines_ends_early(rt: HostRuntime) -> Result<(), Fail> {
+    let number = call_after_the_head(&rt, rt.alloc())?;
+    let ran = refute_but(&rt, rt.alloc(), number)?;
+    let is_early = is_told(&rt, rt.alloc(), &ran, 7, "", "log: line 3: EndsEarly\n")?;
+    assert!(rt; is_early);
     Ok(())
 }
 
@@ -179,9 +199,8 @@ fn each_fault_of_a_file_leaves_a_front_part(rt: HostRuntime) -> Result<(), Fail>
 fn a_fault_of_the_output_leaves_the_proof_whole(rt: HostRuntime) -> Result<(), Fail> {
     let whole = refute(&rt, rt.alloc(), CLEAN)?;
     let ran = refute(&rt, rt.alloc(), Failing { out: 1, ..CLEAN })?;
-    assert!(rt; ran.gave(5, "", "output: fault\n"));
-    assert!(rt; ran.file("e") == whole.file("e"));
-    assert!(rt; ran.file("l") == whole.file("l"));
+    let is_whole = ran.file("e") == whole.file("e") && ran.file("l") == whole.file("l");
+    assert!(rt; is_whole && ran.gave(5, "", "output: fault\n"));
     Ok(())
 }
 
@@ -189,9 +208,8 @@ fn a_fault_of_the_output_leaves_the_proof_whole(rt: HostRuntime) -> Result<(), F
 fn nothing_is_written_where_a_text_is_refused(rt: HostRuntime) -> Result<(), Fail> {
     for (pattern, target) in [("1\nx\n", "0\n"), ("0\n", "1\nx\n")] {
         let ran = run_proof(&rt, rt.alloc(), REFUTES, pattern, target, CLEAN)?;
-        assert!(rt; ran.status == 4, "{pattern} into {target}");
-        assert!(rt; ran.files.content("e").is_none(), "{pattern} into {target}");
-        assert!(rt; ran.files.content("l").is_none(), "{pattern} into {target}");
+        let is_untouched = ran.files.content("e").is_none() && ran.files.content("l").is_none();
+        assert!(rt; ran.status == 4 && is_untouched, "{pattern} into {target}");
     }
     Ok(())
 }
