@@ -35,8 +35,10 @@ fn flag<'a>(alloc: Global, name: &'a str) -> Arg<'a>
 /// The command with one more argument.
 fn add<'a>(command: Command<'a>, arg: Arg<'a>) -> Result<Command<'a>, AllocError>
     requires { arg.global ≡ false }
-    ensures app { IfOk result (λ c. app_of c ≡ with_rule (app_of command.entry) (rule_of arg.entry)) }
-    ensures local { IfOk result (λ c. (fields_of c).has_globals ≡ (fields_of command.entry).has_globals) }
+    ensures app { IfOk result
+        (λ c. app_of c ≡ with_rule (app_of command.entry) (rule_of arg.entry)) }
+    ensures local { IfOk result
+        (λ c. (fields_of c).has_globals ≡ (fields_of command.entry).has_globals) }
 {
     command.arg(arg)
 }
@@ -45,7 +47,8 @@ fn add<'a>(command: Command<'a>, arg: Arg<'a>) -> Result<Command<'a>, AllocError
 #[tactic(auto, unfolding(crate::specs::Grammar::with_graphs))]
 fn add_graphs<'a>(alloc: Global, command: Command<'a>) -> Result<Command<'a>, AllocError>
     ensures app { IfOk result (λ c. app_of c ≡ spec.with_graphs (app_of command.entry)) }
-    ensures local { IfOk result (λ c. (fields_of c).has_globals ≡ (fields_of command.entry).has_globals) }
+    ensures local { IfOk result
+        (λ c. (fields_of c).has_globals ≡ (fields_of command.entry).has_globals) }
 {
     let with_pattern = add(command, positional(alloc, "pattern"))?;
     add(with_pattern, positional(alloc, "target"))
@@ -55,7 +58,8 @@ fn add_graphs<'a>(alloc: Global, command: Command<'a>) -> Result<Command<'a>, Al
 #[tactic(auto, unfolding(crate::specs::Grammar::with_kind))]
 fn add_kind<'a>(alloc: Global, command: Command<'a>) -> Result<Command<'a>, AllocError>
     ensures app { IfOk result (λ c. app_of c ≡ spec.with_kind (app_of command.entry)) }
-    ensures local { IfOk result (λ c. (fields_of c).has_globals ≡ (fields_of command.entry).has_globals) }
+    ensures local { IfOk result
+        (λ c. (fields_of c).has_globals ≡ (fields_of command.entry).has_globals) }
 {
     let with_induced = add(command, flag(alloc, "induced"))?;
     add(with_induced, option(alloc, "format"))
@@ -65,7 +69,8 @@ fn add_kind<'a>(alloc: Global, command: Command<'a>) -> Result<Command<'a>, Allo
 #[tactic(auto, unfolding(crate::specs::Grammar::with_mapping))]
 fn add_mapping<'a>(alloc: Global, command: Command<'a>) -> Result<Command<'a>, AllocError>
     ensures app { IfOk result (λ c. app_of c ≡ spec.with_mapping (app_of command.entry)) }
-    ensures local { IfOk result (λ c. (fields_of c).has_globals ≡ (fields_of command.entry).has_globals) }
+    ensures local { IfOk result
+        (λ c. (fields_of c).has_globals ≡ (fields_of command.entry).has_globals) }
 {
     add(command, positional(alloc, "mapping"))
 }
@@ -74,7 +79,8 @@ fn add_mapping<'a>(alloc: Global, command: Command<'a>) -> Result<Command<'a>, A
 #[tactic(auto, unfolding(crate::specs::Grammar::with_search))]
 fn add_search<'a>(alloc: Global, command: Command<'a>) -> Result<Command<'a>, AllocError>
     ensures app { IfOk result (λ c. app_of c ≡ spec.with_search (app_of command.entry)) }
-    ensures local { IfOk result (λ c. (fields_of c).has_globals ≡ (fields_of command.entry).has_globals) }
+    ensures local { IfOk result
+        (λ c. (fields_of c).has_globals ≡ (fields_of command.entry).has_globals) }
 {
     let with_threads = add(command, option(alloc, "threads"))?;
     let with_seed = add(with_threads, option(alloc, "seed"))?;
@@ -85,7 +91,8 @@ fn add_search<'a>(alloc: Global, command: Command<'a>) -> Result<Command<'a>, Al
 #[tactic(auto, unfolding(crate::specs::Grammar::with_proof))]
 fn add_proof<'a>(alloc: Global, command: Command<'a>) -> Result<Command<'a>, AllocError>
     ensures app { IfOk result (λ c. app_of c ≡ spec.with_proof (app_of command.entry)) }
-    ensures local { IfOk result (λ c. (fields_of c).has_globals ≡ (fields_of command.entry).has_globals) }
+    ensures local { IfOk result
+        (λ c. (fields_of c).has_globals ≡ (fields_of command.entry).has_globals) }
 {
     let with_prove = add(command, option(alloc, "prove"))?;
     add(with_prove, option(alloc, "log"))
@@ -159,7 +166,8 @@ fn quiet<'a>(command: Command<'a>) -> Command<'a>
 /// The command with one more subcommand.
 fn enter<'a>(command: Command<'a>, entered: Command<'a>) -> Result<Command<'a>, AllocError>
     requires { (fields_of entered).has_globals ≡ false }
-    ensures { IfOk result (λ c. app_of c ≡ with_subcommand (app_of command.entry) (app_of entered.entry).top) }
+    ensures { IfOk result
+        (λ c. app_of c ≡ with_subcommand (app_of command.entry) (app_of entered.entry).top) }
 {
     command.subcommand(entered)
 }

@@ -18,6 +18,3 @@ pub use commands::{
 };
 pub use file_name::FileName;
 pub use reading::{Refusal, command_of};
-
-#[cfg(test)]
-mod tests;

@@ -199,7 +199,8 @@ fn book_at(matches: &ArgMatches) -> Option<u32>
 
 /// The files of a proof, by both of their words.
 fn prove_named<'a>(encoding: &'a str, log: &'a str) -> Option<Option<ProveWords<'a>>>
-    ensures { result ≡ line.prove_named (word.file_name encoding.entry.now) (word.file_name log.entry.now) }
+    ensures { result
+        ≡ line.prove_named (word.file_name encoding.entry.now) (word.file_name log.entry.now) }
 {
     let encoding = FileName::new(encoding)?;
     let log = FileName::new(log)?;
@@ -220,7 +221,8 @@ fn prove_at<'a>(matches: &ArgMatches<'a>) -> Option<Option<ProveWords<'a>>>
 /// Whether the files of a proof differ from each other, and from the pattern's and the target's.
 fn are_apart(pattern: &FileName, target: &FileName, prove: &Option<ProveWords>) -> bool
     ensures answer { result ≡ line.are_apart pattern.now target.now prove.now }
-    ensures apart { IsTrue result → IfSome prove.now (λ p. line.IsProveInRange pattern.now target.now p) }
+    ensures apart { IsTrue result
+        → IfSome prove.now (λ p. line.IsProveInRange pattern.now target.now p) }
 {
     let Some(words) = prove else {
         return true;
@@ -380,7 +382,8 @@ fn parsed<'a>(alloc: Global, words: &'a [String]) -> Result<ArgMatches<'a>, Refu
 pub fn command_of<'a>(alloc: Global, words: &'a [String]) -> Result<Command<'a>, Refusal>
     ensures given { IfOk result (λ c. line.command (map string_bytes words.entry.now) ≡ Some c) }
     ensures ranges { IfOk result line.IsInRange }
-    ensures refused { IsErrOf result Refusal.NotACommand → line.command (map string_bytes words.entry.now) ≡ None }
+    ensures refused { IsErrOf result Refusal.NotACommand
+        → line.command (map string_bytes words.entry.now) ≡ None }
 {
     match parsed(alloc, words) {
         Ok(matches) => match entered_command(&matches) {

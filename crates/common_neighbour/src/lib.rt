@@ -59,7 +59,8 @@ impl<'a> Counts<'a> {
     pub fn fill_counts(&self, t: u16, counts: &mut [u16])
         requires t_in { t < size_of self.now }
         requires long { length counts.old ≡ size_of self.now }
-        ensures exact { (u : ℕ) → u < size_of self.now → (t ≡ u → ⊥) → slice_index counts.new u ≡ common self.now t u }
+        ensures exact { (u : ℕ) → u < size_of self.now → (t ≡ u → ⊥)
+            → slice_index counts.new u ≡ common self.now t u }
         ensures itself { slice_index counts.new t ≡ slice_index counts.old t }
     {
         if is_short_walk(self.graph, t) {
@@ -110,7 +111,8 @@ fn is_short_walk(graph: &Graph, t: u16) -> bool
 fn fill_by_rows(graph: &Graph, t: u16, counts: &mut [u16])
     requires t_in { t < size_of graph.now }
     requires long { length counts.old ≡ size_of graph.now }
-    ensures exact { (u : ℕ) → u < size_of graph.now → (t ≡ u → ⊥) → slice_index counts.new u ≡ common graph.now t u }
+    ensures exact { (u : ℕ) → u < size_of graph.now → (t ≡ u → ⊥)
+        → slice_index counts.new u ≡ common graph.now t u }
     ensures itself { slice_index counts.new t ≡ slice_index counts.old t }
 {
     for u in 0..graph.size() {
@@ -125,7 +127,8 @@ fn fill_by_rows(graph: &Graph, t: u16, counts: &mut [u16])
 fn fill_by_walk(graph: &Graph, t: u16, counts: &mut [u16])
     requires t_in { t < size_of graph.now }
     requires long { length counts.old ≡ size_of graph.now }
-    ensures exact { (u : ℕ) → u < size_of graph.now → (t ≡ u → ⊥) → slice_index counts.new u ≡ common graph.now t u }
+    ensures exact { (u : ℕ) → u < size_of graph.now → (t ≡ u → ⊥)
+        → slice_index counts.new u ≡ common graph.now t u }
     ensures itself { slice_index counts.new t ≡ slice_index counts.old t }
 {
     let itself = counts[usize::from(t)];
@@ -165,7 +168,9 @@ fn count_neighbours(graph: &Graph, t: u16, c: u16, counts: &mut [u16])
     requires c_in { c < size_of graph.now }
     requires long { length counts.old ≡ size_of graph.now }
     requires room { (v : ℕ) → slice_index counts.old v < 65535 }
-    ensures { (u : ℕ) → slice_index counts.new u ≡ slice_index counts.old u + from_bool (not (t == c) && is_neighbour graph.now c u) }
+    ensures { (u : ℕ)
+        → slice_index counts.new u ≡ slice_index counts.old u
+        + from_bool (not (t == c) && is_neighbour graph.now c u) }
 {
     if c == t {
         return;

@@ -1,37 +1,16 @@
 //! Worked counts.
 
-ghost use Rattle.std.specs.Prelude.{◌≤◌, IfSome};
 ghost use Rattle.graph_theory.specs.Graph.{size};
 
 use super::*;
-use lad_reader::{LadKind, read_lad};
+use sample_graphs::{FOUR_CYCLE, TRIANGLE, graph};
 use std::test::Fail;
-
-const TRIANGLE: &[u8] = b"3 2 1 2 2 0 2 2 0 1";
-
-const CYCLE: &[u8] = b"4 2 1 3 2 0 2 2 1 3 2 0 2";
 
 /// Vertices 0 and 1 and 2 with an edge between each two, vertex 3 with an edge to 0 and 1, and loops at 0 and 1.
 const LOOPS: &[u8] = b"4 4 0 1 2 3 4 0 1 2 3 2 0 1 2 0 1";
 
 /// A path of vertices 0, 1 and 2 with a loop at 1, and a vertex without edges.
 const PATH: &[u8] = b"4 1 1 3 0 1 2 1 1 0";
-
-/// The graph of a text of at most 64 vertices.
-fn graph(alloc: Global, text: &[u8]) -> Option<Graph>
-    ensures { IfSome result (λ g. size g ≤ 64) }
-{
-    let Ok(parts) = read_lad(alloc, text, LadKind::Lad, 64) else {
-        return None;
-    };
-    let Ok(graph) = Graph::new(alloc, &parts) else {
-        return None;
-    };
-    if graph.size() > 64 {
-        return None;
-    }
-    Some(graph)
-}
 
 /// The count of two vertices of a text's graph.
 fn counted(alloc: Global, text: &[u8], a: u16, b: u16) -> Option<u16> {
@@ -75,12 +54,12 @@ fn all_counts(alloc: Global, text: &[u8], t: u16) -> Option<[u16; 4]> {
 
 #[test]
 fn counts_are_those_of_the_graph(rt: HostRuntime) -> Result<(), Fail> {
-    assert_eq!(rt; counted(rt.alloc(), CYCLE, 0, 2), Some(2));
-    assert_eq!(rt; counted(rt.alloc(), CYCLE, 0, 1), Some(0));
+    assert_eq!(rt; counted(rt.alloc(), FOUR_CYCLE, 0, 2), Some(2));
+    assert_eq!(rt; counted(rt.alloc(), FOUR_CYCLE, 0, 1), Some(0));
     assert_eq!(rt; counted(rt.alloc(), TRIANGLE, 0, 1), Some(1));
     assert_eq!(rt; counted(rt.alloc(), TRIANGLE, 2, 0), Some(1));
     assert_eq!(rt; counted(rt.alloc(), b"2 2 0 1 2 0 1", 0, 1), Some(0));
-    assert_eq!(rt; all_counts(rt.alloc(), CYCLE, 1), Some([0, 9, 0, 2]));
+    assert_eq!(rt; all_counts(rt.alloc(), FOUR_CYCLE, 1), Some([0, 9, 0, 2]));
     assert_eq!(rt; all_counts(rt.alloc(), LOOPS, 1), Some([2, 9, 1, 1]));
     assert_eq!(rt; all_counts(rt.alloc(), PATH, 0), Some([9, 0, 1, 0]));
     Ok(())
@@ -88,9 +67,9 @@ fn counts_are_those_of_the_graph(rt: HostRuntime) -> Result<(), Fail> {
 
 #[test]
 fn rows_hold_those_that_share_enough(rt: HostRuntime) -> Result<(), Fail> {
-    assert_eq!(rt; near(rt.alloc(), CYCLE, 0, 0), Some(0b1110));
-    assert_eq!(rt; near(rt.alloc(), CYCLE, 0, 2), Some(0b0100));
-    assert_eq!(rt; near(rt.alloc(), CYCLE, 0, 3), Some(0));
+    assert_eq!(rt; near(rt.alloc(), FOUR_CYCLE, 0, 0), Some(0b1110));
+    assert_eq!(rt; near(rt.alloc(), FOUR_CYCLE, 0, 2), Some(0b0100));
+    assert_eq!(rt; near(rt.alloc(), FOUR_CYCLE, 0, 3), Some(0));
     assert_eq!(rt; near(rt.alloc(), TRIANGLE, 1, 1), Some(0b101));
     Ok(())
 }

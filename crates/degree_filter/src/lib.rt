@@ -28,8 +28,10 @@ pub fn keep_degrees(q: &Problem, p: u16, row: &mut [u64])
     requires p_in { p < size q.now.pattern }
     requires long { length row.old ≡ words_for (size q.now.target) }
     requires within { (t : ℕ) → has row.old t ≡ true → t < size q.now.target }
-    ensures right { (t : ℕ) → has row.new t ≡ true → (has row.old t ≡ true) × (degree q.now.pattern p ≤ degree q.now.target t) }
-    ensures complete { (t : ℕ) → has row.old t ≡ true → degree q.now.pattern p ≤ degree q.now.target t → has row.new t ≡ true }
+    ensures right { (t : ℕ) → has row.new t ≡ true → (has row.old t ≡ true)
+        × (degree q.now.pattern p ≤ degree q.now.target t) }
+    ensures complete { (t : ℕ) → has row.old t ≡ true
+        → degree q.now.pattern p ≤ degree q.now.target t → has row.new t ≡ true }
 {
     let target = q.target();
     keep_counted(row, target.degrees(), q.pattern().degree(p));

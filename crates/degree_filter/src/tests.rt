@@ -1,34 +1,13 @@
 //! Worked degrees.
 
-ghost use Rattle.std.specs.Prelude.{◌≤◌, IfSome};
 ghost use Rattle.graph_theory.specs.Graph.{size};
 
 use super::{keep_degrees, keeps};
 use bit_rows::fill_below;
-use graph_rows::{Graph, Problem};
-use lad_reader::{LadKind, read_lad};
+use graph_rows::Problem;
+use sample_graphs::{PATH, TRIANGLE, graph};
 use std::alloc::Global;
 use std::test::Fail;
-
-const TRIANGLE: &[u8] = b"3 2 1 2 2 0 2 2 0 1";
-
-const PATH: &[u8] = b"3 1 1 2 0 2 1 1";
-
-/// The graph of a text of at most 64 vertices.
-fn graph(alloc: Global, text: &[u8]) -> Option<Graph>
-    ensures { IfSome result (λ g. size g ≤ 64) }
-{
-    let Ok(parts) = read_lad(alloc, text, LadKind::Lad, 64) else {
-        return None;
-    };
-    let Ok(graph) = Graph::new(alloc, &parts) else {
-        return None;
-    };
-    if graph.size() > 64 {
-        return None;
-    }
-    Some(graph)
-}
 
 /// Whether the degree of `t` keeps `p`.
 fn kept(alloc: Global, pattern: &[u8], target: &[u8], p: u16, t: u16) -> Option<bool> {

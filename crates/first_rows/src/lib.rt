@@ -28,7 +28,8 @@ pub fn fill_first(q: &Problem, kept: &KeptRows, p: u16, row: &mut [u64])
     requires long { length row.old ≡ words_for (size q.now.target) }
     ensures right { (t : ℕ) → has row.new t ≡ true → IsFirstValue q.now p t }
     ensures within { (t : ℕ) → has row.new t ≡ true → t < size q.now.target }
-    ensures complete { (t : ℕ) → IsFirstValue q.now p t → t < size q.now.target → has row.new t ≡ true }
+    ensures complete { (t : ℕ) → IsFirstValue q.now p t → t < size q.now.target
+        → has row.new t ≡ true }
 {
     let target = q.target();
     row.copy_from_slice(kept.row(p));
@@ -42,7 +43,8 @@ fn keep_loops(q: &Problem, p: u16, row: &mut [u64])
     requires p_in { p < size q.now.pattern }
     requires long { length row.old ≡ words_for (size q.now.target) }
     requires within { (t : ℕ) → has row.old t ≡ true → t < size q.now.target }
-    requires labels { (t : ℕ) → has row.old t ≡ true → label q.now.target t ≡ label q.now.pattern p }
+    requires labels { (t : ℕ) → has row.old t ≡ true
+        → label q.now.target t ≡ label q.now.pattern p }
     ensures right { (t : ℕ) → has row.new t ≡ true → (has row.old t ≡ true) × Allowed q.now p t }
     ensures complete { (t : ℕ) → has row.old t ≡ true → Allowed q.now p t → has row.new t ≡ true }
 {

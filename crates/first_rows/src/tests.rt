@@ -1,38 +1,18 @@
 //! Worked first domains.
 
-ghost use Rattle.std.specs.Prelude.{◌<◌, ◌≤◌, IfSome};
+ghost use Rattle.std.specs.Prelude.{◌<◌};
 ghost use Rattle.graph_theory.specs.Graph.{size};
 
 use super::{fill_first, is_first};
-use graph_rows::{Graph, Problem};
-use lad_reader::{LadKind, read_lad};
+use graph_rows::Problem;
 use nds_filter::{KeptRows, Sequences};
+use sample_graphs::{PATH, TRIANGLE, graph};
 use std::alloc::Global;
 use std::test::Fail;
-
-const TRIANGLE: &[u8] = b"3 2 1 2 2 0 2 2 0 1";
-
-const PATH: &[u8] = b"3 1 1 2 0 2 1 1";
 
 const LOOP: &[u8] = b"1 1 0";
 
 const POINT_AND_LOOP: &[u8] = b"2 0 1 1";
-
-/// The graph of a text of at most 64 vertices.
-fn graph(alloc: Global, text: &[u8]) -> Option<Graph>
-    ensures { IfSome result (λ g. size g ≤ 64) }
-{
-    let Ok(parts) = read_lad(alloc, text, LadKind::Lad, 64) else {
-        return None;
-    };
-    let Ok(graph) = Graph::new(alloc, &parts) else {
-        return None;
-    };
-    if graph.size() > 64 {
-        return None;
-    }
-    Some(graph)
-}
 
 /// The first domain of `p`, as one word, and whether it has what the test of single values lets through.
 fn first(

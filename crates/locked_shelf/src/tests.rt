@@ -2,12 +2,11 @@
 
 ghost use Rattle.std.specs.Prelude.{◌≡◌, ◌<◌, IfSome};
 ghost use Rattle.graph_theory.specs.Graph.{size};
-ghost use Rattle.locked_shelf.specs.Shelf.{facts_of};
 
 use crate::{LockedShelf, ShelfSeat};
-use graph_rows::{Graph, Problem};
-use lad_reader::{LadKind, read_lad};
+use graph_rows::Problem;
 use nogood_book::{Book, Published, Row, RowKind, RowSeat};
+use sample_graphs::graph_of_size;
 use std::alloc::Global;
 use std::sync::Wait;
 use std::test::Fail;
@@ -16,21 +15,9 @@ use std::test::Fail;
 fn triangle_into_cycle(alloc: Global) -> Option<Problem>
     ensures { IfSome result (λ q. (size q.pattern ≡ 3) × (size q.target ≡ 4)) }
 {
-    let pattern = graph(alloc, b"3 2 1 2 2 0 2 2 0 1", 3)?;
-    let target = graph(alloc, b"4 2 1 3 2 0 2 2 1 3 2 0 2", 4)?;
+    let pattern = graph_of_size(alloc, b"3 2 1 2 2 0 2 2 0 1", 3)?;
+    let target = graph_of_size(alloc, b"4 2 1 3 2 0 2 2 1 3 2 0 2", 4)?;
     Some(Problem::new(pattern, target, false))
-}
-
-/// The graph of a text of this many vertices.
-fn graph(alloc: Global, text: &[u8], vertices: u16) -> Option<Graph>
-    ensures { IfSome result (λ g. size g ≡ vertices) }
-{
-    let parts = read_lad(alloc, text, LadKind::Lad, 64).ok()?;
-    let graph = Graph::new(alloc, &parts).ok()?;
-    if graph.size() != vertices {
-        return None;
-    }
-    Some(graph)
 }
 
 /// The guess of this owner that takes vertex 0 to the value.

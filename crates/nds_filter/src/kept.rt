@@ -65,9 +65,13 @@ impl<'a> KeptRows<'a> {
         requires p_in { p < size self.now.pattern }
         ensures long { length result.now ≡ words_for (size self.now.target) }
         ensures within { (t : ℕ) → has result.now t ≡ true → t < size self.now.target }
-        ensures right { (t : ℕ) → has result.now t ≡ true → IsKeptBy (sequence self.now.pattern p) (sequence self.now.target t) }
-        ensures degrees { (t : ℕ) → has result.now t ≡ true → degree self.now.pattern p ≤ degree self.now.target t }
-        ensures complete { (t : ℕ) → t < size self.now.target → IsKeptBy (sequence self.now.pattern p) (sequence self.now.target t) → has result.now t ≡ true }
+        ensures right { (t : ℕ) → has result.now t ≡ true
+            → IsKeptBy (sequence self.now.pattern p) (sequence self.now.target t) }
+        ensures degrees { (t : ℕ) → has result.now t ≡ true
+            → degree self.now.pattern p ≤ degree self.now.target t }
+        ensures complete { (t : ℕ) → t < size self.now.target
+            → IsKeptBy (sequence self.now.pattern p) (sequence self.now.target t)
+            → has result.now t ≡ true }
     {
         let class = self.classes[usize::from(p)];
         &self.rows[class]
@@ -88,10 +92,14 @@ fn class_of(
     requires pattern { ps.now ≡ sequences q.now.pattern }
     requires target { ts.now ≡ sequences q.now.target }
     requires before { AreFirsts q.now firsts.old.items (map (λ row. row.items) rows.old.items) }
-    ensures firsts { IfOk result (λ _. AreFirsts q.now firsts.new.items (map (λ row. row.items) rows.new.items)) }
-    ensures stay { IfOk result (λ _. RowsStay (map (λ row. row.items) rows.old.items) (map (λ row. row.items) rows.new.items)) }
+    ensures firsts { IfOk result
+        (λ _. AreFirsts q.now firsts.new.items (map (λ row. row.items) rows.new.items)) }
+    ensures stay { IfOk result
+        (λ _. RowsStay (map (λ row. row.items) rows.old.items)
+        (map (λ row. row.items) rows.new.items)) }
     ensures inside { IfOk result (λ k. k < length rows.new.items) }
-    ensures class { IfOk result (λ k. KeptRow q.now p (row_at (map (λ row. row.items) rows.new.items) k)) }
+    ensures class { IfOk result
+        (λ k. KeptRow q.now p (row_at (map (λ row. row.items) rows.new.items) k)) }
 {
     if let Some(class) = find_class(ps, firsts, p) {
         return Ok(class);
@@ -107,9 +115,11 @@ fn class_of(
 /// neighbours a comparison.
 fn find_class(ps: &Sequences, firsts: &[u16], p: u16) -> Option<usize>
     requires p_in { p < length ps.now }
-    requires firsts_in { (k : ℕ) → k < length firsts.now → slice_index firsts.now k < length ps.now }
+    requires firsts_in { (k : ℕ) → k < length firsts.now
+        → slice_index firsts.now k < length ps.now }
     ensures inside { IfSome result (λ k. k < length firsts.now) }
-    ensures same { IfSome result (λ k. sequence_at ps.now (slice_index firsts.now k) ≡ sequence_at ps.now p) }
+    ensures same { IfSome result
+        (λ k. sequence_at ps.now (slice_index firsts.now k) ≡ sequence_at ps.now p) }
 {
     let sequence = ps.of(p);
     for k in 0..firsts.len() {
@@ -158,8 +168,10 @@ fn keep_sequences(sequence: &[u16], ts: &Sequences, row: &mut [u64])
     requires short { length sequence.now ≤ 8192 }
     requires few { length row.old ≤ 128 }
     requires within { (t : ℕ) → has row.old t ≡ true → t < length ts.now }
-    ensures right { (t : ℕ) → has row.new t ≡ true → (has row.old t ≡ true) × IsKeptBy sequence.now (sequence_at ts.now t) }
-    ensures complete { (t : ℕ) → has row.old t ≡ true → IsKeptBy sequence.now (sequence_at ts.now t) → has row.new t ≡ true }
+    ensures right { (t : ℕ) → has row.new t ≡ true → (has row.old t ≡ true)
+        × IsKeptBy sequence.now (sequence_at ts.now t) }
+    ensures complete { (t : ℕ) → has row.old t ≡ true → IsKeptBy sequence.now (sequence_at ts.now t)
+        → has row.new t ≡ true }
 {
     let mut t = next_member(row, 0);
     while t < 64 * row.len() {

@@ -1,35 +1,14 @@
 //! Worked sequences.
 
-ghost use Rattle.std.specs.Prelude.{◌≤◌, IfSome};
 ghost use Rattle.graph_theory.specs.Graph.{size};
 
 use super::{KeptRows, SequenceAnswer, Sequences, keeps};
-use graph_rows::{Graph, Problem};
-use lad_reader::{LadKind, read_lad};
+use graph_rows::Problem;
+use sample_graphs::{EDGE, TRIANGLE, graph};
 use std::alloc::Global;
 use std::test::Fail;
 
-const TRIANGLE: &[u8] = b"3 2 1 2 2 0 2 2 0 1";
-
 const LONG_PATH: &[u8] = b"4 1 1 2 0 2 2 1 3 1 2";
-
-const EDGE: &[u8] = b"2 1 1 1 0";
-
-/// The graph of a text of at most 64 vertices.
-fn graph(alloc: Global, text: &[u8]) -> Option<Graph>
-    ensures { IfSome result (λ g. size g ≤ 64) }
-{
-    let Ok(parts) = read_lad(alloc, text, LadKind::Lad, 64) else {
-        return None;
-    };
-    let Ok(graph) = Graph::new(alloc, &parts) else {
-        return None;
-    };
-    if graph.size() > 64 {
-        return None;
-    }
-    Some(graph)
-}
 
 /// The answer for two vertices of two texts' graphs.
 fn answer(alloc: Global, pattern: &[u8], target: &[u8], p: u16, t: u16) -> Option<SequenceAnswer> {

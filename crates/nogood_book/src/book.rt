@@ -38,5 +38,6 @@ pub trait Book {
         requires row { MayWrite (Self.Seat.shows seat.old) row }
         ensures fits { fits self.now seat.new }
         ensures few { (Self.Seat.shows seat.new).size ≤ 4194304 }
-        ensures placed { IsPlaced row (Self.Seat.shows seat.old) (Self.Seat.shows seat.new) result };
+        ensures placed { IsPlaced row (Self.Seat.shows seat.old) (Self.Seat.shows seat.new)
+            result };
 }

@@ -28,7 +28,8 @@ pub(crate) struct PairKind {
 /// for each pair, for each kind before its own and for each word of a row.
 pub(crate) fn classify(alloc: Global, q: &Problem) -> Result<(Vec<PairKind>, Vec<u32>), AllocError>
     requires few { size q.now.pattern ≤ 1024 }
-    ensures classes { IfOk result (λ c. AreKinds q.now c.0.items c.1.items (size q.now.pattern * size q.now.pattern)) }
+    ensures classes { IfOk result
+        (λ c. AreKinds q.now c.0.items c.1.items (size q.now.pattern * size q.now.pattern)) }
 {
     let counts = Counts::new(alloc, q.pattern())?;
     let mut kinds = Vec::new(alloc);
@@ -51,7 +52,8 @@ fn classify_from(
     requires same { counts.now ≡ q.now.pattern }
     requires p_in { p < size q.now.pattern }
     requires before { AreKinds q.now kinds.old.items places.old.items (p * size q.now.pattern) }
-    ensures { IfOk result (λ _. AreKinds q.now kinds.new.items places.new.items ((p + 1) * size q.now.pattern)) }
+    ensures { IfOk result
+        (λ _. AreKinds q.now kinds.new.items places.new.items ((p + 1) * size q.now.pattern)) }
 {
     for r in 0..q.pattern().size() {
         let place = place_for(q, counts, p, r, kinds)?;
@@ -72,7 +74,8 @@ fn place_for(
     requires p_in { p < size q.now.pattern }
     requires r_in { r < size q.now.pattern }
     requires few { length kinds.old.items < 2 ^ 32 }
-    ensures found { IfOk result (λ i. (p ≡ r → ⊥) → slice_get kinds.new.items i ≡ Some (kind_of q.now p r)) }
+    ensures found { IfOk result
+        (λ i. (p ≡ r → ⊥) → slice_get kinds.new.items i ≡ Some (kind_of q.now p r)) }
     ensures stay { KindsStay kinds.old.items kinds.new.items }
     ensures more { length kinds.new.items ≤ length kinds.old.items + 1 }
 {
@@ -140,10 +143,13 @@ pub(crate) fn fill_block(
     requires t_in { t < size q.now.target }
     requires few { size q.now.target ≤ 8192 }
     requires counts_long { length counts.now ≡ size q.now.target }
-    requires counted { (u : ℕ) → u < size q.now.target → (t ≡ u → ⊥) → slice_index counts.now u ≡ common q.now.target t u }
+    requires counted { (u : ℕ) → u < size q.now.target → (t ≡ u → ⊥)
+        → slice_index counts.now u ≡ common q.now.target t u }
     requires room { (first + length kinds.now) * width ≤ length pool.old }
-    ensures rows { (i : ℕ) → HasRow q.now kinds.now width t i (drop ((first + i) * width) pool.new) }
-    ensures others { WordsStay (first * width) ((first + length kinds.now) * width) pool.old pool.new }
+    ensures rows { (i : ℕ)
+        → HasRow q.now kinds.now width t i (drop ((first + i) * width) pool.new) }
+    ensures others { WordsStay (first * width) ((first + length kinds.now) * width) pool.old
+        pool.new }
 {
     for i in 0..kinds.len() {
         let from = (first + i) * width;
@@ -155,7 +161,8 @@ pub(crate) fn fill_block(
 fn fill_row(q: &Problem, kind: &PairKind, t: u16, counts: &[u16], row: &mut [u64])
     requires t_in { t < size q.now.target }
     requires counts_long { length counts.now ≡ size q.now.target }
-    requires counted { (u : ℕ) → u < size q.now.target → (t ≡ u → ⊥) → slice_index counts.now u ≡ common q.now.target t u }
+    requires counted { (u : ℕ) → u < size q.now.target → (t ≡ u → ⊥)
+        → slice_index counts.now u ≡ common q.now.target t u }
     requires long { length row.old ≡ words_for (size q.now.target) }
     ensures { RowIs q.now kind.now t row.new }
 {
@@ -182,7 +189,8 @@ pub(crate) fn asks_nothing(q: &Problem, kind: &PairKind) -> bool
 
 /// Whether a pair of the kind is asked nothing but distinct images without an edge, in the induced kind.
 pub(crate) fn asks_no_edge(q: &Problem, kind: &PairKind) -> bool
-    ensures { IsTrue result → (t u : ℕ) → Joins q.now kind.now t u ↔ ((t ≡ u → ⊥) × (is_neighbour q.now.target t u ≡ false)) }
+    ensures { IsTrue result → (t u : ℕ)
+        → Joins q.now kind.now t u ↔ ((t ≡ u → ⊥) × (is_neighbour q.now.target t u ≡ false)) }
 {
     q.target().neighbours_are_mutual();
     q.induced() && !has_edge(kind) && kind.shared == 0
@@ -194,7 +202,8 @@ fn fill_near(q: &Problem, kind: &PairKind, t: u16, counts: &[u16], row: &mut [u6
     requires edge { (is_some kind.now.out || is_some kind.now.back) ≡ true }
     requires t_in { t < size q.now.target }
     requires counts_long { length counts.now ≡ size q.now.target }
-    requires counted { (u : ℕ) → u < size q.now.target → (t ≡ u → ⊥) → slice_index counts.now u ≡ common q.now.target t u }
+    requires counted { (u : ℕ) → u < size q.now.target → (t ≡ u → ⊥)
+        → slice_index counts.now u ≡ common q.now.target t u }
     requires long { length row.old ≡ words_for (size q.now.target) }
     ensures { RowIs q.now kind.now t row.new }
 {
@@ -217,7 +226,8 @@ fn fill_apart(q: &Problem, kind: &PairKind, t: u16, counts: &[u16], row: &mut [u
     requires none { (is_some kind.now.out || is_some kind.now.back) ≡ false }
     requires t_in { t < size q.now.target }
     requires counts_long { length counts.now ≡ size q.now.target }
-    requires counted { (u : ℕ) → u < size q.now.target → (t ≡ u → ⊥) → slice_index counts.now u ≡ common q.now.target t u }
+    requires counted { (u : ℕ) → u < size q.now.target → (t ≡ u → ⊥)
+        → slice_index counts.now u ≡ common q.now.target t u }
     requires long { length row.old ≡ words_for (size q.now.target) }
     ensures { RowIs q.now kind.now t row.new }
 {
@@ -233,7 +243,9 @@ fn fill_apart(q: &Problem, kind: &PairKind, t: u16, counts: &[u16], row: &mut [u
 fn take_neighbours(q: &Problem, t: u16, row: &mut [u64])
     requires t_in { t < size q.now.target }
     requires long { length row.old ≡ words_for (size q.now.target) }
-    ensures { (u : ℕ) → has row.new u ≡ (has row.old u && not (q.now.induced && is_some (edge q.now.target t u))) }
+    ensures { (u : ℕ)
+        → has row.new u ≡ (has row.old u
+        && not (q.now.induced && is_some (edge q.now.target t u))) }
 {
     if q.induced() {
         and_not_into(row, q.target().row(t));

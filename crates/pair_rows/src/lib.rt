@@ -16,6 +16,3 @@ mod shared;
 
 pub use pair_kinds::PairKinds;
 pub use rows::{MOST_WORDS, PairRows};
-
-#[cfg(test)]
-mod tests;

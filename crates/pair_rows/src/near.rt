@@ -50,8 +50,10 @@ impl<'a> NearLists<'a> {
     pub(crate) fn of(&self, t: u16) -> Option<&[u16]>
         requires t_in { t < size_of self.now.target }
         ensures few { is_some result ≡ is_listed self.now t }
-        ensures listed { IfSome result (λ us. (u : ℕ) → stands_in us.now u ≡ is_neighbour self.now.target t u) }
-        ensures within { IfSome result (λ us. (u : ℕ) → stands_in us.now u ≡ true → u < size_of self.now.target) }
+        ensures listed { IfSome result
+            (λ us. (u : ℕ) → stands_in us.now u ≡ is_neighbour self.now.target t u) }
+        ensures within { IfSome result
+            (λ us. (u : ℕ) → stands_in us.now u ≡ true → u < size_of self.now.target) }
     {
         let _row = self.problem.target().row(t);
         if !has_list(self.problem, t) {
@@ -73,7 +75,9 @@ fn has_list(q: &Problem, t: u16) -> bool
 /// The list of `t`.
 fn near_list(alloc: Global, q: &Problem, t: u16) -> Result<Vec<u16>, AllocError>
     requires t_in { t < size_of q.now.target }
-    ensures { IfOk result (λ us. is_listed q.now t ≡ true → (u : ℕ) → stands_in us.items u ≡ is_neighbour q.now.target t u) }
+    ensures { IfOk result
+        (λ us. is_listed q.now t ≡ true → (u : ℕ)
+        → stands_in us.items u ≡ is_neighbour q.now.target t u) }
 {
     if has_list(q, t) {
         return list_neighbours(alloc, q.target(), t);
@@ -99,7 +103,9 @@ fn list_neighbours(alloc: Global, graph: &Graph, a: u16) -> Result<Vec<u16>, All
 
 /// Adds `u`, unless it is `a`.
 fn push_other(list: &mut Vec<u16>, a: u16, u: u16) -> Result<(), AllocError>
-    ensures { IfOk result (λ _. (v : ℕ) → stands_in list.new.items v ≡ (stands_in list.old.items v || not (a == u) && u == v)) }
+    ensures { IfOk result
+        (λ _. (v : ℕ) → stands_in list.new.items v
+        ≡ (stands_in list.old.items v || not (a == u) && u == v)) }
 {
     if a != u {
         list.push(u)?;

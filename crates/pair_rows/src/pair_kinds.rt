@@ -78,7 +78,9 @@ impl<'a> PairKinds<'a> {
         requires p_in { p < size self.now.problem.pattern }
         requires r_in { r < size self.now.problem.pattern }
         requires apart { p ≡ r → ⊥ }
-        ensures { IsTrue result → (t u : ℕ) → AreConsistent self.now.problem p t r u ↔ ((t ≡ u → ⊥) × (is_neighbour self.now.problem.target t u ≡ false)) }
+        ensures { IsTrue result → (t u : ℕ)
+            → AreConsistent self.now.problem p t r u
+            ↔ ((t ≡ u → ⊥) × (is_neighbour self.now.problem.target t u ≡ false)) }
     {
         let pair = usize::from(p) * self.vertices + usize::from(r);
         asks_no_edge(self.problem, &self.kinds[self.places[pair] as usize])
@@ -89,8 +91,10 @@ impl<'a> PairKinds<'a> {
     pub fn neighbours(&self, t: u16) -> Option<&[u16]>
         requires t_in { t < size self.now.problem.target }
         ensures few { is_some result ≡ is_listed self.now.problem t }
-        ensures listed { IfSome result (λ us. (u : ℕ) → stands_in us.now u ≡ is_neighbour self.now.problem.target t u) }
-        ensures within { IfSome result (λ us. (u : ℕ) → stands_in us.now u ≡ true → u < size self.now.problem.target) }
+        ensures listed { IfSome result
+            (λ us. (u : ℕ) → stands_in us.now u ≡ is_neighbour self.now.problem.target t u) }
+        ensures within { IfSome result
+            (λ us. (u : ℕ) → stands_in us.now u ≡ true → u < size self.now.problem.target) }
     {
         self.near.of(t)
     }

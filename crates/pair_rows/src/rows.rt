@@ -112,7 +112,8 @@ impl<'a> PairRows<'a> {
         ensures long { length result.now ≡ words_for (size self.now.problem.target) }
         ensures right { (u : ℕ) → has result.now u ≡ true → AreConsistent self.now.problem p t r u }
         ensures within { (u : ℕ) → has result.now u ≡ true → u < size self.now.problem.target }
-        ensures complete { (u : ℕ) → AreConsistent self.now.problem p t r u → u < size self.now.problem.target → has result.now u ≡ true }
+        ensures complete { (u : ℕ) → AreConsistent self.now.problem p t r u
+            → u < size self.now.problem.target → has result.now u ≡ true }
     {
         let kinds = self.kinds;
         let place = kinds.places[usize::from(p) * kinds.vertices + usize::from(r)] as usize;
@@ -136,7 +137,9 @@ impl<'a> PairRows<'a> {
         requires p_in { p < size self.now.problem.pattern }
         requires r_in { r < size self.now.problem.pattern }
         requires apart { p ≡ r → ⊥ }
-        ensures { IsTrue result → (t u : ℕ) → AreConsistent self.now.problem p t r u ↔ ((t ≡ u → ⊥) × (is_neighbour self.now.problem.target t u ≡ false)) }
+        ensures { IsTrue result → (t u : ℕ)
+            → AreConsistent self.now.problem p t r u
+            ↔ ((t ≡ u → ⊥) × (is_neighbour self.now.problem.target t u ≡ false)) }
     {
         self.kinds.is_bare(p, r)
     }
@@ -145,8 +148,10 @@ impl<'a> PairRows<'a> {
     pub fn neighbours(&self, t: u16) -> Option<&[u16]>
         requires t_in { t < size self.now.problem.target }
         ensures few { is_some result ≡ is_listed self.now.problem t }
-        ensures listed { IfSome result (λ us. (u : ℕ) → stands_in us.now u ≡ is_neighbour self.now.problem.target t u) }
-        ensures within { IfSome result (λ us. (u : ℕ) → stands_in us.now u ≡ true → u < size self.now.problem.target) }
+        ensures listed { IfSome result
+            (λ us. (u : ℕ) → stands_in us.now u ≡ is_neighbour self.now.problem.target t u) }
+        ensures within { IfSome result
+            (λ us. (u : ℕ) → stands_in us.now u ≡ true → u < size self.now.problem.target) }
     {
         self.kinds.neighbours(t)
     }

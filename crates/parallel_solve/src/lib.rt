@@ -11,8 +11,6 @@ pub mod job;
 pub mod solving;
 mod tally;
 mod team;
-#[cfg(test)]
-mod tests;
 
 pub use answers::{Settings, Solved};
 pub use search_proof::{Logged, Proof};

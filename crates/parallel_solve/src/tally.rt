@@ -81,7 +81,9 @@ fn gather_all<'a, L: ProofLogger>(
     requires log_room { length done.items ≤ vec_capacity logs.old }
     requires of { IsSeatOf book.now first.old }
     requires made { HasMade (length done.items + 1) first.old.view }
-    requires ran { All (λ d. HasRun L.owner L.steps L.refutes book.now q.now budget d.worker d.outcome) done.items }
+    requires ran { All
+        (λ d. HasRun L.owner L.steps L.refutes book.now q.now budget d.worker d.outcome)
+        done.items }
     requires numbers { AreOfOwners (λ d. d.worker.number) done.items }
     ensures tally { IsTally q.now budget result }
     ensures count { length result.accounts.items ≡ length done.entry.items }
@@ -139,7 +141,8 @@ fn answer<L: ProofLogger, M: ProofMaker<L>>(
     requires owners { AreOfOwners L.owner logs.items }
     requires authors { AreBy (length logs.items) rows.now }
     requires steps { All (λ l. L.steps l q.now rows.now) logs.items }
-    requires refuter { IfSome tally.refuted (IsRefuter (λ l. L.refutes l q.now rows.now) logs.items) }
+    requires refuter { IfSome tally.refuted
+        (IsRefuter (λ l. L.refutes l q.now rows.now) logs.items) }
     ensures { IsSolved result q.now (length tally.accounts.items) budget (M.logged maker.now) }
 {
     let Tally {
@@ -184,7 +187,9 @@ pub(crate) fn conclude<'a, L: ProofLogger, M: ProofMaker<L>>(
     requires few { length done.items ≤ 64 }
     requires of { IsSeatOf book.now first.old }
     requires made { HasMade (length done.items + 1) first.old.view }
-    requires ran { All (λ d. HasRun L.owner L.steps L.refutes book.now q.now budget d.worker d.outcome) done.items }
+    requires ran { All
+        (λ d. HasRun L.owner L.steps L.refutes book.now q.now budget d.worker d.outcome)
+        done.items }
     requires numbers { AreOfOwners (λ d. d.worker.number) done.items }
     ensures { IsSolved result q.now (length done.entry.items) budget (M.logged maker.now) }
 {

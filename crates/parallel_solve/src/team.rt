@@ -169,8 +169,10 @@ fn go_on<'a, G: Gate, L: ProofLogger>(
     gate: &G,
     one: &mut Done<'a, L>,
 ) -> bool
-    requires { HasRun L.owner L.steps L.refutes book.now q.now budget one.old.worker one.old.outcome }
-    ensures ran { HasRun L.owner L.steps L.refutes book.now q.now budget one.new.worker one.new.outcome }
+    requires { HasRun L.owner L.steps L.refutes book.now q.now budget one.old.worker
+        one.old.outcome }
+    ensures ran { HasRun L.owner L.steps L.refutes book.now q.now budget one.new.worker
+        one.new.outcome }
     ensures number { one.new.worker.number ≡ one.old.worker.number }
     ensures alone { IsNotStopped one.new.outcome }
 {
@@ -194,10 +196,12 @@ fn finish<'a, G: Gate, L: ProofLogger>(
     gate: &G,
     done: &mut Vec<Done<'a, L>>,
 )
-    requires ran { All (λ d. HasRun L.owner L.steps L.refutes book.now q.now budget d.worker d.outcome)
+    requires ran { All
+        (λ d. HasRun L.owner L.steps L.refutes book.now q.now budget d.worker d.outcome)
         done.old.items }
     requires numbers { AreOfOwners (λ d. d.worker.number) done.old.items }
-    ensures ran { All (λ d. HasRun L.owner L.steps L.refutes book.now q.now budget d.worker d.outcome)
+    ensures ran { All
+        (λ d. HasRun L.owner L.steps L.refutes book.now q.now budget d.worker d.outcome)
         done.new.items }
     ensures numbers { AreOfOwners (λ d. d.worker.number) done.new.items }
     ensures count { length done.new.items ≡ length done.old.items }
@@ -227,7 +231,8 @@ where
     requires jobs { All (λ w. IsJob L.owner book.now q.now budget w) jobs.items }
     requires numbers { AreOfOwners (λ w. w.number) jobs.items }
     ensures ran { IfOk result (λ v. All
-        (λ d. HasRun L.owner L.steps L.refutes book.now q.entry.now budget d.worker d.outcome) v.items) }
+        (λ d. HasRun L.owner L.steps L.refutes book.now q.entry.now budget d.worker d.outcome)
+        v.items) }
     ensures numbers { IfOk result (λ v. AreOfOwners (λ d. d.worker.number) v.items) }
     ensures count { IfOk result (λ v. length v.items ≡ length jobs.entry.items) }
 {

@@ -1,7 +1,9 @@
 //! What `encode` answers.
 
 use crate::running::{EDGE, run_pair};
+use std::alloc::{AllocError, Global};
 use std::test::Fail;
+use std::thread::Threads;
 
 const EDGE_INTO_EDGE: &str = "* #variable= 4 #constraint= 10
 +1 x1 +1 x2 >= 1 ;
@@ -24,72 +26,105 @@ const LOOP_INTO_TWO: &str = "* #variable= 2 #constraint= 5
 -1 x1 >= 0 ;
 ";
 
-/// Words, pattern, target, status, output and error line.
-static ROWS: [(&str, &str, &str, u8, &str, &str); 8] = [
-    (
-        "subgraph encode p t",
-        "0\n",
-        "0\n",
-        0,
-        "* #variable= 0 #constraint= 0\n",
-        "",
-    ),
-    (
-        "subgraph encode p t",
-        "1\n0\n",
-        "0\n",
-        0,
-        "* #variable= 0 #constraint= 2\n>= 1 ;\n>= -1 ;\n",
-        "",
-    ),
-    (
-        "subgraph encode p t",
-        "1\n1 0\n",
-        "2\n0\n1 1\n",
-        0,
-        LOOP_INTO_TWO,
-        "",
-    ),
-    ("subgraph encode p t", EDGE, EDGE, 0, EDGE_INTO_EDGE, ""),
-    (
-        "subgraph encode p t --format vertexlabelledlad",
-        "1\n1 0\n",
-        "1\n1 0\n",
-        0,
-        "* #variable= 1 #constraint= 3\n+1 x1 >= 1 ;\n-1 x1 >= -1 ;\n-1 x1 >= -1 ;\n",
-        "",
-    ),
-    (
-        "subgraph encode p t",
-        "1\nx\n",
-        "1\nx\n",
-        4,
-        "",
-        "pattern: word 2: NotNumber\n",
-    ),
-    (
-        "subgraph encode p t --induced",
-        EDGE,
-        "1\nx\n",
-        4,
-        "",
-        "target: word 2: NotNumber\n",
-    ),
-    (
-        "subgraph encode p absent",
-        EDGE,
-        EDGE,
-        5,
-        "",
-        "files: fault\n",
-    ),
+/// Words, the graphs in the files `p` and `t`, and what a run ends with.
+struct Encoded {
+    line: &'static str,
+    pattern: &'static str,
+    target: &'static str,
+    status: u8,
+    out: &'static str,
+    err: &'static str,
+}
+
+/// Whether the runs of a row end so.
+fn holds<R: Threads + Sync>(rt: &R, alloc: Global, row: &Encoded) -> Result<bool, AllocError> {
+    let ran = run_pair(rt, alloc, row.line, row.pattern, row.target)?;
+    Ok(ran.gave(row.status, row.out, row.err))
+}
+
+/// The place, from 0, of the first row that does not hold.
+fn first_wrong<R: Threads + Sync>(
+    rt: &R,
+    alloc: Global,
+    rows: &[Encoded],
+) -> Result<Option<usize>, AllocError> {
+    for (at, row) in rows.iter().enumerate() {
+        if !holds(rt, alloc, row)? {
+            return Ok(Some(at));
+        }
+    }
+    Ok(None)
+}
+
+static ENCODED: [Encoded; 8] = [
+    Encoded {
+        line: "subgraph encode p t",
+        pattern: "0\n",
+        target: "0\n",
+        status: 0,
+        out: "* #variable= 0 #constraint= 0\n",
+        err: "",
+    },
+    Encoded {
+        line: "subgraph encode p t",
+        pattern: "1\n0\n",
+        target: "0\n",
+        status: 0,
+        out: "* #variable= 0 #constraint= 2\n>= 1 ;\n>= -1 ;\n",
+        err: "",
+    },
+    Encoded {
+        line: "subgraph encode p t",
+        pattern: "1\n1 0\n",
+        target: "2\n0\n1 1\n",
+        status: 0,
+        out: LOOP_INTO_TWO,
+        err: "",
+    },
+    Encoded {
+        line: "subgraph encode p t",
+        pattern: EDGE,
+        target: EDGE,
+        status: 0,
+        out: EDGE_INTO_EDGE,
+        err: "",
+    },
+    Encoded {
+        line: "subgraph encode p t --format vertexlabelledlad",
+        pattern: "1\n1 0\n",
+        target: "1\n1 0\n",
+        status: 0,
+        out: "* #variable= 1 #constraint= 3\n+1 x1 >= 1 ;\n-1 x1 >= -1 ;\n-1 x1 >= -1 ;\n",
+        err: "",
+    },
+    Encoded {
+        line: "subgraph encode p t",
+        pattern: "1\nx\n",
+        target: "1\nx\n",
+        status: 4,
+        out: "",
+        err: "pattern: word 2: NotNumber\n",
+    },
+    Encoded {
+        line: "subgraph encode p t --induced",
+        pattern: EDGE,
+        target: "1\nx\n",
+        status: 4,
+        out: "",
+        err: "target: word 2: NotNumber\n",
+    },
+    Encoded {
+        line: "subgraph encode p absent",
+        pattern: EDGE,
+        target: EDGE,
+        status: 5,
+        out: "",
+        err: "files: fault\n",
+    },
 ];
 
 #[test]
 fn each_problem_has_its_text(rt: HostRuntime) -> Result<(), Fail> {
-    for (line, pattern, target, status, out, err) in ROWS {
-        let ran = run_pair(&rt, rt.alloc(), line, pattern, target)?;
-        assert!(rt; ran.gave(status, out, err), "{line}: {pattern}");
-    }
+    assert_eq!(rt; first_wrong(&rt, rt.alloc(), &ENCODED)?, None);
     Ok(())
 }

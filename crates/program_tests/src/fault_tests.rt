@@ -25,110 +25,267 @@ fn run_failing<R: Threads + Sync>(
     run_over(rt, alloc, line, parts(alloc, &texts)?, failing)
 }
 
-/// Words, and the numbers of the first calls on files and on the output that a run no longer makes.
-static RUNS: [(&str, u64, u64); 4] = [
-    ("subgraph solve p t", 7, 10),
-    ("subgraph verify p t m", 10, 2),
-    ("subgraph encode p t", 7, 7),
-    ("subgraph check e l", 7, 2),
+/// Runs the same, with this call on the files failing.
+fn run_files<R: Threads + Sync>(
+    rt: &R,
+    alloc: Global,
+    line: &str,
+    number: u64,
+) -> Result<Ran, AllocError> {
+    let failing = Failing {
+        files: number,
+        ..CLEAN
+    };
+    run_failing(rt, alloc, line, failing)
+}
+
+/// Runs the same, with this call on the output failing.
+fn run_out<R: Threads + Sync>(
+    rt: &R,
+    alloc: Global,
+    line: &str,
+    number: u64,
+) -> Result<Ran, AllocError> {
+    let failing = Failing {
+        out: number,
+        ..CLEAN
+    };
+    run_failing(rt, alloc, line, failing)
+}
+
+/// Words, and the number of the first call on the files that a run no longer makes.
+struct OfFiles {
+    line: &'static str,
+    beyond: u64,
+}
+
+/// Whether a fault of each earlier call is told.
+fn are_told<R: Threads + Sync>(
+    rt: &R,
+    alloc: Global,
+    faults: &OfFiles,
+) -> Result<bool, AllocError> {
+    for number in 1..faults.beyond {
+        let ran = run_files(rt, alloc, faults.line, number)?;
+        if !ran.gave(5, "", "files: fault\n") {
+            return Ok(false);
+        }
+    }
+    Ok(true)
+}
+
+/// Whether the runs of a row end so.
+fn holds_of_files<R: Threads + Sync>(
+    rt: &R,
+    alloc: Global,
+    row: &OfFiles,
+) -> Result<bool, AllocError> {
+    let ran = run_files(rt, alloc, row.line, row.beyond)?;
+    Ok(ran.status == 0 && are_told(rt, alloc, row)?)
+}
+
+/// The place, from 0, of the first row that does not hold.
+fn first_wrong_of_files<R: Threads + Sync>(
+    rt: &R,
+    alloc: Global,
+    rows: &[OfFiles],
+) -> Result<Option<usize>, AllocError> {
+    for (at, row) in rows.iter().enumerate() {
+        if !holds_of_files(rt, alloc, row)? {
+            return Ok(Some(at));
+        }
+    }
+    Ok(None)
+}
+
+static OF_FILES: [OfFiles; 4] = [
+    OfFiles {
+        line: "subgraph solve p t",
+        beyond: 7,
+    },
+    OfFiles {
+        line: "subgraph verify p t m",
+        beyond: 10,
+    },
+    OfFiles {
+        line: "subgraph encode p t",
+        beyond: 7,
+    },
+    OfFiles {
+        line: "subgraph check e l",
+        beyond: 7,
+    },
 ];
 
 #[test]
 fn each_fault_of_the_files_is_told(rt: HostRuntime) -> Result<(), Fail> {
-    for (line, beyond, _) in RUNS {
-        for number in 1..beyond {
-            let ran = run_failing(
-                &rt,
-                rt.alloc(),
-                line,
-                Failing {
-                    files: number,
-                    ..CLEAN
-                },
-            )?;
-            assert!(rt; ran.gave(5, "", "files: fault\n"), "{line}: {number}");
-        }
-        let ran = run_failing(
-            &rt,
-            rt.alloc(),
-            line,
-            Failing {
-                files: beyond,
-                ..CLEAN
-            },
-        )?;
-        assert!(rt; ran.status == 0, "{line}");
-    }
+    assert_eq!(rt; first_wrong_of_files(&rt, rt.alloc(), &OF_FILES)?, None);
     Ok(())
 }
+
+/// Words, and the number of the first call on the output that a run no longer makes.
+struct OfOutput {
+    line: &'static str,
+    beyond: u64,
+}
+
+/// Whether a run tells a fault of its output, and has written a part of the whole, from its beginning.
+fn is_cut_off(ran: &Ran, whole: &Ran) -> bool {
+    let (written, all) = (ran.out.bytes(), whole.out.bytes());
+    ran.ended(5, "output: fault\n") && written.len() < all.len() && all.starts_with(written)
+}
+
+/// Whether a fault of each earlier call cuts the output off.
+fn are_cut_off<R: Threads + Sync>(
+    rt: &R,
+    alloc: Global,
+    faults: &OfOutput,
+    whole: &Ran,
+) -> Result<bool, AllocError> {
+    for number in 1..faults.beyond {
+        let ran = run_out(rt, alloc, faults.line, number)?;
+        if !is_cut_off(&ran, whole) {
+            return Ok(false);
+        }
+    }
+    Ok(true)
+}
+
+/// Whether the runs of a row end so.
+fn holds_of_output<R: Threads + Sync>(
+    rt: &R,
+    alloc: Global,
+    row: &OfOutput,
+) -> Result<bool, AllocError> {
+    let whole = run_failing(rt, alloc, row.line, CLEAN)?;
+    let beyond = run_out(rt, alloc, row.line, row.beyond)?;
+    Ok(beyond.status == 0 && are_cut_off(rt, alloc, row, &whole)?)
+}
+
+/// The place, from 0, of the first row that does not hold.
+fn first_wrong_of_output<R: Threads + Sync>(
+    rt: &R,
+    alloc: Global,
+    rows: &[OfOutput],
+) -> Result<Option<usize>, AllocError> {
+    for (at, row) in rows.iter().enumerate() {
+        if !holds_of_output(rt, alloc, row)? {
+            return Ok(Some(at));
+        }
+    }
+    Ok(None)
+}
+
+static OF_OUTPUT: [OfOutput; 4] = [
+    OfOutput {
+        line: "subgraph solve p t",
+        beyond: 10,
+    },
+    OfOutput {
+        line: "subgraph verify p t m",
+        beyond: 2,
+    },
+    OfOutput {
+        line: "subgraph encode p t",
+        beyond: 7,
+    },
+    OfOutput {
+        line: "subgraph check e l",
+        beyond: 2,
+    },
+];
 
 #[test]
 fn each_fault_of_the_output_is_told(rt: HostRuntime) -> Result<(), Fail> {
-    for (line, _, beyond) in RUNS {
-        let whole = run_failing(&rt, rt.alloc(), line, CLEAN)?;
-        for number in 1..beyond {
-            let ran = run_failing(
-                &rt,
-                rt.alloc(),
-                line,
-                Failing {
-                    out: number,
-                    ..CLEAN
-                },
-            )?;
-            assert!(rt; ran.status == 5, "{line}: {number}");
-            assert!(rt;
-                ran.err.bytes() == "output: fault\n".as_bytes(),
-                "{line}: {number}"
-            );
-            assert!(rt;
-                ran.out.bytes().len() < whole.out.bytes().len(),
-                "{line}: {number}"
-            );
-            assert!(rt;
-                whole.out.bytes().starts_with(ran.out.bytes()),
-                "{line}: {number}"
-            );
-        }
-        let ran = run_failing(
-            &rt,
-            rt.alloc(),
-            line,
-            Failing {
-                out: beyond,
-                ..CLEAN
-            },
-        )?;
-        assert!(rt; ran.status == 0, "{line}");
-    }
+    assert_eq!(rt; first_wrong_of_output(&rt, rt.alloc(), &OF_OUTPUT)?, None);
     Ok(())
 }
 
-#[test]
-fn a_fault_of_the_error_stream_changes_no_status(rt: HostRuntime) -> Result<(), Fail> {
-    let rows = [
-        ("subgraph solve p", 3),
-        ("subgraph solve m t", 4),
-        ("subgraph solve absent t", 5),
-        ("subgraph verify p t t", 4),
-        ("subgraph encode m t", 4),
-        ("subgraph verify p t b", 7),
-        ("subgraph check e r", 7),
-        ("subgraph check e absent", 5),
-    ];
-    for (line, status) in rows {
-        for number in 1..=6 {
-            let ran = run_failing(
-                &rt,
-                rt.alloc(),
-                line,
-                Failing {
-                    err: number,
-                    ..CLEAN
-                },
-            )?;
-            assert!(rt; ran.status == status, "{line}: {number}");
+/// Words, and the status with which a run ends wherever a call on its error stream fails.
+struct OfErrors {
+    line: &'static str,
+    status: u8,
+}
+
+/// Runs the same, with this call on the error stream failing.
+fn run_err<R: Threads + Sync>(
+    rt: &R,
+    alloc: Global,
+    line: &str,
+    number: u64,
+) -> Result<Ran, AllocError> {
+    let failing = Failing {
+        err: number,
+        ..CLEAN
+    };
+    run_failing(rt, alloc, line, failing)
+}
+
+/// Whether the runs of a row end so.
+fn holds_of_errors<R: Threads + Sync>(
+    rt: &R,
+    alloc: Global,
+    row: &OfErrors,
+) -> Result<bool, AllocError> {
+    for number in 1..7 {
+        if run_err(rt, alloc, row.line, number)?.status != row.status {
+            return Ok(false);
         }
     }
+    Ok(true)
+}
+
+/// The place, from 0, of the first row that does not hold.
+fn first_wrong_of_errors<R: Threads + Sync>(
+    rt: &R,
+    alloc: Global,
+    rows: &[OfErrors],
+) -> Result<Option<usize>, AllocError> {
+    for (at, row) in rows.iter().enumerate() {
+        if !holds_of_errors(rt, alloc, row)? {
+            return Ok(Some(at));
+        }
+    }
+    Ok(None)
+}
+
+static OF_ERRORS: [OfErrors; 8] = [
+    OfErrors {
+        line: "subgraph solve p",
+        status: 3,
+    },
+    OfErrors {
+        line: "subgraph solve m t",
+        status: 4,
+    },
+    OfErrors {
+        line: "subgraph solve absent t",
+        status: 5,
+    },
+    OfErrors {
+        line: "subgraph verify p t t",
+        status: 4,
+    },
+    OfErrors {
+        line: "subgraph encode m t",
+        status: 4,
+    },
+    OfErrors {
+        line: "subgraph verify p t b",
+        status: 7,
+    },
+    OfErrors {
+        line: "subgraph check e r",
+        status: 7,
+    },
+    OfErrors {
+        line: "subgraph check e absent",
+        status: 5,
+    },
+];
+
+#[test]
+fn a_fault_of_the_error_stream_changes_no_status(rt: HostRuntime) -> Result<(), Fail> {
+    assert_eq!(rt; first_wrong_of_errors(&rt, rt.alloc(), &OF_ERRORS)?, None);
     Ok(())
 }

@@ -23,3 +23,5 @@ mod solve_tests;
 mod verify_tests;
 #[cfg(test)]
 mod whole_tests;
+#[cfg(test)]
+mod word_tests;

@@ -11,103 +11,23 @@ const HEAD: &str = "embedding proof 1\nm 34\n";
 /// The first line of the encoding of a triangle in a cycle of four vertices.
 const FIRST_LINE: &str = "* #variable= 12 #constraint= 34\n";
 
-/// An answer and what shows it: words, pattern, target, status, output, the first lines of the encoding, the front of the log or all of it,
-/// and what a check of it tells.
-static SHOWN: [(&str, &str, &str, u8, &str, &str, &str, &str); 9] = [
-    (
-        "subgraph solve p t --prove e --log l",
-        TRIANGLE,
-        FOUR_CYCLE,
-        1,
-        "none\n",
-        FIRST_LINE,
-        HEAD,
-        "accepted unsatisfiable\n",
-    ),
-    (
-        "subgraph solve p t --prove e --log l --threads 8",
-        TRIANGLE,
-        FOUR_CYCLE,
-        1,
-        "none\n",
-        FIRST_LINE,
-        HEAD,
-        "accepted unsatisfiable\n",
-    ),
-    (
-        "subgraph solve p t --prove e --log l --threads 64",
-        TRIANGLE,
-        FOUR_CYCLE,
-        1,
-        "none\n",
-        FIRST_LINE,
-        HEAD,
-        "accepted unsatisfiable\n",
-    ),
-    (
-        "subgraph solve p t --prove e --log l --threads 64",
-        "3\n0\n0\n0\n",
-        "2\n0\n0\n",
-        1,
-        "none\n",
-        "* #variable= 6 #constraint= 8\n",
-        "embedding proof 1\nm 8\n",
-        "accepted unsatisfiable\n",
-    ),
-    (
-        "subgraph solve p t --prove e --log l",
-        "1\n0\n",
-        "0\n",
-        1,
-        "none\n",
-        "* #variable= 0 #constraint= 2\n>= 1 ;\n>= -1 ;\n",
-        "embedding proof 1\nm 2\n",
-        "accepted unsatisfiable\n",
-    ),
-    (
-        "subgraph solve p t --prove e --log l",
-        "1\n1 0\n",
-        "2\n0\n1 1\n",
-        0,
-        "yes\n0 -> 1\n",
-        "* #variable= 2 #constraint= 5\n",
-        "embedding proof 1\nm 5\ny x2\n",
-        "accepted satisfiable\n",
-    ),
-    (
-        "subgraph solve p t --log l --threads 64 --prove e",
-        "0\n",
-        "0\n",
-        0,
-        "yes\n",
-        "* #variable= 0 #constraint= 0\n",
-        "embedding proof 1\nm 0\ny\n",
-        "accepted satisfiable\n",
-    ),
-    (
-        "subgraph solve p t --induced --prove e --log l",
-        "1\n0\n",
-        "2\n0\n1 1\n",
-        0,
-        "yes\n0 -> 0\n",
-        "* #variable= 2 #constraint= 5\n",
-        "embedding proof 1\nm 5\ny x1\n",
-        "accepted satisfiable\n",
-    ),
-    (
-        "subgraph solve p t --budget 3 --prove e --log l",
-        TRIANGLE,
-        FOUR_CYCLE,
-        2,
-        "unknown\n",
-        FIRST_LINE,
-        "embedding proof 1\nm 34\nq\n",
-        "accepted undecided\n",
-    ),
-];
+/// An answer, and what shows it.
+struct Shown {
+    line: &'static str,
+    pattern: &'static str,
+    target: &'static str,
+    status: u8,
+    out: &'static str,
+    /// The first lines of the encoding.
+    encoding: &'static str,
+    /// The front of the log, or all of it.
+    log: &'static str,
+    /// What a check of the log tells.
+    told: &'static str,
+}
 
-/// Whether a check of what shows an answer tells this.
-fn is_told<R: Threads + Sync>(
+/// Whether a check of the log over the encoding ends so.
+fn is_checked<R: Threads + Sync>(
     rt: &R,
     alloc: Global,
     ran: &Ran,
@@ -119,19 +39,130 @@ fn is_told<R: Threads + Sync>(
     Ok(checked.gave(status, out, err))
 }
 
-/// Whether the files that show an answer begin so.
-fn begins(ran: &Ran, encoding: &str, log: &str) -> bool {
-    ran.file("e").starts_with(encoding.as_bytes()) && ran.file("l").starts_with(log.as_bytes())
+/// Whether a run gave the answer, and its files begin as the example tells.
+fn begins(ran: &Ran, shown: &Shown) -> bool {
+    ran.gave(shown.status, shown.out, "")
+        && ran.file("e").starts_with(shown.encoding.as_bytes())
+        && ran.file("l").starts_with(shown.log.as_bytes())
 }
+
+/// Whether the runs of a row end so.
+fn holds<R: Threads + Sync>(rt: &R, alloc: Global, row: &Shown) -> Result<bool, AllocError> {
+    let ran = run_proof(rt, alloc, row.line, row.pattern, row.target, CLEAN)?;
+    let is_accepted = is_checked(rt, alloc, &ran, 0, row.told, "")?;
+    Ok(is_accepted && begins(&ran, row))
+}
+
+/// The place, from 0, of the first row that does not hold.
+fn first_wrong<R: Threads + Sync>(
+    rt: &R,
+    alloc: Global,
+    rows: &[Shown],
+) -> Result<Option<usize>, AllocError> {
+    for (at, row) in rows.iter().enumerate() {
+        if !holds(rt, alloc, row)? {
+            return Ok(Some(at));
+        }
+    }
+    Ok(None)
+}
+
+static SHOWN: [Shown; 9] = [
+    Shown {
+        line: "subgraph solve p t --prove e --log l",
+        pattern: TRIANGLE,
+        target: FOUR_CYCLE,
+        status: 1,
+        out: "none\n",
+        encoding: FIRST_LINE,
+        log: HEAD,
+        told: "accepted unsatisfiable\n",
+    },
+    Shown {
+        line: "subgraph solve p t --prove e --log l --threads 8",
+        pattern: TRIANGLE,
+        target: FOUR_CYCLE,
+        status: 1,
+        out: "none\n",
+        encoding: FIRST_LINE,
+        log: HEAD,
+        told: "accepted unsatisfiable\n",
+    },
+    Shown {
+        line: "subgraph solve p t --prove e --log l --threads 64",
+        pattern: TRIANGLE,
+        target: FOUR_CYCLE,
+        status: 1,
+        out: "none\n",
+        encoding: FIRST_LINE,
+        log: HEAD,
+        told: "accepted unsatisfiable\n",
+    },
+    Shown {
+        line: "subgraph solve p t --prove e --log l --threads 64",
+        pattern: "3\n0\n0\n0\n",
+        target: "2\n0\n0\n",
+        status: 1,
+        out: "none\n",
+        encoding: "* #variable= 6 #constraint= 8\n",
+        log: "embedding proof 1\nm 8\n",
+        told: "accepted unsatisfiable\n",
+    },
+    Shown {
+        line: "subgraph solve p t --prove e --log l",
+        pattern: "1\n0\n",
+        target: "0\n",
+        status: 1,
+        out: "none\n",
+        encoding: "* #variable= 0 #constraint= 2\n>= 1 ;\n>= -1 ;\n",
+        log: "embedding proof 1\nm 2\n",
+        told: "accepted unsatisfiable\n",
+    },
+    Shown {
+        line: "subgraph solve p t --prove e --log l",
+        pattern: "1\n1 0\n",
+        target: "2\n0\n1 1\n",
+        status: 0,
+        out: "yes\n0 -> 1\n",
+        encoding: "* #variable= 2 #constraint= 5\n",
+        log: "embedding proof 1\nm 5\ny x2\n",
+        told: "accepted satisfiable\n",
+    },
+    Shown {
+        line: "subgraph solve p t --log l --threads 64 --prove e",
+        pattern: "0\n",
+        target: "0\n",
+        status: 0,
+        out: "yes\n",
+        encoding: "* #variable= 0 #constraint= 0\n",
+        log: "embedding proof 1\nm 0\ny\n",
+        told: "accepted satisfiable\n",
+    },
+    Shown {
+        line: "subgraph solve p t --induced --prove e --log l",
+        pattern: "1\n0\n",
+        target: "2\n0\n1 1\n",
+        status: 0,
+        out: "yes\n0 -> 0\n",
+        encoding: "* #variable= 2 #constraint= 5\n",
+        log: "embedding proof 1\nm 5\ny x1\n",
+        told: "accepted satisfiable\n",
+    },
+    Shown {
+        line: "subgraph solve p t --budget 3 --prove e --log l",
+        pattern: TRIANGLE,
+        target: FOUR_CYCLE,
+        status: 2,
+        out: "unknown\n",
+        encoding: FIRST_LINE,
+        log: "embedding proof 1\nm 34\nq\n",
+        told: "accepted undecided\n",
+    },
+];
 
 #[test]
 fn each_answer_is_shown(rt: HostRuntime) -> Result<(), Fail> {
-    for (line, pattern, target, status, out, encoding, log, told) in SHOWN {
-        let ran = run_proof(&rt, rt.alloc(), line, pattern, target, CLEAN)?;
-        let is_shown = ran.gave(status, out, "") && begins(&ran, encoding, log);
-        let is_accepted = is_told(&rt, rt.alloc(), &ran, 0, told, "")?;
-        assert!(rt; is_shown && is_accepted, "{line}");
-    }
+    assert_eq!(rt; first_wrong(&rt, rt.alloc(), &SHOWN)?, None);
     Ok(())
 }
 
@@ -161,25 +192,71 @@ fn is_front(ran: &Ran, whole: &Ran) -> bool {
         && (log.is_empty() || encoding.len() == whole.file("e").len())
 }
 
+/// What a run with one call on the files failing comes to.
+#[derive(Clone, Copy, PartialEq, Eq)]
+enum Faulty {
+    /// There is no such call: the triangle is refuted.
+    Refuted,
+    /// The fault is told, and its files hold front parts.
+    Front,
+    /// Neither.
+    Wrong,
+}
+
+/// What the run comes to where that call on the files fails.
+fn fault_at<R: Threads + Sync>(
+    rt: &R,
+    alloc: Global,
+    whole: &Ran,
+    number: u64,
+) -> Result<Faulty, AllocError> {
+    let ran = refute_but(rt, alloc, number)?;
+    if ran.status == 1 {
+        return Ok(Faulty::Refuted);
+    }
+    if ran.gave(5, "", "files: fault\n") && is_front(&ran, whole) {
+        return Ok(Faulty::Front);
+    }
+    Ok(Faulty::Wrong)
+}
+
+/// What the first run comes to that leaves no front part, of those where one call after the other fails.
+fn first_without_front<R: Threads + Sync>(
+    rt: &R,
+    alloc: Global,
+    whole: &Ran,
+) -> Result<Faulty, AllocError> {
+    for number in 1..1000 {
+        let faulty = fault_at(rt, alloc, whole, number)?;
+        if faulty != Faulty::Front {
+            return Ok(faulty);
+        }
+    }
+    Ok(Faulty::Wrong)
+}
+
 #[test]
 fn each_fault_of_a_file_leaves_a_front_part(rt: HostRuntime) -> Result<(), Fail> {
     let whole = refute(&rt, rt.alloc(), CLEAN)?;
-    for number in 1..1000 {
-        let ran = refute_but(&rt, rt.alloc(), number)?;
-        if ran.status == 1 {
-            return Ok(());
-        }
-        let is_fault = ran.gave(5, "", "files: fault\n");
-        assert!(rt; is_fault && is_front(&ran, &whole), "{number}");
-    }
-    Err("some call fails always")?
+    let faulty = first_without_front(&rt, rt.alloc(), &whole)?;
+    assert!(rt; faulty == Faulty::Refuted);
+    Ok(())
 }
 
-/// The number of the first call on the files whose fault leaves the two head lines of the log, or 0.
+/// Whether a fault of that call on the files leaves the two head lines of the log.
+fn is_after_the_head<R: Threads + Sync>(
+    rt: &R,
+    alloc: Global,
+    number: u64,
+) -> Result<bool, AllocError> {
+    let ran = refute_but(rt, alloc, number)?;
+    Ok(ran.file("l") == HEAD.as_bytes())
+}
+
+/// The number of the first such call, or 0.
 fn call_after_the_head<R: Threads + Sync>(rt: &R, alloc: Global) -> Result<u64, AllocError> {
     for number in 1..1000 {
-        let ran = refute_but(rt, alloc, number)?;
-        if ran.file("l") == HEAD.as_bytes() {
+        if is_after_the_head(rt, alloc, number)? {
             return Ok(number);
         }
     }
@@ -190,26 +267,46 @@ fn call_after_the_head<R: Threads + Sync>(rt: &R, alloc: Global) -> Result<u64, 
 fn a_log_of_two_lines_ends_early(rt: HostRuntime) -> Result<(), Fail> {
     let number = call_after_the_head(&rt, rt.alloc())?;
     let ran = refute_but(&rt, rt.alloc(), number)?;
-    let is_early = is_told(&rt, rt.alloc(), &ran, 7, "", "log: line 3: EndsEarly\n")?;
+    let is_early = is_checked(&rt, rt.alloc(), &ran, 7, "", "log: line 3: EndsEarly\n")?;
     assert!(rt; is_early);
     Ok(())
+}
+
+/// Whether a run that could not tell its answer has written the same files as one that could.
+fn is_untold(ran: &Ran, whole: &Ran) -> bool {
+    ran.gave(5, "", "output: fault\n")
+        && ran.file("e") == whole.file("e")
+        && ran.file("l") == whole.file("l")
 }
 
 #[test]
 fn a_fault_of_the_output_leaves_the_proof_whole(rt: HostRuntime) -> Result<(), Fail> {
     let whole = refute(&rt, rt.alloc(), CLEAN)?;
     let ran = refute(&rt, rt.alloc(), Failing { out: 1, ..CLEAN })?;
-    let is_whole = ran.file("e") == whole.file("e") && ran.file("l") == whole.file("l");
-    assert!(rt; is_whole && ran.gave(5, "", "output: fault\n"));
+    assert!(rt; is_untold(&ran, &whole));
+    Ok(())
+}
+
+/// Whether nothing is written where one of these texts is refused.
+fn is_untouched<R: Threads + Sync>(
+    rt: &R,
+    alloc: Global,
+    pattern: &str,
+    target: &str,
+) -> Result<bool, AllocError> {
+    let ran = run_proof(rt, alloc, REFUTES, pattern, target, CLEAN)?;
+    let is_written = ran.files.content("e").is_some() || ran.files.content("l").is_some();
+    Ok(ran.status == 4 && !is_written)
+}
+
+#[test]
+fn nothing_is_written_where_the_pattern_is_refused(rt: HostRuntime) -> Result<(), Fail> {
+    assert!(rt; is_untouched(&rt, rt.alloc(), "1\nx\n", "0\n")?);
     Ok(())
 }
 
 #[test]
-fn nothing_is_written_where_a_text_is_refused(rt: HostRuntime) -> Result<(), Fail> {
-    for (pattern, target) in [("1\nx\n", "0\n"), ("0\n", "1\nx\n")] {
-        let ran = run_proof(&rt, rt.alloc(), REFUTES, pattern, target, CLEAN)?;
-        let is_untouched = ran.files.content("e").is_none() && ran.files.content("l").is_none();
-        assert!(rt; ran.status == 4 && is_untouched, "{pattern} into {target}");
-    }
+fn nothing_is_written_where_the_target_is_refused(rt: HostRuntime) -> Result<(), Fail> {
+    assert!(rt; is_untouched(&rt, rt.alloc(), "0\n", "1\nx\n")?);
     Ok(())
 }

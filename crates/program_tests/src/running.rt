@@ -46,11 +46,14 @@ pub struct Ran {
 }
 
 impl Ran {
+    /// Whether it ended with this status, and wrote this to its error stream.
+    pub fn ended(&self, status: u8, err: &str) -> bool {
+        self.status == status && self.err.bytes() == err.as_bytes()
+    }
+
     /// Whether it ended with this status, and wrote this to its output and to its error stream.
     pub fn gave(&self, status: u8, out: &str, err: &str) -> bool {
-        self.status == status
-            && self.out.bytes() == out.as_bytes()
-            && self.err.bytes() == err.as_bytes()
+        self.ended(status, err) && self.out.bytes() == out.as_bytes()
     }
 
     /// What the file of this name holds, nothing where it is not there.

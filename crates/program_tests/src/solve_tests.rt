@@ -1,6 +1,6 @@
 //! What `solve` answers.
 
-use crate::running::{CLEAN, EDGE, FOUR_CYCLE, TRIANGLE, part, run_over, run_pair, run_three};
+use crate::running::{CLEAN, EDGE, FOUR_CYCLE, Ran, TRIANGLE, part, run_over, run_pair, run_three};
 use std::alloc::{AllocError, Global};
 use std::test::Fail;
 use std::thread::Threads;
@@ -8,128 +8,230 @@ use std::thread::Threads;
 /// A path of three vertices.
 const PATH: &str = "3\n1 1\n2 0 2\n1 1\n";
 
-/// Words, pattern, target, status and output, where the answer is the only one.
-static ANSWERED: [(&str, &str, &str, u8, &str); 19] = [
-    (
-        "subgraph solve p t --format vertexlabelledlad",
-        "2\n1 1 1\n2 1 0\n",
-        "3\n2 1 1\n1 2 0 2\n3 1 1\n",
-        0,
-        "yes\n0 -> 1\n1 -> 0\n",
-    ),
-    ("subgraph solve p t", "0\n", "0\n", 0, "yes\n"),
-    ("subgraph solve p t", "1\n0\n", "0\n", 1, "none\n"),
-    (
-        "subgraph solve p t --budget 1",
-        "3\n0\n0\n0\n",
-        "2\n0\n0\n",
-        1,
-        "none\n",
-    ),
-    ("subgraph solve --induced p t", PATH, TRIANGLE, 1, "none\n"),
-    (
-        "subgraph solve p t",
-        "1\n1 0\n",
-        "2\n0\n1 1\n",
-        0,
-        "yes\n0 -> 1\n",
-    ),
-    (
-        "subgraph solve p t --induced",
-        "1\n0\n",
-        "2\n0\n1 1\n",
-        0,
-        "yes\n0 -> 0\n",
-    ),
-    (
-        "subgraph solve p t --format vertexlabelledlad",
-        "1\n4294967295 0\n",
-        "1\n4294967295 0\n",
-        0,
-        "yes\n0 -> 0\n",
-    ),
-    (
-        "subgraph solve p t --format vertexlabelledlad",
-        "1\n4294967295 0\n",
-        "1\n0 0\n",
-        1,
-        "none\n",
-    ),
-    ("subgraph solve p t", TRIANGLE, FOUR_CYCLE, 1, "none\n"),
-    (
-        "subgraph solve p t --budget 3",
-        TRIANGLE,
-        FOUR_CYCLE,
-        2,
-        "unknown\n",
-    ),
-    (
-        "subgraph solve p t --budget 4",
-        TRIANGLE,
-        FOUR_CYCLE,
-        1,
-        "none\n",
-    ),
-    (
-        "subgraph solve p t --seed 18446744073709551615 --budget 128",
-        TRIANGLE,
-        FOUR_CYCLE,
-        1,
-        "none\n",
-    ),
-    (
-        "subgraph solve p t --book 0 --threads 8",
-        TRIANGLE,
-        FOUR_CYCLE,
-        1,
-        "none\n",
-    ),
-    (
-        "subgraph solve p t --threads 64",
-        TRIANGLE,
-        FOUR_CYCLE,
-        1,
-        "none\n",
-    ),
-    (
-        "subgraph solve p t --threads 64",
-        "3\n0\n0\n0\n",
-        "2\n0\n0\n",
-        1,
-        "none\n",
-    ),
-    ("subgraph solve p t --threads 64", "0\n", "0\n", 0, "yes\n"),
-    ("subgraph solve p p", "0\n", "x\n", 0, "yes\n"),
-    ("subgraph solve t p", "1\n0\n", "0\n", 0, "yes\n"),
+/// Words, the graphs in the files `p` and `t`, and what a run ends with, where the answer is the only one.
+struct Answered {
+    line: &'static str,
+    pattern: &'static str,
+    target: &'static str,
+    status: u8,
+    out: &'static str,
+}
+
+/// Whether the runs of a row end so.
+fn holds_answered<R: Threads + Sync>(
+    rt: &R,
+    alloc: Global,
+    row: &Answered,
+) -> Result<bool, AllocError> {
+    let ran = run_pair(rt, alloc, row.line, row.pattern, row.target)?;
+    Ok(ran.gave(row.status, row.out, ""))
+}
+
+/// The place, from 0, of the first row that does not hold.
+fn first_wrong_answered<R: Threads + Sync>(
+    rt: &R,
+    alloc: Global,
+    rows: &[Answered],
+) -> Result<Option<usize>, AllocError> {
+    for (at, row) in rows.iter().enumerate() {
+        if !holds_answered(rt, alloc, row)? {
+            return Ok(Some(at));
+        }
+    }
+    Ok(None)
+}
+
+static ANSWERED: [Answered; 19] = [
+    Answered {
+        line: "subgraph solve p t --format vertexlabelledlad",
+        pattern: "2\n1 1 1\n2 1 0\n",
+        target: "3\n2 1 1\n1 2 0 2\n3 1 1\n",
+        status: 0,
+        out: "yes\n0 -> 1\n1 -> 0\n",
+    },
+    Answered {
+        line: "subgraph solve p t",
+        pattern: "0\n",
+        target: "0\n",
+        status: 0,
+        out: "yes\n",
+    },
+    Answered {
+        line: "subgraph solve p t",
+        pattern: "1\n0\n",
+        target: "0\n",
+        status: 1,
+        out: "none\n",
+    },
+    Answered {
+        line: "subgraph solve p t --budget 1",
+        pattern: "3\n0\n0\n0\n",
+        target: "2\n0\n0\n",
+        status: 1,
+        out: "none\n",
+    },
+    Answered {
+        line: "subgraph solve --induced p t",
+        pattern: PATH,
+        target: TRIANGLE,
+        status: 1,
+        out: "none\n",
+    },
+    Answered {
+        line: "subgraph solve p t",
+        pattern: "1\n1 0\n",
+        target: "2\n0\n1 1\n",
+        status: 0,
+        out: "yes\n0 -> 1\n",
+    },
+    Answered {
+        line: "subgraph solve p t --induced",
+        pattern: "1\n0\n",
+        target: "2\n0\n1 1\n",
+        status: 0,
+        out: "yes\n0 -> 0\n",
+    },
+    Answered {
+        line: "subgraph solve p t --format vertexlabelledlad",
+        pattern: "1\n4294967295 0\n",
+        target: "1\n4294967295 0\n",
+        status: 0,
+        out: "yes\n0 -> 0\n",
+    },
+    Answered {
+        line: "subgraph solve p t --format vertexlabelledlad",
+        pattern: "1\n4294967295 0\n",
+        target: "1\n0 0\n",
+        status: 1,
+        out: "none\n",
+    },
+    Answered {
+        line: "subgraph solve p t",
+        pattern: TRIANGLE,
+        target: FOUR_CYCLE,
+        status: 1,
+        out: "none\n",
+    },
+    Answered {
+        line: "subgraph solve p t --budget 3",
+        pattern: TRIANGLE,
+        target: FOUR_CYCLE,
+        status: 2,
+        out: "unknown\n",
+    },
+    Answered {
+        line: "subgraph solve p t --budget 4",
+        pattern: TRIANGLE,
+        target: FOUR_CYCLE,
+        status: 1,
+        out: "none\n",
+    },
+    Answered {
+        line: "subgraph solve p t --seed 18446744073709551615 --budget 128",
+        pattern: TRIANGLE,
+        target: FOUR_CYCLE,
+        status: 1,
+        out: "none\n",
+    },
+    Answered {
+        line: "subgraph solve p t --book 0 --threads 8",
+        pattern: TRIANGLE,
+        target: FOUR_CYCLE,
+        status: 1,
+        out: "none\n",
+    },
+    Answered {
+        line: "subgraph solve p t --threads 64",
+        pattern: TRIANGLE,
+        target: FOUR_CYCLE,
+        status: 1,
+        out: "none\n",
+    },
+    Answered {
+        line: "subgraph solve p t --threads 64",
+        pattern: "3\n0\n0\n0\n",
+        target: "2\n0\n0\n",
+        status: 1,
+        out: "none\n",
+    },
+    Answered {
+        line: "subgraph solve p t --threads 64",
+        pattern: "0\n",
+        target: "0\n",
+        status: 0,
+        out: "yes\n",
+    },
+    Answered {
+        line: "subgraph solve p p",
+        pattern: "0\n",
+        target: "x\n",
+        status: 0,
+        out: "yes\n",
+    },
+    Answered {
+        line: "subgraph solve t p",
+        pattern: "1\n0\n",
+        target: "0\n",
+        status: 0,
+        out: "yes\n",
+    },
 ];
 
 #[test]
 fn each_pair_has_its_answer(rt: HostRuntime) -> Result<(), Fail> {
-    for (line, pattern, target, status, out) in ANSWERED {
-        let ran = run_pair(&rt, rt.alloc(), line, pattern, target)?;
-        assert!(rt;
-            ran.gave(status, out, ""),
-            "{line}: {pattern} into {target}"
-        );
-    }
+    assert_eq!(rt; first_wrong_answered(&rt, rt.alloc(), &ANSWERED)?, None);
     Ok(())
 }
 
-/// Words by which a triangle is not found in a cycle of four vertices, and the number of accounts that are left.
-static SPENT: [(&str, usize); 4] = [
-    ("subgraph solve p t --budget 3", 1),
-    ("subgraph solve p t --budget 3 --threads 8", 8),
-    ("subgraph solve p t --threads 64 --budget 3 --book 0", 64),
-    ("subgraph solve p t --budget 4 --threads 2", 0),
+/// Words by which a triangle is not found in a cycle of four vertices.
+struct Spent {
+    line: &'static str,
+    /// How many accounts are left; where it is none, the answer is another.
+    accounts: usize,
+}
+
+/// Whether the runs of a row end so.
+fn holds_spent<R: Threads + Sync>(rt: &R, alloc: Global, row: &Spent) -> Result<bool, AllocError> {
+    let ran = run_pair(rt, alloc, row.line, TRIANGLE, FOUR_CYCLE)?;
+    Ok(ran.accounts == row.accounts && (ran.status == 2) == (row.accounts > 0))
+}
+
+/// The place, from 0, of the first row that does not hold.
+fn first_wrong_spent<R: Threads + Sync>(
+    rt: &R,
+    alloc: Global,
+    rows: &[Spent],
+) -> Result<Option<usize>, AllocError> {
+    for (at, row) in rows.iter().enumerate() {
+        if !holds_spent(rt, alloc, row)? {
+            return Ok(Some(at));
+        }
+    }
+    Ok(None)
+}
+
+static SPENT: [Spent; 4] = [
+    Spent {
+        line: "subgraph solve p t --budget 3",
+        accounts: 1,
+    },
+    Spent {
+        line: "subgraph solve p t --budget 3 --threads 8",
+        accounts: 8,
+    },
+    Spent {
+        line: "subgraph solve p t --threads 64 --budget 3 --book 0",
+        accounts: 64,
+    },
+    Spent {
+        line: "subgraph solve p t --budget 4 --threads 2",
+        accounts: 0,
+    },
 ];
 
 #[test]
 fn each_thread_leaves_an_account(rt: HostRuntime) -> Result<(), Fail> {
-    for (line, accounts) in SPENT {
-        let ran = run_pair(&rt, rt.alloc(), line, TRIANGLE, FOUR_CYCLE)?;
-        assert_eq!(rt; ran.status == 2, accounts > 0, "{line}");
-        assert_eq!(rt; ran.accounts, accounts, "{line}");
-    }
+    assert_eq!(rt; first_wrong_spent(&rt, rt.alloc(), &SPENT)?, None);
     Ok(())
 }
 
@@ -142,187 +244,245 @@ fn points(alloc: Global, count: u32) -> Result<String, AllocError> {
     Ok(text)
 }
 
+/// How many lines these bytes end.
+fn line_ends(bytes: &[u8]) -> usize {
+    bytes.iter().filter(|byte| **byte == 10).count()
+}
+
+/// Whether a run told an embedding of so many lines.
+fn is_told(ran: &Ran, lines: usize) -> bool {
+    ran.status == 0 && ran.out.bytes().starts_with(b"yes\n") && line_ends(ran.out.bytes()) == lines
+}
+
 #[test]
 fn the_largest_pattern_is_found(rt: HostRuntime) -> Result<(), Fail> {
     let text = points(rt.alloc(), 1024)?;
     let line = "subgraph solve p t";
     let ran = run_pair(&rt, rt.alloc(), line, text.as_str(), text.as_str())?;
-    assert!(rt; ran.status == 0);
-    assert!(rt; ran.out.bytes().starts_with(b"yes\n"));
-    let lines = ran.out.bytes().iter().filter(|byte| **byte == 10).count();
-    assert_eq!(rt; lines, 1025);
+    assert!(rt; is_told(&ran, 1025));
     Ok(())
 }
 
-/// Words, pattern, target and error line, where a text is refused.
-static REFUSED: [(&str, &str, &str, &str); 11] = [
-    (
-        "subgraph solve p t",
-        "2\n1 2\n0\n",
-        "0\n",
-        "pattern: word 3: NoSuchVertex\n",
-    ),
-    (
-        "subgraph solve p t",
-        "3\n2 1\n",
-        "0\n",
-        "pattern: word 4: EndsEarly\n",
-    ),
-    (
-        "subgraph solve p t",
-        "",
-        "0\n",
-        "pattern: word 1: EndsEarly\n",
-    ),
-    (
-        "subgraph solve p t",
-        "1\nx\n",
-        "0\n",
-        "pattern: word 2: NotNumber\n",
-    ),
-    (
-        "subgraph solve p t",
-        "1\n0 7\n",
-        "0\n",
-        "pattern: word 3: WordsLeft\n",
-    ),
-    (
-        "subgraph solve p t",
-        "1025",
-        "0\n",
-        "pattern: word 1: TooMany\n",
-    ),
-    (
-        "subgraph solve p t",
-        "0\n",
-        "8193",
-        "target: word 1: TooMany\n",
-    ),
-    (
-        "subgraph solve p t",
-        "0\n",
-        "1\n0 7\n",
-        "target: word 3: WordsLeft\n",
-    ),
-    (
-        "subgraph solve p t",
-        "1\nx\n",
-        "1\n0 7\n",
-        "pattern: word 2: NotNumber\n",
-    ),
-    (
-        "subgraph solve p absent",
-        "1\nx\n",
-        "0\n",
-        "pattern: word 2: NotNumber\n",
-    ),
-    (
-        "subgraph solve p t --format vertexlabelledlad",
-        "1\n4294967296 0\n",
-        "1\n0 0\n",
-        "pattern: word 2: NotNumber\n",
-    ),
+/// Words, the texts in the files `p` and `t`, and the error line, where a text is refused.
+struct Refused {
+    line: &'static str,
+    pattern: &'static str,
+    target: &'static str,
+    err: &'static str,
+}
+
+/// Whether the runs of a row end so.
+fn holds_refused<R: Threads + Sync>(
+    rt: &R,
+    alloc: Global,
+    row: &Refused,
+) -> Result<bool, AllocError> {
+    let ran = run_pair(rt, alloc, row.line, row.pattern, row.target)?;
+    Ok(ran.gave(4, "", row.err))
+}
+
+/// The place, from 0, of the first row that does not hold.
+fn first_wrong_refused<R: Threads + Sync>(
+    rt: &R,
+    alloc: Global,
+    rows: &[Refused],
+) -> Result<Option<usize>, AllocError> {
+    for (at, row) in rows.iter().enumerate() {
+        if !holds_refused(rt, alloc, row)? {
+            return Ok(Some(at));
+        }
+    }
+    Ok(None)
+}
+
+static REFUSED: [Refused; 11] = [
+    Refused {
+        line: "subgraph solve p t",
+        pattern: "2\n1 2\n0\n",
+        target: "0\n",
+        err: "pattern: word 3: NoSuchVertex\n",
+    },
+    Refused {
+        line: "subgraph solve p t",
+        pattern: "3\n2 1\n",
+        target: "0\n",
+        err: "pattern: word 4: EndsEarly\n",
+    },
+    Refused {
+        line: "subgraph solve p t",
+        pattern: "",
+        target: "0\n",
+        err: "pattern: word 1: EndsEarly\n",
+    },
+    Refused {
+        line: "subgraph solve p t",
+        pattern: "1\nx\n",
+        target: "0\n",
+        err: "pattern: word 2: NotNumber\n",
+    },
+    Refused {
+        line: "subgraph solve p t",
+        pattern: "1\n0 7\n",
+        target: "0\n",
+        err: "pattern: word 3: WordsLeft\n",
+    },
+    Refused {
+        line: "subgraph solve p t",
+        pattern: "1025",
+        target: "0\n",
+        err: "pattern: word 1: TooMany\n",
+    },
+    Refused {
+        line: "subgraph solve p t",
+        pattern: "0\n",
+        target: "8193",
+        err: "target: word 1: TooMany\n",
+    },
+    Refused {
+        line: "subgraph solve p t",
+        pattern: "0\n",
+        target: "1\n0 7\n",
+        err: "target: word 3: WordsLeft\n",
+    },
+    Refused {
+        line: "subgraph solve p t",
+        pattern: "1\nx\n",
+        target: "1\n0 7\n",
+        err: "pattern: word 2: NotNumber\n",
+    },
+    Refused {
+        line: "subgraph solve p absent",
+        pattern: "1\nx\n",
+        target: "0\n",
+        err: "pattern: word 2: NotNumber\n",
+    },
+    Refused {
+        line: "subgraph solve p t --format vertexlabelledlad",
+        pattern: "1\n4294967296 0\n",
+        target: "1\n0 0\n",
+        err: "pattern: word 2: NotNumber\n",
+    },
 ];
 
 #[test]
 fn each_bad_text_is_refused(rt: HostRuntime) -> Result<(), Fail> {
-    for (line, pattern, target, err) in REFUSED {
-        let ran = run_pair(&rt, rt.alloc(), line, pattern, target)?;
-        assert!(rt; ran.gave(4, "", err), "{line}: {pattern} into {target}");
-    }
+    assert_eq!(rt; first_wrong_refused(&rt, rt.alloc(), &REFUSED)?, None);
+    Ok(())
+}
+
+/// Whether a file that the words name is not there.
+fn is_missing<R: Threads + Sync>(rt: &R, alloc: Global, line: &str) -> Result<bool, AllocError> {
+    let ran = run_pair(rt, alloc, line, "0\n", "x\n")?;
+    Ok(ran.gave(5, "", "files: fault\n"))
+}
+
+#[test]
+fn a_missing_target_is_a_fault(rt: HostRuntime) -> Result<(), Fail> {
+    assert!(rt; is_missing(&rt, rt.alloc(), "subgraph solve p absent")?);
     Ok(())
 }
 
 #[test]
-fn a_missing_file_is_a_fault(rt: HostRuntime) -> Result<(), Fail> {
-    for line in ["subgraph solve p absent", "subgraph solve absent t"] {
-        let ran = run_pair(&rt, rt.alloc(), line, "0\n", "x\n")?;
-        assert!(rt; ran.gave(5, "", "files: fault\n"), "{line}");
-    }
+fn a_missing_pattern_is_a_fault(rt: HostRuntime) -> Result<(), Fail> {
+    assert!(rt; is_missing(&rt, rt.alloc(), "subgraph solve absent t")?);
     Ok(())
 }
 
-/// Patterns and targets with an embedding, and whether it is to be an induced one.
-static WITH_EMBEDDING: [(&str, &str, bool); 8] = [
-    ("0\n", "0\n", false),
-    (PATH, TRIANGLE, false),
-    ("1\n1 0\n", "2\n0\n1 1\n", false),
-    ("1\n0\n", "2\n0\n1 1\n", true),
-    (EDGE, "2\n1 1\n0\n", false),
-    (EDGE, FOUR_CYCLE, true),
-    (PATH, FOUR_CYCLE, true),
-    (FOUR_CYCLE, FOUR_CYCLE, true),
-];
+/// A pattern and a target with an embedding.
+struct Embedded {
+    pattern: &'static str,
+    target: &'static str,
+    /// Whether it is to be an induced one.
+    induced: bool,
+}
 
-/// Whether `verify` takes what `solve` prints.
-fn is_verified<R: Threads + Sync>(
+impl Embedded {
+    /// The words that ask for an embedding, and those that test one.
+    fn words(&self) -> (&'static str, &'static str) {
+        if self.induced {
+            (
+                "subgraph solve p t --induced",
+                "subgraph verify p t m --induced",
+            )
+        } else {
+            ("subgraph solve p t", "subgraph verify p t m")
+        }
+    }
+}
+
+/// Whether the runs of a row end so.
+fn holds_embedded<R: Threads + Sync>(
     rt: &R,
     alloc: Global,
-    pattern: &str,
-    target: &str,
-    induced: bool,
+    row: &Embedded,
 ) -> Result<bool, AllocError> {
-    let (solve, verify) = if induced {
-        (
-            "subgraph solve p t --induced",
-            "subgraph verify p t m --induced",
-        )
-    } else {
-        ("subgraph solve p t", "subgraph verify p t m")
-    };
-    let solved = run_pair(rt, alloc, solve, pattern, target)?;
-    let verified = run_three(rt, alloc, verify, pattern, target, solved.out.bytes())?;
+    let (solve, verify) = row.words();
+    let solved = run_pair(rt, alloc, solve, row.pattern, row.target)?;
+    let map = solved.out.bytes();
+    let verified = run_three(rt, alloc, verify, row.pattern, row.target, map)?;
     Ok(solved.status == 0 && verified.gave(0, "embedding\n", ""))
 }
 
-#[test]
-fn what_solve_prints_verifies(rt: HostRuntime) -> Result<(), Fail> {
-    for (pattern, target, induced) in WITH_EMBEDDING {
-        assert!(rt;
-            is_verified(&rt, rt.alloc(), pattern, target, induced)?,
-            "{pattern} into {target}"
-        );
+/// The place, from 0, of the first row that does not hold.
+fn first_wrong_embedded<R: Threads + Sync>(
+    rt: &R,
+    alloc: Global,
+    rows: &[Embedded],
+) -> Result<Option<usize>, AllocError> {
+    for (at, row) in rows.iter().enumerate() {
+        if !holds_embedded(rt, alloc, row)? {
+            return Ok(Some(at));
+        }
     }
-    Ok(())
+    Ok(None)
 }
 
-/// Words that are no command.
-static NO_COMMAND: [&str; 13] = [
-    "subgraph",
-    "subgraph solve p",
-    "subgraph solve p t u",
-    "subgraph solve p t --threads 65",
-    "subgraph solve p t --budget 0",
-    "subgraph solve p t --threads +4",
-    "subgraph solve p t --prove e",
-    "subgraph solve p t --log l",
-    "subgraph solve p t --prove a --log a",
-    "subgraph solve p t --prove p --log l",
-    "subgraph solve p t --prove e --log t",
-    "subgraph verify p t m --prove e --log l",
-    "subgraph verify p t",
+static EMBEDDED: [Embedded; 8] = [
+    Embedded {
+        pattern: "0\n",
+        target: "0\n",
+        induced: false,
+    },
+    Embedded {
+        pattern: PATH,
+        target: TRIANGLE,
+        induced: false,
+    },
+    Embedded {
+        pattern: "1\n1 0\n",
+        target: "2\n0\n1 1\n",
+        induced: false,
+    },
+    Embedded {
+        pattern: "1\n0\n",
+        target: "2\n0\n1 1\n",
+        induced: true,
+    },
+    Embedded {
+        pattern: EDGE,
+        target: "2\n1 1\n0\n",
+        induced: false,
+    },
+    Embedded {
+        pattern: EDGE,
+        target: FOUR_CYCLE,
+        induced: true,
+    },
+    Embedded {
+        pattern: PATH,
+        target: FOUR_CYCLE,
+        induced: true,
+    },
+    Embedded {
+        pattern: FOUR_CYCLE,
+        target: FOUR_CYCLE,
+        induced: true,
+    },
 ];
 
 #[test]
-fn other_words_are_no_command(rt: HostRuntime) -> Result<(), Fail> {
-    for line in NO_COMMAND {
-        let ran = run_pair(&rt, rt.alloc(), line, "0\n", "0\n")?;
-        assert!(rt; ran.gave(3, "", "words: not a command\n"), "{line}");
-    }
-    Ok(())
-}
-
-#[test]
-fn names_have_a_longest(rt: HostRuntime) -> Result<(), Fail> {
-    let mut line = String::from_str(rt.alloc(), "subgraph solve p ")?;
-    for _ in 0..4095 {
-        line.push('t')?;
-    }
-    let ran = run_pair(&rt, rt.alloc(), line.as_str(), "0\n", "0\n")?;
-    assert!(rt; ran.gave(5, "", "files: fault\n"));
-    line.push('t')?;
-    let ran = run_pair(&rt, rt.alloc(), line.as_str(), "0\n", "0\n")?;
-    assert!(rt; ran.gave(3, "", "words: not a command\n"));
+fn what_solve_prints_verifies(rt: HostRuntime) -> Result<(), Fail> {
+    assert_eq!(rt; first_wrong_embedded(&rt, rt.alloc(), &EMBEDDED)?, None);
     Ok(())
 }
 

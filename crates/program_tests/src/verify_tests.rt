@@ -1,188 +1,218 @@
 //! What `verify` answers.
 
 use crate::running::{EDGE, run_three};
+use std::alloc::{AllocError, Global};
 use std::test::Fail;
+use std::thread::Threads;
 
-/// Words, pattern, target, mapping, status, output and error line.
-static ROWS: [(&str, &str, &str, &str, u8, &str, &str); 19] = [
-    (
-        "subgraph verify p t m",
-        EDGE,
-        EDGE,
-        "yes\n0 -> 1\n1 -> 0\n",
-        0,
-        "embedding\n",
-        "",
-    ),
-    (
-        "subgraph verify p t m",
-        EDGE,
-        EDGE,
-        "yes\n0 -> 0\n1 -> 0\n",
-        7,
-        "",
-        "mapping: not an embedding\n",
-    ),
-    (
-        "subgraph verify p t m",
-        EDGE,
-        EDGE,
-        "0 -> 1\n",
-        4,
-        "",
-        "mapping: line 1: Form\n",
-    ),
-    (
-        "subgraph verify p t m",
-        EDGE,
-        EDGE,
-        "yes\n0 -> 0\n",
-        7,
-        "",
-        "mapping: not an embedding\n",
-    ),
-    (
-        "subgraph verify p t m",
-        EDGE,
-        EDGE,
-        "yes\n0 -> 2\n1 -> 0\n",
-        7,
-        "",
-        "mapping: not an embedding\n",
-    ),
-    (
-        "subgraph verify p t m",
-        EDGE,
-        EDGE,
-        "yes\n1 -> 0\n",
-        4,
-        "",
-        "mapping: line 2: Form\n",
-    ),
-    (
-        "subgraph verify p t m",
-        EDGE,
-        EDGE,
-        "",
-        4,
-        "",
-        "mapping: line 1: Form\n",
-    ),
-    (
-        "subgraph verify p t m",
-        EDGE,
-        EDGE,
-        "yes\n0 -> 1\n1 -> 0",
-        4,
-        "",
-        "mapping: line 3: Form\n",
-    ),
-    (
-        "subgraph verify p t m",
-        EDGE,
-        EDGE,
-        "none\n",
-        4,
-        "",
-        "mapping: line 1: Form\n",
-    ),
-    (
-        "subgraph verify p t m",
-        "0\n",
-        "0\n",
-        "yes\n",
-        0,
-        "embedding\n",
-        "",
-    ),
-    (
-        "subgraph verify p t m",
-        EDGE,
-        "2\n1 1\n0\n",
-        "yes\n0 -> 1\n1 -> 0\n",
-        0,
-        "embedding\n",
-        "",
-    ),
-    (
-        "subgraph verify p t m --induced",
-        EDGE,
-        "2\n1 1\n0\n",
-        "yes\n0 -> 0\n1 -> 1\n",
-        0,
-        "embedding\n",
-        "",
-    ),
-    (
-        "subgraph verify p t m",
-        "2\n0\n0\n",
-        EDGE,
-        "yes\n0 -> 0\n1 -> 1\n",
-        0,
-        "embedding\n",
-        "",
-    ),
-    (
-        "subgraph verify p t m --induced",
-        "2\n0\n0\n",
-        EDGE,
-        "yes\n0 -> 0\n1 -> 1\n",
-        7,
-        "",
-        "mapping: not an embedding\n",
-    ),
-    (
-        "subgraph verify p t m --format vertexlabelledlad",
-        "1\n4294967295 0\n",
-        "1\n0 0\n",
-        "yes\n0 -> 0\n",
-        7,
-        "",
-        "mapping: not an embedding\n",
-    ),
-    (
-        "subgraph verify p t m",
-        "1\nx\n",
-        "1\nx\n",
-        "",
-        4,
-        "",
-        "pattern: word 2: NotNumber\n",
-    ),
-    (
-        "subgraph verify p t m",
-        EDGE,
-        "1\nx\n",
-        "",
-        4,
-        "",
-        "target: word 2: NotNumber\n",
-    ),
-    (
-        "subgraph verify p t absent",
-        EDGE,
-        EDGE,
-        "",
-        5,
-        "",
-        "files: fault\n",
-    ),
-    (
-        "subgraph verify p absent absent",
-        "1\nx\n",
-        EDGE,
-        "",
-        4,
-        "",
-        "pattern: word 2: NotNumber\n",
-    ),
+/// Words, what the files `p`, `t` and `m` hold, and what a run ends with.
+struct Verified {
+    line: &'static str,
+    pattern: &'static str,
+    target: &'static str,
+    mapping: &'static str,
+    status: u8,
+    out: &'static str,
+    err: &'static str,
+}
+
+/// Whether the runs of a row end so.
+fn holds<R: Threads + Sync>(rt: &R, alloc: Global, row: &Verified) -> Result<bool, AllocError> {
+    let mapping = row.mapping.as_bytes();
+    let ran = run_three(rt, alloc, row.line, row.pattern, row.target, mapping)?;
+    Ok(ran.gave(row.status, row.out, row.err))
+}
+
+/// The place, from 0, of the first row that does not hold.
+fn first_wrong<R: Threads + Sync>(
+    rt: &R,
+    alloc: Global,
+    rows: &[Verified],
+) -> Result<Option<usize>, AllocError> {
+    for (at, row) in rows.iter().enumerate() {
+        if !holds(rt, alloc, row)? {
+            return Ok(Some(at));
+        }
+    }
+    Ok(None)
+}
+
+static VERIFIED: [Verified; 19] = [
+    Verified {
+        line: "subgraph verify p t m",
+        pattern: EDGE,
+        target: EDGE,
+        mapping: "yes\n0 -> 1\n1 -> 0\n",
+        status: 0,
+        out: "embedding\n",
+        err: "",
+    },
+    Verified {
+        line: "subgraph verify p t m",
+        pattern: EDGE,
+        target: EDGE,
+        mapping: "yes\n0 -> 0\n1 -> 0\n",
+        status: 7,
+        out: "",
+        err: "mapping: not an embedding\n",
+    },
+    Verified {
+        line: "subgraph verify p t m",
+        pattern: EDGE,
+        target: EDGE,
+        mapping: "0 -> 1\n",
+        status: 4,
+        out: "",
+        err: "mapping: line 1: Form\n",
+    },
+    Verified {
+        line: "subgraph verify p t m",
+        pattern: EDGE,
+        target: EDGE,
+        mapping: "yes\n0 -> 0\n",
+        status: 7,
+        out: "",
+        err: "mapping: not an embedding\n",
+    },
+    Verified {
+        line: "subgraph verify p t m",
+        pattern: EDGE,
+        target: EDGE,
+        mapping: "yes\n0 -> 2\n1 -> 0\n",
+        status: 7,
+        out: "",
+        err: "mapping: not an embedding\n",
+    },
+    Verified {
+        line: "subgraph verify p t m",
+        pattern: EDGE,
+        target: EDGE,
+        mapping: "yes\n1 -> 0\n",
+        status: 4,
+        out: "",
+        err: "mapping: line 2: Form\n",
+    },
+    Verified {
+        line: "subgraph verify p t m",
+        pattern: EDGE,
+        target: EDGE,
+        mapping: "",
+        status: 4,
+        out: "",
+        err: "mapping: line 1: Form\n",
+    },
+    Verified {
+        line: "subgraph verify p t m",
+        pattern: EDGE,
+        target: EDGE,
+        mapping: "yes\n0 -> 1\n1 -> 0",
+        status: 4,
+        out: "",
+        err: "mapping: line 3: Form\n",
+    },
+    Verified {
+        line: "subgraph verify p t m",
+        pattern: EDGE,
+        target: EDGE,
+        mapping: "none\n",
+        status: 4,
+        out: "",
+        err: "mapping: line 1: Form\n",
+    },
+    Verified {
+        line: "subgraph verify p t m",
+        pattern: "0\n",
+        target: "0\n",
+        mapping: "yes\n",
+        status: 0,
+        out: "embedding\n",
+        err: "",
+    },
+    Verified {
+        line: "subgraph verify p t m",
+        pattern: EDGE,
+        target: "2\n1 1\n0\n",
+        mapping: "yes\n0 -> 1\n1 -> 0\n",
+        status: 0,
+        out: "embedding\n",
+        err: "",
+    },
+    Verified {
+        line: "subgraph verify p t m --induced",
+        pattern: EDGE,
+        target: "2\n1 1\n0\n",
+        mapping: "yes\n0 -> 0\n1 -> 1\n",
+        status: 0,
+        out: "embedding\n",
+        err: "",
+    },
+    Verified {
+        line: "subgraph verify p t m",
+        pattern: "2\n0\n0\n",
+        target: EDGE,
+        mapping: "yes\n0 -> 0\n1 -> 1\n",
+        status: 0,
+        out: "embedding\n",
+        err: "",
+    },
+    Verified {
+        line: "subgraph verify p t m --induced",
+        pattern: "2\n0\n0\n",
+        target: EDGE,
+        mapping: "yes\n0 -> 0\n1 -> 1\n",
+        status: 7,
+        out: "",
+        err: "mapping: not an embedding\n",
+    },
+    Verified {
+        line: "subgraph verify p t m --format vertexlabelledlad",
+        pattern: "1\n4294967295 0\n",
+        target: "1\n0 0\n",
+        mapping: "yes\n0 -> 0\n",
+        status: 7,
+        out: "",
+        err: "mapping: not an embedding\n",
+    },
+    Verified {
+        line: "subgraph verify p t m",
+        pattern: "1\nx\n",
+        target: "1\nx\n",
+        mapping: "",
+        status: 4,
+        out: "",
+        err: "pattern: word 2: NotNumber\n",
+    },
+    Verified {
+        line: "subgraph verify p t m",
+        pattern: EDGE,
+        target: "1\nx\n",
+        mapping: "",
+        status: 4,
+        out: "",
+        err: "target: word 2: NotNumber\n",
+    },
+    Verified {
+        line: "subgraph verify p t absent",
+        pattern: EDGE,
+        target: EDGE,
+        mapping: "",
+        status: 5,
+        out: "",
+        err: "files: fault\n",
+    },
+    Verified {
+        line: "subgraph verify p absent absent",
+        pattern: "1\nx\n",
+        target: EDGE,
+        mapping: "",
+        status: 4,
+        out: "",
+        err: "pattern: word 2: NotNumber\n",
+    },
 ];
 
 #[test]
 fn each_mapping_has_its_answer(rt: HostRuntime) -> Result<(), Fail> {
-    for (line, pattern, target, mapping, status, out, err) in ROWS {
-        let ran = run_three(&rt, rt.alloc(), line, pattern, target, mapping.as_bytes())?;
-        assert!(rt; ran.gave(status, out, err), "{line}: {mapping}");
-    }
+    assert_eq!(rt; first_wrong(&rt, rt.alloc(), &VERIFIED)?, None);
     Ok(())
 }

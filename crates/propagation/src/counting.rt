@@ -33,7 +33,8 @@ pub fn lower(waiting: &mut [bool])
 fn raise_undecided<T: Trail>(d: &Domains<T>, waiting: &mut [bool], undecided: &SparseSet)
     requires long { length waiting.old ≡ d.now.vertices }
     requires count { undecided.now.count ≡ d.now.vertices }
-    requires decided { (p : ℕ) → p < d.now.vertices → is_member undecided.now p ≡ false → size_of d.now p ≡ 1 }
+    requires decided { (p : ℕ) → p < d.now.vertices → is_member undecided.now p ≡ false
+        → size_of d.now p ≡ 1 }
     ensures { UndecidedWait d.now waiting.new d.now.vertices }
 {
     let members = undecided.members();

@@ -15,8 +15,6 @@ mod propagation;
 mod recorder;
 mod removal;
 mod sets;
-#[cfg(test)]
-mod tests;
 
 // What follows from domains.
 pub use filters::Filters;

@@ -180,7 +180,8 @@ fn take_out<T: Trail, R: Recorder>(
     requires is_of { IsOf rows.now.problem d.old }
     requires long { length waiting.old ≡ size rows.now.problem.pattern }
     requires bounded { length d.old.removed ≤ d.old.vertices * d.old.values }
-    requires unused { (k : ℕ) → k < length pairs.now → IsUnused rows.now.problem d.old (forced_at pairs.now k) }
+    requires unused { (k : ℕ) → k < length pairs.now
+        → IsUnused rows.now.problem d.old (forced_at pairs.now k) }
     ensures forces { Forces (is_ok result) rows.now.problem d.old waiting.old d.new waiting.new }
     ensures none { IfErr result (IsEmptied rows.now.problem d.new) }
     ensures out { OutAfter (is_ok result) d.new pairs.now }

@@ -35,7 +35,8 @@ use sparse_set::SparseSet;
 /// A vertex that waits, the least one. Cost: one step for each vertex below it.
 fn next_waiting(waiting: &[bool]) -> Option<usize>
     ensures some { IfSome result (λ p. (p < length waiting.now) × (waits_at waiting.now p ≡ true)) }
-    ensures none { IfNone result ((p : ℕ) → p < length waiting.now → waits_at waiting.now p ≡ false) }
+    ensures none { IfNone result
+        ((p : ℕ) → p < length waiting.now → waits_at waiting.now p ≡ false) }
 {
     for p in 0..waiting.len() {
         if waiting[p] {

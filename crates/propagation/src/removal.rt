@@ -130,8 +130,11 @@ fn near_alone<'a>(rows: &'a PairRows, p: u16, t: u16, r: u16) -> Option<&'a [u16
     requires t_in { t < size rows.now.problem.target }
     requires r_in { r < size rows.now.problem.pattern }
     requires apart { p ≡ r → ⊥ }
-    ensures asked { IfSome result (λ us. (u : ℕ) → AreConsistent rows.now.problem p t r u ↔ ((t ≡ u → ⊥) × (stands_in us.now u ≡ false))) }
-    ensures within { IfSome result (λ us. (u : ℕ) → stands_in us.now u ≡ true → u < size rows.now.problem.target) }
+    ensures asked { IfSome result
+        (λ us. (u : ℕ) → AreConsistent rows.now.problem p t r u
+        ↔ ((t ≡ u → ⊥) × (stands_in us.now u ≡ false))) }
+    ensures within { IfSome result
+        (λ us. (u : ℕ) → stands_in us.now u ≡ true → u < size rows.now.problem.target) }
 {
     if rows.is_bare(p, r) {
         rows.neighbours(t)
@@ -159,7 +162,8 @@ fn take_inconsistent<T: Trail>(
     requires apart { p ≡ r → ⊥ }
     requires made { IsMade rows.now t }
     requires single { Single (in_domain d.old) p t }
-    requires undecided { (waits_at waiting.old r ≡ true) ⊎ ((v : ℕ) → Single (in_domain d.old) r v → ⊥) }
+    requires undecided { (waits_at waiting.old r ≡ true)
+        ⊎ ((v : ℕ) → Single (in_domain d.old) r v → ⊥) }
     requires bounded { length d.old.removed ≤ d.old.vertices * d.old.values }
     ensures { Sweeps result rows.now.problem d.old waiting.old d.new waiting.new p t r }
 {
@@ -190,7 +194,8 @@ pub(crate) fn keep_consistent<T: Trail, R: Recorder>(
     requires apart { p ≡ r → ⊥ }
     requires made { IsMade rows.now t }
     requires single { Single (in_domain d.old) p t }
-    requires undecided { (waits_at waiting.old r ≡ true) ⊎ ((v : ℕ) → Single (in_domain d.old) r v → ⊥) }
+    requires undecided { (waits_at waiting.old r ≡ true)
+        ⊎ ((v : ℕ) → Single (in_domain d.old) r v → ⊥) }
     requires bounded { length d.old.removed ≤ d.old.vertices * d.old.values }
     ensures sweeps { Sweeps result rows.now.problem d.old waiting.old d.new waiting.new p t r }
     ensures told { TellsOn rows.now.problem d.old (R.changes told.old) d.new (R.changes told.new) }
@@ -219,7 +224,8 @@ pub(crate) fn take_forced<T: Trail, R: Recorder>(
     ensures keeps { Keeps d.old d.new r (λ v. not (v == u)) }
     ensures taken { NotesTaken result d.old waiting.old d.new waiting.new r u }
     ensures bounded { length d.new.removed ≤ d.new.vertices * d.new.values }
-    ensures told { (q : Problem) (s : Option watched.State) → r < size q.pattern → IsForbidden s d.old name r u
+    ensures told { (q : Problem) (s : Option watched.State) → r < size q.pattern
+        → IsForbidden s d.old name r u
         → Tells q s d.old (R.changes told.old) → Tells q s d.new (R.changes told.new) }
     ensures guesses { NoNewGuess (R.changes told.old) (R.changes told.new) }
 {

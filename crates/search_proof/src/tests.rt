@@ -1,33 +1,12 @@
 //! Loggers of an edge into an edge, which are told nothing.
 
-ghost use Rattle.std.specs.Prelude.{◌≤◌, IfOk, IfSome};
-ghost use Rattle.graph_theory.specs.Graph.{size};
-
 use crate::{KeepsLines, KeepsNothing, Proof, ProofMaker};
-use graph_rows::{Graph, Problem};
-use lad_reader::{LadKind, read_lad};
+use graph_rows::Problem;
 use pb_encoding::Encoding;
 use proof_logger::ProofLogger;
+use sample_graphs::{EDGE, graph};
 use std::alloc::{AllocError, Global};
 use std::test::Fail;
-
-const EDGE: &[u8] = b"2 1 1 1 0";
-
-/// The graph of a text of at most 64 vertices.
-fn graph(alloc: Global, text: &[u8]) -> Option<Graph>
-    ensures { IfSome result (λ g. size g ≤ 64) }
-{
-    let Ok(parts) = read_lad(alloc, text, LadKind::Lad, 64) else {
-        return None;
-    };
-    let Ok(graph) = Graph::new(alloc, &parts) else {
-        return None;
-    };
-    if graph.size() > 64 {
-        return None;
-    }
-    Some(graph)
-}
 
 /// An edge into an edge.
 fn edge_into_edge(alloc: Global) -> Option<Problem> {

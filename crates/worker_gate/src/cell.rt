@@ -66,7 +66,9 @@ impl<'a> AnswerCell<'a> {
     ) -> Result<(), AllocError>
         requires { note.old.cell ≡ self.now }
         ensures cell { note.new.cell ≡ note.old.cell }
-        ensures known { MatchResult result (λ _. (x : AnswerView) × (note.new.known ≡ Some x) × Agrees note.old.known x) (λ _. note.new ≡ note.old) }
+        ensures known { MatchResult result
+            (λ _. (x : AnswerView) × (note.new.known ≡ Some x) × Agrees note.old.known x)
+            (λ _. note.new ≡ note.old) }
     {
         let offered = Box::new(alloc, answer)?;
         let _set = self.answer.set_as(offered, &mut note.note);
@@ -77,7 +79,8 @@ impl<'a> AnswerCell<'a> {
     pub fn seen<'s>(&'s self, note: &mut Note<'a>) -> Option<&'s Answer<'a>>
         requires { note.old.cell ≡ self.now }
         ensures cell { note.new.cell ≡ note.old.cell }
-        ensures known { MatchOption result ((note.old.known ≡ None) × (note.new.known ≡ None)) (λ r. (note.new.known ≡ Some r.now) × Agrees note.old.known r.now) }
+        ensures known { MatchOption result ((note.old.known ≡ None) × (note.new.known ≡ None))
+            (λ r. (note.new.known ≡ Some r.now) × Agrees note.old.known r.now) }
     {
         self.answer.get_as(&mut note.note)
     }

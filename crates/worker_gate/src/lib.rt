@@ -10,8 +10,6 @@ pub mod answer;
 pub mod cell;
 pub mod gate;
 mod shared;
-#[cfg(test)]
-mod tests;
 
 pub use answer::{Answer, Said};
 pub use cell::{AnswerCell, Note};

@@ -1,6 +1,6 @@
 //! The book of two rows for a triangle into a cycle of four, books with no room left, and the words of rows.
 
-ghost use Rattle.std.specs.Prelude.{◌≡◌, ◌<◌, ◌≤◌, ℕ, [], ◌∷◌, true, IfSome};
+ghost use Rattle.std.specs.Prelude.{◌≡◌, ◌<◌, ℕ, [], ◌∷◌, true, IfSome};
 ghost use Rattle.graph_theory.specs.Graph.{size};
 ghost use Rattle.graph_theory.specs.Embedding.{Embeds, HasNone};
 
@@ -9,22 +9,10 @@ use crate::book::{Book, RowSeat};
 use crate::row::{Published, Row, RowKind};
 use crate::seat::BookSeat;
 use crate::word::{decode, encode};
-use graph_rows::{Graph, Problem};
-use lad_reader::{LadKind, read_lad};
+use graph_rows::Problem;
+use sample_graphs::graph_of_size;
 use std::alloc::Global;
 use std::test::Fail;
-
-/// The graph of a text of this many vertices.
-fn graph(alloc: Global, text: &[u8], vertices: u16) -> Option<Graph>
-    ensures { IfSome result (λ g. size g ≡ vertices) }
-{
-    let parts = read_lad(alloc, text, LadKind::Lad, 64).ok()?;
-    let graph = Graph::new(alloc, &parts).ok()?;
-    if graph.size() != vertices {
-        return None;
-    }
-    Some(graph)
-}
 
 /// Whether no map of three vertices embeds that begins with these two.
 fn none_with(q: &Problem, a: u32, b: u32) -> bool
@@ -40,7 +28,8 @@ fn none_with(q: &Problem, a: u32, b: u32) -> bool
 
 /// Whether none embeds that begins with this one.
 fn none_at(q: &Problem, a: u32) -> bool
-    ensures { result ≡ true → (b c : ℕ) → b < size q.now.target → c < size q.now.target → Embeds q.now (a ∷ b ∷ c ∷ []) → ⊥ }
+    ensures { result ≡ true → (b c : ℕ) → b < size q.now.target → c < size q.now.target
+        → Embeds q.now (a ∷ b ∷ c ∷ []) → ⊥ }
 {
     for b in 0..u32::from(q.target().size()) {
         if !none_with(q, a, b) {
@@ -68,8 +57,8 @@ fn triangle_into_cycle(alloc: Global) -> Option<Problem>
     ensures sizes { IfSome result (λ q. (size q.pattern ≡ 3) × (size q.target ≡ 4)) }
     ensures none { IfSome result (λ q. HasNone q) }
 {
-    let pattern = graph(alloc, b"3 2 1 2 2 0 2 2 0 1", 3)?;
-    let target = graph(alloc, b"4 2 1 3 2 0 2 2 1 3 2 0 2", 4)?;
+    let pattern = graph_of_size(alloc, b"3 2 1 2 2 0 2 2 0 1", 3)?;
+    let target = graph_of_size(alloc, b"4 2 1 3 2 0 2 2 1 3 2 0 2", 4)?;
     let q = Problem::new(pattern, target, false);
     if !has_none(&q) {
         return None;

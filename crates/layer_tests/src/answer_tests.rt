@@ -1,0 +1,109 @@
+//! The first answer stays, notes keep what they know, and an answer is one to its own problem alone.
+
+ghost use Rattle.std.specs.Prelude.{◌≡◌};
+
+use crate::problems::problem;
+use graph_rows::Problem;
+use sample_graphs::{EDGE, TRIANGLE};
+use std::alloc::{AllocError, Global};
+use std::test::Fail;
+use worker_gate::{Answer, AnswerCell, Gate, Note, OpenGate, Point, Said};
+
+/// The answer that these images are an embedding, where they are one.
+fn answer_of<'a>(
+    alloc: Global,
+    q: &'a Problem,
+    images: &[u32],
+) -> Result<Option<Answer<'a>>, AllocError> {
+    let map = Vec::from_slice(alloc, images)?;
+    if !q.is_embedding(&map) {
+        return Ok(None);
+    }
+    Ok(Some(Answer::embedding(q, map)))
+}
+
+/// Whether the answer is this map.
+fn is_map(answer: Option<&Answer>, images: &[u32]) -> bool {
+    match answer {
+        None => false,
+        Some(answer) => match answer.said() {
+            Said::Map(map) => map.as_slice() == images,
+            Said::NoEmbedding => false,
+        },
+    }
+}
+
+/// Offers the answer that these images are an embedding, and tells whether they are one and memory was left.
+fn offers<'a>(
+    alloc: Global,
+    q: &'a Problem,
+    cell: &AnswerCell<'a>,
+    note: &mut Note<'a>,
+    images: &[u32],
+) -> bool
+    requires { note.old.cell ≡ cell.now }
+    ensures { note.new.cell ≡ note.old.cell }
+{
+    match answer_of(alloc, q, images) {
+        Ok(Some(answer)) => cell.offer(alloc, note, answer).is_ok(),
+        _ => false,
+    }
+}
+
+/// Whether two answers can be offered to a cell of a problem of an edge into an edge, and each note sees the first.
+fn is_first_seen(alloc: Global, q: &Problem) -> bool {
+    let cell = AnswerCell::new(alloc);
+    let mut own = cell.note();
+    if cell.seen(&mut own).is_some() || !offers(alloc, q, &cell, &mut own, &[1, 0]) {
+        return false;
+    }
+    let mut other = cell.note();
+    if !offers(alloc, q, &cell, &mut other, &[0, 1]) {
+        return false;
+    }
+    let mut fresh = cell.note();
+    is_map(cell.seen(&mut own), &[1, 0])
+        && is_map(cell.seen(&mut other), &[1, 0])
+        && is_map(cell.seen(&mut fresh), &[1, 0])
+}
+
+#[test]
+fn the_first_answer_stays(rt: HostRuntime) -> Result<(), Fail> {
+    let q = problem(rt.alloc(), EDGE, EDGE, false).ok_or("a problem")?;
+    assert!(rt; is_first_seen(rt.alloc(), &q));
+    Ok(())
+}
+
+#[test]
+fn images_that_share_a_vertex_make_no_answer(rt: HostRuntime) -> Result<(), Fail> {
+    let q = problem(rt.alloc(), EDGE, EDGE, false).ok_or("a problem")?;
+    assert!(rt; answer_of(rt.alloc(), &q, &[0, 0])?.is_none());
+    Ok(())
+}
+
+/// Whether the answer of an edge into an edge is one to the problem of an edge into this target.
+fn answers_into(alloc: Global, target: &[u8]) -> Option<bool> {
+    let q = problem(alloc, EDGE, EDGE, false)?;
+    let asked = problem(alloc, EDGE, target, false)?;
+    let answer = answer_of(alloc, &q, &[1, 0]).ok()??;
+    Some(answer.answers(&asked))
+}
+
+#[test]
+fn an_answer_is_one_to_an_equal_problem(rt: HostRuntime) -> Result<(), Fail> {
+    assert!(rt; answers_into(rt.alloc(), EDGE) == Some(true));
+    Ok(())
+}
+
+#[test]
+fn an_answer_is_none_to_another_problem(rt: HostRuntime) -> Result<(), Fail> {
+    assert!(rt; answers_into(rt.alloc(), TRIANGLE) == Some(false));
+    Ok(())
+}
+
+#[test]
+fn nobody_waits_at_the_open_gate() {
+    OpenGate.at(1, Point::Start);
+    OpenGate.at(1, Point::Guess);
+    OpenGate.at(1, Point::Restart);
+}

@@ -1,0 +1,12 @@
+//! Small problems.
+
+use graph_rows::Problem;
+use sample_graphs::graph;
+use std::alloc::Global;
+
+/// The problem of two texts.
+pub fn problem(alloc: Global, pattern: &[u8], target: &[u8], induced: bool) -> Option<Problem> {
+    let pattern = graph(alloc, pattern)?;
+    let target = graph(alloc, target)?;
+    Some(Problem::new(pattern, target, induced))
+}

@@ -1,0 +1,267 @@
+//! Worked rows of consistent values.
+
+ghost use Rattle.std.specs.Prelude.{◌≡◌, ◌<◌, IsTrue};
+ghost use Rattle.graph_theory.specs.Graph.{size};
+
+use crate::problems::problem;
+use graph_rows::Problem;
+use pair_rows::{MOST_WORDS, PairKinds, PairRows};
+use sample_graphs::{APART, EDGE, FOUR_CYCLE, PATH, TRIANGLE};
+use std::alloc::Global;
+use std::test::Fail;
+
+/// Two neighbours, of which the first has a loop, and a vertex apart.
+const LOOP: &[u8] = b"3 2 0 1 1 0 0";
+
+/// Whether `p` and `r` are two vertices of the pattern.
+fn are_two(q: &Problem, p: u16, r: u16) -> bool
+    ensures { IsTrue result → (p < size q.now.pattern) × ((r < size q.now.pattern) × (p ≡ r → ⊥)) }
+{
+    let vertices = q.pattern().size();
+    p < vertices && r < vertices && p != r
+}
+
+/// A problem, two vertices of its pattern and a value of the first, and the values of the second that go together with it, as one word.
+struct Worked {
+    pattern: &'static [u8],
+    target: &'static [u8],
+    induced: bool,
+    vertices: (u16, u16),
+    value: u16,
+    word: u64,
+}
+
+/// The values of `r` that go together with `t` of `p`, as one word, where rows were made at another vertex before.
+fn row(alloc: Global, q: &Problem, p: u16, r: u16, t: u16) -> Option<u64> {
+    if !are_two(q, p, r) || t >= q.target().size() {
+        return None;
+    }
+    let kinds = PairKinds::new(alloc, q).ok()?;
+    let mut rows = PairRows::new(alloc, &kinds, MOST_WORDS).ok()?;
+    rows.make(0);
+    rows.make(t);
+    rows.make(t);
+    rows.row(p, r, t).first().copied()
+}
+
+/// Whether the row is the word.
+fn is_right(alloc: Global, worked: &Worked) -> bool {
+    let (p, r) = worked.vertices;
+    match problem(alloc, worked.pattern, worked.target, worked.induced) {
+        Some(q) => row(alloc, &q, p, r, worked.value) == Some(worked.word),
+        None => false,
+    }
+}
+
+static WORKED: [Worked; 7] = [
+    Worked {
+        pattern: EDGE,
+        target: FOUR_CYCLE,
+        induced: false,
+        vertices: (0, 1),
+        value: 0,
+        word: 0b1010,
+    },
+    Worked {
+        pattern: EDGE,
+        target: FOUR_CYCLE,
+        induced: true,
+        vertices: (1, 0),
+        value: 1,
+        word: 0b0101,
+    },
+    Worked {
+        pattern: TRIANGLE,
+        target: FOUR_CYCLE,
+        induced: false,
+        vertices: (0, 1),
+        value: 3,
+        word: 0,
+    },
+    Worked {
+        pattern: APART,
+        target: FOUR_CYCLE,
+        induced: false,
+        vertices: (0, 1),
+        value: 2,
+        word: 0b1011,
+    },
+    Worked {
+        pattern: APART,
+        target: FOUR_CYCLE,
+        induced: true,
+        vertices: (0, 1),
+        value: 2,
+        word: 0b0001,
+    },
+    Worked {
+        pattern: PATH,
+        target: FOUR_CYCLE,
+        induced: false,
+        vertices: (0, 2),
+        value: 0,
+        word: 0b0100,
+    },
+    Worked {
+        pattern: PATH,
+        target: FOUR_CYCLE,
+        induced: false,
+        vertices: (1, 2),
+        value: 3,
+        word: 0b0101,
+    },
+];
+
+/// The first row, from 0, that is not its word.
+fn first_wrong(alloc: Global, rows: &[Worked]) -> Option<usize> {
+    for (at, worked) in rows.iter().enumerate() {
+        if !is_right(alloc, worked) {
+            return Some(at);
+        }
+    }
+    None
+}
+
+#[test]
+fn rows_hold_what_goes_together(rt: HostRuntime) -> Result<(), Fail> {
+    assert_eq!(rt; first_wrong(rt.alloc(), &WORKED), None);
+    Ok(())
+}
+
+/// Whether `p` and `r` are asked nothing but distinct images in a cycle.
+fn free(alloc: Global, pattern: &[u8], induced: bool, p: u16, r: u16) -> Option<bool> {
+    let q = problem(alloc, pattern, FOUR_CYCLE, induced)?;
+    if !are_two(&q, p, r) {
+        return None;
+    }
+    let kinds = PairKinds::new(alloc, &q).ok()?;
+    let rows = PairRows::new(alloc, &kinds, MOST_WORDS).ok()?;
+    Some(rows.is_free(p, r))
+}
+
+#[test]
+fn vertices_apart_are_free(rt: HostRuntime) -> Result<(), Fail> {
+    assert!(rt; free(rt.alloc(), APART, false, 0, 1) == Some(true));
+    Ok(())
+}
+
+#[test]
+fn vertices_apart_are_not_free_in_the_induced_kind(rt: HostRuntime) -> Result<(), Fail> {
+    assert!(rt; free(rt.alloc(), APART, true, 0, 1) == Some(false));
+    Ok(())
+}
+
+#[test]
+fn neighbours_are_not_free(rt: HostRuntime) -> Result<(), Fail> {
+    assert!(rt; free(rt.alloc(), EDGE, false, 1, 0) == Some(false));
+    Ok(())
+}
+
+#[test]
+fn vertices_that_share_a_neighbour_are_not_free(rt: HostRuntime) -> Result<(), Fail> {
+    assert!(rt; free(rt.alloc(), PATH, false, 0, 2) == Some(false));
+    Ok(())
+}
+
+/// A problem of the induced kind, two vertices of its pattern and a value of the first, and what is so of them.
+struct Near {
+    pattern: &'static [u8],
+    target: &'static [u8],
+    vertices: (u16, u16),
+    value: u16,
+    /// Whether they are asked no edge and nothing besides.
+    is_bare: bool,
+    /// The first neighbour of the value, where its neighbours are listed.
+    first: Option<u16>,
+    /// The values of the second vertex that go together with it, as one word.
+    word: u64,
+}
+
+/// The first neighbour of `t`, where its neighbours are listed.
+fn first_neighbour(rows: &PairRows, q: &Problem, t: u16) -> Option<u16>
+    requires t_in { t < size q.now.target }
+    requires same { rows.now.problem ≡ q.now }
+{
+    rows.neighbours(t)?.first().copied()
+}
+
+/// Whether this is so of two vertices and a value.
+fn is_near(alloc: Global, q: &Problem, near: &Near) -> Option<bool> {
+    let ((p, r), t) = (near.vertices, near.value);
+    if !are_two(q, p, r) || t >= q.target().size() {
+        return None;
+    }
+    let kinds = PairKinds::new(alloc, q).ok()?;
+    let mut rows = PairRows::new(alloc, &kinds, MOST_WORDS).ok()?;
+    rows.make(t);
+    let is_word = rows.row(p, r, t).first().copied() == Some(near.word);
+    let is_first = first_neighbour(&rows, q, t) == near.first;
+    Some(is_word && is_first && rows.is_bare(p, r) == near.is_bare)
+}
+
+static NEAR: [Near; 5] = [
+    Near {
+        pattern: APART,
+        target: PATH,
+        vertices: (0, 1),
+        value: 0,
+        is_bare: true,
+        first: Some(1),
+        word: 0b100,
+    },
+    Near {
+        pattern: APART,
+        target: PATH,
+        vertices: (0, 1),
+        value: 1,
+        is_bare: true,
+        first: None,
+        word: 0,
+    },
+    Near {
+        pattern: APART,
+        target: LOOP,
+        vertices: (1, 0),
+        value: 0,
+        is_bare: true,
+        first: Some(1),
+        word: 0b100,
+    },
+    Near {
+        pattern: PATH,
+        target: PATH,
+        vertices: (0, 2),
+        value: 2,
+        is_bare: false,
+        first: Some(1),
+        word: 0b001,
+    },
+    Near {
+        pattern: PATH,
+        target: PATH,
+        vertices: (0, 1),
+        value: 0,
+        is_bare: false,
+        first: Some(1),
+        word: 0b010,
+    },
+];
+
+/// Whether each is so.
+fn are_near(alloc: Global, rows: &[Near]) -> bool {
+    for near in rows {
+        let Some(q) = problem(alloc, near.pattern, near.target, true) else {
+            return false;
+        };
+        if is_near(alloc, &q, near) != Some(true) {
+            return false;
+        }
+    }
+    true
+}
+
+#[test]
+fn few_neighbours_are_listed(rt: HostRuntime) -> Result<(), Fail> {
+    assert!(rt; are_near(rt.alloc(), &NEAR));
+    Ok(())
+}

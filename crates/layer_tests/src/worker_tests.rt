@@ -1,0 +1,253 @@
+//! Problems that several workers decide.
+
+ghost use Rattle.std.specs.Prelude.{◌≤◌, ◌<◌, ◌^◌, IsTrue};
+
+use crate::problems::problem;
+use graph_rows::Problem;
+use parallel_solve::{Proof, Settings, Solved, solve_with};
+use sample_graphs::{EDGE, FOUR_CYCLE, TRIANGLE};
+use std::alloc::Global;
+use std::sync::atomic::{AtomicU64, Ordering};
+use std::test::Fail;
+use std::thread::{self, Threads};
+use worker_gate::{Gate, OpenGate, Point};
+
+/// Five vertices, each beside all others.
+const CLIQUE: &[u8] = b"5 4 1 2 3 4 4 0 2 3 4 4 0 1 3 4 4 0 1 2 4 4 0 1 2 3";
+
+/// Sixteen vertices in four parts, each beside all of the other parts: at most four are beside each other.
+const SIDES: &[u8] =
+    b"16 12 4 5 6 7 8 9 10 11 12 13 14 15 12 4 5 6 7 8 9 10 11 12 13 14 15 12 4 5 6 7 8 9 10 11 12 13 14 15 12 4 5 6 7 8 9 10 11 12 13 14 15 12 0 1 2 3 8 9 10 11 12 13 14 15 12 0 1 2 3 8 9 10 11 12 13 14 15 12 0 1 2 3 8 9 10 11 12 13 14 15 12 0 1 2 3 8 9 10 11 12 13 14 15 12 0 1 2 3 4 5 6 7 12 13 14 15 12 0 1 2 3 4 5 6 7 12 13 14 15 12 0 1 2 3 4 5 6 7 12 13 14 15 12 0 1 2 3 4 5 6 7 12 13 14 15 12 0 1 2 3 4 5 6 7 8 9 10 11 12 0 1 2 3 4 5 6 7 8 9 10 11 12 0 1 2 3 4 5 6 7 8 9 10 11 12 0 1 2 3 4 5 6 7 8 9 10 11";
+
+/// How a solve ended.
+#[derive(Clone, Copy, PartialEq, Eq, Debug)]
+enum End {
+    /// With an embedding that `Problem::is_embedding` finds to be one.
+    Yes,
+    /// With none, and no log.
+    None,
+    /// With none, and the log of a proof.
+    Proved,
+    /// With so many accounts.
+    Unknown(usize),
+    /// In none of these ways.
+    Other,
+}
+
+/// So many workers, each with this budget and all with a book of so many rows.
+fn settings(threads: u32, budget: u64, rows: u32, prove: bool) -> Settings {
+    Settings {
+        threads,
+        seed: 0,
+        budget,
+        rows,
+        prove,
+    }
+}
+
+/// Whether a solve may be asked so.
+fn may_be_asked(s: &Settings) -> bool
+    ensures { IsTrue result → (1 ≤ s.now.threads)
+        × ((s.now.threads ≤ 64) × ((s.now.budget < 2 ^ 63) × (s.now.rows ≤ 4194304))) }
+{
+    s.threads >= 1 && s.threads <= 64 && s.budget < 1 << 63 && s.rows <= 4194304
+}
+
+/// How this answer ends a solve of the problem.
+fn end_by(q: &Problem, solved: &Solved) -> End {
+    match solved {
+        Solved::Yes(map) => {
+            if q.is_embedding(map) {
+                End::Yes
+            } else {
+                End::Other
+            }
+        }
+        Solved::NoEmbedding(Proof::Unlogged) => End::None,
+        Solved::NoEmbedding(Proof::Logged(_)) => End::Proved,
+        Solved::Unknown(accounts) => End::Unknown(accounts.len()),
+        Solved::NoMemory => End::Other,
+    }
+}
+
+/// How a search for the pattern in the target ends.
+fn end_of<R: Threads + Sync, G: Gate + Sync>(
+    rt: &R,
+    alloc: Global,
+    pattern: &[u8],
+    target: &[u8],
+    asked: &Settings,
+    gate: &G,
+) -> End {
+    if !may_be_asked(asked) {
+        return End::Other;
+    }
+    match problem(alloc, pattern, target, false) {
+        Some(q) => end_by(&q, &solve_with(rt, alloc, &q, asked, gate)),
+        None => End::Other,
+    }
+}
+
+/// How a search for a triangle in a cycle of four vertices ends.
+fn end_of_triangle<R: Threads + Sync>(rt: &R, alloc: Global, asked: &Settings) -> End {
+    end_of(rt, alloc, TRIANGLE, FOUR_CYCLE, asked, &OpenGate)
+}
+
+/// Whether so many workers over a book of so many rows find an edge in a cycle of four vertices, and no triangle.
+fn decide<R: Threads + Sync>(rt: &R, alloc: Global, threads: u32, rows: u32) -> bool {
+    let asked = settings(threads, 100, rows, false);
+    let found = end_of(rt, alloc, EDGE, FOUR_CYCLE, &asked, &OpenGate);
+    let refuted = end_of_triangle(rt, alloc, &settings(threads, 4, rows, false));
+    found == End::Yes && refuted == End::None
+}
+
+/// Whether one to eight workers do.
+fn all_decide<R: Threads + Sync>(rt: &R, alloc: Global, rows: u32) -> bool {
+    for threads in 1..9 {
+        if !decide(rt, alloc, threads, rows) {
+            return false;
+        }
+    }
+    true
+}
+
+#[test]
+fn any_number_of_workers_decides_alike(rt: HostRuntime) -> Result<(), Fail> {
+    assert!(rt; all_decide(&rt, rt.alloc(), 64));
+    Ok(())
+}
+
+#[test]
+fn workers_over_one_row_decide_alike(rt: HostRuntime) -> Result<(), Fail> {
+    assert!(rt; all_decide(&rt, rt.alloc(), 1));
+    Ok(())
+}
+
+#[test]
+fn workers_without_a_book_decide_alike(rt: HostRuntime) -> Result<(), Fail> {
+    assert!(rt; all_decide(&rt, rt.alloc(), 0));
+    Ok(())
+}
+
+/// Whether so many workers over a book of so many rows refute five vertices beside each other among four parts, which takes restarts.
+fn refute<R: Threads + Sync>(rt: &R, alloc: Global, threads: u32, rows: u32) -> bool {
+    let asked = settings(threads, 1000000, rows, false);
+    end_of(rt, alloc, CLIQUE, SIDES, &asked, &OpenGate) == End::None
+}
+
+#[test]
+fn a_worker_that_restarts_refutes(rt: HostRuntime) -> Result<(), Fail> {
+    assert!(rt; refute(&rt, rt.alloc(), 1, 65536));
+    Ok(())
+}
+
+#[test]
+fn workers_that_restart_share_a_book(rt: HostRuntime) -> Result<(), Fail> {
+    assert!(rt; refute(&rt, rt.alloc(), 4, 65536));
+    Ok(())
+}
+
+#[test]
+fn workers_that_restart_share_three_rows(rt: HostRuntime) -> Result<(), Fail> {
+    assert!(rt; refute(&rt, rt.alloc(), 4, 3));
+    Ok(())
+}
+
+#[test]
+fn workers_that_restart_need_no_book(rt: HostRuntime) -> Result<(), Fail> {
+    assert!(rt; refute(&rt, rt.alloc(), 4, 0));
+    Ok(())
+}
+
+/// Whether so many workers without a fail to spend leave an account each.
+fn is_spent<R: Threads + Sync>(rt: &R, alloc: Global, threads: u32) -> bool {
+    let end = end_of_triangle(rt, alloc, &settings(threads, 0, 8, false));
+    end == End::Unknown(threads as usize)
+}
+
+#[test]
+fn a_spent_worker_has_an_account(rt: HostRuntime) -> Result<(), Fail> {
+    assert!(rt; is_spent(&rt, rt.alloc(), 1));
+    Ok(())
+}
+
+#[test]
+fn a_spent_solve_has_an_account_for_each_worker(rt: HostRuntime) -> Result<(), Fail> {
+    assert!(rt; is_spent(&rt, rt.alloc(), 3) && is_spent(&rt, rt.alloc(), 64));
+    Ok(())
+}
+
+/// A gate that holds each of two workers at its guesses until the other has come to one, for at most ten million turns.
+#[derive(Drop)]
+struct Meeting {
+    first: AtomicU64,
+    second: AtomicU64,
+    late: AtomicU64,
+}
+
+/// Says that a worker has come, and turns until the other has.
+fn meet(own: &AtomicU64, other: &AtomicU64, late: &AtomicU64) {
+    own.store(1, Ordering::SeqCst);
+    for _ in 0..10000000u32 {
+        if other.load(Ordering::SeqCst) == 1 {
+            return;
+        }
+        thread::yield_now();
+    }
+    late.store(1, Ordering::SeqCst);
+}
+
+impl Gate for Meeting {
+    fn at(&self, worker: u32, point: Point) {
+        if point != Point::Guess {
+            return;
+        }
+        if worker == 1 {
+            meet(&self.first, &self.second, &self.late);
+        } else {
+            meet(&self.second, &self.first, &self.late);
+        }
+    }
+}
+
+impl Meeting {
+    /// Nobody has come.
+    fn new() -> Meeting {
+        Meeting {
+            first: AtomicU64::new(0),
+            second: AtomicU64::new(0),
+            late: AtomicU64::new(0),
+        }
+    }
+
+    /// Whether both have come, and neither too late for the other.
+    fn is_held(&self) -> bool {
+        self.first.load(Ordering::SeqCst) == 1
+            && self.second.load(Ordering::SeqCst) == 1
+            && self.late.load(Ordering::SeqCst) == 0
+    }
+}
+
+#[test]
+fn two_workers_search_beside_each_other(rt: HostRuntime) -> Result<(), Fail> {
+    let meeting = Meeting::new();
+    let asked = settings(2, 1000, 64, false);
+    let end = end_of(&rt, rt.alloc(), TRIANGLE, FOUR_CYCLE, &asked, &meeting);
+    assert!(rt; end == End::None && meeting.is_held());
+    Ok(())
+}
+
+#[test]
+fn a_log_is_kept_where_one_is_asked_for(rt: HostRuntime) -> Result<(), Fail> {
+    let end = end_of_triangle(&rt, rt.alloc(), &settings(2, 1000, 64, true));
+    assert!(rt; end == End::Proved);
+    Ok(())
+}
+
+#[test]
+fn a_log_is_kept_where_the_root_is_refuted(rt: HostRuntime) -> Result<(), Fail> {
+    let asked = settings(2, 1000, 64, true);
+    let end = end_of(&rt, rt.alloc(), CLIQUE, FOUR_CYCLE, &asked, &OpenGate);
+    assert!(rt; end == End::Proved);
+    Ok(())
+}
