@@ -11,7 +11,7 @@ import argparse
 import resource
 import subprocess
 
-SHAPES = ["100x1000", "500x8192"]
+SHAPES = ["10x64", "10x128", "10x192", "10x256", "100x1000", "500x8192"]
 WORKS = [("and", "words"), ("and_not", "words"), ("or", "words"), ("ones", "words"),
          ("domains", "pairs"), ("domains", "words"), ("prune", "pairs"), ("prune", "words")]
 

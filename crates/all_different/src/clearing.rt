@@ -82,7 +82,8 @@ fn is_tight(union: &[u64], rest: &[u64], n: usize) -> bool
     requires short { length union.now ≤ 1024 }
     ensures full { result ≡ true → count (has union.now) (64 * length union.now) ≡ n }
     ensures found { result ≡ true → Shares union.now rest.now }
-    ensures none { result ≡ false → count (has union.now) (64 * length union.now) ≡ n → (t : ℕ) → has union.now t ≡ true → has rest.now t ≡ true → ⊥ }
+    ensures none { result ≡ false → count (has union.now) (64 * length union.now) ≡ n → (t : ℕ)
+        → has union.now t ≡ true → has rest.now t ≡ true → ⊥ }
 {
     if count_ones(union) != n as u64 {
         return false;
@@ -105,7 +106,8 @@ fn clear_vertex<T: Trail>(d: &mut Domains<T>, last: u16, p: u16, keep: &[u64])
     requires last_in { last < d.old.vertices }
     requires p_in { p < d.old.vertices }
     requires long { length keep.now ≡ words_for d.old.values }
-    ensures { d.new ≡ (if before (size_of d.old) last p then intersected d.old p keep.now else d.old) }
+    ensures { d.new ≡ (if before (size_of d.old) last p then intersected d.old p keep.now
+        else d.old) }
 {
     if !is_later(d, last, p) {
         return;
@@ -118,7 +120,8 @@ fn clear_vertex<T: Trail>(d: &mut Domains<T>, last: u16, p: u16, keep: &[u64])
 fn clear_later<T: Trail>(d: &mut Domains<T>, last: u16, keep: &[u64])
     requires last_in { last < d.old.vertices }
     requires long { length keep.now ≡ words_for d.old.values }
-    requires keep { (t : ℕ) → t < d.old.values → has keep.now t ≡ not (in_union d.old (rank (size_of d.old) d.old.vertices last + 1) t) }
+    requires keep { (t : ℕ) → t < d.old.values
+        → has keep.now t ≡ not (in_union d.old (rank (size_of d.old) d.old.vertices last + 1) t) }
     ensures { d.new ≡ without_union d.old (rank (size_of d.old) d.old.vertices last + 1) }
 {
     for p in 0..d.vertices() {

@@ -92,7 +92,8 @@ pub(crate) fn first_short<T: Trail>(
 pub(crate) fn later_meets<T: Trail>(d: &Domains<T>, last: u16, union: &[u64]) -> bool
     requires last_in { last < d.now.vertices }
     requires long { length union.now ≡ words_for d.now.values }
-    requires union { (t : ℕ) → has union.now t ≡ in_union d.now (rank (size_of d.now) d.now.vertices last + 1) t }
+    requires union { (t : ℕ)
+        → has union.now t ≡ in_union d.now (rank (size_of d.now) d.now.vertices last + 1) t }
     ensures found { result ≡ true → Meets d.now (rank (size_of d.now) d.now.vertices last + 1) }
     ensures none { result ≡ false → Meets d.now (rank (size_of d.now) d.now.vertices last + 1) → ⊥ }
 {
@@ -109,9 +110,11 @@ fn meets_after<T: Trail>(d: &Domains<T>, last: u16, p: u16, union: &[u64]) -> bo
     requires last_in { last < d.now.vertices }
     requires p_in { p < d.now.vertices }
     requires long { length union.now ≡ words_for d.now.values }
-    requires union { (t : ℕ) → has union.now t ≡ in_union d.now (rank (size_of d.now) d.now.vertices last + 1) t }
+    requires union { (t : ℕ)
+        → has union.now t ≡ in_union d.now (rank (size_of d.now) d.now.vertices last + 1) t }
     ensures found { result ≡ true → Meets d.now (rank (size_of d.now) d.now.vertices last + 1) }
-    ensures none { result ≡ false → MissesAt d.now (rank (size_of d.now) d.now.vertices last + 1) p }
+    ensures none { result ≡ false
+        → MissesAt d.now (rank (size_of d.now) d.now.vertices last + 1) p }
 {
     if !is_later(d, last, p) {
         return false;

@@ -49,7 +49,8 @@ fn domains_of(alloc: Global, rows: [u64; 4]) -> Result<Domains, AllocError>
 /// Whether no other domain has the value of `p`.
 fn stands_alone(d: &Domains, p: u16, t: u16) -> bool
     requires { t < d.now.values }
-    ensures { result ≡ true → (r : ℕ) → r < d.now.vertices → (p ≡ r → ⊥) → in_domain d.now r t ≡ true → ⊥ }
+    ensures { result ≡ true → (r : ℕ) → r < d.now.vertices → (p ≡ r → ⊥)
+        → in_domain d.now r t ≡ true → ⊥ }
 {
     for r in 0..d.vertices() {
         if r != p && d.has(r, t) {

@@ -41,7 +41,10 @@ fn add_later<T: Trail>(d: &Domains<T>, last: u16, p: u16, row: &mut [u64])
     requires last_in { last < d.now.vertices }
     requires p_in { p < d.now.vertices }
     requires long { length row.old ≡ words_for d.now.values }
-    ensures { (t : ℕ) → has row.new t ≡ (has row.old t || (not (in_prefix d.now (rank (size_of d.now) d.now.vertices last + 1) p) && in_domain d.now p t)) }
+    ensures { (t : ℕ)
+        → has row.new t ≡ (has row.old t
+        || (not (in_prefix d.now (rank (size_of d.now) d.now.vertices last + 1) p)
+        && in_domain d.now p t)) }
 {
     if is_later(d, last, p) {
         or_into(row, d.row(p));
@@ -52,7 +55,8 @@ fn add_later<T: Trail>(d: &Domains<T>, last: u16, p: u16, row: &mut [u64])
 pub(crate) fn unite_rest<T: Trail>(d: &Domains<T>, last: u16, row: &mut [u64])
     requires last_in { last < d.now.vertices }
     requires long { length row.old ≡ words_for d.now.values }
-    ensures { (t : ℕ) → has row.new t ≡ in_rest d.now (rank (size_of d.now) d.now.vertices last + 1) t }
+    ensures { (t : ℕ)
+        → has row.new t ≡ in_rest d.now (rank (size_of d.now) d.now.vertices last + 1) t }
 {
     clear(row);
     for p in 0..d.vertices() {

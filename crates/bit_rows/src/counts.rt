@@ -9,7 +9,8 @@ pub fn count_members(row: &[u64], counts: &mut [u16])
     requires short { length row.now ≤ 1024 }
     requires within { (v : ℕ) → has row.now v ≡ true → v < length counts.old }
     requires room { (v : ℕ) → slice_index counts.old v < 65535 }
-    ensures { (v : ℕ) → slice_index counts.new v ≡ slice_index counts.old v + from_bool (has row.now v) }
+    ensures { (v : ℕ)
+        → slice_index counts.new v ≡ slice_index counts.old v + from_bool (has row.now v) }
 {
     for place in 0..row.len() {
         count_in_word(row[place], place, counts);
@@ -19,9 +20,12 @@ pub fn count_members(row: &[u64], counts: &mut [u16])
 /// Counts each value of one word of a row once more. Cost: one step for each.
 fn count_in_word(word: u64, place: usize, counts: &mut [u16])
     requires short { place < 1024 }
-    requires within { (v : ℕ) → v / 64 ≡ place → is_set word (v % 64) ≡ true → v < length counts.old }
+    requires within { (v : ℕ) → v / 64 ≡ place → is_set word (v % 64) ≡ true
+        → v < length counts.old }
     requires room { (v : ℕ) → v / 64 ≡ place → slice_index counts.old v < 65535 }
-    ensures { (v : ℕ) → slice_index counts.new v ≡ slice_index counts.old v + from_bool (v / 64 == place && is_set word (v % 64)) }
+    ensures { (v : ℕ)
+        → slice_index counts.new v ≡ slice_index counts.old v
+        + from_bool (v / 64 == place && is_set word (v % 64)) }
 {
     let mut rest = word;
     while rest != 0 {
@@ -36,7 +40,8 @@ pub fn keep_counted(row: &mut [u64], counts: &[u16], least: u16)
     requires short { length row.old ≤ 1024 }
     requires within { (v : ℕ) → has row.old v ≡ true → v < length counts.now }
     requires long { 64 * length row.old < length counts.now + 64 }
-    ensures { (v : ℕ) → has row.new v ≡ (has row.old v && not (nat_lt (slice_index counts.now v) least)) }
+    ensures { (v : ℕ)
+        → has row.new v ≡ (has row.old v && not (nat_lt (slice_index counts.now v) least)) }
 {
     if least == 0 {
         return;
@@ -50,7 +55,8 @@ pub fn keep_counted(row: &mut [u64], counts: &[u16], least: u16)
 fn word_counted(counts: &[u16], place: usize, least: u16) -> u64
     requires short { place < 1024 }
     requires begins { 64 * place ≤ length counts.now }
-    ensures { (v : ℕ) → v / 64 ≡ place → v < length counts.now → is_set result (v % 64) ≡ not (nat_lt (slice_index counts.now v) least) }
+    ensures { (v : ℕ) → v / 64 ≡ place → v < length counts.now
+        → is_set result (v % 64) ≡ not (nat_lt (slice_index counts.now v) least) }
 {
     let from = 64 * place;
     let to = counts.len().min(from + 64);
@@ -60,7 +66,8 @@ fn word_counted(counts: &[u16], place: usize, least: u16) -> u64
 /// Bit b tells whether count b is at least so much. Cost: one step for each count.
 fn bits_counted(counts: &[u16], least: u16) -> u64
     requires { length counts.now ≤ 64 }
-    ensures { (b : ℕ) → b < length counts.now → is_set result b ≡ not (nat_lt (slice_index counts.now b) least) }
+    ensures { (b : ℕ) → b < length counts.now
+        → is_set result b ≡ not (nat_lt (slice_index counts.now b) least) }
 {
     let mut word = 0;
     for b in 0..counts.len() {

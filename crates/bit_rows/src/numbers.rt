@@ -19,7 +19,8 @@ pub fn keep_equal(row: &mut [u64], numbers: &[u32], number: u32)
 fn word_equal(numbers: &[u32], place: usize, number: u32) -> u64
     requires short { place < 1024 }
     requires begins { 64 * place ≤ length numbers.now }
-    ensures { (v : ℕ) → v / 64 ≡ place → v < length numbers.now → is_set result (v % 64) ≡ (slice_index numbers.now v == number) }
+    ensures { (v : ℕ) → v / 64 ≡ place → v < length numbers.now
+        → is_set result (v % 64) ≡ (slice_index numbers.now v == number) }
 {
     let from = 64 * place;
     let to = numbers.len().min(from + 64);
@@ -29,7 +30,8 @@ fn word_equal(numbers: &[u32], place: usize, number: u32) -> u64
 /// Bit b tells whether number b is this one. Cost: one step for each number.
 fn bits_equal(numbers: &[u32], number: u32) -> u64
     requires { length numbers.now ≤ 64 }
-    ensures { (b : ℕ) → b < length numbers.now → is_set result b ≡ (slice_index numbers.now b == number) }
+    ensures { (b : ℕ) → b < length numbers.now
+        → is_set result b ≡ (slice_index numbers.now b == number) }
 {
     let mut word = 0;
     for b in 0..numbers.len() {

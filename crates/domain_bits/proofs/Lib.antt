@@ -1,6 +1,7 @@
 pub mod Counts
 pub mod WordBits
 pub mod Rows
+pub mod FourWords
 pub mod Removed
 pub mod WholeRows
 pub mod Runs

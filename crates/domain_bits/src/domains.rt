@@ -210,7 +210,8 @@ impl<T: Trail> Domains<T> {
         ensures found { result ≡ in_domain self.old p t }
         ensures after { self.new ≡ (if result then without self.old p t else self.old) }
         ensures keeps { Keeps self.old self.new p (λ u. not (u == t)) }
-        ensures within { OnTrue result (length self.old.removed < self.old.vertices * self.old.values) }
+        ensures within { OnTrue result
+            (length self.old.removed < self.old.vertices * self.old.values) }
         ensures vertices { self.new.vertices ≡ self.old.vertices }
         ensures values { self.new.values ≡ self.old.values }
     {
@@ -298,7 +299,9 @@ fn full_rows(
     requires few { vertices < 2 ^ 16 }
     requires short { words ≤ 1024 }
     ensures long { IfOk result (λ v. length v.items ≡ vertices * words) }
-    ensures bits { IfOk result (λ v. (p t : ℕ) → p < vertices → t < 64 * words → has (drop (p * words) v.items) t ≡ nat_lt t values) }
+    ensures bits { IfOk result
+        (λ v. (p t : ℕ) → p < vertices → t < 64 * words
+        → has (drop (p * words) v.items) t ≡ nat_lt t values) }
 {
     let row = full_row(alloc, values, words)?;
     let mut rows = Vec::with_capacity(alloc, vertices * words)?;
@@ -367,10 +370,12 @@ fn lower_noting(sizes: &mut [u16], singles: &mut [u16], at: usize, by: u32, row:
     requires enough { by ≤ slice_index sizes.old at }
     requires short { length row.now ≤ 1024 }
     requires left { count (has row.now) (64 * length row.now) ≡ slice_index sizes.old at - by }
-    requires unchanged { by ≡ 0 → slice_index sizes.old at ≡ 1 → has row.now (slice_index singles.old at) ≡ true }
+    requires unchanged { by ≡ 0 → slice_index sizes.old at ≡ 1
+        → has row.now (slice_index singles.old at) ≡ true }
     ensures sizes { sizes.new ≡ slice_set sizes.old at (slice_index sizes.old at - by) }
     ensures others { singles.new ≡ slice_set singles.old at (slice_index singles.new at) }
-    ensures single { slice_index sizes.old at - by ≡ 1 → has row.now (slice_index singles.new at) ≡ true }
+    ensures single { slice_index sizes.old at - by ≡ 1
+        → has row.now (slice_index singles.new at) ≡ true }
 {
     lower(sizes, at, by);
     if by == 0 || sizes[at] != 1 {
@@ -387,10 +392,15 @@ fn restore(rows: &mut [u64], sizes: &mut [u16], singles: &mut [u16], words: usiz
     requires place_in { run.place < 1024 }
     requires some { 0 < run.word }
     requires fits { slice_index sizes.old run.vertex + count_ones run.word < 2 ^ 16 }
-    ensures rows { rows.new ≡ slice_set rows.old (run.vertex * words + run.place) (bit_or (slice_index rows.old (run.vertex * words + run.place)) run.word) }
-    ensures sizes { sizes.new ≡ slice_set sizes.old run.vertex (slice_index sizes.old run.vertex + count_ones run.word) }
-    ensures others { singles.new ≡ slice_set singles.old run.vertex (slice_index singles.new run.vertex) }
-    ensures single { slice_index sizes.new run.vertex ≡ 1 → slice_index singles.new run.vertex ≡ 64 * run.place + trailing_zeros w64 run.word }
+    ensures rows { rows.new
+        ≡ slice_set rows.old (run.vertex * words + run.place)
+        (bit_or (slice_index rows.old (run.vertex * words + run.place)) run.word) }
+    ensures sizes { sizes.new
+        ≡ slice_set sizes.old run.vertex (slice_index sizes.old run.vertex + count_ones run.word) }
+    ensures others { singles.new
+        ≡ slice_set singles.old run.vertex (slice_index singles.new run.vertex) }
+    ensures single { slice_index sizes.new run.vertex ≡ 1
+        → slice_index singles.new run.vertex ≡ 64 * run.place + trailing_zeros w64 run.word }
 {
     rows[usize::from(run.vertex) * words + usize::from(run.place)] |= run.word;
     sizes[usize::from(run.vertex)] += run.word.count_ones() as u16;
@@ -403,8 +413,10 @@ fn note_restored(sizes: &[u16], singles: &mut [u16], run: Run)
     requires noted { run.vertex < length singles.old }
     requires place_in { run.place < 1024 }
     requires some { 0 < run.word }
-    ensures others { singles.new ≡ slice_set singles.old run.vertex (slice_index singles.new run.vertex) }
-    ensures single { slice_index sizes.now run.vertex ≡ 1 → slice_index singles.new run.vertex ≡ 64 * run.place + trailing_zeros w64 run.word }
+    ensures others { singles.new
+        ≡ slice_set singles.old run.vertex (slice_index singles.new run.vertex) }
+    ensures single { slice_index sizes.now run.vertex ≡ 1
+        → slice_index singles.new run.vertex ≡ 64 * run.place + trailing_zeros w64 run.word }
 {
     let at = usize::from(run.vertex);
     if sizes[at] != 1 {
@@ -418,11 +430,16 @@ fn note_restored(sizes: &[u16], singles: &mut [u16], run: Run)
 fn filter_row<T: Trail>(p: u16, domain: &mut [u64], keep: &[u64], trail: &mut T) -> u32
     requires long { length keep.now ≡ length domain.old }
     requires short { length domain.old ≤ 1024 }
-    requires room { length (T.removed trail.old) + count (has domain.old) (64 * length domain.old) ≤ T.capacity trail.old }
-    ensures row { (t : ℕ) → t < 64 * length domain.old → has domain.new t ≡ (has domain.old t && has keep.now t) }
-    ensures trail { T.removed trail.new ≡ T.removed trail.old ++ at_vertex p (members (λ u. has domain.old u && not (has keep.now u)) (64 * length domain.old)) }
+    requires room { length (T.removed trail.old) + count (has domain.old) (64 * length domain.old)
+        ≤ T.capacity trail.old }
+    ensures row { (t : ℕ) → t < 64 * length domain.old
+        → has domain.new t ≡ (has domain.old t && has keep.now t) }
+    ensures trail { T.removed trail.new ≡ T.removed trail.old
+        ++ at_vertex p (members (λ u. has domain.old u && not (has keep.now u))
+        (64 * length domain.old)) }
     ensures room { T.capacity trail.new ≡ T.capacity trail.old }
-    ensures count { result ≡ count (λ u. has domain.old u && not (has keep.now u)) (64 * length domain.old) }
+    ensures count { result
+        ≡ count (λ u. has domain.old u && not (has keep.now u)) (64 * length domain.old) }
 {
     let mut gone = 0;
     for place in 0..domain.len() {
@@ -434,11 +451,15 @@ fn filter_row<T: Trail>(p: u16, domain: &mut [u64], keep: &[u64], trail: &mut T)
 /// Filters a row by one value.
 fn filter_value<T: Trail>(p: u16, domain: &mut [u64], t: u16, trail: &mut T) -> u32
     requires short { length domain.old ≤ 1024 }
-    requires room { length (T.removed trail.old) + count (has domain.old) (64 * length domain.old) ≤ T.capacity trail.old }
-    ensures row { (u : ℕ) → u < 64 * length domain.old → has domain.new u ≡ (has domain.old u && u == t) }
-    ensures trail { T.removed trail.new ≡ T.removed trail.old ++ at_vertex p (members (λ u. has domain.old u && not (u == t)) (64 * length domain.old)) }
+    requires room { length (T.removed trail.old) + count (has domain.old) (64 * length domain.old)
+        ≤ T.capacity trail.old }
+    ensures row { (u : ℕ) → u < 64 * length domain.old
+        → has domain.new u ≡ (has domain.old u && u == t) }
+    ensures trail { T.removed trail.new ≡ T.removed trail.old
+        ++ at_vertex p (members (λ u. has domain.old u && not (u == t)) (64 * length domain.old)) }
     ensures room { T.capacity trail.new ≡ T.capacity trail.old }
-    ensures count { result ≡ count (λ u. has domain.old u && not (u == t)) (64 * length domain.old) }
+    ensures count { result
+        ≡ count (λ u. has domain.old u && not (u == t)) (64 * length domain.old) }
 {
     let mut gone = 0;
     for place in 0..domain.len() {
@@ -453,7 +474,8 @@ fn take_value<T: Trail>(p: u16, domain: &mut [u64], t: u16, trail: &mut T)
     requires inside { t < 64 * length domain.old }
     requires here { has domain.old t ≡ true }
     requires room { length (T.removed trail.old) < T.capacity trail.old }
-    ensures row { (u : ℕ) → u < 64 * length domain.old → has domain.new u ≡ (has domain.old u && not (u == t)) }
+    ensures row { (u : ℕ) → u < 64 * length domain.old
+        → has domain.new u ≡ (has domain.old u && not (u == t)) }
     ensures trail { T.removed trail.new ≡ T.removed trail.old ++ at_vertex p (t ∷ []) }
     ensures room { T.capacity trail.new ≡ T.capacity trail.old }
 {
@@ -481,11 +503,17 @@ fn word_of(t: u16, place: usize) -> u64
 fn filter_word<T: Trail>(p: u16, place: usize, domain: &mut [u64], keep: u64, trail: &mut T) -> u32
     requires inside { place < length domain.old }
     requires in_range { place < 1024 }
-    requires room { length (T.removed trail.old) + count_ones (bit_and (slice_index domain.old place) (bit_not w64 keep)) ≤ T.capacity trail.old }
-    ensures word { domain.new ≡ slice_set domain.old place (bit_and (slice_index domain.old place) keep) }
-    ensures trail { T.removed trail.new ≡ T.removed trail.old ++ at_vertex p (word_values place (bit_and (slice_index domain.old place) (bit_not w64 keep))) }
+    requires room { length (T.removed trail.old)
+        + count_ones (bit_and (slice_index domain.old place) (bit_not w64 keep))
+        ≤ T.capacity trail.old }
+    ensures word { domain.new
+        ≡ slice_set domain.old place (bit_and (slice_index domain.old place) keep) }
+    ensures trail { T.removed trail.new ≡ T.removed trail.old
+        ++ at_vertex p (word_values place
+        (bit_and (slice_index domain.old place) (bit_not w64 keep))) }
     ensures room { T.capacity trail.new ≡ T.capacity trail.old }
-    ensures count { result ≡ count_ones (bit_and (slice_index domain.old place) (bit_not w64 keep)) }
+    ensures count { result
+        ≡ count_ones (bit_and (slice_index domain.old place) (bit_not w64 keep)) }
 {
     let word = domain[place];
     let gone = word & !keep;

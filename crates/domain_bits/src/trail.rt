@@ -43,15 +43,20 @@ pub trait Trail: Drop {
     fn push(&mut self, run: Run)
         requires some { 0 < run.word }
         requires in_range { run.place < 1024 }
-        requires room { length (removed self.old) + length (word_values run.place run.word) ≤ capacity self.old }
-        ensures after { removed self.new ≡ removed self.old ++ at_vertex run.vertex (word_values run.place run.word) }
+        requires room { length (removed self.old) + length (word_values run.place run.word)
+            ≤ capacity self.old }
+        ensures after { removed self.new ≡ removed self.old
+            ++ at_vertex run.vertex (word_values run.place run.word) }
         ensures room { capacity self.new ≡ capacity self.old };
 
     /// Takes off the last values, as many as stand in one word and come after the first `mark` pairs.
     fn pop(&mut self, mark: usize) -> Option<Run>
-        ensures some { IfSome result (λ run. removed self.old ≡ removed self.new ++ at_vertex run.vertex (word_values run.place run.word)) }
+        ensures some { IfSome result
+            (λ run. removed self.old ≡ removed self.new
+            ++ at_vertex run.vertex (word_values run.place run.word)) }
         ensures word { IfSome result (λ run. run.word < 2 ^ 64) }
-        ensures fewer { IfSome result (λ run. length (removed self.new) < length (removed self.old)) }
+        ensures fewer { IfSome result
+            (λ run. length (removed self.new) < length (removed self.old)) }
         ensures above { IfSome result (λ run. mark ≤ length (removed self.new)) }
         ensures none { IfNone result (length (removed self.old) ≤ mark) }
         ensures unchanged { IfNone result (removed self.new ≡ removed self.old) }
@@ -107,7 +112,8 @@ impl Trail for PairTrail {
 /// Adds a pair for each bit of the word, rising. Cost: one step for each bit.
 fn push_pairs(pairs: &mut Vec<(u16, u16)>, p: u16, place: u16, word: u64)
     requires in_range { place < 1024 }
-    requires room { length pairs.old.items + length (word_values place word) ≤ vec_capacity pairs.old }
+    requires room { length pairs.old.items + length (word_values place word)
+        ≤ vec_capacity pairs.old }
     ensures after { pairs.new.items ≡ pairs.old.items ++ at_vertex p (word_values place word) }
     ensures room { vec_capacity pairs.new ≡ vec_capacity pairs.old }
 {
@@ -121,7 +127,9 @@ fn push_pairs(pairs: &mut Vec<(u16, u16)>, p: u16, place: u16, word: u64)
 
 /// The last pairs after the first `mark` that belong to one word, and how many stand before them. Cost: one step for each of them.
 fn last_run(pairs: &[(u16, u16)], mark: usize) -> Option<(Run, usize)>
-    ensures some { IfSome result (λ r. pairs.now ≡ take r.1 pairs.now ++ at_vertex r.0.vertex (word_values r.0.place r.0.word)) }
+    ensures some { IfSome result
+        (λ r. pairs.now ≡ take r.1 pairs.now
+        ++ at_vertex r.0.vertex (word_values r.0.place r.0.word)) }
     ensures word { IfSome result (λ r. r.0.word < 2 ^ 64) }
     ensures fewer { IfSome result (λ r. r.1 < length pairs.now) }
     ensures above { IfSome result (λ r. mark ≤ r.1) }

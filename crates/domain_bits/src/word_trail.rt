@@ -89,7 +89,9 @@ fn values_in(word: u64) -> usize
 /// The greatest bit of a word that is not 0, alone.
 fn top_bit(word: u64) -> u64
     requires { 0 < word }
-    ensures last { (place : ℕ) → word_values place word ≡ word_values place (bit_xor word result) ++ word_values place result }
+    ensures last { (place : ℕ)
+        → word_values place word ≡ word_values place (bit_xor word result)
+        ++ word_values place result }
     ensures one { count_ones result ≡ 1 }
     ensures others { count_ones (bit_xor word result) + 1 ≡ count_ones word }
 {

@@ -68,16 +68,22 @@ impl Asked {
     }
 }
 
+/// So many vertices and values, if there is a vertex.
+fn some_shape(vertices: u16, values: u16) -> Option<Shape> {
+    if vertices == 0 {
+        return None;
+    }
+    Some(Shape { vertices, values })
+}
+
 fn shape_of(word: &str) -> Option<Shape> {
     match word {
-        "100x1000" => Some(Shape {
-            vertices: 100,
-            values: 1000,
-        }),
-        "500x8192" => Some(Shape {
-            vertices: 500,
-            values: 8192,
-        }),
+        "10x64" => some_shape(10, 64),
+        "10x128" => some_shape(10, 128),
+        "10x192" => some_shape(10, 192),
+        "10x256" => some_shape(10, 256),
+        "100x1000" => some_shape(100, 1000),
+        "500x8192" => some_shape(500, 8192),
         _ => None,
     }
 }

@@ -1,7 +1,7 @@
 //! The program `leaves_bench` works the leaves of the search as long as it is asked to, so that their speed can be taken from outside:
 //! it looks at no clock. Nothing stands above it.
 //!
-//! `leaves_bench SHAPE TRAIL WORK ROUNDS`: the shape `100x1000` or `500x8192` is how many vertices and values there are, the trail
+//! `leaves_bench SHAPE TRAIL WORK ROUNDS`: the shape, `10x64` to `500x8192`, is how many vertices and values there are, the trail
 //! `pairs` or `words`, the work one of those in `asked`, a round one call of it. It prints how many words of rows the rounds went
 //! through, and a checksum, which is the same for the same words.
 #![tactic(auto)]
@@ -45,7 +45,7 @@ fn main(rt: HostRuntime) -> Result<()> {
     let words: Vec<String> = env::args(&rt)?.collect(alloc)?;
     let Some(asked) = asked_by(&words) else {
         bail!(
-            "usage: leaves_bench 100x1000|500x8192 pairs|words domains|prune|and|and_not|or|ones ROUNDS"
+            "usage: leaves_bench 10x64|10x128|10x192|10x256|100x1000|500x8192 pairs|words domains|prune|and|and_not|or|ones ROUNDS"
         )
     };
     let sum = checksum(alloc, asked)?;
