@@ -14,20 +14,20 @@ use Rattle.log_theory.specs.LogText.{AreRefs, AreLiterals}
 use Rattle.log_theory.specs.Lookups.{variables_of}
 use Rattle.log_theory.specs.Verdicts.{in_range}
 use Rattle.encoding_theory.specs.Variables.{variable, variables}
-use Rattle.reason_theory.specs.Reasons.{not_there, pairs_clause, value_clauses}
+use Rattle.reason_theory.specs.Reasons.{not_there, pairs_clause, at_leasts, value_clauses}
 use Rattle.nogood_book.specs.declared.row.Row.{Row}
-use Rattle.nogood_book.specs.Rows.{AreInRange}
+use Rattle.nogood_book.specs.Rows.{AreInRange, path_at}
+use Rattle.nogood_book.specs.Places.{IsNogoodRow}
 use Rattle.propagation.specs.declared.change.Entry.{Entry}
 use Rattle.propagation.specs.declared.change.Failure.{Failure}
 use Rattle.propagation.specs.declared.change.Failure.TheVariants as failure
 use Rattle.propagation.specs.Recording.{Change, CountedSet, change_of}
-use Rattle.dead_theory.specs.Changes.{AreGuessed, IsInProblem}
+use Rattle.dead_theory.specs.Changes.{known_after, set_forms, AreGuessed, IsInProblem}
 use Rattle.dead_theory.specs.Ends as ends
-use Rattle.dead_theory.specs.Ends.{End, Empty, Whole, Short, Exhausted, end_of, end_forms, end_needs}
-use Rattle.dead_theory.specs.Walks.{among_these, IsChoice, nothing, keeps, passes, IsWithin}
+use Rattle.dead_theory.specs.Ends.{End, Empty, Whole, Short, Exhausted, end_of, EndsIn, EndNeeds}
+use Rattle.dead_theory.specs.Walks.{IsChoice, nothing, keeps, passes}
 use Rattle.dead_theory.specs.Laws.{Dies}
 use Rattle.dead_theory.proofs.Dying.{dead_laws_hold, told_laws_hold}
-use Rattle.dead_theory.proofs.Choosing.{walk_laws_hold}
 use Rattle.journal_theory.specs.Journals.{named}
 use Rattle.journal_theory.proofs.Placing.{take_all}
 use Rattle.journals.specs.Keeping.{Keeps}
@@ -38,9 +38,9 @@ use Rattle.dead_paths.specs.declared.dead_line.PathEnd.{PathEnd}
 use Rattle.dead_paths.specs.declared.dead_line.PathEnd.TheVariants as path_end
 use Rattle.dead_paths.specs.Making.{AreRowsNamed}
 use Rattle.dead_paths.specs.Choosing.{changes_in, IsOfRow, AreNameable}
-use Rattle.dead_paths.specs.Explaining.{IsLimited, Explained, Knowing, AreRefuted, end_by, IsEndIn, IsBegun, EndExplained, IsEndPushed, IsSetPushed, AreChangesPushed, AreGathered, IsDeadName, IsLastOf}
+use Rattle.dead_paths.specs.Explaining.{IsLimited, Explained, Knowing, AreRefuted, end_by, IsEndIn, IsChosenFor, IsBegun, EndExplained, AddsNogood, AddsEnd, IsEndPushed, IsSetPushed, AreChangesPushed, AreGathered, IsDeadName, IsLastOf}
 use Rattle.dead_paths.proofs.LineRefs.{refs_behind}
-use Rattle.dead_paths.proofs.Causes.{pure_goes, explained_last}
+use Rattle.dead_paths.proofs.Causes.{nogood_named, explained_last}
 
 -- ---- frames
 
@@ -72,11 +72,6 @@ drop_past (e ∷ chosen) (suc k) h = drop_past chosen k (omega (arith, h))
 
 -- ---- ends
 
--- What an end rests on does not hang on what is refuted.
-pub needs_same : (rows : List Row) (e : PathEnd) (short : Option CountedSet) (values : List ℕ) → end_needs rows (end_by e short values) ≡ end_needs rows (end_by e short [])
-needs_same rows (path_end.Failed f) short values = refl
-needs_same rows (path_end.Exhausted p) short values = refl
-
 pub refuted_last : (q : Problem) (path : List (ℕ × ℕ)) (e : End) (w : Frame) (refuted : List Ref) → Lasts (AreRefuted q path e w refuted)
 refuted_last q path (Empty p) w refuted = λ forms more h. tt
 refuted_last q path (Whole name) w refuted = λ forms more h. tt
@@ -105,50 +100,55 @@ range_at q (x ∷ path) (suc i) d below range = range_at q path i d (omega (arit
 -- ---- guesses
 
 -- What is chosen of guesses of the path are guesses of the path.
-pub guessed_chosen : (rows : List Row) (path : List (ℕ × ℕ)) (cs chosen : List Change) (needed : ℕ → Bool) → IsChoice rows cs chosen needed → AreGuessed path cs → AreGuessed path chosen
-guessed_chosen rows path _ _ _ (nothing needed) g = tt
-guessed_chosen rows path _ _ _ (keeps c cs chosen needed rest) g = (g.0, guessed_chosen rows path cs chosen _ rest g.1)
-guessed_chosen rows path _ _ _ (passes c cs chosen needed may rest) g = guessed_chosen rows path cs chosen needed rest g.1
+pub guessed_chosen : (q : Problem) (rows : List Row) (path : List (ℕ × ℕ)) (cs chosen : List Change) (needed : ℕ → ℕ → Bool) → IsChoice q rows path cs chosen needed → AreGuessed path cs → AreGuessed path chosen
+guessed_chosen q rows path _ _ _ (nothing needed) g = tt
+guessed_chosen q rows path _ _ _ (keeps c cs chosen needed now rests rest) g = (g.0, guessed_chosen q rows path cs chosen now rest g.1)
+guessed_chosen q rows path _ _ _ (passes c cs chosen needed may rest) g = guessed_chosen q rows path cs chosen needed rest g.1
 
 -- ---- the line
 
 -- Both are pushed: the changes, then the end.
 gathered : (q : Problem) (rows : List Row) (w : Frame) (path : List (ℕ × ℕ)) (e : End) (refuted : List Ref) (now : List Form → Type 0) (names : ℕ → Ref) (cs : List Change) (old new : List Ref) (result : Result (Unit {0}) AllocError)
-    (forms : List Form) → IsEndPushed q rows path e w old new now result forms → Explained q rows w names cs old forms → AreGathered q rows w path cs e new now result forms
+    (forms : List Form) → IsEndPushed q rows path (known_after path cs) e w old new now result forms → Explained q rows path w names cs old forms → AreGathered q rows w path cs e new now result forms
 gathered q rows w path e refuted now names cs old new (Ok u) forms pushed h = (
   pushed.0,
   record {
     own = h.own;
+    ends = pushed.1.ends;
     explained = h.explained;
-    named = subst (λ (rs : List Ref). AreNamed w forms rs (h.own ++ end_forms q rows path e)) (sym pushed.1.front) (named_behind w forms old h.own pushed.1.more (end_forms q rows path e) h.named pushed.1.named);
+    in_end = pushed.1.in_end;
+    named = subst (λ (rs : List Ref). AreNamed w forms rs (h.own ++ pushed.1.ends)) (sym pushed.1.adds.front) (named_behind w forms old h.own pushed.1.adds.more pushed.1.ends h.named pushed.1.adds.named);
   },
 )
 gathered q rows w path e refuted now names cs old new (Err x) forms pushed h = tt
 
 pub gather_goes : (q : Problem) (rows : List Row) (w : Frame) (names : ℕ → Ref) (path : List (ℕ × ℕ)) (e : End) (refuted : List Ref) (knows mid now : List Form → Type 0) (a b c : Option (List Step)) (cs : List Change)
-    (old new : List Ref) (result : Result (Unit {0}) AllocError) → Goes w a b (Knowing knows (AreRowsNamed q rows w names)) (AreChangesPushed q rows w names cs old mid (Ok tt))
-    → Goes w b c (Knowing mid (IsBegun q rows w names path e refuted)) (IsEndPushed q rows path e w old new now result)
+    (old new : List Ref) (result : Result (Unit {0}) AllocError) → Goes w a b (Knowing knows (AreRowsNamed q rows w names)) (AreChangesPushed q rows path w names cs old mid (Ok tt))
+    → Goes w b c (Knowing mid (IsBegun q rows w names path e refuted)) (IsEndPushed q rows path (known_after path cs) e w old new now result)
     → Goes w a c (Knowing knows (IsBegun q rows w names path e refuted)) (AreGathered q rows w path cs e new now result)
 gather_goes q rows w names path e refuted knows mid now a b c cs old new result changes ends =
-    goes_then w a b c (Knowing knows (IsBegun q rows w names path e refuted)) (λ forms. mid forms × Explained q rows w names cs old forms × AreRefuted q path e w refuted forms) (AreGathered q rows w path cs e new now result)
-    (goes_as w a b (λ forms. Knowing knows (AreRowsNamed q rows w names) forms × AreRefuted q path e w refuted forms) (λ forms. AreChangesPushed q rows w names cs old mid (Ok tt) forms × AreRefuted q path e w refuted forms)
-    (Knowing knows (IsBegun q rows w names path e refuted)) (λ forms. mid forms × Explained q rows w names cs old forms × AreRefuted q path e w refuted forms)
+    goes_then w a b c (Knowing knows (IsBegun q rows w names path e refuted)) (λ forms. mid forms × Explained q rows path w names cs old forms × AreRefuted q path e w refuted forms) (AreGathered q rows w path cs e new now result)
+    (goes_as w a b (λ forms. Knowing knows (AreRowsNamed q rows w names) forms × AreRefuted q path e w refuted forms) (λ forms. AreChangesPushed q rows path w names cs old mid (Ok tt) forms × AreRefuted q path e w refuted forms)
+    (Knowing knows (IsBegun q rows w names path e refuted)) (λ forms. mid forms × Explained q rows path w names cs old forms × AreRefuted q path e w refuted forms)
     (λ forms h. ((h.0, h.1.rows_named), h.1.refuted_named)) (λ forms h. (h.0.0, h.0.1, h.1))
-    (goes_beside w a b (Knowing knows (AreRowsNamed q rows w names)) (AreChangesPushed q rows w names cs old mid (Ok tt)) (AreRefuted q path e w refuted) (refuted_last q path e w refuted) changes))
-    (goes_as w b c (λ forms. Knowing mid (IsBegun q rows w names path e refuted) forms × Explained q rows w names cs old forms)
-    (λ forms. IsEndPushed q rows path e w old new now result forms × Explained q rows w names cs old forms)
-    (λ forms. mid forms × Explained q rows w names cs old forms × AreRefuted q path e w refuted forms) (AreGathered q rows w path cs e new now result)
+    (goes_beside w a b (Knowing knows (AreRowsNamed q rows w names)) (AreChangesPushed q rows path w names cs old mid (Ok tt)) (AreRefuted q path e w refuted) (refuted_last q path e w refuted) changes))
+    (goes_as w b c (λ forms. Knowing mid (IsBegun q rows w names path e refuted) forms × Explained q rows path w names cs old forms)
+    (λ forms. IsEndPushed q rows path (known_after path cs) e w old new now result forms × Explained q rows path w names cs old forms)
+    (λ forms. mid forms × Explained q rows path w names cs old forms × AreRefuted q path e w refuted forms) (AreGathered q rows w path cs e new now result)
     (λ forms h. ((h.0, record { rows_named = h.1.rows_named; refuted_named = h.2 }), h.1))
     (λ forms h. gathered q rows w path e refuted now names cs old new result forms h.0 h.1)
-    (goes_beside w b c (Knowing mid (IsBegun q rows w names path e refuted)) (IsEndPushed q rows path e w old new now result) (Explained q rows w names cs old) (explained_last q rows w names cs old) ends))
+    (goes_beside w b c (Knowing mid (IsBegun q rows w names path e refuted)) (IsEndPushed q rows path (known_after path cs) e w old new now result) (Explained q rows path w names cs old)
+    (explained_last q rows path w names cs old) ends))
 
 -- The path's clause may follow.
 pub dead_follows : (q : Problem) (rows : List Row) (owner : ℕ) (w : Frame) (path : List (ℕ × ℕ)) (changes chosen : List Change) (e : End) (refs : List Ref) (name : Name) (forms : List Form) → IsFrameOf q owner w
-    → Dies q rows path changes e → IsChoice rows changes chosen (among_these (end_needs rows e)) → AreGuessed path chosen → EndExplained q rows w path chosen e refs forms
+    → Dies q rows path changes e → IsChosenFor q rows path changes chosen e → AreGuessed path chosen → EndExplained q rows w path chosen e refs forms
     → MayFollow w forms (U name (map (not_there q) path) refs) (pairs_clause q path)
 dead_follows q rows owner w path changes chosen e refs name forms frame dies choice guessed ended = record {
-  made = λ look finds own. dead_laws_hold.line q rows path changes e dies chosen ended.own choice ended.explained guessed look name refs (all_found w forms refs (ended.own ++ end_forms q rows path e) look ended.named finds own);
-  rows = λ k names. named_rows w forms refs (ended.own ++ end_forms q rows path e) ended.named k names;
+  made = λ look finds own.
+      dead_laws_hold.line q rows path changes e dies chosen choice.needed ended.own ended.ends choice.needs choice.choice ended.explained guessed ended.in_end look name refs
+      (all_found w forms refs (ended.own ++ ended.ends) look ended.named finds own);
+  rows = λ k names. named_rows w forms refs (ended.own ++ ended.ends) ended.named k names;
   ranges = ap (λ (p : Problem). in_range (variables p) (variables_of (map (not_there q) path))) frame.problem_is ∙ told_laws_hold.range q path dies.range;
 }
 
@@ -175,10 +175,14 @@ pub dead_off : (q : Problem) (path : List (ℕ × ℕ)) (w : Frame) (now : List 
 dead_off q path w now None Before off = tt
 dead_off q path w now (Some steps) Before off = absurd cc
 
--- What is chosen for the end.
-pub chosen_for : (rows : List Row) (cs chosen : List Change) (e : PathEnd) (short : Option CountedSet) (values : List ℕ) → IsChoice rows cs chosen (among_these (end_needs rows (end_by e short [])))
-    → IsChoice rows cs chosen (among_these (end_needs rows (end_by e short values)))
-chosen_for rows cs chosen e short values choice = subst (λ (ps : List ℕ). IsChoice rows cs chosen (among_these ps)) (sym (needs_same rows e short values)) choice
+-- What is chosen for the end, whatever is refuted.
+pub chosen_for : (q : Problem) (rows : List Row) (path : List (ℕ × ℕ)) (cs chosen : List Change) (e : PathEnd) (short : Option CountedSet) (values : List ℕ) → IsChosenFor q rows path cs chosen (end_by e short [])
+    → IsChosenFor q rows path cs chosen (end_by e short values)
+chosen_for q rows path cs chosen e short values h = record { needed = h.needed; needs = by e h.needs; choice = h.choice }
+  where
+    by : (e : PathEnd) → EndNeeds rows path (end_by e short []) h.needed → EndNeeds rows path (end_by e short values) h.needed
+    by (path_end.Failed f) needs = needs
+    by (path_end.Exhausted p) needs = needs
 
 -- ---- what is pushed for an end
 
@@ -190,32 +194,59 @@ pub ok_behind : (result : Result (Unit {0}) AllocError) (old mid new more last :
 ok_behind (Ok u) old mid new more last first is = is ∙ ap (λ (xs : List Ref). xs ++ last) first ∙ append_assoc old more last
 ok_behind (Err e) old mid new more last first is = tt
 
-pub end_pushed : (q : Problem) (rows : List Row) (w : Frame) (names : ℕ → Ref) (path : List (ℕ × ℕ)) (e f : End) (refuted : List Ref) (knows : List Form → Type 0) (kept : Option (List Step))
-    (result : Result (Unit {0}) AllocError) (old new more : List Ref) → e ≡ f → OnOk result (new ≡ old ++ more) → ((forms : List Form) → IsBegun q rows w names path f refuted forms → AreNamed w forms more (end_forms q rows path f))
-    → Goes w kept kept (Knowing knows (IsBegun q rows w names path e refuted)) (IsEndPushed q rows path e w old new knows result)
-end_pushed q rows w names path e f refuted knows kept result old new more is pushed named =
-    subst (λ (x : End). Goes w kept kept (Knowing knows (IsBegun q rows w names path x refuted)) (IsEndPushed q rows path x w old new knows result)) (sym is)
-    (pure_goes w kept result old new more (end_forms q rows path f) knows (IsBegun q rows w names path f refuted) pushed named)
+module _ (q : Problem) (rows : List Row) (w : Frame) (names : ℕ → Ref) (path known : List (ℕ × ℕ)) where
+  -- What is pushed without a line being kept.
+  pub end_pushed : (e f : End) (refuted : List Ref) (knows : List Form → Type 0) (kept : Option (List Step)) (result : Result (Unit {0}) AllocError) (old new : List Ref) → e ≡ f
+      → ((forms : List Form) → IsBegun q rows w names path f refuted forms → OnOk result (AddsEnd q rows path known f w old new forms))
+      → Goes w kept kept (Knowing knows (IsBegun q rows w names path e refuted)) (IsEndPushed q rows path known e w old new knows result)
+  end_pushed e f refuted knows kept result old new is adds =
+      subst (λ (x : End). Goes w kept kept (Knowing knows (IsBegun q rows w names path x refuted)) (IsEndPushed q rows path known x w old new knows result)) (sym is)
+      (goes_stay w kept kept (Knowing knows (IsBegun q rows w names path f refuted)) (IsEndPushed q rows path known f w old new knows result) refl (λ forms h. by result forms h.0 (adds forms h.1)))
+    where
+      by : (result : Result (Unit {0}) AllocError) (forms : List Form) → knows forms → OnOk result (AddsEnd q rows path known f w old new forms) → IsEndPushed q rows path known f w old new knows result forms
+      by (Ok u) forms known_ h = (known_, h)
+      by (Err x) forms known_ h = tt
 
--- The line of a set.
-pub set_pushed : (q : Problem) (rows : List Row) (w : Frame) (names : ℕ → Ref) (path : List (ℕ × ℕ)) (e : End) (vertices values : List ℕ) (refuted : List Ref) (knows now : List Form → Type 0) (a b : Option (List Step))
-    (result : Result (Unit {0}) AllocError) (old new : List Ref) → e ≡ Short vertices values → Goes w a b knows (IsSetPushed q vertices values w old new now result)
-    → Goes w a b (Knowing knows (IsBegun q rows w names path e refuted)) (IsEndPushed q rows path e w old new now result)
-set_pushed q rows w names path e vertices values refuted knows now a b result old new is goes =
-    subst (λ (x : End). Goes w a b (Knowing knows (IsBegun q rows w names path x refuted)) (IsEndPushed q rows path x w old new now result)) (sym is)
-    (goes_as w a b knows (IsSetPushed q vertices values w old new now result) (Knowing knows (IsBegun q rows w names path (Short vertices values) refuted)) (IsEndPushed q rows path (Short vertices values) w old new now result)
-    (λ forms h. h.0) (λ forms h. h) goes)
+  -- Some forms that it comes to, by their references.
+  pub end_named : (f : End) (result : Result (Unit {0}) AllocError) (old new more : List Ref) (ends forms : List Form) → EndsIn q rows path known f ends → OnOk result (new ≡ old ++ more) → AreNamed w forms more ends
+      → OnOk result (AddsEnd q rows path known f w old new forms)
+  end_named f (Ok u) old new more ends forms in_end pushed named = record { ends = ends; in_end = in_end; adds = record { more = more; front = pushed; named = named } }
+  end_named f (Err x) old new more ends forms in_end pushed named = tt
 
--- After a refusal nothing is claimed.
-pub end_none : (q : Problem) (rows : List Row) (w : Frame) (names : ℕ → Ref) (path : List (ℕ × ℕ)) (e : End) (refuted : List Ref) (knows : List Form → Type 0) (kept : Option (List Step)) (old new : List Ref) (x : AllocError)
-    → Goes w kept kept (Knowing knows (IsBegun q rows w names path e refuted)) (IsEndPushed q rows path e w old new knows (Err x))
-end_none q rows w names path e refuted knows kept old new x =
-    goes_stay w kept kept (Knowing knows (IsBegun q rows w names path e refuted)) (IsEndPushed q rows path e w old new knows (Err x)) refl (λ forms h. tt)
+  -- Those of a nogood.
+  pub end_nogood : (owner name : ℕ) (result : Result (Unit {0}) AllocError) (old new : List Ref) (forms : List Form) → IsFrameOf q owner w → IsNogoodRow rows name → AreRowsNamed q rows w names forms
+      → OnOk result (AddsNogood q rows names known None name old new) → OnOk result (AddsEnd q rows path known (Whole name) w old new forms)
+  end_nogood owner name (Ok u) old new forms frame nogood named h = record {
+    ends = at_leasts q h.vertices ++ pairs_clause q (path_at rows name) ∷ [];
+    in_end = (h.vertices, refl, h.borne);
+    adds = nogood_named q rows owner w names known None forms name old new frame nogood named h;
+  }
+  end_nogood owner name (Err x) old new forms frame nogood named h = tt
 
--- More needed vertices are as good.
-pub choice_fewer : (rows : List Row) (cs chosen : List Change) (more fewer : ℕ → Bool) (result : Result (Unit {0}) AllocError) → IsWithin fewer more → OnOk result (IsChoice rows cs chosen more) → OnOk result (IsChoice rows cs chosen fewer)
-choice_fewer rows cs chosen more fewer (Ok u) within choice = walk_laws_hold.fewer rows cs chosen more fewer within choice
-choice_fewer rows cs chosen more fewer (Err e) within choice = tt
+  -- The line of a set.
+  pub set_pushed : (e : End) (vertices values : List ℕ) (refuted : List Ref) (knows now : List Form → Type 0) (a b : Option (List Step))
+      (result : Result (Unit {0}) AllocError) (old new : List Ref) → e ≡ Short vertices values → Goes w a b knows (IsSetPushed q vertices values w old new now result)
+      → Goes w a b (Knowing knows (IsBegun q rows w names path e refuted)) (IsEndPushed q rows path known e w old new now result)
+  set_pushed e vertices values refuted knows now a b result old new is goes =
+      subst (λ (x : End). Goes w a b (Knowing knows (IsBegun q rows w names path x refuted)) (IsEndPushed q rows path known x w old new now result)) (sym is)
+      (goes_as w a b knows (IsSetPushed q vertices values w old new now result) (Knowing knows (IsBegun q rows w names path (Short vertices values) refuted)) (IsEndPushed q rows path known (Short vertices values) w old new now result)
+      (λ forms h. h.0) (λ forms h. by result forms h) goes)
+    where
+      by : (result : Result (Unit {0}) AllocError) (forms : List Form) → IsSetPushed q vertices values w old new now result forms → IsEndPushed q rows path known (Short vertices values) w old new now result forms
+      by (Ok u) forms h = (h.0, record { ends = set_forms q vertices values; in_end = refl; adds = h.1 })
+      by (Err x) forms h = tt
+
+  -- After a refusal nothing is claimed.
+  pub end_none : (e : End) (refuted : List Ref) (knows : List Form → Type 0) (kept : Option (List Step)) (old new : List Ref) (x : AllocError)
+      → Goes w kept kept (Knowing knows (IsBegun q rows w names path e refuted)) (IsEndPushed q rows path known e w old new knows (Err x))
+  end_none e refuted knows kept old new x =
+      goes_stay w kept kept (Knowing knows (IsBegun q rows w names path e refuted)) (IsEndPushed q rows path known e w old new knows (Err x)) refl (λ forms h. tt)
+
+-- A choice for needed values among which are those that the end needs.
+pub choice_is : (q : Problem) (rows : List Row) (path : List (ℕ × ℕ)) (cs chosen : List Change) (e : End) (needed : ℕ → ℕ → Bool) (result : Result (Unit {0}) AllocError) → EndNeeds rows path e needed
+    → OnOk result (IsChoice q rows path cs chosen needed) → OnOk result (IsChosenFor q rows path cs chosen e)
+choice_is q rows path cs chosen e needed (Ok u) needs choice = record { needed = needed; needs = needs; choice = choice }
+choice_is q rows path cs chosen e needed (Err x) needs choice = tt
 
 -- Marks that were written back are those that were written.
 pub written_back : (xs ys : List Bool) (n : ℕ) → length xs ≡ length ys → n ≡ length ys → take n (xs ++ drop (length xs) ys) ≡ xs

@@ -4,3 +4,5 @@ pub mod Walking
 pub mod LineRefs
 pub mod Causes
 pub mod Ends
+pub mod HeldPairs
+pub mod Resting

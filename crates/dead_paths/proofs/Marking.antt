@@ -5,9 +5,7 @@ use Rattle.std.proofs.lemmas.Bool.{eqb-true, eq-eqb, ne_eqb, or_cases, cases_lt}
 use Rattle.std.proofs.lemmas.List.{get_or-set_same, get_or-set_other}
 use Rattle.log_theory.specs.Lookups.{is_among}
 use Rattle.forcing_theory.specs.Chains.{either}
-use Rattle.reason_theory.specs.Reasons.{vertices_of}
-use Rattle.dead_theory.specs.Walks.{among_these, IsWithin}
-use Rattle.dead_paths.specs.Choosing.{is_needed}
+use Rattle.dead_paths.specs.Choosing.{is_needed, among_these, MarksMore}
 
 or_left : (a b : Bool) → a ≡ true → (a || b) ≡ true
 or_left true b e = refl
@@ -45,19 +43,9 @@ among_next (x ∷ xs) (suc i) v below is = elim (or_cases (x == v) (is_among v (
   | inr h ↦ elim (among_next xs i v (omega (arith, below)) h) [ inl k ↦ inl (or_right (x == v) (is_among v (take i xs)) k) | inr k ↦ inr k ]
 ]
 
--- The first of pairs.
-pub vertex_at : (xs : List (ℕ × ℕ)) (i : ℕ) (d : ℕ × ℕ) → i < length xs → slice_index (vertices_of xs) i ≡ (get_or xs i d).0
-vertex_at [] i d below = absurd (omega (arith, below))
-vertex_at (x ∷ xs) zero d below = refl
-vertex_at (x ∷ xs) (suc i) d below = vertex_at xs i d (omega (arith, below))
-
-pub vertices_long : (xs : List (ℕ × ℕ)) → length (vertices_of xs) ≡ length xs
-vertices_long [] = refl
-vertices_long (x ∷ xs) = ap (λ (n : ℕ). suc n) (vertices_long xs)
-
 -- One more is marked.
-pub mark_next : (old new : List Bool) (vs : List ℕ) (i v : ℕ) → i < length vs → slice_index vs i ≡ v → v < length new → IsWithin (either (is_needed old) (among_these (take i vs))) (is_needed new)
-    → IsWithin (either (is_needed old) (among_these (take (i + 1) vs))) (is_needed (set new v true))
+pub mark_next : (old new : List Bool) (vs : List ℕ) (i v : ℕ) → i < length vs → slice_index vs i ≡ v → v < length new → MarksMore (either (is_needed old) (among_these (take i vs))) (is_needed new)
+    → MarksMore (either (is_needed old) (among_these (take (i + 1) vs))) (is_needed (set new v true))
 mark_next old new vs i v below is inside within = λ r wanted. let e : i + 1 ≡ suc i = omega arith in
     by r (or_cases (is_needed old r) (is_among r (take (suc i) vs)) (sym (ap (λ (n : ℕ). is_needed old r || is_among r (take n vs)) e) ∙ wanted)) (r == v) refl
   where

@@ -1,21 +1,45 @@
 -- Walking back over changes that are kept as entries.
 
-use Rattle.std.specs.Prelude.{ℕ, Bool, true, false, List, [], ◌∷◌, map, get_or}
+use Rattle.std.specs.Prelude.{◌≡◌, ℕ, ◌<◌, Bool, true, false, List, [], ◌∷◌, map, length, slice_index, get_or}
 use Rattle.graph_theory.specs.Embedding.{Problem}
-use Rattle.forcing_theory.specs.Chains.{either}
+use Rattle.log_theory.specs.Lookups.{is_among}
 use Rattle.nogood_book.specs.declared.row.Row.{Row}
-use Rattle.reason_theory.specs.Reasons.{vertices_of}
-use Rattle.nogood_book.specs.Rows.{path_at}
 use Rattle.nogood_book.specs.Places.{IsNogoodRow}
 use Rattle.propagation.specs.declared.change.Cause.TheVariants as cause
 use Rattle.propagation.specs.declared.change.Entry.{Entry}
 use Rattle.propagation.specs.Recording.{Change, LeftOne, LeftOthers, change_of}
-use Rattle.dead_theory.specs.Changes.{needs_of, IsIdle, IsInProblem}
-use Rattle.dead_theory.specs.Walks.{among_these, Walked, IsWithin}
+use Rattle.dead_theory.specs.Changes.{IsOneOf, IsInProblem}
+use Rattle.dead_theory.specs.Walks.{MayPass, Walked}
+
+-- ---- marks
 
 -- Whether a vertex is marked.
 abbrev pub is_needed : List Bool → ℕ → Bool
 is_needed needed r = get_or needed r false
+
+-- All values of a marked vertex are needed.
+abbrev pub whole : List Bool → ℕ → ℕ → Bool
+whole needed r u = get_or needed r false
+
+-- Whether the number stands in the list.
+abbrev pub among_these : List ℕ → ℕ → Bool
+among_these vertices r = is_among r vertices
+
+-- All of the one test passes the other.
+abbrev pub MarksMore : (ℕ → Bool) → (ℕ → Bool) → Type 0
+MarksMore fewer more = (r : ℕ) → fewer r ≡ true → more r ≡ true
+
+-- ---- pairs by their vertices
+
+-- No value.
+abbrev pub no_value : ℕ
+no_value = 65535
+
+-- Where a value stands at a vertex, both are one of the pairs.
+abbrev pub AreAt : List ℕ → List (ℕ × ℕ) → Type 0
+AreAt at pairs = (p t : ℕ) → p < length at → slice_index at p ≡ t → (t ≡ no_value → ⊥) → IsOneOf pairs (p, t)
+
+-- ---- changes of entries
 
 -- The changes that entries are, in the order of these.
 abbrev pub changes_in : List ℕ → List Entry → List Change
@@ -34,17 +58,12 @@ abbrev pub AreNameable : Problem → List Row → List Change → Type 0
 AreNameable q rows [] = Unit {0}
 AreNameable q rows (c ∷ cs) = (IsInProblem q c × IsOfRow rows c) × AreNameable q rows cs
 
--- A true answer: what the change rests on is marked too. A false one: nothing left by it.
-abbrev pub Rests : Bool → List Row → Change → List Bool → List Bool → Type 0
-Rests true rows c old new = IsWithin (either (is_needed old) (among_these (needs_of rows c))) (is_needed new) × IsOfRow rows c
-Rests false rows c old new = IsWithin (is_needed old) (is_needed new) × IsIdle rows c
+-- A true answer: a line can be named for the change. A false one: it took nothing of a marked vertex.
+abbrev pub IsWanted : Bool → Problem → List Row → Change → List Bool → Type 0
+IsWanted true q rows c needed = IsOfRow rows c
+IsWanted false q rows c needed = MayPass q rows c (whole needed)
 
 -- The walk has come so far, and lines can be named for what it chose.
-pub record HasCome (q : Problem) (rows : List Row) (seen chosen : List Change) (needed now : ℕ → Bool) : Type 0 where
-  pub walked : Walked rows seen chosen needed now
+pub record HasCome (q : Problem) (rows : List Row) (path : List (ℕ × ℕ)) (seen chosen : List Change) (needed now : ℕ → ℕ → Bool) : Type 0 where
+  pub walked : Walked q rows path seen chosen needed now
   pub nameable : AreNameable q rows chosen
-
--- The same for a row.
-abbrev pub RestsOnRow : Bool → List Row → ℕ → List Bool → List Bool → Type 0
-RestsOnRow true rows name old new = IsWithin (either (is_needed old) (among_these (vertices_of (path_at rows name)))) (is_needed new) × IsNogoodRow rows name
-RestsOnRow false rows name old new = IsWithin (is_needed old) (is_needed new) × (IsNogoodRow rows name → ⊥)

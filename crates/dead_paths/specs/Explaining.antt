@@ -1,6 +1,6 @@
 -- References to forms that explain changes, to those that an end comes to, and the name of a dead path's clause.
 
-use Rattle.std.specs.Prelude.{◌≡◌, ℕ, ◌<◌, ◌≤◌, List, [], ◌∷◌, ◌++◌, length, Option, Some, None, Result, Ok, Err, OnOk}
+use Rattle.std.specs.Prelude.{◌≡◌, ℕ, ◌<◌, ◌≤◌, ◌⊎◌, Bool, List, [], ◌∷◌, ◌++◌, length, Option, Some, None, Result, Ok, Err, OnOk}
 use Rattle.std.specs.declared.alloc.AllocError.{AllocError}
 use Rattle.graph_theory.specs.Graph.{size}
 use Rattle.graph_theory.specs.Embedding.{Problem}
@@ -9,17 +9,19 @@ use Rattle.log_theory.specs.declared.step.Name.{Name}
 use Rattle.log_theory.specs.declared.step.Step.{Step}
 use Rattle.log_theory.specs.declared.step.Ref.{Ref}
 use Rattle.log_theory.specs.declared.step.Ref.TheVariants.{Made}
-use Rattle.reason_theory.specs.Reasons.{pairs_clause, value_clauses, vertices_of}
+use Rattle.nogood_watch.specs.Nogoods.{literal}
+use Rattle.reason_theory.specs.Reasons.{pairs_clause, value_clauses}
 use Rattle.nogood_book.specs.Rows.{path_at}
 use Rattle.nogood_book.specs.declared.row.Row.{Row}
 use Rattle.nogood_book.specs.Places.{IsNogoodRow}
 use Rattle.propagation.specs.Recording.{Change, CountedSet}
-use Rattle.dead_theory.specs.Changes.{ExplainsChange, ExplainAll, set_forms}
-use Rattle.dead_theory.specs.Ends.{End, Empty, Whole, Short, Exhausted, end_of, end_forms}
+use Rattle.dead_theory.specs.Changes.{IsOneOf, IsBorne, AreBorne, known_after, ExplainsChange, ExplainAll, set_forms}
+use Rattle.dead_theory.specs.Ends.{End, Empty, Whole, Short, Exhausted, end_of, EndsIn, EndNeeds}
+use Rattle.dead_theory.specs.Walks.{IsChoice}
 use Rattle.kept_lines.specs.Frames.{Frame, IsNamed, AreNamed}
 use Rattle.dead_paths.specs.declared.dead_line.PathEnd.{PathEnd}
 use Rattle.dead_paths.specs.declared.dead_line.PathEnd.TheVariants as path_end
-use Rattle.dead_paths.specs.Lines.{at_least_refs, AreVertices, AreValues}
+use Rattle.dead_paths.specs.Lines.{at_least_ref, at_least_refs, AreVertices, AreValues}
 use Rattle.dead_paths.specs.Making.{AreRowsNamed}
 
 -- ---- limits
@@ -32,10 +34,10 @@ pub record IsLimited (q : Problem) : Type 0 where
 -- ---- changes
 
 -- The references name forms that explain the changes, and those of nogood rows their clauses.
-pub record Explained (q : Problem) (rows : List Row) (w : Frame) (names : ℕ → Ref) (cs : List Change) (refs : List Ref) (forms : List Form) : Type 0 where
+pub record Explained (q : Problem) (rows : List Row) (path : List (ℕ × ℕ)) (w : Frame) (names : ℕ → Ref) (cs : List Change) (refs : List Ref) (forms : List Form) : Type 0 where
   pub rows_named : AreRowsNamed q rows w names forms
   pub own : List Form
-  pub explained : ExplainAll q rows cs own
+  pub explained : ExplainAll q rows path cs own
   pub named : AreNamed w forms refs own
 
 -- What a maker knows beside it.
@@ -60,6 +62,12 @@ IsEndIn q rows (Whole name) = IsNogoodRow rows name
 IsEndIn q rows (Short vertices values) = AreVertices q vertices × AreValues q values
 IsEndIn q rows (Exhausted p values) = p < size q.pattern
 
+-- Of the changes these are chosen for some needed values, among them all that the end needs.
+pub record IsChosenFor (q : Problem) (rows : List Row) (path : List (ℕ × ℕ)) (cs chosen : List Change) (e : End) : Type 0 where
+  pub needed : ℕ → ℕ → Bool
+  pub needs : EndNeeds rows path e needed
+  pub choice : IsChoice q rows path cs chosen needed
+
 -- The references of refuted values name their clauses.
 abbrev pub AreRefuted : Problem → List (ℕ × ℕ) → End → Frame → List Ref → List Form → Type 0
 AreRefuted q path (Exhausted p values) w refs forms = AreNamed w forms refs (value_clauses q path p values)
@@ -70,8 +78,10 @@ AreRefuted q path (Short vertices values) w refs forms = Unit {0}
 -- The references name forms that explain the changes, and then those that the end comes to.
 pub record EndExplained (q : Problem) (rows : List Row) (w : Frame) (path : List (ℕ × ℕ)) (cs : List Change) (e : End) (refs : List Ref) (forms : List Form) : Type 0 where
   pub own : List Form
-  pub explained : ExplainAll q rows cs own
-  pub named : AreNamed w forms refs (own ++ end_forms q rows path e)
+  pub ends : List Form
+  pub explained : ExplainAll q rows path cs own
+  pub in_end : EndsIn q rows path (known_after path cs) e ends
+  pub named : AreNamed w forms refs (own ++ ends)
 
 -- ---- dead paths
 
@@ -99,30 +109,49 @@ pub record Adds (w : Frame) (old new : List Ref) (fs : List Form) (forms : List 
   pub front : new ≡ old ++ more
   pub named : AreNamed w forms more fs
 
--- To the lines that a nogood row needs: its vertices', and its own.
-abbrev pub nogood_refs : Problem → List Row → (ℕ → Ref) → ℕ → List Ref
-nogood_refs q rows names k = at_least_refs q (vertices_of (path_at rows k)) ++ names k ∷ []
+-- To the lines of vertices that bear the first of these pairs, where the known pairs hold.
+pub record AddsBorne (q : Problem) (known : List (ℕ × ℕ)) (but : Option ℕ) (pairs : List (ℕ × ℕ)) (count : ℕ) (old new : List Ref) : Type 0 where
+  pub vertices : List ℕ
+  pub inside : AreVertices q vertices
+  pub front : new ≡ old ++ at_least_refs q vertices
+  pub borne : (k : ℕ) → k < count → IsBorne known vertices but (literal pairs k)
+
+-- To the lines that a nogood row needs: those of vertices that bear its pairs, and its own.
+pub record AddsNogood (q : Problem) (rows : List Row) (names : ℕ → Ref) (known : List (ℕ × ℕ)) (but : Option ℕ) (name : ℕ) (old new : List Ref) : Type 0 where
+  pub vertices : List ℕ
+  pub inside : AreVertices q vertices
+  pub front : new ≡ old ++ (at_least_refs q vertices ++ names name ∷ [])
+  pub borne : AreBorne known vertices but (path_at rows name)
+
+-- To the line of a vertex, unless its pair is known.
+abbrev pub MayAdd : Problem → List (ℕ × ℕ) → ℕ → ℕ → List Ref → List Ref → Type 0
+MayAdd q known p t old new = ((new ≡ old) × IsOneOf known (p, t)) ⊎ (new ≡ old ++ at_least_ref q p ∷ [])
 
 -- To the line of a set.
 abbrev pub IsSetPushed : Problem → List ℕ → List ℕ → Frame → List Ref → List Ref → (List Form → Type 0) → Result (Unit {0}) AllocError → List Form → Type 0
 IsSetPushed q vertices values w old new knows result forms = OnOk result (knows forms × Adds w old new (set_forms q vertices values) forms)
 
 -- To forms that explain a change.
-pub record AddsFor (q : Problem) (rows : List Row) (c : Change) (w : Frame) (old new : List Ref) (forms : List Form) : Type 0 where
+pub record AddsFor (q : Problem) (rows : List Row) (known : List (ℕ × ℕ)) (c : Change) (w : Frame) (old new : List Ref) (forms : List Form) : Type 0 where
   pub own : List Form
-  pub explains : ExplainsChange q rows c own
+  pub explains : ExplainsChange q rows known c own
   pub adds : Adds w old new own forms
 
-abbrev pub IsChangePushed : Problem → List Row → Change → Frame → List Ref → List Ref → (List Form → Type 0) → Result (Unit {0}) AllocError → List Form → Type 0
-IsChangePushed q rows c w old new knows result forms = OnOk result (knows forms × AddsFor q rows c w old new forms)
+abbrev pub IsChangePushed : Problem → List Row → List (ℕ × ℕ) → Change → Frame → List Ref → List Ref → (List Form → Type 0) → Result (Unit {0}) AllocError → List Form → Type 0
+IsChangePushed q rows known c w old new knows result forms = OnOk result (knows forms × AddsFor q rows known c w old new forms)
 
 -- To forms that explain changes.
-abbrev pub AreChangesPushed : Problem → List Row → Frame → (ℕ → Ref) → List Change → List Ref → (List Form → Type 0) → Result (Unit {0}) AllocError → List Form → Type 0
-AreChangesPushed q rows w names cs refs knows result forms = OnOk result (knows forms × Explained q rows w names cs refs forms)
+abbrev pub AreChangesPushed : Problem → List Row → List (ℕ × ℕ) → Frame → (ℕ → Ref) → List Change → List Ref → (List Form → Type 0) → Result (Unit {0}) AllocError → List Form → Type 0
+AreChangesPushed q rows path w names cs refs knows result forms = OnOk result (knows forms × Explained q rows path w names cs refs forms)
 
--- To the forms that an end comes to.
-abbrev pub IsEndPushed : Problem → List Row → List (ℕ × ℕ) → End → Frame → List Ref → List Ref → (List Form → Type 0) → Result (Unit {0}) AllocError → List Form → Type 0
-IsEndPushed q rows path e w old new knows result forms = OnOk result (knows forms × Adds w old new (end_forms q rows path e) forms)
+-- To the forms that an end comes to, where the known pairs hold.
+pub record AddsEnd (q : Problem) (rows : List Row) (path known : List (ℕ × ℕ)) (e : End) (w : Frame) (old new : List Ref) (forms : List Form) : Type 0 where
+  pub ends : List Form
+  pub in_end : EndsIn q rows path known e ends
+  pub adds : Adds w old new ends forms
+
+abbrev pub IsEndPushed : Problem → List Row → List (ℕ × ℕ) → List (ℕ × ℕ) → End → Frame → List Ref → List Ref → (List Form → Type 0) → Result (Unit {0}) AllocError → List Form → Type 0
+IsEndPushed q rows path known e w old new knows result forms = OnOk result (knows forms × AddsEnd q rows path known e w old new forms)
 
 -- To the forms that explain changes, and then to those that the end comes to.
 abbrev pub AreGathered : Problem → List Row → Frame → List (ℕ × ℕ) → List Change → End → List Ref → (List Form → Type 0) → Result (Unit {0}) AllocError → List Form → Type 0

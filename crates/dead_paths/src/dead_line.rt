@@ -6,19 +6,19 @@ ghost use Rattle.log_theory.specs.LogText.{IsName, AreRefs, AreLiterals};
 ghost use Rattle.reason_theory.specs.Reasons.{not_there};
 ghost use Rattle.nogood_book.specs.Rows.{Sound, AreInRange};
 ghost use Rattle.propagation.specs.Recording.{changes_of, set_at};
-ghost use Rattle.dead_theory.specs.Changes.{AreGuessed, AreInProblem};
-ghost use Rattle.dead_theory.specs.Ends.{end_needs};
-ghost use Rattle.dead_theory.specs.Walks.{among_these, IsChoice, IsWithin};
+ghost use Rattle.dead_theory.specs.Changes.{known_after, AreGuessed, AreInProblem};
+ghost use Rattle.dead_theory.specs.Ends.{EndNeeds};
 ghost use Rattle.dead_theory.specs.Laws.{Dies};
 ghost use Rattle.kept_lines.specs.Frames.{Frame, IsFrameOf, Goes};
 ghost use Rattle.dead_paths.specs.Making.{AreRowsNamed};
-ghost use Rattle.dead_paths.specs.Choosing.{is_needed, changes_in, AreNameable};
-ghost use Rattle.dead_paths.specs.Explaining.{IsLimited, Knowing, AreChangesPushed, IsEndPushed, AreRefuted, end_by, IsEndIn, IsBegun, AreGathered, IsDeadName, IsLastOf};
+ghost use Rattle.dead_paths.specs.Choosing.{whole, AreAt, changes_in, AreNameable};
+ghost use Rattle.dead_paths.specs.Explaining.{IsLimited, Knowing, AreChangesPushed, IsEndPushed, AreRefuted, end_by, IsEndIn, IsChosenFor, IsBegun, AreGathered, IsDeadName, IsLastOf};
 
+use crate::known::fill_at;
 use crate::lines::push_at_least;
 use crate::maker::{LineMaker, RowNames};
 use crate::pushes::{push_change, push_nogood, push_set};
-use crate::walk::{Scratch, choose, mark, mark_row, part};
+use crate::walk::{Scratch, choose, mark, part, uphold_row};
 use graph_rows::Problem;
 use journals::Keeper;
 use log_theory::{Clause, Name, Ref, Refs, Step};
@@ -61,13 +61,16 @@ fn mark_end(
     numbers: &[u16],
     short: Option<Place>,
     end: PathEnd,
+    at: &[u16],
     needed: &mut [bool],
     pairs: &mut Vec<(u16, u16)>,
 ) -> Result<(), AllocError>
     requires sound { Sound q.now rows.now }
     requires end { IsEndIn q.now rows.now (end_by end (set_at numbers.now short) []) }
     requires size { size q.now.pattern ≤ length needed.old }
-    ensures { OnOk result (IsWithin (among_these (end_needs rows.now (end_by end (set_at numbers.now short) []))) (is_needed needed.new)) }
+    ensures { (path : List (ℕ × ℕ)) → AreAt at.now path
+        → OnOk result (EndNeeds rows.now path (end_by end (set_at numbers.now short) [])
+        (whole needed.new)) }
 {
     match end {
         PathEnd::Failed(failure) => match failure {
@@ -75,7 +78,7 @@ fn mark_end(
                 mark(needed, &[p]);
                 Ok(())
             }
-            Failure::Whole(name) => mark_row(q, rows, name, needed, pairs),
+            Failure::Whole(name) => uphold_row(q, rows, name, None, at, needed, pairs),
             Failure::Short(_) => {
                 if let Some(place) = short {
                     mark(needed, part(numbers, place.start, place.middle));
@@ -99,6 +102,7 @@ fn push_chosen<M: LineMaker, N: RowNames, K: Keeper>(
     names: &N,
     numbers: &[u16],
     chosen: &[Entry],
+    at: &mut [u16],
     maker: &mut M,
     keeper: &mut K,
     pairs: &mut Vec<(u16, u16)>,
@@ -109,10 +113,15 @@ fn push_chosen<M: LineMaker, N: RowNames, K: Keeper>(
     requires few { length rows.now ≤ 2 ^ 22 }
     requires lines { lines.now ≡ q.now }
     requires nameable { AreNameable q.now rows.now (changes_in numbers.now chosen.now) }
+    requires long { size q.now.pattern ≤ length at.old }
     requires none { refs.old.items ≡ [] }
-    ensures goes { (w : Frame) → IsFrameOf q.now (K.owner keeper.old) w → Goes w (K.kept keeper.old) (K.kept keeper.new)
+    ensures goes { (w : Frame) (path : List (ℕ × ℕ)) → AreAt at.old path
+        → IsFrameOf q.now (K.owner keeper.old) w → Goes w (K.kept keeper.old) (K.kept keeper.new)
         (Knowing (M.knows maker.old q.now w) (AreRowsNamed q.now rows.now w (N.names names.now)))
-        (AreChangesPushed q.now rows.now w (N.names names.now) (changes_in numbers.now chosen.now) refs.new.items (M.knows maker.new q.now w) result) }
+        (AreChangesPushed q.now rows.now path w (N.names names.now)
+        (changes_in numbers.now chosen.now) refs.new.items (M.knows maker.new q.now w) result) }
+    ensures known { (path : List (ℕ × ℕ)) → AreAt at.old path
+        → OnOk result (AreAt at.new (known_after path (changes_in numbers.now chosen.now))) }
     ensures fits { OnOk result (AreRefs refs.new.items) }
     ensures owner { K.owner keeper.new ≡ K.owner keeper.old }
     ensures notes { K.notes keeper.new ≡ K.notes keeper.old }
@@ -129,6 +138,7 @@ fn push_chosen<M: LineMaker, N: RowNames, K: Keeper>(
             names,
             numbers,
             &chosen[left],
+            at,
             maker,
             keeper,
             pairs,
@@ -150,6 +160,7 @@ fn push_end<M: LineMaker, N: RowNames, K: Keeper>(
     path: &[(u16, u16)],
     end: PathEnd,
     refuted: &[Ref],
+    at: &[u16],
     maker: &mut M,
     keeper: &mut K,
     pairs: &mut Vec<(u16, u16)>,
@@ -162,9 +173,13 @@ fn push_end<M: LineMaker, N: RowNames, K: Keeper>(
     requires end { IsEndIn q.now rows.now (end_by end (set_at numbers.now short) []) }
     requires refuted { AreRefs refuted.now }
     requires fits { AreRefs refs.old.items }
-    ensures goes { (w : Frame) (values : List ℕ) → IsFrameOf q.now (K.owner keeper.old) w → Goes w (K.kept keeper.old) (K.kept keeper.new)
-        (Knowing (M.knows maker.old q.now w) (IsBegun q.now rows.now w (N.names names.now) path.now (end_by end (set_at numbers.now short) values) refuted.now))
-        (IsEndPushed q.now rows.now path.now (end_by end (set_at numbers.now short) values) w refs.old.items refs.new.items (M.knows maker.new q.now w) result) }
+    ensures goes { (w : Frame) (values : List ℕ) (known : List (ℕ × ℕ)) → AreAt at.now known
+        → IsFrameOf q.now (K.owner keeper.old) w → Goes w (K.kept keeper.old) (K.kept keeper.new)
+        (Knowing (M.knows maker.old q.now w)
+        (IsBegun q.now rows.now w (N.names names.now) path.now
+        (end_by end (set_at numbers.now short) values) refuted.now))
+        (IsEndPushed q.now rows.now path.now known (end_by end (set_at numbers.now short) values) w
+        refs.old.items refs.new.items (M.knows maker.new q.now w) result) }
     ensures fits { OnOk result (AreRefs refs.new.items) }
     ensures owner { K.owner keeper.new ≡ K.owner keeper.old }
     ensures notes { K.notes keeper.new ≡ K.notes keeper.old }
@@ -173,7 +188,9 @@ fn push_end<M: LineMaker, N: RowNames, K: Keeper>(
     match end {
         PathEnd::Failed(failure) => match failure {
             Failure::Empty(p) => push_at_least(lines, &[p], refs),
-            Failure::Whole(name) => push_nogood(q, lines, rows, names, name, pairs, refs),
+            Failure::Whole(name) => {
+                push_nogood(q, lines, rows, names, name, None, at, pairs, refs)
+            }
             Failure::Short(_) => match short {
                 Some(place) => push_set(
                     alloc,
@@ -222,7 +239,7 @@ fn size_of(q: &Problem) -> usize
     usize::from(q.pattern().size())
 }
 
-/// Chooses the changes that the end rests on.
+/// Chooses the changes that the end rests on, under a path.
 fn choose_for(
     q: &Problem,
     rows: &[Row],
@@ -230,6 +247,7 @@ fn choose_for(
     numbers: &[u16],
     short: Option<Place>,
     end: PathEnd,
+    at: &[u16],
     needed: &mut Vec<bool>,
     chosen: &mut Vec<Entry>,
     pairs: &mut Vec<(u16, u16)>,
@@ -237,13 +255,16 @@ fn choose_for(
     requires sound { Sound q.now rows.now }
     requires in_problem { AreInProblem q.now (changes_of numbers.now entries.now) }
     requires end { IsEndIn q.now rows.now (end_by end (set_at numbers.now short) []) }
-    ensures choice { OnOk result (IsChoice rows.now (changes_of numbers.now entries.now) (changes_in numbers.now chosen.new.items) (among_these (end_needs rows.now (end_by end (set_at numbers.now short) [])))) }
-    ensures nameable { OnOk result (AreNameable q.now rows.now (changes_in numbers.now chosen.new.items)) }
+    ensures choice { (path : List (ℕ × ℕ)) → AreAt at.now path
+        → OnOk result (IsChosenFor q.now rows.now path (changes_of numbers.now entries.now)
+        (changes_in numbers.now chosen.new.items) (end_by end (set_at numbers.now short) [])) }
+    ensures nameable { (path : List (ℕ × ℕ)) → AreAt at.now path
+        → OnOk result (AreNameable q.now rows.now (changes_in numbers.now chosen.new.items)) }
 {
     let size = size_of(q);
     clear_marks(needed, size)?;
-    mark_end(q, rows, numbers, short, end, needed, pairs)?;
-    choose(q, rows, numbers, entries, needed, chosen, pairs)
+    mark_end(q, rows, numbers, short, end, at, needed, pairs)?;
+    choose(q, rows, numbers, entries, at, needed, chosen, pairs)
 }
 
 /// Puts references to the forms that explain the chosen changes, and then to those that the end comes to.
@@ -259,6 +280,7 @@ fn gather<M: LineMaker, N: RowNames, K: Keeper>(
     path: &[(u16, u16)],
     end: PathEnd,
     refuted: &[Ref],
+    at: &mut [u16],
     maker: &mut M,
     keeper: &mut K,
     pairs: &mut Vec<(u16, u16)>,
@@ -268,23 +290,30 @@ fn gather<M: LineMaker, N: RowNames, K: Keeper>(
     requires sound { Sound q.now rows.now }
     requires few { length rows.now ≤ 2 ^ 22 }
     requires lines { lines.now ≡ q.now }
+    requires long { size q.now.pattern ≤ length at.old }
+    requires known { AreAt at.old path.now }
     requires nameable { AreNameable q.now rows.now (changes_in numbers.now chosen.now) }
     requires end { IsEndIn q.now rows.now (end_by end (set_at numbers.now short) []) }
     requires refuted { AreRefs refuted.now }
     requires none { refs.old.items ≡ [] }
-    ensures goes { (w : Frame) (values : List ℕ) → IsFrameOf q.now (K.owner keeper.old) w → Goes w (K.kept keeper.old) (K.kept keeper.new)
-        (Knowing (M.knows maker.old q.now w) (IsBegun q.now rows.now w (N.names names.now) path.now (end_by end (set_at numbers.now short) values) refuted.now))
-        (AreGathered q.now rows.now w path.now (changes_in numbers.now chosen.now) (end_by end (set_at numbers.now short) values) refs.new.items (M.knows maker.new q.now w) result) }
+    ensures goes { (w : Frame) (values : List ℕ) → IsFrameOf q.now (K.owner keeper.old) w
+        → Goes w (K.kept keeper.old) (K.kept keeper.new)
+        (Knowing (M.knows maker.old q.now w)
+        (IsBegun q.now rows.now w (N.names names.now) path.now
+        (end_by end (set_at numbers.now short) values) refuted.now))
+        (AreGathered q.now rows.now w path.now (changes_in numbers.now chosen.now)
+        (end_by end (set_at numbers.now short) values) refs.new.items
+        (M.knows maker.new q.now w) result) }
     ensures fits { OnOk result (AreRefs refs.new.items) }
     ensures owner { K.owner keeper.new ≡ K.owner keeper.old }
     ensures notes { K.notes keeper.new ≡ K.notes keeper.old }
     ensures spare { K.spare keeper.new ≡ K.spare keeper.old }
 {
     push_chosen(
-        alloc, q, lines, rows, names, numbers, chosen, maker, keeper, pairs, refs,
+        alloc, q, lines, rows, names, numbers, chosen, at, maker, keeper, pairs, refs,
     )?;
     push_end(
-        alloc, q, lines, rows, names, numbers, short, path, end, refuted, maker, keeper, pairs,
+        alloc, q, lines, rows, names, numbers, short, path, end, refuted, at, maker, keeper, pairs,
         refs,
     )
 }
@@ -317,10 +346,13 @@ pub fn explain<M: LineMaker, N: RowNames, K: Keeper>(
     requires end { IsEndIn q.now rows.now (end_by end (set_at numbers.now short) []) }
     requires refuted { AreRefs refuted.now }
     ensures goes { (w : Frame) (values : List ℕ) → IsFrameOf q.now (K.owner keeper.old) w
-        → Dies q.now rows.now path.now (changes_of numbers.now entries.now) (end_by end (set_at numbers.now short) values)
+        → Dies q.now rows.now path.now (changes_of numbers.now entries.now)
+        (end_by end (set_at numbers.now short) values)
         → AreGuessed path.now (changes_of numbers.now entries.now)
         → Goes w (K.kept keeper.old) (K.kept keeper.new)
-        (Knowing (M.knows maker.old q.now w) (IsBegun q.now rows.now w (N.names names.now) path.now (end_by end (set_at numbers.now short) values) refuted.now))
+        (Knowing (M.knows maker.old q.now w)
+        (IsBegun q.now rows.now w (N.names names.now) path.now
+        (end_by end (set_at numbers.now short) values) refuted.now))
         (IsDeadName q.now path.now w (M.knows maker.new q.now w) result) }
     ensures name { IfOk result (λ o. IfSome o IsName) }
     ensures last { IfOk result (λ o. IfSome o (IsLastOf (K.kept keeper.new))) }
@@ -331,7 +363,8 @@ pub fn explain<M: LineMaker, N: RowNames, K: Keeper>(
     if !keeper.is_on() {
         return Ok(None);
     }
-    let _size = size_of(q);
+    let size = size_of(q);
+    fill_at(&mut scratch.at, size, path)?;
     choose_for(
         q,
         rows,
@@ -339,6 +372,7 @@ pub fn explain<M: LineMaker, N: RowNames, K: Keeper>(
         numbers,
         short,
         end,
+        &scratch.at,
         &mut scratch.needed,
         &mut scratch.chosen,
         &mut scratch.pairs,
@@ -356,6 +390,7 @@ pub fn explain<M: LineMaker, N: RowNames, K: Keeper>(
         path,
         end,
         refuted,
+        &mut scratch.at,
         maker,
         keeper,
         &mut scratch.pairs,

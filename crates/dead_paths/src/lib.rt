@@ -9,6 +9,7 @@
 #![tactic(auto)]
 
 mod dead_line;
+mod known;
 mod lines;
 mod maker;
 mod pushes;

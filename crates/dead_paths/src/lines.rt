@@ -2,7 +2,6 @@
 
 ghost use Rattle.std.specs.Prelude.{◌≡◌, ◌<◌, ◌++◌, length, map, OnOk, IfOk};
 ghost use Rattle.log_theory.specs.LogText.{IsName};
-ghost use Rattle.reason_theory.specs.Reasons.{vertices_of};
 ghost use Rattle.kept_lines.specs.Frames.{Frame, IsFrameOf, AnyForms, Goes};
 ghost use Rattle.dead_paths.specs.Lines.{at_least_refs, at_most_target_ref, AreVertices, AreValues, IsSetKept};
 ghost use Rattle.dead_paths.specs.Explaining.{IsLimited};
@@ -20,26 +19,11 @@ pub(crate) fn push_at_least(
     refs: &mut Vec<Ref>,
 ) -> Result<(), AllocError>
     requires { AreVertices lines.now vertices.now }
-    ensures { OnOk result (refs.new.items ≡ refs.old.items ++ at_least_refs lines.now vertices.now) }
+    ensures { OnOk result
+        (refs.new.items ≡ refs.old.items ++ at_least_refs lines.now vertices.now) }
 {
     for p in vertices {
         refs.push(Ref::Line(lines.at_least(*p)))?;
-    }
-    Ok(())
-}
-
-/// The same for the vertices of pairs.
-pub(crate) fn push_at_least_of(
-    lines: &Encoding<'_>,
-    pairs: &[(u16, u16)],
-    refs: &mut Vec<Ref>,
-) -> Result<(), AllocError>
-    requires { AreVertices lines.now (vertices_of pairs.now) }
-    ensures { OnOk result (refs.new.items ≡ refs.old.items ++ at_least_refs lines.now
-        (vertices_of pairs.now)) }
-{
-    for x in pairs {
-        refs.push(Ref::Line(lines.at_least(x.0)))?;
     }
     Ok(())
 }
@@ -73,7 +57,8 @@ pub fn keep_set<K: Keeper>(
     requires some { 0 < length vertices.now }
     requires vertices { AreVertices lines.now vertices.now }
     requires values { AreValues lines.now values.now }
-    ensures goes { (w : Frame) → IsFrameOf lines.now (K.owner keeper.old) w → Goes w (K.kept keeper.old) (K.kept keeper.new) AnyForms
+    ensures goes { (w : Frame) → IsFrameOf lines.now (K.owner keeper.old) w
+        → Goes w (K.kept keeper.old) (K.kept keeper.new) AnyForms
         (IsSetKept lines.now vertices.now values.now w result) }
     ensures name { IfOk result IsName }
     ensures owner { K.owner keeper.new ≡ K.owner keeper.old }

@@ -39,7 +39,8 @@ pub trait LineMaker: Drop {
     ) -> Result<Ref, AllocError>
         requires lines { lines.now ≡ q.now }
         requires p_in { p < size q.now.pattern }
-        ensures goes { (w : Frame) → IsFrameOf q.now (K.owner keeper.old) w → Goes w (K.kept keeper.old) (K.kept keeper.new)
+        ensures goes { (w : Frame) → IsFrameOf q.now (K.owner keeper.old) w
+            → Goes w (K.kept keeper.old) (K.kept keeper.new)
             (knows self.old q.now w) (GivesFirst q.now w p result (knows self.new q.now w)) }
         ensures fits { IfOk result IsRef }
         ensures owner { K.owner keeper.new ≡ K.owner keeper.old }
@@ -62,7 +63,8 @@ pub trait LineMaker: Drop {
         requires t_in { t < size q.now.target }
         requires r_in { r < size q.now.pattern }
         requires apart { p ≡ r → ⊥ }
-        ensures goes { (w : Frame) → IsFrameOf q.now (K.owner keeper.old) w → Goes w (K.kept keeper.old) (K.kept keeper.new)
+        ensures goes { (w : Frame) → IsFrameOf q.now (K.owner keeper.old) w
+            → Goes w (K.kept keeper.old) (K.kept keeper.new)
             (knows self.old q.now w) (GivesRow q.now w p t r result (knows self.new q.now w)) }
         ensures fits { IfOk result IsRef }
         ensures owner { K.owner keeper.new ≡ K.owner keeper.old }
@@ -84,8 +86,10 @@ pub trait LineMaker: Drop {
         requires some { 0 < length vertices.now }
         requires vertices { AreVertices q.now vertices.now }
         requires values { AreValues q.now values.now }
-        ensures goes { (w : Frame) → IsFrameOf q.now (K.owner keeper.old) w → Goes w (K.kept keeper.old) (K.kept keeper.new)
-            (knows self.old q.now w) (GivesSet q.now w vertices.now values.now result (knows self.new q.now w)) }
+        ensures goes { (w : Frame) → IsFrameOf q.now (K.owner keeper.old) w
+            → Goes w (K.kept keeper.old) (K.kept keeper.new)
+            (knows self.old q.now w)
+            (GivesSet q.now w vertices.now values.now result (knows self.new q.now w)) }
         ensures fits { IfOk result IsName }
         ensures owner { K.owner keeper.new ≡ K.owner keeper.old }
         ensures notes { K.notes keeper.new ≡ K.notes keeper.old }

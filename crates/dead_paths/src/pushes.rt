@@ -1,19 +1,19 @@
 //! References to the forms that explain a change, and to those that an end comes to.
 
-ghost use Rattle.std.specs.Prelude.{◌≡◌, ℕ, ◌^◌, ◌≤◌, ◌<◌, ◌++◌, length, OnOk};
+ghost use Rattle.std.specs.Prelude.{◌≡◌, ℕ, ◌^◌, ◌≤◌, ◌<◌, List, Some, length, OnOk};
 ghost use Rattle.graph_theory.specs.Graph.{size};
 ghost use Rattle.log_theory.specs.LogText.{AreRefs};
 ghost use Rattle.nogood_book.specs.Rows.{Sound};
 ghost use Rattle.nogood_book.specs.Places.{IsNogoodRow};
 ghost use Rattle.propagation.specs.Recording.{change_of};
-ghost use Rattle.dead_theory.specs.Changes.{IsInProblem};
+ghost use Rattle.dead_theory.specs.Changes.{shown_of, IsInProblem};
 ghost use Rattle.kept_lines.specs.Frames.{Frame, IsFrameOf, Goes};
 ghost use Rattle.dead_paths.specs.Lines.{AreVertices, AreValues};
 ghost use Rattle.dead_paths.specs.Making.{AreRowsNamed};
-ghost use Rattle.dead_paths.specs.Choosing.{IsOfRow, changes_in, AreNameable};
-ghost use Rattle.dead_paths.specs.Explaining.{IsLimited, Knowing, nogood_refs, IsSetPushed, IsChangePushed};
+ghost use Rattle.dead_paths.specs.Choosing.{AreAt, IsOfRow};
+ghost use Rattle.dead_paths.specs.Explaining.{IsLimited, Knowing, AddsNogood, IsSetPushed, IsChangePushed};
 
-use crate::lines::push_at_least_of;
+use crate::known::{push_bearing_all, push_decided};
 use crate::maker::{LineMaker, RowNames};
 use crate::walk::part;
 use graph_rows::Problem;
@@ -24,13 +24,16 @@ use pb_encoding::Encoding;
 use propagation::{Cause, Entry, What};
 use std::alloc::{AllocError, Global};
 
-/// Puts references to the lines that a nogood row needs. Cost: one for each of its vertices, and its own.
+/// Puts references to the lines that a nogood row needs: those by which its vertices go somewhere, but where a pair is known to hold or the
+/// vertex is left out, and its own.
 pub(crate) fn push_nogood<N: RowNames>(
     q: &Problem,
     lines: &Encoding<'_>,
     rows: &[Row],
     names: &N,
     name: u32,
+    but: Option<u16>,
+    at: &[u16],
     pairs: &mut Vec<(u16, u16)>,
     refs: &mut Vec<Ref>,
 ) -> Result<(), AllocError>
@@ -40,12 +43,14 @@ pub(crate) fn push_nogood<N: RowNames>(
     requires lines { lines.now ≡ q.now }
     requires nogood { IsNogoodRow rows.now name }
     requires fits { AreRefs refs.old.items }
-    ensures pushed { OnOk result (refs.new.items ≡ refs.old.items ++ nogood_refs q.now rows.now (N.names names.now) name) }
+    ensures pushed { (known : List (ℕ × ℕ)) → AreAt at.now known
+        → OnOk result (AddsNogood q.now rows.now (N.names names.now) known but name refs.old.items
+        refs.new.items) }
     ensures fits { OnOk result (AreRefs refs.new.items) }
 {
     pairs.clear();
     push_path(q, rows, name, pairs)?;
-    push_at_least_of(lines, pairs, refs)?;
+    push_bearing_all(lines, at, but, pairs, refs)?;
     refs.push(names.name(name))?;
     Ok(())
 }
@@ -66,8 +71,10 @@ pub(crate) fn push_set<M: LineMaker, K: Keeper>(
     requires vertices { AreVertices q.now vertices.now }
     requires values { AreValues q.now values.now }
     requires fits { AreRefs refs.old.items }
-    ensures goes { (w : Frame) → IsFrameOf q.now (K.owner keeper.old) w → Goes w (K.kept keeper.old) (K.kept keeper.new) (M.knows maker.old q.now w)
-        (IsSetPushed q.now vertices.now values.now w refs.old.items refs.new.items (M.knows maker.new q.now w) result) }
+    ensures goes { (w : Frame) → IsFrameOf q.now (K.owner keeper.old) w
+        → Goes w (K.kept keeper.old) (K.kept keeper.new) (M.knows maker.old q.now w)
+        (IsSetPushed q.now vertices.now values.now w refs.old.items refs.new.items
+        (M.knows maker.new q.now w) result) }
     ensures fits { OnOk result (AreRefs refs.new.items) }
     ensures owner { K.owner keeper.new ≡ K.owner keeper.old }
     ensures notes { K.notes keeper.new ≡ K.notes keeper.old }
@@ -90,6 +97,7 @@ pub(crate) fn push_change<M: LineMaker, N: RowNames, K: Keeper>(
     names: &N,
     numbers: &[u16],
     entry: &Entry,
+    at: &mut [u16],
     maker: &mut M,
     keeper: &mut K,
     pairs: &mut Vec<(u16, u16)>,
@@ -101,10 +109,15 @@ pub(crate) fn push_change<M: LineMaker, N: RowNames, K: Keeper>(
     requires lines { lines.now ≡ q.now }
     requires in_problem { IsInProblem q.now (change_of numbers.now entry.now) }
     requires of_row { IsOfRow rows.now (change_of numbers.now entry.now) }
+    requires long { size q.now.pattern ≤ length at.old }
     requires fits { AreRefs refs.old.items }
-    ensures goes { (w : Frame) → IsFrameOf q.now (K.owner keeper.old) w → Goes w (K.kept keeper.old) (K.kept keeper.new)
+    ensures goes { (w : Frame) (known : List (ℕ × ℕ)) → AreAt at.old known
+        → IsFrameOf q.now (K.owner keeper.old) w → Goes w (K.kept keeper.old) (K.kept keeper.new)
         (Knowing (M.knows maker.old q.now w) (AreRowsNamed q.now rows.now w (N.names names.now)))
-        (IsChangePushed q.now rows.now (change_of numbers.now entry.now) w refs.old.items refs.new.items (M.knows maker.new q.now w) result) }
+        (IsChangePushed q.now rows.now known (change_of numbers.now entry.now) w refs.old.items
+        refs.new.items (M.knows maker.new q.now w) result) }
+    ensures shown { (known : List (ℕ × ℕ)) → AreAt at.old known
+        → OnOk result (AreAt at.new (shown_of (change_of numbers.now entry.now) known)) }
     ensures fits { OnOk result (AreRefs refs.new.items) }
     ensures owner { K.owner keeper.new ≡ K.owner keeper.old }
     ensures notes { K.notes keeper.new ≡ K.notes keeper.old }
@@ -122,12 +135,14 @@ pub(crate) fn push_change<M: LineMaker, N: RowNames, K: Keeper>(
                 Ok(())
             }
             Cause::Vertex(p, t) => {
-                refs.push(Ref::Line(lines.at_least(p)))?;
+                push_decided(lines, at, p, t, refs)?;
                 let line = maker.row(alloc, q, lines, keeper, p, t, r)?;
                 refs.push(line)?;
                 Ok(())
             }
-            Cause::Nogood(name) => push_nogood(q, lines, rows, names, name, pairs, refs),
+            Cause::Nogood(name) => {
+                push_nogood(q, lines, rows, names, name, Some(r), at, pairs, refs)
+            }
         },
         What::Others(place) => push_set(
             alloc,

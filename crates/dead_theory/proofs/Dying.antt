@@ -1,5 +1,7 @@
--- What is chosen for the end of a dead path refutes the path.
-use Rattle.std.proofs.Common.{◌≡◌, ℕ, ◌<◌, Bool, true, false, List, [], ◌∷◌, ◌++◌, map, pos, Option, Result, Ok, sym, ap, subst, ◌∙◌, inl, inr}
+-- A dead path's changes and its end refute it, and what is told of them is in range.
+use Rattle.std.proofs.Common.{◌≡◌, ℕ, ◌<◌, ◌==◌, ◌&&◌, Bool, true, false, List, [], ◌∷◌, ◌++◌, refl, sym, ap, subst, ◌∙◌, Option, Some, Result, Ok, inl, inr, ◌⊎◌}
+use Rattle.std.specs.Prelude.{map}
+use Rattle.std.proofs.lemmas.Bool.{lt-ltb, true≢false}
 use Rattle.graph_theory.specs.Graph.{size}
 use Rattle.graph_theory.specs.Embedding.{Problem}
 use Rattle.proof_theory.specs.Forms.{Form}
@@ -12,9 +14,10 @@ use Rattle.log_theory.specs.declared.step.Cause.TheVariants.{Twice, NoConflict}
 use Rattle.log_theory.specs.Steps.{◌>>=◌, unless}
 use Rattle.log_theory.specs.Lookups.{Lookup, find_all, makes}
 use Rattle.encoding_theory.specs.Variables.{variable}
-use Rattle.forcing_theory.specs.Chains.{Reason, Explains, Chain, begins, goes_on, Kept, reasons_of, forms_of, either, IsClosed}
-use Rattle.forcing_theory.proofs.Chaining.{chain_refutes}
-use Rattle.reason_theory.specs.Reasons.{not_there, pairs_clause, AreTrue, no_vertex}
+use Rattle.forcing_theory.specs.Chains.{run, Within}
+use Rattle.forcing_theory.proofs.Chaining.{run_keeps, refutes_more, refutes_behind}
+use Rattle.reason_theory.specs.Reasons.{not_there, pairs_clause, AreTrue}
+use Rattle.reason_theory.proofs.Giving.{Gives, run_on}
 use Rattle.domain_bits.specs.Removals.{State, in_domain, full}
 use Rattle.domain_bits.proofs.Sizes.{in_below}
 use Rattle.nogood_watch.specs.Nogoods as watched
@@ -24,14 +27,13 @@ use Rattle.propagation.specs.declared.change.Cause.TheVariants as cause
 use Rattle.propagation.specs.Recording.{Change, LeftOne, LeftOthers}
 use Rattle.propagation.specs.Telling as telling
 use Rattle.propagation.specs.Telling.{Stands, Leaves, Changed, Told}
-use Rattle.dead_theory.specs.Changes.{NamesRows, ExplainAll, takes_of, needs_of, AreGuessed, IsInProblem, AreInProblem}
-use Rattle.dead_theory.specs.Ends.{End, end_forms, end_needs}
-use Rattle.dead_theory.specs.Walks.{among_these, MayPass, IsChoice, nothing, keeps, passes}
+use Rattle.dead_theory.specs.Changes.{NamesRows, IsOneOf, Covers, shown_of, known_after, ExplainsChange, ExplainAll, Needs, IsGuessed, AreGuessed, IsInProblem, AreInProblem}
+use Rattle.dead_theory.specs.Ends.{End, EndsIn, EndNeeds}
+use Rattle.dead_theory.specs.Walks.{MayPass, RestsOn, IsChoice, nothing, keeps, passes}
 use Rattle.dead_theory.specs.Laws.{Dies, DeadLaws, ToldLaws}
-use Rattle.dead_theory.proofs.Padding.{padded, full_there, explains_padded, ends_padded, explained_anyhow}
 use Rattle.dead_theory.proofs.Naming.{rows_named, named_more, names_kept, range_of, path_of_row, row_vertex_in}
-use Rattle.dead_theory.proofs.Literals.{distinct_literals, literals_in_range, path_true, empty_false}
-use Rattle.dead_theory.proofs.Explaining.{reason_of, same_among, untaken_stay, idle_stays, explained}
+use Rattle.dead_theory.proofs.Literals.{distinct_literals, literals_in_range, path_true, true_at, empty_false}
+use Rattle.dead_theory.proofs.Explaining.{same_among, was_there, NeededOut, AreOn, refused_may, vertex_shown, change_gives}
 use Rattle.dead_theory.proofs.Ending.{failure_ends, exhausted_ends, end_in, end_refutes}
 
 -- ---- what was told, taken apart
@@ -45,94 +47,124 @@ record Before (q : Problem) (s : Option watched.State) (d : State) (c : Change) 
 before_of : (q : Problem) (s : Option watched.State) (d : State) (c : Change) (cs : List Change) → Told q s d (c ∷ cs) → Before q s d c cs
 before_of q s _ _ _ (telling.goes_on old new cs c told changed) = record { old = old; told = told; changed = changed }
 
-all_there : (q : Problem) (s : Option watched.State) (n : ℕ) (d : State) → Told q s d [] → d.values ≡ n → (r u : ℕ) → padded n (in_domain d) r u ≡ true
-all_there q s n _ (telling.begins vertices values) is r u = subst (λ (m : ℕ). padded m (in_domain (full vertices values)) r u ≡ true) is (full_there vertices values r u)
+all_there : (q : Problem) (s : Option watched.State) (n : ℕ) (d : State) → Told q s d [] → d.values ≡ n → (r u : ℕ) → u < n → in_domain d r u ≡ true
+all_there q s n _ (telling.begins vertices values) is r u u_in = full_there vertices values r u (subst (λ (m : ℕ). u < m) (sym is) u_in)
+  where
+    full_there : (vertices values r u : ℕ) → u < values → in_domain (full vertices values) r u ≡ true
+    full_there vertices values r u u_in = ap (λ (b : Bool). b && (0 == 0)) (lt-ltb u values u_in)
 
--- ---- the chain
+-- Each pair of a path that is set true.
+on_path : (q : Problem) (s : Setting) (path : List (ℕ × ℕ)) → AreTrue q s path → AreOn q s path
+on_path q s [] are x here = absurd here
+on_path q s (y ∷ ys) are x (inl is) = subst (λ (z : ℕ × ℕ). s (variable q z.0 z.1) ≡ Some true) is are.0
+on_path q s (y ∷ ys) are x (inr later) = on_path q s ys are.1 x later
 
--- Which changes are kept, each with its reason; the reasons lead to the domains, and the forms of those that are kept are these.
-record Marked (q : Problem) (base : Setting) (d : State) (needed : ℕ → Bool) (forms : List Form) : Type 0 where
-  pub marks : List Kept
-  pub chain : Chain (variable q) (size q.target) base (padded (size q.target) (in_domain d)) (reasons_of marks)
-  pub closed : IsClosed marks needed
-  pub forms_are : forms_of marks ≡ forms
+-- ---- the changes in their order
+
+-- Forms refute the setting, or after them the needed values that are gone are false and the known pairs true.
+abbrev Reaches : Problem → Setting → State → (ℕ → ℕ → Bool) → List (ℕ × ℕ) → List Form → Type 0
+Reaches q base d needed known forms = (refutes base forms ≡ true) ⊎ (NeededOut q (run base forms) d needed × AreOn q (run base forms) known)
 
 module _ (q : Problem) (rows : List Row) (sound : Sound q rows) (s : Option watched.State) (names : NamesRows rows s) (base : Setting) (path : List (ℕ × ℕ)) (are_true : AreTrue q base path) where
-  keep_mark : (d old : State) (c : Change) (needed : ℕ → Bool) (before own forms : List Form) → Changed q s old d c → old.values ≡ size q.target → forms ≡ before ++ own
-      → Explains (variable q) (size q.target) base (in_domain old) (in_domain d) (reason_of rows c own)
-      → Marked q base old (either needed (among_these (needs_of rows c))) before → Marked q base d needed forms
-  keep_mark d old c needed before own forms changed values_is are why m = record {
-    marks = record { reason = reason_of rows c own; kept = true } ∷ m.marks;
-    chain = goes_on (padded (size q.target) (in_domain old)) (padded (size q.target) (in_domain d)) (reasons_of m.marks) (reason_of rows c own) m.chain
-        (explains_padded (variable q) (size q.target) base (in_domain old) (in_domain d) (reason_of rows c own) why);
-    closed = m.closed;
-    forms_are = ap (λ (fs : List Form). fs ++ own) m.forms_are ∙ sym are;
-  }
+  path_on : (forms : List Form) → AreOn q (run base forms) path
+  path_on forms x here = run_keeps base forms (variable q x.0 x.1) true (on_path q base path are_true x here)
 
-  pass_mark : (d old : State) (needed : ℕ → Bool) (forms : List Form) (why : Reason) → Explains (variable q) (size q.target) base (in_domain old) (in_domain d) why
-      → ((r : ℕ) → why.takes r ≡ true → needed r ≡ false) → Marked q base old needed forms → Marked q base d needed forms
-  pass_mark d old needed forms why explains free m = record {
-    marks = record { reason = why; kept = false } ∷ m.marks;
-    chain = goes_on (padded (size q.target) (in_domain old)) (padded (size q.target) (in_domain d)) (reasons_of m.marks) why m.chain
-        (explains_padded (variable q) (size q.target) base (in_domain old) (in_domain d) why explains);
-    closed = (free, m.closed);
-    forms_are = m.forms_are;
-  }
+  passed : (d old : State) (c : Change) (needed : ℕ → ℕ → Bool) (known : List (ℕ × ℕ)) (forms : List Form) → Leaves q s old d c → MayPass q rows c needed → Reaches q base old needed known forms
+      → Reaches q base d needed known forms
+  passed d old c needed known forms l may (inl refuted) = inl refuted
+  passed d old c needed known forms l may (inr h) = inr ((λ r u u_in is gone. h.0 r u u_in is (by r u is gone (in_domain old r u) refl)), h.1)
+    where
+      by : (r u : ℕ) → needed r u ≡ true → in_domain d r u ≡ false → (b : Bool) → in_domain old r u ≡ b → in_domain old r u ≡ false
+      by r u is gone true was = absurd (may r u is (refused_may q rows sound s names c old d l r u was gone))
+      by r u is gone false was = was
+
+  -- What it shows holds after its forms.
+  shown_gives : (c : Change) (d old : State) (now : ℕ → ℕ → Bool) (known : List (ℕ × ℕ)) (at : Setting) (own : List Form) → old.values ≡ size q.target → Leaves q s old d c → NeededOut q at old now → AreOn q at path
+      → AreOn q at known → Needs rows path c now → ExplainsChange q rows known c own → (x : ℕ × ℕ) → IsOneOf (shown_of c known) x → Gives at own (variable q x.0 x.1) true
+  shown_gives (LeftOne r (cause.Vertex p t) from) d old now known at own values_is l out on_p on needs h x (inl is) =
+      subst (λ (z : ℕ × ℕ). Gives at own (variable q z.0 z.1) true) is (vertex_shown q rows sound s names path known at old values_is now out on_p on p t r h.0 own l.stands.decided needs h.1)
+  shown_gives (LeftOne r (cause.Vertex p t) from) d old now known at own values_is l out on_p on needs h x (inr later) = inr (run_keeps at own (variable q x.0 x.1) true (on x later))
+  shown_gives (LeftOne r cause.First from) d old now known at own values_is l out on_p on needs h x here = inr (run_keeps at own (variable q x.0 x.1) true (on x here))
+  shown_gives (LeftOne r (cause.Guess t) from) d old now known at own values_is l out on_p on needs h x here = inr (run_keeps at own (variable q x.0 x.1) true (on x here))
+  shown_gives (LeftOne r (cause.Nogood name) from) d old now known at own values_is l out on_p on needs h x here = inr (run_keeps at own (variable q x.0 x.1) true (on x here))
+  shown_gives (LeftOthers vertices values from) d old now known at own values_is l out on_p on needs h x here = inr (run_keeps at own (variable q x.0 x.1) true (on x here))
+
+  quiet : (at : Setting) (own : List Form) (v : ℕ) (b : Bool) → refutes at own ≡ false → Gives at own v b → run at own v ≡ Some b
+  quiet at own v b calm (inl refuted) = absurd (true≢false (sym refuted ∙ calm))
+  quiet at own v b calm (inr is) = is
+
+  kept : (d old : State) (c : Change) (needed now : ℕ → ℕ → Bool) (known : List (ℕ × ℕ)) (before own : List Form) → old.values ≡ size q.target → Leaves q s old d c → IsGuessed path c
+      → RestsOn q rows path c needed now → ExplainsChange q rows known c own → Reaches q base old now known before → Reaches q base d needed (shown_of c known) (before ++ own)
+  kept d old c needed now known before own values_is l guessed rests h (inl refuted) = inl (refutes_more base before own refuted)
+  kept d old c needed now known before own values_is l guessed rests h (inr reached) = by (refutes (run base before) own) refl
+    where
+      at : Setting
+      at = run base before
+
+      guess_on : (r t from : ℕ) → c ≡ LeftOne r (cause.Guess t) from → at (variable q r t) ≡ Some true
+      guess_on r t from is = run_keeps base before (variable q r t) true (true_at q base path r t are_true (subst (IsGuessed path) is guessed))
+
+      gives : (r u : ℕ) → u < size q.target → (in_domain old r u ≡ true) × (in_domain d r u ≡ false) ⊎ ((in_domain old r u ≡ false) × Covers q c r u) → Gives at own (variable q r u) false
+      gives r u u_in which = change_gives q rows sound s names path known at old values_is now reached.0 (path_on before) reached.1 c d own l guess_on rests.needs h r u u_in which
+
+      by : (b : Bool) → refutes at own ≡ b → Reaches q base d needed (shown_of c known) (before ++ own)
+      by true is = inl (refutes_behind base before own is)
+      by false calm = inr (
+        (λ r u u_in is gone. run_on base before own (variable q r u) ∙ out r u u_in gone (in_domain old r u) refl (rests.carried r u is)),
+        (λ x here. run_on base before own (variable q x.0 x.1)
+            ∙ quiet at own (variable q x.0 x.1) true calm (shown_gives c d old now known at own values_is l reached.0 (path_on before) reached.1 rests.needs h x here)),
+      )
+        where
+          out : (r u : ℕ) → u < size q.target → in_domain d r u ≡ false → (e : Bool) → in_domain old r u ≡ e → (now r u ≡ true) ⊎ Covers q c r u → run at own (variable q r u) ≡ Some false
+          out r u u_in gone true was which = quiet at own (variable q r u) false calm (gives r u u_in (inl (was, gone)))
+          out r u u_in gone false was (inl is) = run_keeps at own (variable q r u) false (reached.0 r u u_in is was)
+          out r u u_in gone false was (inr covers) = quiet at own (variable q r u) false calm (gives r u u_in (inr (was, covers)))
 
   before_values : (d old : State) (c : Change) → Changed q s old d c → d.values ≡ size q.target → old.values ≡ size q.target
   before_values d old c changed is = sym changed.leaves.values_same ∙ is
 
-  passed : (d old : State) (c : Change) (needed : ℕ → Bool) (forms : List Form) → Changed q s old d c → old.values ≡ size q.target → MayPass rows c needed → Marked q base old needed forms
-      → Marked q base d needed forms
-  passed d old c needed forms changed values_is (inl free) m =
-      pass_mark d old needed forms (record { forms = record { terms = []; bound = pos 1 } ∷ []; takes = takes_of c; needs = no_vertex })
-      (explained_anyhow (variable q) (size q.target) base (in_domain old) (in_domain d) (takes_of c) (untaken_stay q rows sound s names base path are_true old d values_is c changed.leaves)) free m
-  passed d old c needed forms changed values_is (inr idle) m =
-      pass_mark d old needed forms (record { forms = record { terms = []; bound = pos 1 } ∷ []; takes = no_vertex; needs = no_vertex })
-      (explained_anyhow (variable q) (size q.target) base (in_domain old) (in_domain d) no_vertex (λ r u free. idle_stays q rows sound s names base path are_true old d values_is c changed.leaves idle r u))
-      (λ r takes. absurd (let bad : false ≡ true = takes in cc)) m
-
-  marked : (d : State) (cs chosen : List Change) (needed : ℕ → Bool) (forms : List Form) → IsChoice rows cs chosen needed → Told q s d cs → d.values ≡ size q.target → AreGuessed path chosen
-      → ExplainAll q rows chosen forms → Marked q base d needed forms
-  marked d _ _ _ forms (nothing needed) told values_is guessed are = record {
-    marks = [];
-    chain = begins (padded (size q.target) (in_domain d)) (all_there q s (size q.target) d told values_is);
-    closed = tt;
-    forms_are = sym are;
-  }
-  marked d _ _ _ forms (keeps c cs chosen needed rest) told values_is guessed are =
+  reached : (d : State) (cs chosen : List Change) (needed : ℕ → ℕ → Bool) (forms : List Form) → IsChoice q rows path cs chosen needed → Told q s d cs → d.values ≡ size q.target → AreGuessed path chosen
+      → ExplainAll q rows path chosen forms → Reaches q base d needed (known_after path chosen) forms
+  reached d _ _ _ forms (nothing needed) told values_is guessed are =
+      inr ((λ r u u_in is gone. absurd (true≢false (sym (all_there q s (size q.target) d told values_is r u u_in) ∙ gone))), path_on forms)
+  reached d _ _ _ forms (keeps c cs chosen needed now rests rest) told values_is guessed are =
       let b = before_of q s d c cs told in
       let was = before_values d b.old c b.changed values_is in
-      keep_mark d b.old c needed are.0 are.1 forms b.changed was are.2
-      (explained q rows sound s names base path are_true b.old d was c are.1 b.changed.leaves guessed.0 are.4)
-      (marked b.old cs chosen (either needed (among_these (needs_of rows c))) are.0 rest b.told was guessed.1 are.3)
-  marked d _ _ _ forms (passes c cs chosen needed may rest) told values_is guessed are =
+      subst (λ (fs : List Form). Reaches q base d needed (shown_of c (known_after path chosen)) fs) (sym are.2)
+      (kept d b.old c needed now (known_after path chosen) are.0 are.1 was b.changed.leaves guessed.0 rests are.4 (reached b.old cs chosen now are.0 rest b.told was guessed.1 are.3))
+  reached d _ _ _ forms (passes c cs chosen needed may rest) told values_is guessed are =
       let b = before_of q s d c cs told in
       let was = before_values d b.old c b.changed values_is in
-      passed d b.old c needed forms b.changed was may (marked b.old cs chosen needed forms rest b.told was guessed are)
+      passed d b.old c needed (known_after path chosen) forms b.changed.leaves may (reached b.old cs chosen needed forms rest b.told was guessed are)
 
 -- ---- the path
 
-pub dead_refuted : (q : Problem) (rows : List Row) (path : List (ℕ × ℕ)) (changes : List Change) (e : End) → Dies q rows path changes e → (chosen : List Change) (forms : List Form)
-    → IsChoice rows changes chosen (among_these (end_needs rows e)) → ExplainAll q rows chosen forms → AreGuessed path chosen
-    → refutes (negations (map (not_there q) path)) (forms ++ end_forms q rows path e) ≡ true
-dead_refuted q rows path changes e dies chosen forms choice are guessed =
-    let base : Setting = negations (map (not_there q) path) in
-    let m = marked q rows dies.sound dies.nogoods dies.names base path (path_true q path) dies.domains changes chosen (among_these (end_needs rows e)) forms choice dies.told dies.values_is guessed are in
-    subst (λ (fs : List Form). refutes base (fs ++ end_forms q rows path e) ≡ true) m.forms_are
-    (chain_refutes (variable q) (size q.target) base (padded (size q.target) (in_domain dies.domains)) m.marks (among_these (end_needs rows e)) (end_forms q rows path e) m.chain m.closed
-    (ends_padded (variable q) (size q.target) base (in_domain dies.domains) (among_these (end_needs rows e)) (end_forms q rows path e)
-    (end_refutes q rows dies.sound dies.nogoods dies.names base path (path_true q path) dies.domains e dies.ends)))
+pub dead_refuted : (q : Problem) (rows : List Row) (path : List (ℕ × ℕ)) (changes : List Change) (e : End) → Dies q rows path changes e
+    → (chosen : List Change) (needed : ℕ → ℕ → Bool) (forms ends : List Form) → EndNeeds rows path e needed → IsChoice q rows path changes chosen needed
+    → ExplainAll q rows path chosen forms → AreGuessed path chosen → EndsIn q rows path (known_after path chosen) e ends
+    → refutes (negations (map (not_there q) path)) (forms ++ ends) ≡ true
+dead_refuted q rows path changes e dies chosen needed forms ends needs choice are guessed in_end =
+    by (reached q rows dies.sound dies.nogoods dies.names base path (path_true q path) dies.domains changes chosen needed forms choice dies.told dies.values_is guessed are)
+  where
+    base : Setting
+    base = negations (map (not_there q) path)
 
-pub dead_line : (q : Problem) (rows : List Row) (path : List (ℕ × ℕ)) (changes : List Change) (e : End) → Dies q rows path changes e → (chosen : List Change) (forms : List Form)
-    → IsChoice rows changes chosen (among_these (end_needs rows e)) → ExplainAll q rows chosen forms → AreGuessed path chosen
-    → (look : Lookup) (name : Name) (refs : List Ref) → find_all look refs ≡ Ok (forms ++ end_forms q rows path e)
+    by : Reaches q base dies.domains needed (known_after path chosen) forms → refutes base (forms ++ ends) ≡ true
+    by (inl refuted) = refutes_more base forms ends refuted
+    by (inr h) = refutes_behind base forms ends
+        (end_refutes q rows dies.nogoods dies.names path (known_after path chosen) (run base forms) dies.domains needed h.0
+        (path_on q rows dies.sound dies.nogoods dies.names base path (path_true q path) forms) h.1 e ends dies.ends needs in_end)
+
+pub dead_line : (q : Problem) (rows : List Row) (path : List (ℕ × ℕ)) (changes : List Change) (e : End) → Dies q rows path changes e
+    → (chosen : List Change) (needed : ℕ → ℕ → Bool) (forms ends : List Form) → EndNeeds rows path e needed → IsChoice q rows path changes chosen needed
+    → ExplainAll q rows path chosen forms → AreGuessed path chosen → EndsIn q rows path (known_after path chosen) e ends
+    → (look : Lookup) (name : Name) (refs : List Ref) → find_all look refs ≡ Ok (forms ++ ends)
     → makes look (U name (map (not_there q) path) refs) ≡ Ok (pairs_clause q path)
-dead_line q rows path changes e dies chosen forms choice are guessed look name refs found =
+dead_line q rows path changes e dies chosen needed forms ends needs choice are guessed in_end look name refs found =
     let lits = map (not_there q) path in
     ap (λ (b : Bool). unless b Twice >>= λ _. find_all look refs >>= λ fs. unless (refutes (negations lits) fs) NoConflict >>= λ _. Ok (clause_form lits)) (distinct_literals q path dies.distinct dies.range)
     ∙ ap (λ (r : Result (List Form) faults.Cause). r >>= λ fs. unless (refutes (negations lits) fs) NoConflict >>= λ _. Ok (clause_form lits)) found
-    ∙ ap (λ (b : Bool). unless b NoConflict >>= λ _. Ok (clause_form lits)) (dead_refuted q rows path changes e dies chosen forms choice are guessed)
+    ∙ ap (λ (b : Bool). unless b NoConflict >>= λ _. Ok (clause_form lits)) (dead_refuted q rows path changes e dies chosen needed forms ends needs choice are guessed in_end)
 
 pub dead_laws_hold : DeadLaws
 dead_laws_hold = record { refuted = dead_refuted; line = dead_line; empty = empty_false }

@@ -1,30 +1,30 @@
 -- What each end comes to.
-use Rattle.std.proofs.Common.{◌≡◌, ℕ, ◌==◌, Bool, true, false, ◌||◌, List, [], ◌∷◌, ◌++◌, Option, Some, None, refl, sym, ◌∙◌, ap, subst, arith, inl, inr, ◌⊎◌}
+use Rattle.std.proofs.Common.{◌≡◌, ℕ, ◌<◌, ◌==◌, Bool, true, false, ◌||◌, List, [], ◌∷◌, ◌++◌, length, Option, Some, None, refl, sym, ◌∙◌, ap, subst, arith, inl, inr, ◌⊎◌}
 use Rattle.std.proofs.lemmas.Bool.{cases_eq, eqb-true, eq-eqb, ne_eqb}
-use Rattle.graph_theory.specs.Graph.{size}
 use Rattle.graph_theory.specs.Embedding.{Problem}
-use Rattle.proof_theory.specs.Slack.{Setting}
+use Rattle.proof_theory.specs.Forms.{Form}
+use Rattle.proof_theory.specs.Slack.{Setting, refutes}
 use Rattle.log_theory.specs.Lookups.{is_among}
-use Rattle.encoding_theory.specs.Variables.{variable}
 use Rattle.encoding_theory.specs.Encoding.{at_least}
-use Rattle.forcing_theory.specs.Chains.{EndsAt}
-use Rattle.reason_theory.specs.Reasons.{AreDecided, IsNoPair, AreTrue, value_clauses}
+use Rattle.forcing_theory.specs.Chains.{run}
+use Rattle.reason_theory.specs.Reasons.{IsNoPair, AreTrue, at_leasts, pairs_clause}
+use Rattle.reason_theory.proofs.Giving.{leads_to_end}
+use Rattle.reason_theory.proofs.Forcing.{at_least_fails, clause_fails, AreSet}
 use Rattle.reason_theory.proofs.Explaining as explaining
+use Rattle.reason_theory.proofs.Explaining.{conflict_refutes}
 use Rattle.search_theory.specs.Account.{NotAmong}
 use Rattle.domain_bits.specs.Removals.{State, in_domain}
 use Rattle.nogood_watch.specs.Nogoods as watched
+use Rattle.nogood_watch.specs.Nogoods.{literal}
 use Rattle.nogood_book.specs.declared.row.Row.{Row}
-use Rattle.nogood_book.specs.Rows.{path_at, Sound, AreInRange}
+use Rattle.nogood_book.specs.Rows.{path_at}
 use Rattle.propagation.specs.declared.change.Failure.{Failure}
 use Rattle.propagation.specs.declared.change.Failure.TheVariants as failure
 use Rattle.propagation.specs.Recording.{Change, CountedSet}
-use Rattle.propagation.specs.Telling.{IsDecided, IsShown, Fails}
-use Rattle.dead_theory.specs.Changes.{NamesRows}
-use Rattle.dead_theory.specs.Ends.{End, Empty, Whole, Short, Exhausted, end_of, EndsBy, IsEndIn, end_forms, end_needs}
-use Rattle.dead_theory.specs.Walks.{among_these, IsWithin}
-use Rattle.dead_theory.proofs.Padding.{ends_needing}
-use Rattle.dead_theory.proofs.Naming.{path_of_row}
-use Rattle.dead_theory.proofs.Explaining.{same_among, only_of, all_decided}
+use Rattle.propagation.specs.Telling.{HasAtMost, IsDecided, IsShown, Fails}
+use Rattle.dead_theory.specs.Changes.{NamesRows, IsLeftOut, NogoodForms, AreUpheld}
+use Rattle.dead_theory.specs.Ends.{End, Empty, Whole, Short, Exhausted, end_of, EndsBy, IsEndIn, EndsIn, EndNeeds}
+use Rattle.dead_theory.proofs.Explaining.{same_among, NeededOut, AreOn, pairs_lead, only_these, these_only, these_out}
 
 -- What propagation tells is an end.
 pub failure_ends : (q : Problem) (s : Option watched.State) (d : State) (cs : List Change) (short : Option CountedSet) (f : Failure) → Fails q s d (Some cs) short f → EndsBy (end_of f short) q s d
@@ -56,30 +56,43 @@ end_in q rows s d (Short vertices values) names h =
     (λ p among. h.0.vertices_in p (same_among vertices p ∙ among), λ u among. h.0.values_in u (same_among values u ∙ among), h.1)
 end_in q rows s d (Exhausted p values) names h = tt
 
-module _ (q : Problem) (rows : List Row) (sound : Sound q rows) (s : Option watched.State) (names : NamesRows rows s) (base : Setting) (path : List (ℕ × ℕ)) (path_true : AreTrue q base path) (d : State) where
-  one_is : (p : ℕ) → IsWithin (λ r. r == p) (among_these (p ∷ []))
-  one_is p v is = ap (λ (b : Bool). b || false) (eq-eqb p v (sym (eqb-true v p is)))
+-- ---- what it comes to
 
-  none_there : (p u : ℕ) → (in_domain d p u ≡ true → ⊥) → in_domain d p u ≡ false
-  none_there p u none = by (in_domain d p u) refl
-    where
-      by : (b : Bool) → in_domain d p u ≡ b → in_domain d p u ≡ false
-      by true is = absurd (none is)
-      by false is = is
+-- Pairs of which each is true are true together.
+on_true : (q : Problem) (at : Setting) (path : List (ℕ × ℕ)) → AreOn q at path → AreTrue q at path
+on_true q at [] on = tt
+on_true q at (x ∷ xs) on = (on x (inl refl), on_true q at xs (λ y here. on y (inr here)))
 
-  whole_decided : (name : ℕ) → IsDecided s d name → AreDecided q (in_domain d) IsNoPair (path_at rows name)
-  whole_decided name f =
+none_there : (d : State) (p u : ℕ) → (in_domain d p u ≡ true → ⊥) → in_domain d p u ≡ false
+none_there d p u none = by (in_domain d p u) refl
+  where
+    by : (b : Bool) → in_domain d p u ≡ b → in_domain d p u ≡ false
+    by true is = absurd (none is)
+    by false is = is
+
+module _ (q : Problem) (rows : List Row) (s : Option watched.State) (names : NamesRows rows s) (path known : List (ℕ × ℕ)) (at : Setting) (d : State) (needed : ℕ → ℕ → Bool) (out : NeededOut q at d needed)
+    (on_path : AreOn q at path) (on : AreOn q at known) where
+  whole_refutes : (name : ℕ) (forms : List Form) → IsDecided s d name → AreUpheld path None needed (path_at rows name) → NogoodForms q known None (path_at rows name) forms → refutes at forms ≡ true
+  whole_refutes name forms f upheld h =
       let is : path_at rows name ≡ f.pairs = (names name f.pairs f.named).1 in
-      subst (λ (xs : List (ℕ × ℕ)). AreDecided q (in_domain d) IsNoPair xs) (sym is)
-      (all_decided q d IsNoPair f.pairs (subst (AreInRange q) is (path_of_row q rows name sound).1) (λ k k_in. inr (f.all k k_in)))
+      subst (λ (fs : List Form). refutes at fs ≡ true) (sym h.1)
+      (leads_to_end at (at_leasts q h.0) (pairs_clause q (path_at rows name) ∷ []) (λ z. AreSet q z IsNoPair (path_at rows name))
+      (pairs_lead q at d path known needed h.0 None IsNoPair (path_at rows name) out on_path on h.2 upheld
+      (subst (λ (xs : List (ℕ × ℕ)). (k : ℕ) → k < length xs → IsNoPair (literal xs k) ⊎ ((IsLeftOut None (literal xs k).0 → ⊥) × HasAtMost d (literal xs k).0 (literal xs k).1)) (sym is)
+      (λ k k_in. inr ((λ none. none), f.all k k_in))))
+      (λ are. conflict_refutes (run at (at_leasts q h.0)) (pairs_clause q (path_at rows name)) (clause_fails q (run at (at_leasts q h.0)) (path_at rows name) are)))
 
-  pub end_refutes : (e : End) → EndsBy e q s d → EndsAt (variable q) (size q.target) base (in_domain d) (among_these (end_needs rows e)) (end_forms q rows path e)
-  end_refutes (Empty p) h =
-      ends_needing (variable q) (size q.target) base (in_domain d) (λ r. r == p) (among_these (p ∷ [])) (at_least q p ∷ []) (one_is p)
-      ((explaining.end_laws q).empty base (in_domain d) p (λ u u_in. none_there p u (h.1 u)))
-  end_refutes (Whole name) h = (explaining.end_laws q).whole base (in_domain d) (path_at rows name) (whole_decided name h)
-  end_refutes (Short [] values) h = absurd (omega (arith, h.1))
-  end_refutes (Short (p ∷ rest) values) h = (explaining.end_laws q).short base (in_domain d) p rest values (only_of q d (p ∷ rest) values h.0) h.1
-  end_refutes (Exhausted p values) h =
-      ends_needing (variable q) (size q.target) base (in_domain d) (λ r. r == p) (among_these (p ∷ [])) (value_clauses q path p values ++ at_least q p ∷ []) (one_is p)
-      ((explaining.end_laws q).refuted base (in_domain d) p path values path_true (λ u u_in there. h u there))
+  -- Its forms lead to a conflict.
+  pub end_refutes : (e : End) (forms : List Form) → EndsBy e q s d → EndNeeds rows path e needed → EndsIn q rows path known e forms → refutes at forms ≡ true
+  end_refutes (Empty p) forms h needs is =
+      subst (λ (fs : List Form). refutes at fs ≡ true) (sym is)
+      (conflict_refutes at (at_least q p) (at_least_fails q at p (λ u u_in. out p u u_in (needs u) (none_there d p u (h.1 u)))))
+  end_refutes (Whole name) forms h needs is = whole_refutes name forms h needs is
+  end_refutes (Short [] values) forms h needs is = absurd (omega (arith, h.1))
+  end_refutes (Short (p ∷ rest) values) forms h needs is =
+      subst (λ (fs : List Form). refutes at fs ≡ true) (sym is)
+      ((explaining.end_laws q).short at (only_these (p ∷ rest) values) p rest values (these_only q d (p ∷ rest) values h.0) h.1 at (λ v b e. e) (these_out q at d needed (p ∷ rest) values h.0 out needs))
+  end_refutes (Exhausted p values) forms h needs is =
+      subst (λ (fs : List Form). refutes at fs ≡ true) (sym is)
+      ((explaining.end_laws q).refuted at (in_domain d) p path values (on_true q at path on_path) (λ u u_in there. h u there) at (λ v b e. e)
+      (λ r r_is u u_in gone. out r u u_in (subst (λ (v : ℕ). needed v u ≡ true) (sym (eqb-true r p r_is)) (needs u)) gone))

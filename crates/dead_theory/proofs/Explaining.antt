@@ -1,16 +1,20 @@
 -- Each change that was told is explained by its forms.
-use Rattle.std.proofs.Common.{◌≡◌, ℕ, suc, ◌+◌, ◌<◌, ◌≤◌, ◌==◌, eqb, ltb, Bool, true, false, not, ◌&&◌, ◌||◌, List, [], ◌∷◌, ◌++◌, length, Option, refl, sym, ap, subst, ◌∙◌, arith, inl, inr, ◌⊎◌}
-use Rattle.std.proofs.lemmas.Bool.{and_parts, eqb-true, eq-eqb, ne_eqb, true≢false}
+use Rattle.std.proofs.Common.{◌≡◌, ℕ, zero, suc, ◌+◌, ◌<◌, ◌≤◌, ◌==◌, eqb, ltb, Bool, true, false, not, ◌&&◌, ◌||◌, cond, List, [], ◌∷◌, ◌++◌, length, Option, Some, None, refl, sym, ap, subst, ◌∙◌, arith, inl, inr, ◌⊎◌}
+use Rattle.std.proofs.lemmas.Bool.{and_parts, cases_eq, eqb-true, eq-eqb, lt-ltb, ltb-true, true≢false}
 use Rattle.graph_theory.specs.Graph.{size}
 use Rattle.graph_theory.specs.Embedding.{Problem}
+use Rattle.search_theory.specs.Consistency.{IsFirstValue, AreConsistent}
 use Rattle.proof_theory.specs.Forms.{Form}
-use Rattle.proof_theory.specs.Slack.{Setting}
+use Rattle.proof_theory.specs.Slack.{Setting, conflict, after, refutes}
 use Rattle.log_theory.specs.Lookups.{is_among, are_distinct}
 use Rattle.encoding_theory.specs.Variables.{variable}
-use Rattle.encoding_theory.specs.Encoding.{at_least}
-use Rattle.forcing_theory.specs.Chains.{Reason, Explains}
+use Rattle.encoding_theory.specs.Encoding.{at_least, at_most}
+use Rattle.forcing_theory.specs.Chains.{run, Domains, AreOut}
+use Rattle.forcing_theory.proofs.Chaining.{after_keeps, run_keeps}
 use Rattle.reason_theory.specs.Reasons as reasons
-use Rattle.reason_theory.specs.Reasons.{AreDecided, IsPair, OnlyOf, LeftRefused, reason_for, no_vertex, AreTrue, vertices_of, set_form}
+use Rattle.reason_theory.specs.Reasons.{IsPair, ForcesFirst, ForcesBeside, at_leasts, pairs_clause, set_form}
+use Rattle.reason_theory.proofs.Giving.{Leads, Gives, one_gives, then_gives, leads_on}
+use Rattle.reason_theory.proofs.Forcing.{at_least_forces, at_most_forces, AreSet, clause_forces}
 use Rattle.reason_theory.proofs.Explaining as explaining
 use Rattle.domain_bits.specs.Removals.{State, in_domain, times}
 use Rattle.domain_bits.proofs.Removed.{times-append}
@@ -19,15 +23,11 @@ use Rattle.all_different.specs.Pruning.{among}
 use Rattle.nogood_watch.specs.Nogoods as watched
 use Rattle.nogood_watch.specs.Nogoods.{literal}
 use Rattle.nogood_book.specs.declared.row.Row.{Row}
-use Rattle.nogood_book.specs.Rows.{path_at, Sound, AreInRange}
+use Rattle.nogood_book.specs.Rows.{path_at, Sound}
 use Rattle.propagation.specs.declared.change.Cause.TheVariants as cause
 use Rattle.propagation.specs.Recording.{Change, LeftOne, LeftOthers}
-use Rattle.propagation.specs.Telling.{HasAtMost, IsForbidden, AreDistinct, HaveOnly, Refuses, Leaves}
-use Rattle.dead_theory.specs.Changes.{NamesRows, ExplainsChange, takes_of, needs_of, IsIdle, IsGuessed}
-use Rattle.dead_theory.specs.Walks.{among_these, IsWithin}
-use Rattle.dead_theory.proofs.Padding.{explains_needing}
-use Rattle.dead_theory.proofs.Naming.{path_of_row}
-use Rattle.dead_theory.proofs.Literals.{true_at}
+use Rattle.propagation.specs.Telling.{HasAtMost, IsForbidden, AreDistinct, HaveOnly, Leaves}
+use Rattle.dead_theory.specs.Changes.{NamesRows, IsOneOf, IsLeftOut, IsBorne, AreBorne, NogoodForms, set_forms, ExplainsChange, MayTake, Covers, IsUpheld, AreUpheld, AreKeptIn, Needs}
 
 -- ---- lists of vertices
 
@@ -43,18 +43,10 @@ distinct_of (x ∷ xs) h = both (is_among x xs) (are_distinct xs) (sym (same_amo
     both true b e f = absurd cc
     both false b e f = f
 
-pub only_of : (q : Problem) (d : State) (vertices values : List ℕ) → HaveOnly q d vertices values → reasons.HaveOnly q (in_domain d) vertices values
-only_of q d vertices values only = record {
-  distinct = distinct_of vertices only.distinct;
-  vertices_in = λ p h. only.vertices_in p (same_among vertices p ∙ h);
-  values_in = λ u h. only.values_in u (same_among values u ∙ h);
-  within = λ p u h u_in there. sym (same_among values u) ∙ only.within p u (same_among vertices p ∙ h) there;
-}
-
 -- ---- what leaves
 
 -- What is there was there.
-was_there : (old new : State) (rest : List (ℕ × ℕ)) → new.values ≡ old.values → new.removed ≡ old.removed ++ rest → (r u : ℕ) → in_domain new r u ≡ true → in_domain old r u ≡ true
+pub was_there : (old new : State) (rest : List (ℕ × ℕ)) → new.values ≡ old.values → new.removed ≡ old.removed ++ rest → (r u : ℕ) → in_domain new r u ≡ true → in_domain old r u ≡ true
 was_there old new rest same front r u here =
     let parts = and_parts (ltb u new.values) (eqb (times new.removed r u) 0) here in
     let none : times new.removed r u ≡ 0 = eqb-true (times new.removed r u) 0 parts.1 in
@@ -65,119 +57,263 @@ was_there old new rest same front r u here =
     both true b e f = f
     both false b e f = absurd cc
 
--- Whether u was there for r and is not any more.
-abbrev pub has_left : State → State → ℕ → ℕ → Bool
-has_left old new r u = in_domain old r u && not (in_domain new r u)
+-- ---- settings
 
-left_parts : (a b : Bool) → (a && not b) ≡ true → (a ≡ true) × (b ≡ false)
-left_parts true true h = absurd cc
-left_parts true false h = (refl, refl)
-left_parts false b h = absurd cc
+-- Each of the needed values that is gone has its variable false.
+abbrev pub NeededOut : Problem → Setting → State → (ℕ → ℕ → Bool) → Type 0
+NeededOut q s d needed = (r u : ℕ) → u < size q.target → needed r u ≡ true → in_domain d r u ≡ false → s (variable q r u) ≡ Some false
 
-left_of : (a b : Bool) → a ≡ true → b ≡ false → (a && not b) ≡ true
-left_of true true e f = absurd cc
-left_of true false e f = refl
-left_of false b e f = absurd cc
+-- Each of these pairs has its variable true.
+abbrev pub AreOn : Problem → Setting → List (ℕ × ℕ) → Type 0
+AreOn q s known = (x : ℕ × ℕ) → IsOneOf known x → s (variable q x.0 x.1) ≡ Some true
+
+none_there : (d : State) (p t u : ℕ) → HasAtMost d p t → (u ≡ t → ⊥) → in_domain d p u ≡ false
+none_there d p t u most other = by (in_domain d p u) refl
+  where
+    by : (b : Bool) → in_domain d p u ≡ b → in_domain d p u ≡ false
+    by true is = absurd (other (most u is))
+    by false is = is
+
+-- The needed values of a decided vertex are false, unless the path has its pair.
+pub upheld_out : (q : Problem) (s : Setting) (d : State) (needed : ℕ → ℕ → Bool) (p t : ℕ) → NeededOut q s d needed → HasAtMost d p t → ((u : ℕ) → (u ≡ t → ⊥) → needed p u ≡ true)
+    → (u : ℕ) → u < size q.target → (u ≡ t → ⊥) → s (variable q p u) ≡ Some false
+upheld_out q s d needed p t out most upheld u u_in other = out p u u_in (upheld u other) (none_there d p t u most other)
 
 -- ---- pairs of a nogood
 
-decided_all : (q : Problem) (d : State) (but : ℕ × ℕ → Type 0) (pairs : List (ℕ × ℕ)) → AreInRange q pairs
-    → ((k : ℕ) → k < length pairs → but (literal pairs k) ⊎ HasAtMost d (literal pairs k).0 (literal pairs k).1) → AreDecided q (in_domain d) but pairs
-decided_all q d but [] range all = tt
-decided_all q d but (x ∷ xs) range all = (by (all 0 (omega arith)), decided_all q d but xs range.2 (λ k k_in. all (suc k) (omega (arith, k_in))))
+-- Among constraints that vertices go somewhere, that of a vertex whose other values are false makes its pair true.
+pub borne_true : (q : Problem) (s : Setting) (vertices : List ℕ) (p t : ℕ) → is_among p vertices ≡ true → ((u : ℕ) → u < size q.target → (u ≡ t → ⊥) → s (variable q p u) ≡ Some false)
+    → Gives s (at_leasts q vertices) (variable q p t) true
+borne_true q s [] p t among others = absurd cc
+borne_true q s (v ∷ vs) p t among others = by (v == p) refl among (λ h. borne_true q (after s (at_least q v)) vs p t h (λ u u_in other. after_keeps s (at_least q v) (variable q p u) false (others u u_in other)))
   where
-    by : but x ⊎ HasAtMost d x.0 x.1 → but x ⊎ ((x.1 < size q.target) × reasons.HasAtMost (in_domain d) x.0 x.1)
-    by (inl b) = inl b
-    by (inr h) = inr (range.1, h)
+    or_true : (b c : Bool) → c ≡ true → (b || c) ≡ true
+    or_true true c e = refl
+    or_true false c e = e
 
-pub all_decided : (q : Problem) (d : State) (but : ℕ × ℕ → Type 0) (pairs : List (ℕ × ℕ)) → AreInRange q pairs
-    → ((k : ℕ) → k < length pairs → but (literal pairs k) ⊎ HasAtMost d (literal pairs k).0 (literal pairs k).1) → AreDecided q (in_domain d) but pairs
-all_decided = decided_all
+    by : (b : Bool) → (v == p) ≡ b → (b || is_among p vs) ≡ true → (is_among p vs ≡ true → Gives (after s (at_least q v)) (at_leasts q vs) (variable q p t) true)
+        → Gives s (at_leasts q (v ∷ vs)) (variable q p t) true
+    by true is h later =
+        let same : v ≡ p = eqb-true v p is in
+        subst (λ (w : ℕ). Gives s (at_leasts q (w ∷ vs)) (variable q p t) true) (sym same)
+        (then_gives s (at_least q p) (at_leasts q vs) (variable q p t) true (variable q p t) true (at_least_forces q s p t others)
+        (λ is. inr (run_keeps (after s (at_least q p)) (at_leasts q vs) (variable q p t) true is)))
+    by false is h later = elim (later h) [ inl refuted ↦ inl (or_true (conflict s (at_least q v)) (refutes (after s (at_least q v)) (at_leasts q vs)) refuted) | inr given ↦ inr given ]
+
+-- Where each pair is true after them, or passes, so it is of all together.
+all_set : (q : Problem) (s t : Setting) (fs : List Form) (but : ℕ × ℕ → Type 0) (pairs : List (ℕ × ℕ))
+    → ((k : ℕ) → k < length pairs → but (literal pairs k) ⊎ ((refutes s fs ≡ true) ⊎ (t (variable q (literal pairs k).0 (literal pairs k).1) ≡ Some true)))
+    → (refutes s fs ≡ true) ⊎ AreSet q t but pairs
+all_set q s t fs but [] each = inr tt
+all_set q s t fs but (x ∷ xs) each = by (each 0 (omega arith)) (all_set q s t fs but xs (λ k k_in. each (suc k) (omega (arith, k_in))))
+  where
+    by : but x ⊎ ((refutes s fs ≡ true) ⊎ (t (variable q x.0 x.1) ≡ Some true)) → (refutes s fs ≡ true) ⊎ AreSet q t but xs → (refutes s fs ≡ true) ⊎ AreSet q t but (x ∷ xs)
+    by (inr (inl refuted)) later = inl refuted
+    by first (inl refuted) = inl refuted
+    by (inl b) (inr later) = inr (inl b, later)
+    by (inr (inr is)) (inr later) = inr (inr is, later)
+
+-- The constraints that are pushed for a nogood make its pairs true, but those that pass.
+pub pairs_lead : (q : Problem) (s : Setting) (d : State) (path known : List (ℕ × ℕ)) (needed : ℕ → ℕ → Bool) (vertices : List ℕ) (but : Option ℕ) (passes : ℕ × ℕ → Type 0) (pairs : List (ℕ × ℕ))
+    → NeededOut q s d needed → AreOn q s path → AreOn q s known → AreBorne known vertices but pairs → AreUpheld path but needed pairs
+    → ((k : ℕ) → k < length pairs → passes (literal pairs k) ⊎ ((IsLeftOut but (literal pairs k).0 → ⊥) × HasAtMost d (literal pairs k).0 (literal pairs k).1))
+    → Leads s (at_leasts q vertices) (λ t. AreSet q t passes pairs)
+pairs_lead q s d path known needed vertices but passes pairs out on_path on borne upheld decided =
+    all_set q s (run s (at_leasts q vertices)) (at_leasts q vertices) passes pairs (λ k k_in. at k (decided k k_in) (borne k k_in) (upheld k k_in))
+  where
+    kept : (x : ℕ × ℕ) → s (variable q x.0 x.1) ≡ Some true → (refutes s (at_leasts q vertices) ≡ true) ⊎ (run s (at_leasts q vertices) (variable q x.0 x.1) ≡ Some true)
+    kept x is = inr (run_keeps s (at_leasts q vertices) (variable q x.0 x.1) true is)
+
+    one : (x : ℕ × ℕ) → (IsLeftOut but x.0 → ⊥) → HasAtMost d x.0 x.1 → IsBorne known vertices but x → IsUpheld path but needed x
+        → (refutes s (at_leasts q vertices) ≡ true) ⊎ (run s (at_leasts q vertices) (variable q x.0 x.1) ≡ Some true)
+    one x inside most (inl left_out) upheld = absurd (inside left_out)
+    one x inside most (inr (inl here)) upheld = kept x (on x here)
+    one x inside most (inr (inr among)) (inl left_out) = absurd (inside left_out)
+    one x inside most (inr (inr among)) (inr (inl here)) = kept x (on_path x here)
+    one x inside most (inr (inr among)) (inr (inr upheld)) = borne_true q s vertices x.0 x.1 among (upheld_out q s d needed x.0 x.1 out most upheld)
+
+    at : (k : ℕ) → passes (literal pairs k) ⊎ ((IsLeftOut but (literal pairs k).0 → ⊥) × HasAtMost d (literal pairs k).0 (literal pairs k).1)
+        → IsBorne known vertices but (literal pairs k) → IsUpheld path but needed (literal pairs k)
+        → passes (literal pairs k) ⊎ ((refutes s (at_leasts q vertices) ≡ true) ⊎ (run s (at_leasts q vertices) (variable q (literal pairs k).0 (literal pairs k).1) ≡ Some true))
+    at k (inl b) bears up = inl b
+    at k (inr h) bears up = inr (one (literal pairs k) h.0 h.1 bears up)
+
+-- ---- sets
+
+-- Domains of which the members of a set have the set's values and all others have all.
+abbrev pub only_these : List ℕ → List ℕ → Domains
+only_these vertices values r u = cond (is_among r vertices) (is_among u values) true
+
+-- The same, with the set's values gone from all others.
+abbrev pub none_of_these : ℕ → List ℕ → List ℕ → Domains
+none_of_these n vertices values r u = cond (is_among r vertices) (is_among u values) (not (ltb r n && is_among u values))
+
+pub these_only : (q : Problem) (d : State) (vertices values : List ℕ) → HaveOnly q d vertices values → reasons.HaveOnly q (only_these vertices values) vertices values
+these_only q d vertices values only = record {
+  distinct = distinct_of vertices only.distinct;
+  vertices_in = λ p h. only.vertices_in p (same_among vertices p ∙ h);
+  values_in = λ u h. only.values_in u (same_among values u ∙ h);
+  within = λ p u h u_in there. sym (ap (λ (b : Bool). cond b (is_among u values) true) h) ∙ there;
+}
+
+-- What the needed values of the members say of these domains.
+pub these_out : (q : Problem) (s : Setting) (d : State) (needed : ℕ → ℕ → Bool) (vertices values : List ℕ) → HaveOnly q d vertices values → NeededOut q s d needed → AreKeptIn vertices values needed
+    → (r : ℕ) → is_among r vertices ≡ true → AreOut (variable q) (size q.target) s (only_these vertices values) r
+these_out q s d needed vertices values only out kept r among u u_in gone =
+    let off : is_among u values ≡ false = sym (ap (λ (b : Bool). cond b (is_among u values) true) among) ∙ gone in
+    out r u u_in (kept r u among off) (by (in_domain d r u) refl off)
+  where
+    by : (b : Bool) → in_domain d r u ≡ b → is_among u values ≡ false → in_domain d r u ≡ false
+    by false is off = is
+    by true is off = absurd (true≢false (sym (sym (same_among values u) ∙ only.within r u (same_among vertices r ∙ among) is) ∙ off))
 
 -- ---- one change
 
--- The reason of a change with these forms.
-abbrev pub reason_of : List Row → Change → List Form → Reason
-reason_of rows c forms = record { forms = forms; takes = takes_of c; needs = among_these (needs_of rows c) }
-
-module _ (q : Problem) (rows : List Row) (sound : Sound q rows) (s : Option watched.State) (names : NamesRows rows s) (base : Setting) (path : List (ℕ × ℕ)) (path_true : AreTrue q base path) (old new : State)
-    (values_is : old.values ≡ size q.target) where
-  -- What is not refused stays as it was.
-  stays : (c : Change) → Leaves q s old new c → (r u : ℕ) → (Refuses c q s old r u → ⊥) → in_domain new r u ≡ in_domain old r u
-  stays c l r u not_refused = by (in_domain old r u) refl (in_domain new r u) refl
+module _ (q : Problem) (rows : List Row) (sound : Sound q rows) (s : Option watched.State) (names : NamesRows rows s) where
+  -- A change that is told takes what it may take.
+  pub refused_may : (c : Change) (old new : State) → Leaves q s old new c → (r u : ℕ) → in_domain old r u ≡ true → in_domain new r u ≡ false → MayTake q rows c r u
+  refused_may (LeftOne p cause.First from) old new l r u there gone = let h = l.refused r u there gone in (h.0, subst (λ (v : ℕ). IsFirstValue q v u → ⊥) (sym h.0) h.1)
+  refused_may (LeftOne p (cause.Guess t) from) old new l r u there gone = l.refused r u there gone
+  refused_may (LeftOne p (cause.Vertex v t) from) old new l r u there gone = let h = l.refused r u there gone in (h.0, subst (λ (w : ℕ). AreConsistent q v t w u → ⊥) (sym h.0) h.1)
+  refused_may (LeftOne p (cause.Nogood name) from) old new l r u there gone =
+      let h = l.refused r u there gone in
+      let is = names name h.1.pairs h.1.named in (
+        h.0,
+        (
+          is.0,
+          subst (λ (xs : List (ℕ × ℕ)). IsOneOf xs (r, u)) (sym is.1)
+              (subst (λ (v : ℕ). IsOneOf h.1.pairs (v, u)) (sym h.0) (one_at h.1.pairs h.1.place (p, u) h.1.within h.1.here)),
+        ),
+      )
     where
-      by : (b : Bool) → in_domain old r u ≡ b → (e : Bool) → in_domain new r u ≡ e → in_domain new r u ≡ in_domain old r u
-      by true was true is = is ∙ sym was
-      by true was false is = absurd (not_refused (l.refused r u was is))
-      by false was true is = absurd (true≢false (sym (was_there old new l.rest l.values_same l.front r u is) ∙ was))
-      by false was false is = is ∙ sym was
+      one_at : (xs : List (ℕ × ℕ)) (k : ℕ) (x : ℕ × ℕ) → k < length xs → literal xs k ≡ x → IsOneOf xs x
+      one_at [] k x k_in is = absurd (omega (arith, k_in))
+      one_at (y ∷ ys) zero x k_in is = inl is
+      one_at (y ∷ ys) (suc k) x k_in is = inr (one_at ys k x (omega (arith, k_in)) is)
+  refused_may (LeftOthers vertices values from) old new l r u there gone =
+      let h = l.refused r u there gone in (sym (same_among vertices r) ∙ h.1, sym (same_among values u) ∙ h.2)
 
-  -- What a change does not take stays.
-  pub untaken_stay : (c : Change) → Leaves q s old new c → (r u : ℕ) → takes_of c r ≡ false → in_domain new r u ≡ in_domain old r u
-  untaken_stay (LeftOne p why from) l r u other = stays (LeftOne p why from) l r u (λ refused. true≢false (sym (eq-eqb r p refused.0) ∙ other))
-  untaken_stay (LeftOthers vertices values from) l r u other =
-      stays (LeftOthers vertices values from) l r u (λ refused. true≢false (sym (inside (is_among r vertices) other) ∙ sym (same_among vertices r) ∙ refused.1))
-    where
-      inside : (b : Bool) → not b ≡ false → b ≡ true
-      inside true h = refl
-      inside false h = absurd cc
+  module _ (path known : List (ℕ × ℕ)) (at : Setting) (old : State) (values_is : old.values ≡ size q.target) (needed : ℕ → ℕ → Bool) (out : NeededOut q at old needed) (on_path : AreOn q at path)
+      (on : AreOn q at known) where
+    -- A line for its first domain.
+    first_gives : (r u : ℕ) (line : Form) → ForcesFirst q line r → u < size q.target → (IsFirstValue q r u → ⊥) → Gives at (line ∷ []) (variable q r u) false
+    first_gives r u line forces u_in refused = one_gives at line (variable q r u) false (forces at u u_in refused)
 
-  -- By a name that no row has nothing leaves.
-  pub idle_stays : (c : Change) → Leaves q s old new c → IsIdle rows c → (r u : ℕ) → in_domain new r u ≡ in_domain old r u
-  idle_stays (LeftOne p (cause.Nogood name) from) l idle r u = stays (LeftOne p (cause.Nogood name) from) l r u (λ refused. idle (names name refused.1.pairs refused.1.named).0)
-  idle_stays (LeftOne p cause.First from) l idle r u = absurd idle
-  idle_stays (LeftOne p (cause.Guess t) from) l idle r u = absurd idle
-  idle_stays (LeftOne p (cause.Vertex v t) from) l idle r u = absurd idle
-  idle_stays (LeftOthers vertices values from) l idle r u = absurd idle
+    guess_gives : (r t u : ℕ) → t < size q.target → u < size q.target → (u ≡ t → ⊥) → at (variable q r t) ≡ Some true → Gives at (at_most q r ∷ []) (variable q r u) false
+    guess_gives r t u t_in u_in other is = one_gives at (at_most q r) (variable q r u) false (at_most_forces q at r t u t_in u_in other is)
 
-  only_one : (p from : ℕ) (why : _) → Leaves q s old new (LeftOne p why from) → OnlyOf (in_domain old) (in_domain new) p
-  only_one p from why l r u other = stays (LeftOne p why from) l r u (λ refused. other refused.0)
+    -- A decided vertex is at its value: it is known to be, or the constraint that it goes somewhere says so.
+    decided_gives : (p t : ℕ) → HasAtMost old p t → IsUpheld path None needed (p, t) → Gives at (at_least q p ∷ []) (variable q p t) true
+    decided_gives p t most (inl none) = absurd none
+    decided_gives p t most (inr (inl here)) = inr (after_keeps at (at_least q p) (variable q p t) true (on_path (p, t) here))
+    decided_gives p t most (inr (inr upheld)) = one_gives at (at_least q p) (variable q p t) true (at_least_forces q at p t (upheld_out q at old needed p t out most upheld))
 
-  left_refused : (p : ℕ) → LeftRefused (in_domain old) (in_domain new) p (has_left old new p)
-  left_refused p u there gone = left_of (in_domain old p u) (in_domain new p u) there gone
+    vertex_gives : (p t r u : ℕ) (line : Form) (own : List Form) → HasAtMost old p t → IsUpheld path None needed (p, t) → ForcesBeside q line p t r
+        → ((own ≡ line ∷ []) × IsOneOf known (p, t)) ⊎ (own ≡ at_least q p ∷ line ∷ []) → u < size q.target → (AreConsistent q p t r u → ⊥) → Gives at own (variable q r u) false
+    vertex_gives p t r u line own most upheld forces (inl h) u_in refused =
+        subst (λ (fs : List Form). Gives at fs (variable q r u) false) (sym h.0) (one_gives at line (variable q r u) false (forces at (on (p, t) h.1) u u_in refused))
+    vertex_gives p t r u line own most upheld forces (inr is) u_in refused =
+        subst (λ (fs : List Form). Gives at fs (variable q r u) false) (sym is)
+        (leads_on at (at_least q p ∷ []) (line ∷ []) (λ z. z (variable q p t) ≡ Some true) (variable q r u) false (decided_gives p t most upheld)
+        (λ set. one_gives (after at (at_least q p)) line (variable q r u) false (forces (after at (at_least q p)) set u u_in refused)))
 
-  forbidden_decided : (name r u : ℕ) → IsForbidden s old name r u → AreDecided q (in_domain old) (IsPair r u) (path_at rows name)
-  forbidden_decided name r u f =
-      let is : path_at rows name ≡ f.pairs = (names name f.pairs f.named).1 in
-      subst (λ (xs : List (ℕ × ℕ)). AreDecided q (in_domain old) (IsPair r u) xs) (sym is)
-      (decided_all q old (IsPair r u) f.pairs (subst (AreInRange q) is (path_of_row q rows name sound).1) (λ k k_in. by k (f.rest k k_in)))
-    where
-      by : (k : ℕ) → (literal f.pairs k ≡ (r, u)) ⊎ HasAtMost old (literal f.pairs k).0 (literal f.pairs k).1 → IsPair r u (literal f.pairs k) ⊎ HasAtMost old (literal f.pairs k).0 (literal f.pairs k).1
-      by k (inl e) = inl (ap (λ (z : ℕ × ℕ). z.0) e, ap (λ (z : ℕ × ℕ). z.1) e)
-      by k (inr h) = inr h
+    -- What is shown of the decided vertex holds after its forms.
+    pub vertex_shown : (p t r : ℕ) (line : Form) (own : List Form) → HasAtMost old p t → IsUpheld path None needed (p, t)
+        → ((own ≡ line ∷ []) × IsOneOf known (p, t)) ⊎ (own ≡ at_least q p ∷ line ∷ []) → Gives at own (variable q p t) true
+    vertex_shown p t r line own most upheld (inl h) = inr (run_keeps at own (variable q p t) true (on (p, t) h.1))
+    vertex_shown p t r line own most upheld (inr is) =
+        subst (λ (fs : List Form). Gives at fs (variable q p t) true) (sym is)
+        (leads_on at (at_least q p ∷ []) (line ∷ []) (λ z. z (variable q p t) ≡ Some true) (variable q p t) true (decided_gives p t most upheld)
+        (λ set. inr (after_keeps (after at (at_least q p)) line (variable q p t) true set)))
 
-  one_is : (p : ℕ) → IsWithin (λ v. v == p) (among_these (p ∷ []))
-  one_is p v is = ap (λ (b : Bool). b || false) (eq-eqb p v (sym (eqb-true v p is)))
+    nogood_gives : (name r u : ℕ) (own : List Form) → IsForbidden s old name r u → in_domain old r u ≡ true → AreUpheld path (Some r) needed (path_at rows name)
+        → NogoodForms q known (Some r) (path_at rows name) own → Gives at own (variable q r u) false
+    nogood_gives name r u own f there upheld h =
+        subst (λ (fs : List Form). Gives at fs (variable q r u) false) (sym h.1)
+        (leads_on at (at_leasts q h.0) (pairs_clause q (path_at rows name) ∷ []) (λ z. AreSet q z (IsPair r u) (path_at rows name)) (variable q r u) false
+        (pairs_lead q at old path known needed h.0 (Some r) (IsPair r u) (path_at rows name) out on_path on h.2 upheld
+        (subst (λ (xs : List (ℕ × ℕ)). (k : ℕ) → k < length xs → IsPair r u (literal xs k) ⊎ ((IsLeftOut (Some r) (literal xs k).0 → ⊥) × HasAtMost old (literal xs k).0 (literal xs k).1)) (sym is)
+        (λ k k_in. by (literal f.pairs k) (f.rest k k_in))))
+        (λ are. one_gives (run at (at_leasts q h.0)) (pairs_clause q (path_at rows name)) (variable q r u) false (clause_forces q (run at (at_leasts q h.0)) r u (path_at rows name) are)))
+      where
+        is : path_at rows name ≡ f.pairs
+        is = (names name f.pairs f.named).1
 
-  pub explained : (c : Change) (forms : List Form) → Leaves q s old new c → IsGuessed path c → ExplainsChange q rows c forms
-      → Explains (variable q) (size q.target) base (in_domain old) (in_domain new) (reason_of rows c forms)
-  explained (LeftOne r cause.First from) forms l guessed h =
-      subst (λ (fs : List Form). Explains (variable q) (size q.target) base (in_domain old) (in_domain new) (reason_of rows (LeftOne r cause.First from) fs)) (sym h.1)
-      ((explaining.change_laws q).first base (in_domain old) (in_domain new) h.0 r (has_left old new r)
-      (λ at u u_in left. let parts = left_parts (in_domain old r u) (in_domain new r u) left in h.2 at u u_in (l.refused r u parts.0 parts.1).1)
-      (only_one r from cause.First l) (left_refused r))
-  explained (LeftOne r (cause.Guess t) from) forms l guessed h =
-      subst (λ (fs : List Form). Explains (variable q) (size q.target) base (in_domain old) (in_domain new) (reason_of rows (LeftOne r (cause.Guess t) from) fs)) (sym h)
-      ((explaining.change_laws q).guess base (in_domain old) (in_domain new) r t (subst (λ (n : ℕ). t < n) values_is (in_below old r t l.stands.1)) (true_at q base path r t path_true guessed)
-      (only_one r from (cause.Guess t) l) (λ u there gone. ap not (ne_eqb u t (l.refused r u there gone).1)))
-  explained (LeftOne r (cause.Vertex p t) from) forms l guessed h =
-      subst (λ (fs : List Form). Explains (variable q) (size q.target) base (in_domain old) (in_domain new) (reason_of rows (LeftOne r (cause.Vertex p t) from) fs)) (sym h.1)
-      (explains_needing (variable q) (size q.target) base (in_domain old) (in_domain new) (reason_for (at_least q p ∷ h.0 ∷ []) r (λ v. v == p)) (among_these (p ∷ [])) (one_is p)
-      ((explaining.change_laws q).vertex base (in_domain old) (in_domain new) h.0 p t r (has_left old new r) l.stands.value_in l.stands.decided
-      (λ at is u u_in left. let parts = left_parts (in_domain old r u) (in_domain new r u) left in h.2 at is u u_in (l.refused r u parts.0 parts.1).1)
-      (only_one r from (cause.Vertex p t) l) (left_refused r)))
-  explained (LeftOne r (cause.Nogood name) from) forms l guessed h =
-      subst (λ (fs : List Form). Explains (variable q) (size q.target) base (in_domain old) (in_domain new) (reason_of rows (LeftOne r (cause.Nogood name) from) fs)) (sym h)
-      ((explaining.change_laws q).nogood base (in_domain old) (in_domain new) (path_at rows name) r (λ u there gone. forbidden_decided name r u (l.refused r u there gone).1)
-      (only_one r from (cause.Nogood name) l))
-  explained (LeftOthers [] values from) forms l guessed h =
-      record { others = untaken_stay (LeftOthers [] values from) l; forces = λ at above out. inr (λ r u takes u_in there gone. absurd (none values l.stands.1 u (l.refused r u there gone).2)) }
-    where
-      none : (us : List ℕ) → length us ≤ length {A = ℕ} [] → (u : ℕ) → among us u ≡ true → ⊥
-      none [] few u here = cc
-      none (w ∷ ws) few u here = omega (arith, few)
-  explained (LeftOthers (p ∷ rest) values from) forms l guessed h =
-      subst (λ (fs : List Form). Explains (variable q) (size q.target) base (in_domain old) (in_domain new) (reason_of rows (LeftOthers (p ∷ rest) values from) fs)) (sym h)
-      ((explaining.change_laws q).counted base (in_domain old) (in_domain new) p rest values (only_of q old (p ∷ rest) values l.stands.0) l.stands.1
-      (λ r u inside. untaken_stay (LeftOthers (p ∷ rest) values from) l r u (ap not inside))
-      (λ r u there gone. let refused = l.refused r u there gone in (refused.0, sym (same_among values u) ∙ refused.2)))
+        by : (x : ℕ × ℕ) → (x ≡ (r, u)) ⊎ HasAtMost old x.0 x.1 → IsPair r u x ⊎ ((IsLeftOut (Some r) x.0 → ⊥) × HasAtMost old x.0 x.1)
+        by x (inl e) = inl (ap (λ (z : ℕ × ℕ). z.0) e, ap (λ (z : ℕ × ℕ). z.1) e)
+        by x (inr most) = apart (cases_eq x.0 r)
+          where
+            apart : (x.0 ≡ r) ⊎ (x.0 ≡ r → ⊥) → IsPair r u x ⊎ ((IsLeftOut (Some r) x.0 → ⊥) × HasAtMost old x.0 x.1)
+            apart (inl same) = inl (same, sym (most u (subst (λ (v : ℕ). in_domain old v u ≡ true) (sym same) there)))
+            apart (inr other) = inr (other, most)
+
+    set_gives : (vertices values : List ℕ) (r u : ℕ) (own : List Form) → HaveOnly q old vertices values → length values ≤ length vertices → AreKeptIn vertices values needed → own ≡ set_forms q vertices values
+        → r < size q.pattern → is_among r vertices ≡ false → is_among u values ≡ true → u < size q.target → Gives at own (variable q r u) false
+    set_gives [] values r u own only few kept is r_in outside among u_in = absurd (none values few u among)
+      where
+        none : (us : List ℕ) → length us ≤ 0 → (v : ℕ) → is_among v us ≡ true → ⊥
+        none [] short v here = cc
+        none (w ∷ ws) short v here = omega (arith, short)
+    set_gives (p ∷ rest) values r u own only few kept is r_in outside among u_in =
+        subst (λ (fs : List Form). Gives at fs (variable q r u) false) (sym is)
+        (by (((explaining.change_laws q).counted at (only_these (p ∷ rest) values) (none_of_these (size q.pattern) (p ∷ rest) values) p rest values (these_only q old (p ∷ rest) values only) few
+        (λ v w inside. ap (λ (b : Bool). cond b (is_among w values) (not (ltb v (size q.pattern) && is_among w values))) inside ∙ sym (ap (λ (b : Bool). cond b (is_among w values) true) inside))
+        (λ v w there gone. left v w there gone)).forces at (λ v b e. e) (these_out q at old needed (p ∷ rest) values only out kept)))
+      where
+        left : (v w : ℕ) → only_these (p ∷ rest) values v w ≡ true → none_of_these (size q.pattern) (p ∷ rest) values v w ≡ false → (v < size q.pattern) × (is_among w values ≡ true)
+        left v w there gone = split (is_among v (p ∷ rest)) (ltb v (size q.pattern)) refl (is_among w values) refl there gone
+          where
+            split : (b c : Bool) → ltb v (size q.pattern) ≡ c → (e : Bool) → is_among w values ≡ e → cond b e true ≡ true → cond b e (not (c && e)) ≡ false → (v < size q.pattern) × (is_among w values ≡ true)
+            split true c is_c e is_e here away = absurd (true≢false (sym here ∙ away))
+            split false true is_c true is_e here away = (ltb-true v (size q.pattern) is_c, is_e)
+            split false true is_c false is_e here away = absurd cc
+            split false false is_c e is_e here away = absurd cc
+
+        by : (refutes at (set_form q p rest values ∷ []) ≡ true)
+            ⊎ ((v w : ℕ) → not (is_among v (p ∷ rest)) ≡ true → w < size q.target → only_these (p ∷ rest) values v w ≡ true → none_of_these (size q.pattern) (p ∷ rest) values v w ≡ false
+            → run at (set_form q p rest values ∷ []) (variable q v w) ≡ Some false)
+            → Gives at (set_form q p rest values ∷ []) (variable q r u) false
+        by (inl refuted) = inl refuted
+        by (inr forced) = inr (forced r u (ap not outside) u_in (ap (λ (b : Bool). cond b (is_among u values) true) outside)
+            (ap (λ (b : Bool). cond b (is_among u values) (not (ltb r (size q.pattern) && is_among u values))) outside ∙ ap (λ (b : Bool). not (b && is_among u values)) (lt-ltb r (size q.pattern) r_in) ∙ ap not among))
+
+    -- The forms of a change take what it took, and what it covers.
+    pub change_gives : (c : Change) (new : State) (own : List Form) → Leaves q s old new c → ((r t from : ℕ) → c ≡ LeftOne r (cause.Guess t) from → at (variable q r t) ≡ Some true) → Needs rows path c needed
+        → ExplainsChange q rows known c own → (r u : ℕ) → u < size q.target → (in_domain old r u ≡ true) × (in_domain new r u ≡ false) ⊎ ((in_domain old r u ≡ false) × Covers q c r u)
+        → Gives at own (variable q r u) false
+    change_gives (LeftOne p cause.First from) new own l guessed needs h r u u_in (inl gone) =
+        let refused = l.refused r u gone.0 gone.1 in
+        subst (λ (fs : List Form). Gives at fs (variable q r u) false) (sym h.1) (subst (λ (v : ℕ). Gives at (h.0 ∷ []) (variable q v u) false) (sym refused.0) (first_gives p u h.0 h.2 u_in refused.1))
+    change_gives (LeftOne p cause.First from) new own l guessed needs h r u u_in (inr covers) = absurd covers.1.1
+    change_gives (LeftOne p (cause.Guess t) from) new own l guessed needs h r u u_in which = by (cases_eq u t) which
+      where
+        t_in : t < size q.target
+        t_in = subst (λ (n : ℕ). t < n) values_is (in_below old p t l.stands.1)
+
+        take : r ≡ p → (u ≡ t → ⊥) → Gives at own (variable q r u) false
+        take same other =
+            subst (λ (fs : List Form). Gives at fs (variable q r u) false) (sym h)
+            (subst (λ (v : ℕ). Gives at (at_most q p ∷ []) (variable q v u) false) (sym same) (guess_gives p t u t_in u_in other (guessed p t from refl)))
+
+        by : (u ≡ t) ⊎ (u ≡ t → ⊥) → (in_domain old r u ≡ true) × (in_domain new r u ≡ false) ⊎ ((in_domain old r u ≡ false) × Covers q (LeftOne p (cause.Guess t) from) r u) → Gives at own (variable q r u) false
+        by same (inl gone) = let refused = l.refused r u gone.0 gone.1 in take refused.0 refused.1
+        by (inr other) (inr covers) = take covers.1.0 other
+        by (inl same) (inr covers) =
+            absurd (true≢false (sym l.stands.1 ∙ sym (ap (λ (v : ℕ). in_domain old v t) covers.1.0) ∙ ap (λ (v : ℕ). in_domain old r v) (sym same) ∙ covers.0))
+    change_gives (LeftOne p (cause.Vertex v t) from) new own l guessed needs h r u u_in which = by which
+      where
+        take : r ≡ p → (AreConsistent q v t p u → ⊥) → Gives at own (variable q r u) false
+        take same refused = subst (λ (w : ℕ). Gives at own (variable q w u) false) (sym same) (vertex_gives v t p u h.0 own l.stands.decided needs h.2 h.1 u_in refused)
+
+        by : (in_domain old r u ≡ true) × (in_domain new r u ≡ false) ⊎ ((in_domain old r u ≡ false) × Covers q (LeftOne p (cause.Vertex v t) from) r u) → Gives at own (variable q r u) false
+        by (inl gone) = let refused = l.refused r u gone.0 gone.1 in take refused.0 refused.1
+        by (inr covers) = take covers.1.0 (subst (λ (w : ℕ). AreConsistent q v t w u → ⊥) covers.1.0 covers.1.1)
+    change_gives (LeftOne p (cause.Nogood name) from) new own l guessed needs h r u u_in (inl gone) =
+        let refused = l.refused r u gone.0 gone.1 in
+        subst (λ (w : ℕ). Gives at own (variable q w u) false) (sym refused.0) (nogood_gives name p u own refused.1 (subst (λ (w : ℕ). in_domain old w u ≡ true) refused.0 gone.0) needs h)
+    change_gives (LeftOne p (cause.Nogood name) from) new own l guessed needs h r u u_in (inr covers) = absurd covers.1.1
+    change_gives (LeftOthers vertices values from) new own l guessed needs h r u u_in (inl gone) =
+        let refused = l.refused r u gone.0 gone.1 in
+        set_gives vertices values r u own l.stands.0 l.stands.1 needs h refused.0 (sym (same_among vertices r) ∙ refused.1) (sym (same_among values u) ∙ refused.2) u_in
+    change_gives (LeftOthers vertices values from) new own l guessed needs h r u u_in (inr covers) =
+        set_gives vertices values r u own l.stands.0 l.stands.1 needs h covers.1.0 covers.1.1 covers.1.2 u_in

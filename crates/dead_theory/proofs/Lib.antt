@@ -1,6 +1,5 @@
 pub mod Choosing
 pub mod Naming
-pub mod Padding
 pub mod Literals
 pub mod Explaining
 pub mod Ending

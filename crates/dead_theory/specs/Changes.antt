@@ -1,13 +1,15 @@
--- What explains a change that was told, and which vertices' domains its reason rests on.
+-- What explains a change that was told, which values it is about, and which its reason rests on.
 
-use Rattle.std.specs.Prelude.{◌≡◌, ℕ, ◌<◌, ◌==◌, Bool, true, not, List, [], ◌∷◌, ◌++◌, Contains, Option}
+use Rattle.std.specs.Prelude.{◌≡◌, ℕ, ◌<◌, Bool, true, false, ◌⊎◌, List, [], ◌∷◌, ◌++◌, length, Contains, Option, Some, None}
 use Rattle.graph_theory.specs.Graph.{size}
 use Rattle.graph_theory.specs.Embedding.{Problem}
 use Rattle.proof_theory.specs.Forms.{Form}
 use Rattle.log_theory.specs.Lookups.{is_among}
 use Rattle.encoding_theory.specs.Encoding.{at_least, at_most}
-use Rattle.reason_theory.specs.Reasons.{pairs_clause, at_leasts, vertices_of, set_form, ForcesFirst, ForcesBeside}
+use Rattle.reason_theory.specs.Reasons.{pairs_clause, at_leasts, set_form, ForcesFirst, ForcesBeside}
+use Rattle.search_theory.specs.Consistency.{IsFirstValue, AreConsistent}
 use Rattle.nogood_watch.specs.Nogoods as watched
+use Rattle.nogood_watch.specs.Nogoods.{literal}
 use Rattle.nogood_book.specs.declared.row.Row.{Row}
 use Rattle.nogood_book.specs.Rows.{path_at}
 use Rattle.nogood_book.specs.Places.{IsNogoodRow}
@@ -22,19 +24,54 @@ use Rattle.propagation.specs.Telling.{IsNamed}
 abbrev pub NamesRows : List Row → Option watched.State → Type 0
 NamesRows rows s = (name : ℕ) (pairs : List (ℕ × ℕ)) → IsNamed s name pairs → IsNogoodRow rows name × (path_at rows name ≡ pairs)
 
+-- ---- pairs that hold
+
+-- The pair is one of these.
+abbrev pub IsOneOf : List (ℕ × ℕ) → ℕ × ℕ → Type 0
+IsOneOf [] x = ⊥
+IsOneOf (y ∷ ys) x = (y ≡ x) ⊎ IsOneOf ys x
+
+-- What a change shows to hold for what comes after it: a decided vertex is at its value.
+abbrev pub shown_by : Cause → List (ℕ × ℕ) → List (ℕ × ℕ)
+shown_by cause.First known = known
+shown_by (cause.Guess t) known = known
+shown_by (cause.Vertex p t) known = (p, t) ∷ known
+shown_by (cause.Nogood name) known = known
+
+abbrev pub shown_of : Change → List (ℕ × ℕ) → List (ℕ × ℕ)
+shown_of (LeftOne r why from) known = shown_by why known
+shown_of (LeftOthers vertices values from) known = known
+
+-- The pairs that hold once these changes, the last one first, are explained: those of the path, and what the changes show.
+abbrev pub known_after : List (ℕ × ℕ) → List Change → List (ℕ × ℕ)
+known_after path [] = path
+known_after path (c ∷ cs) = shown_of c (known_after path cs)
+
 -- ---- forms that explain a change
 
--- That the vertices of these pairs go somewhere, and that not all of the pairs hold.
-abbrev pub nogood_forms : Problem → List (ℕ × ℕ) → List Form
-nogood_forms q pairs = at_leasts q (vertices_of pairs) ++ pairs_clause q pairs ∷ []
+-- Each pair is known to hold, or its vertex is one of these, or it is of the vertex that is left out, if any.
+abbrev pub IsLeftOut : Option ℕ → ℕ → Type 0
+IsLeftOut None p = ⊥
+IsLeftOut (Some r) p = p ≡ r
 
--- The forms explain what the cause takes from r: a line for its first domain; that it goes to one place; that p goes somewhere and then
--- a line for p beside r; or what a nogood row needs.
-abbrev pub ExplainsBy : Cause → Problem → List Row → ℕ → List Form → Type 0
-ExplainsBy cause.First q rows r forms = (line : Form) × (forms ≡ line ∷ []) × ForcesFirst q line r
-ExplainsBy (cause.Guess t) q rows r forms = forms ≡ at_most q r ∷ []
-ExplainsBy (cause.Vertex p t) q rows r forms = (line : Form) × (forms ≡ at_least q p ∷ line ∷ []) × ForcesBeside q line p t r
-ExplainsBy (cause.Nogood name) q rows r forms = forms ≡ nogood_forms q (path_at rows name)
+abbrev pub IsBorne : List (ℕ × ℕ) → List ℕ → Option ℕ → ℕ × ℕ → Type 0
+IsBorne known vertices but x = IsLeftOut but x.0 ⊎ (IsOneOf known x ⊎ (is_among x.0 vertices ≡ true))
+
+abbrev pub AreBorne : List (ℕ × ℕ) → List ℕ → Option ℕ → List (ℕ × ℕ) → Type 0
+AreBorne known vertices but pairs = (k : ℕ) → k < length pairs → IsBorne known vertices but (literal pairs k)
+
+-- That some vertices go somewhere, and that not all of these pairs hold.
+abbrev pub NogoodForms : Problem → List (ℕ × ℕ) → Option ℕ → List (ℕ × ℕ) → List Form → Type 0
+NogoodForms q known but pairs forms = (vertices : List ℕ) × (forms ≡ at_leasts q vertices ++ pairs_clause q pairs ∷ []) × AreBorne known vertices but pairs
+
+-- The forms explain what the cause takes from r, where the known pairs hold: a line for its first domain; that it goes to one place; that p
+-- goes somewhere, unless it is known to be at t, and then a line for p beside r; or what a nogood row needs.
+abbrev pub ExplainsBy : Cause → Problem → List Row → List (ℕ × ℕ) → ℕ → List Form → Type 0
+ExplainsBy cause.First q rows known r forms = (line : Form) × (forms ≡ line ∷ []) × ForcesFirst q line r
+ExplainsBy (cause.Guess t) q rows known r forms = forms ≡ at_most q r ∷ []
+ExplainsBy (cause.Vertex p t) q rows known r forms =
+    (line : Form) × (((forms ≡ line ∷ []) × IsOneOf known (p, t)) ⊎ (forms ≡ at_least q p ∷ line ∷ [])) × ForcesBeside q line p t r
+ExplainsBy (cause.Nogood name) q rows known r forms = NogoodForms q known (Some r) (path_at rows name) forms
 
 -- One line for a set; a set of no vertices takes nothing.
 abbrev pub set_forms : Problem → List ℕ → List ℕ → List Form
@@ -42,40 +79,64 @@ set_forms q [] values = []
 set_forms q (p ∷ rest) values = set_form q p rest values ∷ []
 
 -- So it is of a change.
-abbrev pub ExplainsChange : Problem → List Row → Change → List Form → Type 0
-ExplainsChange q rows (LeftOne r why from) forms = ExplainsBy why q rows r forms
-ExplainsChange q rows (LeftOthers vertices values from) forms = forms ≡ set_forms q vertices values
+abbrev pub ExplainsChange : Problem → List Row → List (ℕ × ℕ) → Change → List Form → Type 0
+ExplainsChange q rows known (LeftOne r why from) forms = ExplainsBy why q rows known r forms
+ExplainsChange q rows known (LeftOthers vertices values from) forms = forms ≡ set_forms q vertices values
 
--- The forms explain these changes, the last one first; those of the earlier changes stand first.
-abbrev pub ExplainAll : Problem → List Row → List Change → List Form → Type 0
-ExplainAll q rows [] forms = forms ≡ []
-ExplainAll q rows (c ∷ cs) forms = (before own : List Form) × (forms ≡ before ++ own) × ExplainAll q rows cs before × ExplainsChange q rows c own
+-- The forms explain these changes, the last one first, under a path; those of the earlier changes stand first.
+abbrev pub ExplainAll : Problem → List Row → List (ℕ × ℕ) → List Change → List Form → Type 0
+ExplainAll q rows path [] forms = forms ≡ []
+ExplainAll q rows path (c ∷ cs) forms =
+    (before own : List Form) × (forms ≡ before ++ own) × ExplainAll q rows path cs before × ExplainsChange q rows (known_after path cs) c own
 
--- ---- which vertices a change is about
+-- ---- which values a change is about
 
--- Whether it takes values of r: those of its vertex alone, or of all vertices but those of the set.
-abbrev pub takes_of : Change → ℕ → Bool
-takes_of (LeftOne p why from) r = r == p
-takes_of (LeftOthers vertices values from) r = not (is_among r vertices)
+-- It may take u from r: a value that is not in the first domain, any other than the guessed one, one that is not consistent with the decided
+-- vertex, one of the nogood; or from a vertex that is not of the set a value of it.
+abbrev pub MayTakeBy : Cause → Problem → List Row → ℕ → ℕ → Type 0
+MayTakeBy cause.First q rows r u = IsFirstValue q r u → ⊥
+MayTakeBy (cause.Guess t) q rows r u = u ≡ t → ⊥
+MayTakeBy (cause.Vertex p t) q rows r u = AreConsistent q p t r u → ⊥
+MayTakeBy (cause.Nogood name) q rows r u = IsNogoodRow rows name × IsOneOf (path_at rows name) (r, u)
 
--- The vertices whose domains its reason rests on.
-abbrev pub needs_by : Cause → List Row → List ℕ
-needs_by cause.First rows = []
-needs_by (cause.Guess t) rows = []
-needs_by (cause.Vertex p t) rows = p ∷ []
-needs_by (cause.Nogood name) rows = vertices_of (path_at rows name)
+abbrev pub MayTake : Problem → List Row → Change → ℕ → ℕ → Type 0
+MayTake q rows (LeftOne p why from) r u = (r ≡ p) × MayTakeBy why q rows r u
+MayTake q rows (LeftOthers vertices values from) r u = (is_among r vertices ≡ false) × (is_among u values ≡ true)
 
-abbrev pub needs_of : List Row → Change → List ℕ
-needs_of rows (LeftOne r why from) = needs_by why rows
-needs_of rows (LeftOthers vertices values from) = vertices
+-- Its forms take u from r whether or not it did: they do so of what the cause refuses. A guessed value was there, so it need not be out.
+abbrev pub CoversBy : Cause → Problem → ℕ → ℕ → Type 0
+CoversBy cause.First q r u = ⊥
+CoversBy (cause.Guess t) q r u = Unit {0}
+CoversBy (cause.Vertex p t) q r u = AreConsistent q p t r u → ⊥
+CoversBy (cause.Nogood name) q r u = ⊥
 
--- It is by a name that no nogood row has, so that nothing left.
-abbrev pub IsIdle : List Row → Change → Type 0
-IsIdle rows (LeftOne r (cause.Nogood name) from) = IsNogoodRow rows name → ⊥
-IsIdle rows (LeftOne r cause.First from) = ⊥
-IsIdle rows (LeftOne r (cause.Guess t) from) = ⊥
-IsIdle rows (LeftOne r (cause.Vertex p t) from) = ⊥
-IsIdle rows (LeftOthers vertices values from) = ⊥
+abbrev pub Covers : Problem → Change → ℕ → ℕ → Type 0
+Covers q (LeftOne p why from) r u = (r ≡ p) × CoversBy why q r u
+Covers q (LeftOthers vertices values from) r u = (r < size q.pattern) × (is_among r vertices ≡ false) × (is_among u values ≡ true)
+
+-- ---- which values have to be out before a change
+
+-- All values of the pair's vertex but its own are needed, unless the path has the pair, or it is of the vertex that is left out.
+abbrev pub IsUpheld : List (ℕ × ℕ) → Option ℕ → (ℕ → ℕ → Bool) → ℕ × ℕ → Type 0
+IsUpheld path but needed x = IsLeftOut but x.0 ⊎ (IsOneOf path x ⊎ ((u : ℕ) → (u ≡ x.1 → ⊥) → needed x.0 u ≡ true))
+
+abbrev pub AreUpheld : List (ℕ × ℕ) → Option ℕ → (ℕ → ℕ → Bool) → List (ℕ × ℕ) → Type 0
+AreUpheld path but needed pairs = (k : ℕ) → k < length pairs → IsUpheld path but needed (literal pairs k)
+
+-- All values of the vertices that are none of these.
+abbrev pub AreKeptIn : List ℕ → List ℕ → (ℕ → ℕ → Bool) → Type 0
+AreKeptIn vertices values needed = (r u : ℕ) → is_among r vertices ≡ true → is_among u values ≡ false → needed r u ≡ true
+
+-- What the reason of a change rests on is needed.
+abbrev pub NeedsBy : Cause → List Row → List (ℕ × ℕ) → ℕ → (ℕ → ℕ → Bool) → Type 0
+NeedsBy cause.First rows path r needed = Unit {0}
+NeedsBy (cause.Guess t) rows path r needed = Unit {0}
+NeedsBy (cause.Vertex p t) rows path r needed = IsUpheld path None needed (p, t)
+NeedsBy (cause.Nogood name) rows path r needed = AreUpheld path (Some r) needed (path_at rows name)
+
+abbrev pub Needs : List Row → List (ℕ × ℕ) → Change → (ℕ → ℕ → Bool) → Type 0
+Needs rows path (LeftOne r why from) needed = NeedsBy why rows path r needed
+Needs rows path (LeftOthers vertices values from) needed = AreKeptIn vertices values needed
 
 -- ---- guesses
 

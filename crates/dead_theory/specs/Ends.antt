@@ -1,12 +1,12 @@
 -- How a path of a search ends, what that says of the domains, and the forms that it comes to.
 
-use Rattle.std.specs.Prelude.{◌≡◌, ℕ, ◌<◌, true, List, [], ◌∷◌, ◌++◌, length, Option, Some, None}
+use Rattle.std.specs.Prelude.{◌≡◌, ℕ, ◌<◌, Bool, true, List, [], ◌∷◌, ◌++◌, length, Option, Some, None}
 use Rattle.graph_theory.specs.Graph.{size}
 use Rattle.graph_theory.specs.Embedding.{Problem}
 use Rattle.proof_theory.specs.Forms.{Form}
 use Rattle.log_theory.specs.Lookups.{is_among}
 use Rattle.encoding_theory.specs.Encoding.{at_least}
-use Rattle.reason_theory.specs.Reasons.{vertices_of, value_clauses}
+use Rattle.reason_theory.specs.Reasons.{value_clauses}
 use Rattle.domain_bits.specs.Removals.{State, in_domain}
 use Rattle.nogood_watch.specs.Nogoods as watched
 use Rattle.nogood_book.specs.declared.row.Row.{Row}
@@ -16,7 +16,7 @@ use Rattle.propagation.specs.declared.change.Failure.{Failure}
 use Rattle.propagation.specs.declared.change.Failure.TheVariants as failure
 use Rattle.propagation.specs.Recording.{CountedSet}
 use Rattle.propagation.specs.Telling.{HasNone, HaveOnly, IsDecided}
-use Rattle.dead_theory.specs.Changes.{nogood_forms, set_forms}
+use Rattle.dead_theory.specs.Changes.{NogoodForms, set_forms, AreUpheld, AreKeptIn}
 
 -- A vertex has no value; all pairs of the nogood of a name are decided; vertices have fewer values together than they are; or each value
 -- that is left for a vertex is one of these, which were refuted below the path.
@@ -40,19 +40,19 @@ EndsBy (Whole name) q s d = IsDecided s d name
 EndsBy (Short vertices values) q s d = HaveOnly q d vertices values × (length values < length vertices)
 EndsBy (Exhausted p values) q s d = (u : ℕ) → in_domain d p u ≡ true → is_among u values ≡ true
 
--- The forms that it comes to, in their order.
-abbrev pub end_forms : Problem → List Row → List (ℕ × ℕ) → End → List Form
-end_forms q rows path (Empty p) = at_least q p ∷ []
-end_forms q rows path (Whole name) = nogood_forms q (path_at rows name)
-end_forms q rows path (Short vertices values) = set_forms q vertices values
-end_forms q rows path (Exhausted p values) = value_clauses q path p values ++ at_least q p ∷ []
+-- The forms that it comes to, in their order, where the known pairs hold.
+abbrev pub EndsIn : Problem → List Row → List (ℕ × ℕ) → List (ℕ × ℕ) → End → List Form → Type 0
+EndsIn q rows path known (Empty p) forms = forms ≡ at_least q p ∷ []
+EndsIn q rows path known (Whole name) forms = NogoodForms q known None (path_at rows name) forms
+EndsIn q rows path known (Short vertices values) forms = forms ≡ set_forms q vertices values
+EndsIn q rows path known (Exhausted p values) forms = forms ≡ value_clauses q path p values ++ at_least q p ∷ []
 
--- The vertices whose domains it rests on.
-abbrev pub end_needs : List Row → End → List ℕ
-end_needs rows (Empty p) = p ∷ []
-end_needs rows (Whole name) = vertices_of (path_at rows name)
-end_needs rows (Short vertices values) = vertices
-end_needs rows (Exhausted p values) = p ∷ []
+-- The values that have to be out are needed.
+abbrev pub EndNeeds : List Row → List (ℕ × ℕ) → End → (ℕ → ℕ → Bool) → Type 0
+EndNeeds rows path (Empty p) needed = (u : ℕ) → needed p u ≡ true
+EndNeeds rows path (Whole name) needed = AreUpheld path None needed (path_at rows name)
+EndNeeds rows path (Short vertices values) needed = AreKeptIn vertices values needed
+EndNeeds rows path (Exhausted p values) needed = (u : ℕ) → needed p u ≡ true
 
 -- Its numbers are of the problem, and its name of a nogood row. Of what is refuted nothing is said.
 abbrev pub IsEndIn : Problem → List Row → End → Type 0

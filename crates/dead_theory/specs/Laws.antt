@@ -13,7 +13,6 @@ use Rattle.log_theory.specs.declared.step.Step.TheVariants.{U}
 use Rattle.log_theory.specs.Lookups.{Lookup, find_all, makes, is_among, are_distinct, variables_of}
 use Rattle.log_theory.specs.Verdicts.{in_range}
 use Rattle.encoding_theory.specs.Variables.{variables}
-use Rattle.forcing_theory.specs.Chains.{either}
 use Rattle.reason_theory.specs.Reasons.{not_there, pairs_clause, vertices_of}
 use Rattle.search_theory.specs.Account.{NotAmong, InRange}
 use Rattle.domain_bits.specs.Removals.{State, in_domain}
@@ -25,9 +24,9 @@ use Rattle.propagation.specs.declared.change.Failure.{Failure}
 use Rattle.propagation.specs.Holding.{HoldsRows}
 use Rattle.propagation.specs.Recording.{Change, CountedSet}
 use Rattle.propagation.specs.Telling.{KeepsNames, Told, Fails}
-use Rattle.dead_theory.specs.Changes.{NamesRows, ExplainsChange, ExplainAll, needs_of, IsGuessed, AreGuessed, AreInProblem}
-use Rattle.dead_theory.specs.Ends.{End, Exhausted, end_of, EndsBy, IsEndIn, end_forms, end_needs}
-use Rattle.dead_theory.specs.Walks.{among_these, MayPass, IsChoice, Walked, IsWithin}
+use Rattle.dead_theory.specs.Changes.{NamesRows, known_after, ExplainAll, AreGuessed, AreInProblem}
+use Rattle.dead_theory.specs.Ends.{End, Exhausted, end_of, EndsBy, IsEndIn, EndsIn, EndNeeds}
+use Rattle.dead_theory.specs.Walks.{MayPass, RestsOn, IsChoice, Walked, IsWithin}
 
 -- ---- dead paths
 
@@ -46,33 +45,32 @@ pub record Dies (q : Problem) (rows : List Row) (path : List (ℕ × ℕ)) (chan
 -- Where a path dies, the forms of the changes that are chosen for its end, each guess among them one of the path, and then the end's, refute
 -- it; so a line that names them makes its clause. The clause of the empty path is plainly false.
 pub record DeadLaws : Type 0 where
-  pub refuted : (q : Problem) (rows : List Row) (path : List (ℕ × ℕ)) (changes : List Change) (e : End) → Dies q rows path changes e → (chosen : List Change) (forms : List Form)
-      → IsChoice rows changes chosen (among_these (end_needs rows e)) → ExplainAll q rows chosen forms → AreGuessed path chosen
-      → refutes (negations (map (not_there q) path)) (forms ++ end_forms q rows path e) ≡ true
-  pub line : (q : Problem) (rows : List Row) (path : List (ℕ × ℕ)) (changes : List Change) (e : End) → Dies q rows path changes e → (chosen : List Change) (forms : List Form)
-      → IsChoice rows changes chosen (among_these (end_needs rows e)) → ExplainAll q rows chosen forms → AreGuessed path chosen
-      → (look : Lookup) (name : Name) (refs : List Ref) → find_all look refs ≡ Ok (forms ++ end_forms q rows path e)
+  pub refuted : (q : Problem) (rows : List Row) (path : List (ℕ × ℕ)) (changes : List Change) (e : End) → Dies q rows path changes e
+      → (chosen : List Change) (needed : ℕ → ℕ → Bool) (forms ends : List Form) → EndNeeds rows path e needed → IsChoice q rows path changes chosen needed
+      → ExplainAll q rows path chosen forms → AreGuessed path chosen → EndsIn q rows path (known_after path chosen) e ends
+      → refutes (negations (map (not_there q) path)) (forms ++ ends) ≡ true
+  pub line : (q : Problem) (rows : List Row) (path : List (ℕ × ℕ)) (changes : List Change) (e : End) → Dies q rows path changes e
+      → (chosen : List Change) (needed : ℕ → ℕ → Bool) (forms ends : List Form) → EndNeeds rows path e needed → IsChoice q rows path changes chosen needed
+      → ExplainAll q rows path chosen forms → AreGuessed path chosen → EndsIn q rows path (known_after path chosen) e ends
+      → (look : Lookup) (name : Name) (refs : List Ref) → find_all look refs ≡ Ok (forms ++ ends)
       → makes look (U name (map (not_there q) path) refs) ≡ Ok (pairs_clause q path)
   pub empty : (q : Problem) → is_contradiction (pairs_clause q []) ≡ true
 
 -- ---- the walk back
 
--- A walk begins with what is needed, keeps a change or passes it, and chooses once it has seen all changes, or once nothing is needed. It may
--- go on with more needed vertices. A change that is chosen before the others brings its forms in front of theirs.
+-- A walk begins with what is needed, keeps a change or passes it, and chooses once it has seen all changes, or once nothing is needed.
 pub record WalkLaws : Type 0 where
-  pub begins : (rows : List Row) (needed : ℕ → Bool) → Walked rows [] [] needed needed
-  pub keeps : (rows : List Row) (seen chosen : List Change) (needed now next : ℕ → Bool) (c : Change) → Walked rows seen chosen needed now
-      → IsWithin (either now (among_these (needs_of rows c))) next → Walked rows (seen ++ c ∷ []) (chosen ++ c ∷ []) needed next
-  pub passes : (rows : List Row) (seen chosen : List Change) (needed now : ℕ → Bool) (c : Change) → Walked rows seen chosen needed now
-      → MayPass rows c now → Walked rows (seen ++ c ∷ []) chosen needed now
-  pub more : (rows : List Row) (seen chosen : List Change) (needed now next : ℕ → Bool) → Walked rows seen chosen needed now
-      → IsWithin now next → Walked rows seen chosen needed next
-  pub ends : (rows : List Row) (seen chosen : List Change) (needed now : ℕ → Bool) → Walked rows seen chosen needed now → IsChoice rows seen chosen needed
-  pub fewer : (rows : List Row) (changes chosen : List Change) (more fewer : ℕ → Bool) → IsWithin fewer more → IsChoice rows changes chosen more → IsChoice rows changes chosen fewer
-  pub behind : (q : Problem) (rows : List Row) (chosen : List Change) (c : Change) (forms own : List Form) → ExplainAll q rows chosen forms → ExplainsChange q rows c own
-      → ExplainAll q rows (chosen ++ c ∷ []) (own ++ forms)
-  pub guessed : (path : List (ℕ × ℕ)) (chosen : List Change) (c : Change) → AreGuessed path chosen → IsGuessed path c → AreGuessed path (chosen ++ c ∷ [])
-  pub stops : (rows : List Row) (seen rest chosen : List Change) (needed now : ℕ → Bool) → Walked rows seen chosen needed now → ((r : ℕ) → now r ≡ false) → IsChoice rows (seen ++ rest) chosen needed
+  pub begins : (q : Problem) (rows : List Row) (path : List (ℕ × ℕ)) (needed : ℕ → ℕ → Bool) → Walked q rows path [] [] needed needed
+  pub keeps : (q : Problem) (rows : List Row) (path : List (ℕ × ℕ)) (seen chosen : List Change) (needed now next : ℕ → ℕ → Bool) (c : Change)
+      → Walked q rows path seen chosen needed now → RestsOn q rows path c now next → Walked q rows path (seen ++ c ∷ []) (chosen ++ c ∷ []) needed next
+  pub passes : (q : Problem) (rows : List Row) (path : List (ℕ × ℕ)) (seen chosen : List Change) (needed now : ℕ → ℕ → Bool) (c : Change)
+      → Walked q rows path seen chosen needed now → MayPass q rows c now → Walked q rows path (seen ++ c ∷ []) chosen needed now
+  pub ends : (q : Problem) (rows : List Row) (path : List (ℕ × ℕ)) (seen chosen : List Change) (needed now : ℕ → ℕ → Bool)
+      → Walked q rows path seen chosen needed now → IsChoice q rows path seen chosen needed
+  pub fewer : (q : Problem) (rows : List Row) (path : List (ℕ × ℕ)) (changes chosen : List Change) (more fewer : ℕ → ℕ → Bool)
+      → IsWithin fewer more → IsChoice q rows path changes chosen more → IsChoice q rows path changes chosen fewer
+  pub stops : (q : Problem) (rows : List Row) (path : List (ℕ × ℕ)) (seen rest chosen : List Change) (needed now : ℕ → ℕ → Bool)
+      → Walked q rows path seen chosen needed now → ((r u : ℕ) → now r u ≡ false) → IsChoice q rows path (seen ++ rest) chosen needed
 
 -- ---- what is told is in range, and what is named is a row
 

@@ -1,33 +1,34 @@
 -- Walking back over changes, from the last one to the first, and choosing those that an end rests on.
 
-use Rattle.std.specs.Prelude.{◌≡◌, ℕ, Bool, true, false, ◌⊎◌, List, [], ◌∷◌, ◌++◌}
-use Rattle.log_theory.specs.Lookups.{is_among}
-use Rattle.forcing_theory.specs.Chains.{either}
+use Rattle.std.specs.Prelude.{◌≡◌, ℕ, Bool, true, ◌⊎◌, List, [], ◌∷◌, ◌++◌}
+use Rattle.graph_theory.specs.Embedding.{Problem}
 use Rattle.nogood_book.specs.declared.row.Row.{Row}
 use Rattle.propagation.specs.Recording.{Change}
-use Rattle.dead_theory.specs.Changes.{takes_of, needs_of, IsIdle}
+use Rattle.dead_theory.specs.Changes.{MayTake, Covers, Needs}
 
--- Whether the number stands in the list.
-abbrev pub among_these : List ℕ → ℕ → Bool
-among_these vertices r = is_among r vertices
+-- The change takes none of the needed values.
+abbrev pub MayPass : Problem → List Row → Change → (ℕ → ℕ → Bool) → Type 0
+MayPass q rows c needed = (r u : ℕ) → needed r u ≡ true → MayTake q rows c r u → ⊥
 
--- The change takes no value of a needed vertex, or nothing at all.
-abbrev pub MayPass : List Row → Change → (ℕ → Bool) → Type 0
-MayPass rows c needed = ((r : ℕ) → takes_of c r ≡ true → needed r ≡ false) ⊎ IsIdle rows c
+-- Of the needed values those that the change does not take by itself are needed before it too, and so is what it rests on.
+pub record RestsOn (q : Problem) (rows : List Row) (path : List (ℕ × ℕ)) (c : Change) (needed now : ℕ → ℕ → Bool) : Type 0 where
+  pub carried : (r u : ℕ) → needed r u ≡ true → (now r u ≡ true) ⊎ Covers q c r u
+  pub needs : Needs rows path c now
 
--- Of these changes, the last one first, some are chosen for the needed vertices: one that is chosen adds the vertices that it rests on to
--- those needed before it, and one that is not may be passed.
-pub data IsChoice (rows : List Row) : List Change → List Change → (ℕ → Bool) → Type 0 where
-  nothing : (needed : ℕ → Bool) → IsChoice rows [] [] needed
-  keeps : (c : Change) (cs chosen : List Change) (needed : ℕ → Bool) → IsChoice rows cs chosen (either needed (among_these (needs_of rows c)))
-      → IsChoice rows (c ∷ cs) (c ∷ chosen) needed
-  passes : (c : Change) (cs chosen : List Change) (needed : ℕ → Bool) → MayPass rows c needed → IsChoice rows cs chosen needed → IsChoice rows (c ∷ cs) chosen needed
+-- Of these changes, the last one first, some are chosen for the needed values of a path: one that is chosen has others needed before it, and one
+-- that is not may be passed.
+pub data IsChoice (q : Problem) (rows : List Row) (path : List (ℕ × ℕ)) : List Change → List Change → (ℕ → ℕ → Bool) → Type 0 where
+  nothing : (needed : ℕ → ℕ → Bool) → IsChoice q rows path [] [] needed
+  keeps : (c : Change) (cs chosen : List Change) (needed now : ℕ → ℕ → Bool) → RestsOn q rows path c needed now → IsChoice q rows path cs chosen now
+      → IsChoice q rows path (c ∷ cs) (c ∷ chosen) needed
+  passes : (c : Change) (cs chosen : List Change) (needed : ℕ → ℕ → Bool) → MayPass q rows c needed → IsChoice q rows path cs chosen needed
+      → IsChoice q rows path (c ∷ cs) chosen needed
 
--- Going back over the changes that were seen has chosen some of them, and come from the needed vertices to others: whatever is chosen of the
+-- Going back over the changes that were seen has chosen some of them, and come from the needed values to others: whatever is chosen of the
 -- changes before them for these, both together are chosen.
-abbrev pub Walked : List Row → List Change → List Change → (ℕ → Bool) → (ℕ → Bool) → Type 0
-Walked rows seen chosen needed now = (rest more : List Change) → IsChoice rows rest more now → IsChoice rows (seen ++ rest) (chosen ++ more) needed
+abbrev pub Walked : Problem → List Row → List (ℕ × ℕ) → List Change → List Change → (ℕ → ℕ → Bool) → (ℕ → ℕ → Bool) → Type 0
+Walked q rows path seen chosen needed now = (rest more : List Change) → IsChoice q rows path rest more now → IsChoice q rows path (seen ++ rest) (chosen ++ more) needed
 
 -- All of the one test passes the other.
-abbrev pub IsWithin : (ℕ → Bool) → (ℕ → Bool) → Type 0
-IsWithin fewer more = (r : ℕ) → fewer r ≡ true → more r ≡ true
+abbrev pub IsWithin : (ℕ → ℕ → Bool) → (ℕ → ℕ → Bool) → Type 0
+IsWithin fewer more = (r u : ℕ) → fewer r u ≡ true → more r u ≡ true

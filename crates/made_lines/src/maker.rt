@@ -38,7 +38,9 @@ impl<'a> MadeLines<'a> {
         lines: &'a Encoding<'a>,
     ) -> Result<MadeLines<'a>, AllocError>
         requires { lines.now ≡ problem.now }
-        ensures { IfOk result (λ m. (w : Frame) → IsMade problem.now m.problem.now w m.units m.firsts m.rows m.sets []) }
+        ensures { IfOk result
+            (λ m. (w : Frame)
+            → IsMade problem.now m.problem.now w m.units m.firsts m.rows m.sets []) }
     {
         let first = FirstLines::new(alloc, problem, lines)?;
         Ok(MadeLines {

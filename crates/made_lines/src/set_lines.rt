@@ -27,8 +27,10 @@ pub(crate) fn set_line<K: Keeper>(
     requires some { 0 < length vertices.now }
     requires vertices { AreVertices lines.now vertices.now }
     requires values { AreValues lines.now values.now }
-    ensures goes { (w : Frame) → IsFrameOf lines.now (K.owner keeper.old) w → Goes w (K.kept keeper.old) (K.kept keeper.new)
-        (AreSets lines.now w sets.old) (IsKnownSet lines.now w vertices.now values.now sets.new result) }
+    ensures goes { (w : Frame) → IsFrameOf lines.now (K.owner keeper.old) w
+        → Goes w (K.kept keeper.old) (K.kept keeper.new)
+        (AreSets lines.now w sets.old)
+        (IsKnownSet lines.now w vertices.now values.now sets.new result) }
     ensures fits { IfOk result IsName }
     ensures owner { K.owner keeper.new ≡ K.owner keeper.old }
     ensures notes { K.notes keeper.new ≡ K.notes keeper.old }

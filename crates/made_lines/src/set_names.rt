@@ -64,7 +64,8 @@ fn is_there(numbers: &[u16], place: Place, vertices: &[u16], values: &[u16]) -> 
 /// Adds a set, its vertices and then its values. Where memory is refused, a part may stand behind the old numbers.
 fn put_set(numbers: &mut Vec<u16>, vertices: &[u16], values: &[u16]) -> Result<Place, AllocError>
     ensures adds { Adds numbers.old.items numbers.new.items }
-    ensures placed { IfOk result (IsPlaced numbers.old.items numbers.new.items vertices.now values.now) }
+    ensures placed { IfOk result
+        (IsPlaced numbers.old.items numbers.new.items vertices.now values.now) }
 {
     let start = numbers.len();
     numbers.extend_from_slice(vertices)?;
@@ -115,7 +116,8 @@ impl SetNames {
         name: Name,
     ) -> Result<(), AllocError>
         requires { IsName name }
-        ensures added { OnOk result (self.new ≡ with_set self.old (counted vertices.now values.now) name) }
+        ensures added { OnOk result
+            (self.new ≡ with_set self.old (counted vertices.now values.now) name) }
         ensures refused { OnErr result (self.new ≡ self.old) }
     {
         let at = self.seats.len();

@@ -43,7 +43,8 @@ fn end_of(end: DeadEnd) -> PathEnd
 
 /// The last pair, if there is one.
 fn last_pair(path: &[(u16, u16)]) -> Option<(u16, u16)>
-    ensures some { IfSome result (λ x. (0 < length path.now) × (slice_get path.now (length path.now - 1) ≡ Some x)) }
+    ensures some { IfSome result
+        (λ x. (0 < length path.now) × (slice_get path.now (length path.now - 1) ≡ Some x)) }
     ensures none { IfNone result (length path.now ≡ 0) }
 {
     let length = path.len();
@@ -71,8 +72,10 @@ impl<'a, M: LineMaker> PathJournal<'a, M> {
         requires owner { owner ≤ 64 }
         requires knows { (w : Frame) → IsFrameOf lines.now owner w → M.knows maker lines.now w [] }
         ensures owner { result.journal.owner ≡ owner }
-        ensures writes { (rows : List TheRow) (pattern target budget : ℕ) → ((k : ℕ) → IsNogoodBy owner rows k → ⊥)
-            → Writes (M.knows result.maker) result.lines.now result.journal result.numbers.owner result.numbers.notes result.entries.items lines.now rows (fresh pattern target budget) }
+        ensures writes { (rows : List TheRow) (pattern target budget : ℕ)
+            → ((k : ℕ) → IsNogoodBy owner rows k → ⊥)
+            → Writes (M.knows result.maker) result.lines.now result.journal result.numbers.owner
+            result.numbers.notes result.entries.items lines.now rows (fresh pattern target budget) }
     {
         PathJournal {
             lines,
@@ -116,13 +119,16 @@ impl<'a, M: LineMaker> PathJournal<'a, M> {
         requires sound { Sound q.now rows.now }
         requires few { length rows.now ≤ 2 ^ 22 }
         requires lines { self.old.lines.now ≡ q.now }
-        requires ends { EndsPath q.now rows.now (Some (changes_of kept.numbers.now kept.entries.now))
+        requires ends { EndsPath q.now rows.now
+            (Some (changes_of kept.numbers.now kept.entries.now))
             (set_at kept.numbers.now kept.short) account.now end }
         requires refuted { refuted.now ≡ entry_refs self.old.numbers.owner
             (drop above self.old.entries.items) }
         requires fits { AreRefs refuted.now }
-        ensures lined { IsLined (M.knows self.old.maker) (M.knows self.new.maker) self.old.lines.now self.old.journal self.new.journal
-            self.old.numbers.owner self.old.numbers.notes self.old.entries.items q.now rows.now account.now above result }
+        ensures lined { IsLined (M.knows self.old.maker) (M.knows self.new.maker) self.old.lines.now
+            self.old.journal self.new.journal
+            self.old.numbers.owner self.old.numbers.notes self.old.entries.items q.now rows.now
+            account.now above result }
         ensures name { IfOk result (λ o. IfSome o IsName) }
         ensures last { IfOk result (λ o. IfSome o (IsLastOf (Some self.new.journal.steps))) }
         ensures owner { self.new.journal.owner ≡ self.old.journal.owner }

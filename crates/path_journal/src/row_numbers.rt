@@ -65,7 +65,8 @@ impl RowNumbers {
         requires from_one { 1 ≤ number }
         requires fits { number < 2 ^ 63 }
         ensures owner { self.new.owner ≡ self.old.owner }
-        ensures pushed { RowsBelow row self.old.notes → self.new.notes ≡ self.old.notes ++ (row, number) ∷ [] }
+        ensures pushed { RowsBelow row self.old.notes
+            → self.new.notes ≡ self.old.notes ++ (row, number) ∷ [] }
     {
         if !self.is_past(row) {
             return;

@@ -1,13 +1,14 @@
-use Rattle.std.proofs.Common.{◌≡◌, ◌-◌, ◌<◌, ◌∷◌, suc, List, ap, ◌∙◌, refl, length, drop, subst, sym, arith}
+use Rattle.std.proofs.lemmas.Result.{err_from_is_err_and}
+use Rattle.std.proofs.Common.{◌≡◌, ℕ, ◌-◌, ◌<◌, ◌∷◌, suc, List, ap, ◌∙◌, refl, length, drop, subst, sym, arith}
 use Rattle.propagation.specs.declared.change.Entry.{Entry}
 use Rattle.log_theory.specs.LogText.{AreRefs}
 use Rattle.propagation.specs.Recording.{Change, change_of}
-use Rattle.dead_theory.specs.Changes.{IsInProblem}
+use Rattle.dead_theory.specs.Changes.{known_after, IsInProblem}
 use Rattle.kept_lines.specs.Frames.{Goes}
 use Rattle.dead_paths.specs.Making.{AreRowsNamed}
-use Rattle.dead_paths.specs.Choosing.{changes_in, IsOfRow}
+use Rattle.dead_paths.specs.Choosing.{AreAt, changes_in, IsOfRow}
 use Rattle.dead_paths.specs.Explaining.{Explained, Knowing}
-use Rattle.dead_paths.proofs.Causes.{explained_goes, explained_none}
+use Rattle.dead_paths.proofs.Causes.{explained_goes, explained_none, explained_refused}
 use Rattle.dead_paths.proofs.Ends.{frame_owner, nameable_at, changes_drop, drop_past}
 use Rattle.dead_paths.proofs.dead_line.push_chosen.Goals as goal
 
@@ -18,7 +19,9 @@ loop-left-init g c = record {
   owner = refl;
   notes = refl;
   spare = refl;
-  goes = λ w frame. explained_none c.args.q.now c.args.rows.now w (g.N.RowNames.names c.args.names.now) (g.M.LineMaker.knows c.args.maker.now c.args.q.now w) (g.K.Keeper.kept c.args.keeper.now)
+  known = λ path here.
+      subst (λ (cs : List Change). AreAt c.args.at.now (known_after path cs)) (sym (ap (changes_in c.args.numbers.now) (drop_past c.args.chosen.now (length c.args.chosen.now) (omega arith)))) here;
+  goes = λ w path here frame. explained_none c.args.q.now c.args.rows.now path w (g.N.RowNames.names c.args.names.now) (g.M.LineMaker.knows c.args.maker.now c.args.q.now w) (g.K.Keeper.kept c.args.keeper.now)
       (changes_in c.args.numbers.now (drop (length c.args.chosen.now) c.args.chosen.now)) c.args.refs.now.items (ap (changes_in c.args.numbers.now) (drop_past c.args.chosen.now (length c.args.chosen.now) (omega arith))) c.requires.none;
 }
 
@@ -55,12 +58,34 @@ loop-left-preserved g c =
       owner = c.push_change.ensures.owner ∙ i.owner;
       notes = c.push_change.ensures.notes ∙ i.notes;
       spare = c.push_change.ensures.spare ∙ i.spare;
-      goes = λ w frame.
+      known = λ path here.
+          subst (λ (cs : List Change). AreAt c.push_change.new.at (known_after path cs)) (sym more)
+          (c.in_ok-push_change.ensures.shown (known_after path (changes_in c.args.numbers.now (drop c.loop-left.left c.args.chosen.now))) (i.known path here));
+      goes = λ w path here frame.
           subst (λ (cs : List Change). Goes w (g.K.Keeper.kept c.args.keeper.now) (g.K.Keeper.kept c.push_change.new.keeper)
           (Knowing (g.M.LineMaker.knows c.args.maker.now c.args.q.now w) (AreRowsNamed c.args.q.now c.args.rows.now w (g.N.RowNames.names c.args.names.now)))
-          (Knowing (g.M.LineMaker.knows c.push_change.new.maker c.args.q.now w) (Explained c.args.q.now c.args.rows.now w (g.N.RowNames.names c.args.names.now) cs c.push_change.new.refs.items))) (sym more)
-          (explained_goes c.args.q.now c.args.rows.now w (g.N.RowNames.names c.args.names.now) (g.M.LineMaker.knows c.args.maker.now c.args.q.now w) (g.M.LineMaker.knows c.loop-left.maker c.args.q.now w)
+          (Knowing (g.M.LineMaker.knows c.push_change.new.maker c.args.q.now w) (Explained c.args.q.now c.args.rows.now path w (g.N.RowNames.names c.args.names.now) cs c.push_change.new.refs.items))) (sym more)
+          (explained_goes c.args.q.now c.args.rows.now path w (g.N.RowNames.names c.args.names.now) (g.M.LineMaker.knows c.args.maker.now c.args.q.now w) (g.M.LineMaker.knows c.loop-left.maker c.args.q.now w)
           (g.M.LineMaker.knows c.push_change.new.maker c.args.q.now w) (g.K.Keeper.kept c.args.keeper.now) (g.K.Keeper.kept c.loop-left.keeper) (g.K.Keeper.kept c.push_change.new.keeper)
-          (changes_in c.args.numbers.now (drop c.loop-left.left c.args.chosen.now)) (change_of c.args.numbers.now c.index-chosen-left.result) c.loop-left.refs.items c.push_change.new.refs.items (i.goes w frame)
-          (c.in_ok-push_change.ensures.goes w (frame_owner c.args.q.now (g.K.Keeper.owner c.args.keeper.now) (g.K.Keeper.owner c.loop-left.keeper) w i.owner frame)));
+          (changes_in c.args.numbers.now (drop c.loop-left.left c.args.chosen.now)) (change_of c.args.numbers.now c.index-chosen-left.result) c.loop-left.refs.items c.push_change.new.refs.items (i.goes w path here frame)
+          (c.in_ok-push_change.ensures.goes w (known_after path (changes_in c.args.numbers.now (drop c.loop-left.left c.args.chosen.now))) (i.known path here) (frame_owner c.args.q.now (g.K.Keeper.owner c.args.keeper.now) (g.K.Keeper.owner c.loop-left.keeper) w i.owner frame)));
     }
+
+pub returns-in_err-push_change-clause-goes : goal.returns-in_err-push_change-clause-goes
+returns-in_err-push_change-clause-goes g c = λ w path here frame.
+    let i = c.loop-left.invariant in
+    let err = err_from_is_err_and c.from_residual.result c.from_residual.ensures.1 in
+    rw err.1 (explained_refused c.args.q.now c.args.rows.now path w (g.N.RowNames.names c.args.names.now) (g.M.LineMaker.knows c.args.maker.now c.args.q.now w) (g.M.LineMaker.knows c.loop-left.maker c.args.q.now w)
+    (g.M.LineMaker.knows c.push_change.new.maker c.args.q.now w) (g.M.LineMaker.knows c.push_change.new.maker c.args.q.now w) (g.K.Keeper.kept c.args.keeper.now) (g.K.Keeper.kept c.loop-left.keeper) (g.K.Keeper.kept c.push_change.new.keeper)
+    (changes_in c.args.numbers.now (drop c.loop-left.left c.args.chosen.now)) (changes_in c.args.numbers.now c.args.chosen.now) (change_of c.args.numbers.now c.index-chosen-left.result) c.loop-left.refs.items c.push_change.new.refs.items
+    c.push_change.new.refs.items c.push_change.result err.0 (i.goes w path here frame)
+    (c.push_change.ensures.goes w (known_after path (changes_in c.args.numbers.now (drop c.loop-left.left c.args.chosen.now))) (i.known path here)
+    (frame_owner c.args.q.now (g.K.Keeper.owner c.args.keeper.now) (g.K.Keeper.owner c.loop-left.keeper) w i.owner frame)))
+
+pub returns-clause-goes : goal.returns-clause-goes
+returns-clause-goes g c = λ w path here frame.
+    let none : c.loop-left.left ≡ 0 = omega (arith, c.loop-left-test.false) in
+    subst (λ (n : ℕ). Goes w (g.K.Keeper.kept c.args.keeper.now) (g.K.Keeper.kept c.loop-left.keeper)
+    (Knowing (g.M.LineMaker.knows c.args.maker.now c.args.q.now w) (AreRowsNamed c.args.q.now c.args.rows.now w (g.N.RowNames.names c.args.names.now)))
+    (Knowing (g.M.LineMaker.knows c.loop-left.maker c.args.q.now w) (Explained c.args.q.now c.args.rows.now path w (g.N.RowNames.names c.args.names.now) (changes_in c.args.numbers.now (drop n c.args.chosen.now)) c.loop-left.refs.items)))
+    none (c.loop-left.invariant.goes w path here frame)

@@ -1,8 +1,9 @@
-use Rattle.std.proofs.Common.{◌≡◌, drop, ◌≤◌, length}
+use Rattle.std.proofs.Common.{◌≡◌, ℕ, List, drop, ◌≤◌, length}
 use Rattle.log_theory.specs.LogText.{AreRefs}
 use Rattle.kept_lines.specs.Frames.{Frame, IsFrameOf, Goes}
 use Rattle.dead_paths.specs.Making.{AreRowsNamed}
-use Rattle.dead_paths.specs.Choosing.{changes_in}
+use Rattle.dead_theory.specs.Changes.{known_after}
+use Rattle.dead_paths.specs.Choosing.{AreAt, changes_in}
 use Rattle.dead_paths.specs.Explaining.{Explained, Knowing}
 use Rattle.dead_paths.proofs.dead_line.push_chosen.Given as goal
 
@@ -16,7 +17,8 @@ invariant-loop-left g l = record {
   owner : g.K.Keeper.owner l.keeper ≡ g.K.Keeper.owner l.initial.keeper;
   notes : g.K.Keeper.notes l.keeper ≡ g.K.Keeper.notes l.initial.keeper;
   spare : g.K.Keeper.spare l.keeper ≡ g.K.Keeper.spare l.initial.keeper;
-  goes : (w : Frame) → IsFrameOf l.q (g.K.Keeper.owner l.initial.keeper) w → Goes w (g.K.Keeper.kept l.initial.keeper) (g.K.Keeper.kept l.keeper)
+  known : (path : List (ℕ × ℕ)) → AreAt l.initial.at path → AreAt l.at (known_after path (changes_in l.numbers (drop l.left l.chosen)));
+  goes : (w : Frame) (path : List (ℕ × ℕ)) → AreAt l.initial.at path → IsFrameOf l.q (g.K.Keeper.owner l.initial.keeper) w → Goes w (g.K.Keeper.kept l.initial.keeper) (g.K.Keeper.kept l.keeper)
       (Knowing (g.M.LineMaker.knows l.initial.maker l.q w) (AreRowsNamed l.q l.rows w (g.N.RowNames.names l.names)))
-      (Knowing (g.M.LineMaker.knows l.maker l.q w) (Explained l.q l.rows w (g.N.RowNames.names l.names) (changes_in l.numbers (drop l.left l.chosen)) l.refs.items));
+      (Knowing (g.M.LineMaker.knows l.maker l.q w) (Explained l.q l.rows path w (g.N.RowNames.names l.names) (changes_in l.numbers (drop l.left l.chosen)) l.refs.items));
 }

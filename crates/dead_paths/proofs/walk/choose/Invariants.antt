@@ -1,7 +1,6 @@
-use Rattle.std.proofs.Common.{◌≡◌, ◌++◌, take, List, ◌≤◌, length}
-use Rattle.propagation.specs.Recording.{Change, changes_of}
-use Rattle.dead_theory.specs.Changes.{AreInProblem}
-use Rattle.dead_paths.specs.Choosing.{is_needed, changes_in, HasCome}
+use Rattle.propagation.specs.Recording.{changes_of}
+use Rattle.dead_paths.specs.Choosing.{whole, changes_in}
+use Rattle.dead_paths.proofs.Walking.{Gone}
 use Rattle.dead_paths.proofs.walk.choose.Given as goal
 
 abbrev pub decreases-loop-left : goal.decreases-loop-left
@@ -9,5 +8,4 @@ decreases-loop-left l = l.left
 
 abbrev pub invariant-loop-left : goal.invariant-loop-left
 invariant-loop-left l =
-    (seen : List Change) × (changes_of l.numbers l.entries ≡ seen ++ changes_of l.numbers (take l.left l.entries)) × AreInProblem l.q (changes_of l.numbers (take l.left l.entries))
-    × HasCome l.q l.rows seen (changes_in l.numbers l.chosen.items) (is_needed l.initial.needed) (is_needed l.needed) × (l.left ≤ length l.entries)
+    Gone l.q l.rows l.numbers l.at (changes_of l.numbers l.entries) l.entries l.left (changes_in l.numbers l.chosen.items) (whole l.initial.needed) (whole l.needed)
