@@ -56,7 +56,8 @@ impl<'a> Model for FirstLines<'a> {
 /// Keeps the name of a clause against a value, and refers to it.
 fn remember(units: &mut Units, variable: u32, name: Name) -> Result<Ref, AllocError>
     requires { IsName name }
-    ensures given { (w : Frame) (forms : List Form) → AreUnits w units.old forms → IsNamed w forms (Ref.Made name) (is_false variable)
+    ensures given { (w : Frame) (forms : List Form) → AreUnits w units.old forms
+        → IsNamed w forms (Ref.Made name) (is_false variable)
         → IsGiven w result (is_false variable) units.new forms }
     ensures fits { IfOk result IsRef }
 {
@@ -119,7 +120,8 @@ impl<'a> FirstLines<'a> {
     fn known(&self, units: &Units, p: u16, u: u16) -> Option<Ref>
         requires p_in { p < size self.now.pattern }
         requires u_in { u < size self.now.target }
-        ensures named { (w : Frame) (owner : ℕ) (forms : List Form) → IsFrameOf self.now owner w → AreUnits w units.now forms
+        ensures named { (w : Frame) (owner : ℕ) (forms : List Form) → IsFrameOf self.now owner w
+            → AreUnits w units.now forms
             → IfSome result (λ r. IsNamed w forms r (refusal self.now p u)) }
         ensures fits { IfSome result IsRef }
         ensures allowed { IfNone result (is_refused self.now p u ≡ false) }
@@ -148,7 +150,8 @@ impl<'a> FirstLines<'a> {
         requires fits { AreRefs refs.items }
         ensures goes { (w : Frame) (fs : List Form) → IsFrameOf self.now (K.owner keeper.old) w
             → refutes (negations (not_there self.now (p, u) ∷ [])) fs ≡ true
-            → Goes w (K.kept keeper.old) (K.kept keeper.new) (Named w refs.items fs) (IsKept w result (refusal self.now p u)) }
+            → Goes w (K.kept keeper.old) (K.kept keeper.new) (Named w refs.items fs)
+            (IsKept w result (refusal self.now p u)) }
         ensures name { IfOk result IsName }
         ensures owner { K.owner keeper.new ≡ K.owner keeper.old }
         ensures notes { K.notes keeper.new ≡ K.notes keeper.old }
@@ -194,8 +197,11 @@ impl<'a> FirstLines<'a> {
         requires u_in { u < size self.now.target }
         requires fits { AreRefs clauses.items }
         requires fewer { high_count self.now.target u d < high_count self.now.pattern p d }
-        ensures goes { (w : Frame) (pairs : List (ℕ × ℕ)) → IsFrameOf self.now (K.owner keeper.old) w → HasAllLower self.now p u d pairs
-            → Goes w (K.kept keeper.old) (K.kept keeper.new) (Named w clauses.items (refused_pairs self.now pairs)) (IsKept w result (refusal self.now p u)) }
+        ensures goes { (w : Frame) (pairs : List (ℕ × ℕ))
+            → IsFrameOf self.now (K.owner keeper.old) w → HasAllLower self.now p u d pairs
+            → Goes w (K.kept keeper.old) (K.kept keeper.new)
+            (Named w clauses.items (refused_pairs self.now pairs))
+            (IsKept w result (refusal self.now p u)) }
         ensures name { IfOk result IsName }
         ensures owner { K.owner keeper.new ≡ K.owner keeper.old }
         ensures notes { K.notes keeper.new ≡ K.notes keeper.old }
@@ -221,7 +227,8 @@ impl<'a> FirstLines<'a> {
         requires u_in { u < size self.now.target }
         requires less { degree self.now.target u < degree self.now.pattern p }
         ensures goes { (w : Frame) → IsFrameOf self.now (K.owner keeper.old) w
-            → Goes w (K.kept keeper.old) (K.kept keeper.new) AnyForms (IsKept w result (refusal self.now p u)) }
+            → Goes w (K.kept keeper.old) (K.kept keeper.new) AnyForms
+            (IsKept w result (refusal self.now p u)) }
         ensures name { IfOk result IsName }
         ensures owner { K.owner keeper.new ≡ K.owner keeper.old }
         ensures notes { K.notes keeper.new ≡ K.notes keeper.old }
@@ -243,7 +250,8 @@ impl<'a> FirstLines<'a> {
         requires u_in { u < size self.now.target }
         requires less { degree self.now.target u < degree self.now.pattern p }
         ensures goes { (w : Frame) → IsFrameOf self.now (K.owner keeper.old) w
-            → Goes w (K.kept keeper.old) (K.kept keeper.new) (AreUnits w units.old) (IsGiven w result (refusal self.now p u) units.new) }
+            → Goes w (K.kept keeper.old) (K.kept keeper.new) (AreUnits w units.old)
+            (IsGiven w result (refusal self.now p u) units.new) }
         ensures fits { IfOk result IsRef }
         ensures owner { K.owner keeper.new ≡ K.owner keeper.old }
         ensures notes { K.notes keeper.new ≡ K.notes keeper.old }
@@ -266,7 +274,8 @@ impl<'a> FirstLines<'a> {
         requires u_in { u < size self.now.target }
         requires less { degree self.now.target u < degree self.now.pattern p }
         ensures goes { (w : Frame) → IsFrameOf self.now (K.owner keeper.old) w
-            → Goes w (K.kept keeper.old) (K.kept keeper.new) (AreUnits w units.old) (IsGiven w result (refusal self.now p u) units.new) }
+            → Goes w (K.kept keeper.old) (K.kept keeper.new) (AreUnits w units.old)
+            (IsGiven w result (refusal self.now p u) units.new) }
         ensures fits { IfOk result IsRef }
         ensures owner { K.owner keeper.new ≡ K.owner keeper.old }
         ensures notes { K.notes keeper.new ≡ K.notes keeper.old }
@@ -292,8 +301,10 @@ impl<'a> FirstLines<'a> {
         requires w_in { w < size self.now.target }
         requires less { degree self.now.target w < degree self.now.pattern r }
         requires fits { AreRefs refs.old.items }
-        ensures goes { (v : Frame) (pairs : List (ℕ × ℕ)) → IsFrameOf self.now (K.owner keeper.old) v
-            → Goes v (K.kept keeper.old) (K.kept keeper.new) (HasPairs v self.now refs.old.items pairs units.old)
+        ensures goes { (v : Frame) (pairs : List (ℕ × ℕ))
+            → IsFrameOf self.now (K.owner keeper.old) v
+            → Goes v (K.kept keeper.old) (K.kept keeper.new)
+            (HasPairs v self.now refs.old.items pairs units.old)
             (ArePushed v self.now result refs.new.items (pairs ++ (r, w) ∷ []) units.new) }
         ensures fits { IfOk result (λ _. AreRefs refs.new.items) }
         ensures owner { K.owner keeper.new ≡ K.owner keeper.old }
@@ -318,9 +329,12 @@ impl<'a> FirstLines<'a> {
         requires r_in { r < size self.now.pattern }
         requires lower { AreLower self.now r lower.now }
         requires fits { AreRefs refs.old.items }
-        ensures goes { (v : Frame) (pairs : List (ℕ × ℕ)) → IsFrameOf self.now (K.owner keeper.old) v
-            → Goes v (K.kept keeper.old) (K.kept keeper.new) (HasPairs v self.now refs.old.items pairs units.old)
-            (ArePushed v self.now result refs.new.items (pairs ++ pairs_with r lower.now) units.new) }
+        ensures goes { (v : Frame) (pairs : List (ℕ × ℕ))
+            → IsFrameOf self.now (K.owner keeper.old) v
+            → Goes v (K.kept keeper.old) (K.kept keeper.new)
+            (HasPairs v self.now refs.old.items pairs units.old)
+            (ArePushed v self.now result refs.new.items (pairs ++ pairs_with r lower.now)
+            units.new) }
         ensures fits { IfOk result (λ _. AreRefs refs.new.items) }
         ensures owner { K.owner keeper.new ≡ K.owner keeper.old }
         ensures notes { K.notes keeper.new ≡ K.notes keeper.old }
@@ -344,9 +358,12 @@ impl<'a> FirstLines<'a> {
     ) -> Result<(), AllocError>
         requires lower { AreAllLower self.now vertices.now lower.now }
         requires fits { AreRefs refs.old.items }
-        ensures goes { (v : Frame) (pairs : List (ℕ × ℕ)) → IsFrameOf self.now (K.owner keeper.old) v
-            → Goes v (K.kept keeper.old) (K.kept keeper.new) (HasPairs v self.now refs.old.items pairs units.old)
-            (ArePushed v self.now result refs.new.items (pairs ++ all_pairs vertices.now lower.now) units.new) }
+        ensures goes { (v : Frame) (pairs : List (ℕ × ℕ))
+            → IsFrameOf self.now (K.owner keeper.old) v
+            → Goes v (K.kept keeper.old) (K.kept keeper.new)
+            (HasPairs v self.now refs.old.items pairs units.old)
+            (ArePushed v self.now result refs.new.items (pairs ++ all_pairs vertices.now lower.now)
+            units.new) }
         ensures fits { IfOk result (λ _. AreRefs refs.new.items) }
         ensures owner { K.owner keeper.new ≡ K.owner keeper.old }
         ensures notes { K.notes keeper.new ≡ K.notes keeper.old }
@@ -361,7 +378,8 @@ impl<'a> FirstLines<'a> {
     /// The degree at a place of the sequence of `p` at which that of `u` is too small.
     fn degree_at(&self, p: u16, u: u16, place: u16) -> u16
         requires p_in { p < size self.now.pattern }
-        requires fails { fails_at (sequence self.now.pattern p) (sequence self.now.target u) place ≡ true }
+        requires fails { fails_at (sequence self.now.pattern p) (sequence self.now.target u) place
+            ≡ true }
         ensures { result ≡ slice_index (sequence self.now.pattern p) place }
     {
         self.pattern.of(p)[usize::from(place)]
@@ -371,8 +389,10 @@ impl<'a> FirstLines<'a> {
     fn compared(&self, p: u16, u: u16) -> SequenceAnswer
         requires p_in { p < size self.now.pattern }
         requires u_in { u < size self.now.target }
-        ensures kept { result ≡ SequenceAnswer.Kept → IsKeptBy (sequence self.now.pattern p) (sequence self.now.target u) }
-        ensures fails { (i : ℕ) → result ≡ SequenceAnswer.FailsAt i → fails_at (sequence self.now.pattern p) (sequence self.now.target u) i ≡ true }
+        ensures kept { result ≡ SequenceAnswer.Kept
+            → IsKeptBy (sequence self.now.pattern p) (sequence self.now.target u) }
+        ensures fails { (i : ℕ) → result ≡ SequenceAnswer.FailsAt i
+            → fails_at (sequence self.now.pattern p) (sequence self.now.target u) i ≡ true }
     {
         nds_filter::keeps(&self.pattern, &self.target, p, u)
     }
@@ -389,9 +409,11 @@ impl<'a> FirstLines<'a> {
     ) -> Result<Name, AllocError>
         requires p_in { p < size self.now.pattern }
         requires u_in { u < size self.now.target }
-        requires fails { fails_at (sequence self.now.pattern p) (sequence self.now.target u) place ≡ true }
+        requires fails { fails_at (sequence self.now.pattern p) (sequence self.now.target u) place
+            ≡ true }
         ensures goes { (w : Frame) → IsFrameOf self.now (K.owner keeper.old) w
-            → Goes w (K.kept keeper.old) (K.kept keeper.new) (AreUnits w units.old) (IsMade w result (refusal self.now p u) units.new) }
+            → Goes w (K.kept keeper.old) (K.kept keeper.new) (AreUnits w units.old)
+            (IsMade w result (refusal self.now p u) units.new) }
         ensures name { IfOk result IsName }
         ensures owner { K.owner keeper.new ≡ K.owner keeper.old }
         ensures notes { K.notes keeper.new ≡ K.notes keeper.old }
@@ -420,7 +442,8 @@ impl<'a> FirstLines<'a> {
         requires allowed { is_refused self.now p u ≡ false }
         requires enough { degree self.now.pattern p ≤ degree self.now.target u }
         ensures goes { (w : Frame) → IsFrameOf self.now (K.owner keeper.old) w
-            → Goes w (K.kept keeper.old) (K.kept keeper.new) (AreUnits w units.old) (IsSeen w self.now p u result units.new) }
+            → Goes w (K.kept keeper.old) (K.kept keeper.new) (AreUnits w units.old)
+            (IsSeen w self.now p u result units.new) }
         ensures fits { IfOk result (λ found. IfSome found IsRef) }
         ensures owner { K.owner keeper.new ≡ K.owner keeper.old }
         ensures notes { K.notes keeper.new ≡ K.notes keeper.old }
@@ -447,7 +470,8 @@ impl<'a> FirstLines<'a> {
         requires p_in { p < size self.now.pattern }
         requires u_in { u < size self.now.target }
         ensures goes { (w : Frame) → IsFrameOf self.now (K.owner keeper.old) w
-            → Goes w (K.kept keeper.old) (K.kept keeper.new) (AreUnits w units.old) (IsSeen w self.now p u result units.new) }
+            → Goes w (K.kept keeper.old) (K.kept keeper.new) (AreUnits w units.old)
+            (IsSeen w self.now p u result units.new) }
         ensures fits { IfOk result (λ found. IfSome found IsRef) }
         ensures owner { K.owner keeper.new ≡ K.owner keeper.old }
         ensures notes { K.notes keeper.new ≡ K.notes keeper.old }
@@ -476,7 +500,8 @@ impl<'a> FirstLines<'a> {
         requires u_in { u < size self.now.target }
         requires fits { AreRefs refs.old.items }
         ensures goes { (w : Frame) → IsFrameOf self.now (K.owner keeper.old) w
-            → Goes w (K.kept keeper.old) (K.kept keeper.new) (HasValues w self.now p refs.old.items u units.old)
+            → Goes w (K.kept keeper.old) (K.kept keeper.new)
+            (HasValues w self.now p refs.old.items u units.old)
             (AreCollected w self.now p result refs.new.items (u + 1) units.new) }
         ensures fits { IfOk result (λ _. AreRefs refs.new.items) }
         ensures owner { K.owner keeper.new ≡ K.owner keeper.old }
@@ -504,7 +529,8 @@ impl<'a> FirstLines<'a> {
     ) -> Result<Option<Name>, AllocError>
         requires { p < size self.now.pattern }
         ensures goes { (w : Frame) → IsFrameOf self.now (K.owner keeper.old) w
-            → Goes w (K.kept keeper.old) (K.kept keeper.new) (AreUnits w units.old) (IsFirstLine w self.now p result units.new) }
+            → Goes w (K.kept keeper.old) (K.kept keeper.new) (AreUnits w units.old)
+            (IsFirstLine w self.now p result units.new) }
         ensures name { IfOk result (λ found. IfSome found IsName) }
         ensures owner { K.owner keeper.new ≡ K.owner keeper.old }
         ensures notes { K.notes keeper.new ≡ K.notes keeper.old }

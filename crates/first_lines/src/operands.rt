@@ -19,7 +19,8 @@ fn push_beside(
     requires p_in { p < size lines.now.pattern }
     requires u_in { u < size lines.now.target }
     requires beside { AreBeside lines.now p vertices.now }
-    ensures { OnOk result (refs.new.items ≡ refs.old.items ++ beside_refs lines.now p u vertices.now) }
+    ensures { OnOk result
+        (refs.new.items ≡ refs.old.items ++ beside_refs lines.now p u vertices.now) }
 {
     for r in vertices {
         refs.push(Ref::Line(lines.edge(p, *r, u)))?;

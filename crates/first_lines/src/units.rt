@@ -48,7 +48,8 @@ impl Units {
     /// Keeps the name of the clause that the variable is false. Cost: logarithmic.
     pub fn add(&mut self, variable: u32, name: Name) -> Result<(), AllocError>
         requires { IsName name }
-        ensures added { OnOk result ((v : ℕ) → name_at self.new v ≡ cond (variable == v) (Some name) (name_at self.old v)) }
+        ensures added { OnOk result
+            ((v : ℕ) → name_at self.new v ≡ cond (variable == v) (Some name) (name_at self.old v)) }
         ensures refused { OnErr result (self.new ≡ self.old) }
     {
         self.named.insert(variable, name)?;

@@ -7,3 +7,4 @@ pub mod LineNumbers
 pub mod TermLists
 pub mod WrittenModel
 pub mod Gathered
+pub mod Beside

@@ -99,7 +99,8 @@ impl<'a> Encoding<'a> {
     pub fn at_least(&self, p: u16) -> u64
         requires { p < size self.now.pattern }
         ensures line { result ≡ at_least_place self.now p + 1 }
-        ensures form { slice_get (encoding_of self.now) (result - 1) ≡ Some (at_least_form self.now p) }
+        ensures form { slice_get (encoding_of self.now) (result - 1)
+            ≡ Some (at_least_form self.now p) }
     {
         2 * u64::from(p) + 1
     }
@@ -108,7 +109,8 @@ impl<'a> Encoding<'a> {
     pub fn at_most(&self, p: u16) -> u64
         requires { p < size self.now.pattern }
         ensures line { result ≡ at_most_place self.now p + 1 }
-        ensures form { slice_get (encoding_of self.now) (result - 1) ≡ Some (at_most_form self.now p) }
+        ensures form { slice_get (encoding_of self.now) (result - 1)
+            ≡ Some (at_most_form self.now p) }
     {
         2 * u64::from(p) + 2
     }
@@ -117,7 +119,8 @@ impl<'a> Encoding<'a> {
     pub fn at_most_target(&self, t: u16) -> u64
         requires { t < size self.now.target }
         ensures line { result ≡ at_most_target_place self.now t + 1 }
-        ensures form { slice_get (encoding_of self.now) (result - 1) ≡ Some (at_most_target_form self.now t) }
+        ensures form { slice_get (encoding_of self.now) (result - 1)
+            ≡ Some (at_most_target_form self.now t) }
     {
         2 * u64::from(self.vertices) + u64::from(t) + 1
     }
@@ -129,7 +132,8 @@ impl<'a> Encoding<'a> {
         requires t_in { t < size self.now.target }
         ensures exists { is_some result ≡ is_refused self.now p t }
         ensures line { IfSome result (λ line. line ≡ refused_place self.now p t + 1) }
-        ensures form { IfSome result (λ line. slice_get (encoding_of self.now) (line - 1) ≡ Some (refusal self.now p t)) }
+        ensures form { IfSome result
+            (λ line. slice_get (encoding_of self.now) (line - 1) ≡ Some (refusal self.now p t)) }
     {
         let number = u32::from(p) * self.targets + u32::from(t);
         match place_of(&self.refused, number) {
@@ -146,7 +150,8 @@ impl<'a> Encoding<'a> {
         requires t_in { t < size self.now.target }
         requires exists { is_edge_pair self.now p r ≡ true }
         ensures line { result ≡ edge_place self.now p r t + 1 }
-        ensures form { slice_get (encoding_of self.now) (result - 1) ≡ Some (pair_form self.now p r t) }
+        ensures form { slice_get (encoding_of self.now) (result - 1)
+            ≡ Some (pair_form self.now p r t) }
     {
         let number = u32::from(p) * self.vertices + u32::from(r);
         let before = place_in(&self.edges, number);
@@ -161,7 +166,8 @@ impl<'a> Encoding<'a> {
         requires t_in { t < size self.now.target }
         requires exists { is_non_edge_pair self.now p r ≡ true }
         ensures line { result ≡ non_edge_place self.now p r t + 1 }
-        ensures form { slice_get (encoding_of self.now) (result - 1) ≡ Some (pair_form self.now p r t) }
+        ensures form { slice_get (encoding_of self.now) (result - 1)
+            ≡ Some (pair_form self.now p r t) }
     {
         let number = u32::from(p) * self.vertices + u32::from(r);
         let before = place_in(&self.non_edges, number);

@@ -1,39 +1,18 @@
 //! Worked problems and the texts of their encodings.
 
-ghost use Rattle.std.specs.Prelude.{◌≡◌, ◌≤◌, IfSome};
+ghost use Rattle.std.specs.Prelude.{◌≡◌};
 ghost use Rattle.graph_theory.specs.Graph.{size};
 
 use crate::encoding::Encoding;
 use crate::pair_tests::{is_edge_pair, is_non_edge_pair};
-use graph_rows::{Graph, Problem};
-use lad_reader::{LadKind, read_lad};
+use graph_rows::Problem;
+use lad_reader::LadKind;
 use outer_io::MemorySink;
+use sample_graphs::{EDGE, FOUR_CYCLE, TRIANGLE, graph_in};
 use std::alloc::Global;
 use std::test::Fail;
 
-const EDGE: &[u8] = b"2 1 1 1 0";
-
-const TRIANGLE: &[u8] = b"3 2 1 2 2 0 2 2 0 1";
-
-const CYCLE: &[u8] = b"4 2 1 3 2 0 2 2 1 3 2 0 2";
-
 const SECOND_WITH_LOOP: &[u8] = b"2 0 1 1";
-
-/// The graph of a text of at most 1,024 vertices.
-fn graph(alloc: Global, text: &[u8], kind: LadKind) -> Option<Graph>
-    ensures { IfSome result (λ g. size g ≤ 1024) }
-{
-    let Ok(parts) = read_lad(alloc, text, kind, 1024) else {
-        return None;
-    };
-    let Ok(graph) = Graph::new(alloc, &parts) else {
-        return None;
-    };
-    if graph.size() > 1024 {
-        return None;
-    }
-    Some(graph)
-}
 
 /// The problem of two texts.
 fn problem(
@@ -43,8 +22,8 @@ fn problem(
     kind: LadKind,
     induced: bool,
 ) -> Option<Problem> {
-    let pattern = graph(alloc, pattern, kind)?;
-    let target = graph(alloc, target, kind)?;
+    let pattern = graph_in(alloc, pattern, kind)?;
+    let target = graph_in(alloc, target, kind)?;
     Some(Problem::new(pattern, target, induced))
 }
 
@@ -254,7 +233,7 @@ fn lines_of(
 
 #[test]
 fn numbers_lines_of_a_triangle(rt: HostRuntime) -> Result<(), Fail> {
-    let q = problem(rt.alloc(), TRIANGLE, CYCLE, PLAIN, false).ok_or("no problem")?;
+    let q = problem(rt.alloc(), TRIANGLE, FOUR_CYCLE, PLAIN, false).ok_or("no problem")?;
     let encoding = Encoding::new(rt.alloc(), &q)?;
     assert_eq!(rt; encoding.len(), 34);
     assert_eq!(rt; lines_of(&encoding, &q, 2, 3), Some((5, 6, 10, None)));

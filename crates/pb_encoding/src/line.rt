@@ -39,7 +39,8 @@ fn vertex_line(q: &Problem, place: u64) -> Line
 fn target_line(q: &Problem, place: u64) -> Line
     requires few { size q.now.target ≤ 8192 }
     requires inside { place < size q.now.target }
-    ensures form { slice_get (encoding_of q.now) (2 * size q.now.pattern + place) ≡ Some (form_on q.now result) }
+    ensures form { slice_get (encoding_of q.now) (2 * size q.now.pattern + place)
+        ≡ Some (form_on q.now result) }
     ensures vertices { LineIsIn q.now result }
 {
     Line::AtMostTarget(place as u16)
@@ -50,7 +51,8 @@ fn refused_line(q: &Problem, numbers: &[u32], place: u64) -> Line
     requires few { size q.now.pattern ≤ 1024 }
     requires numbers { numbers.now ≡ refused_numbers_of q.now }
     requires inside { place < length numbers.now }
-    ensures form { slice_get (encoding_of q.now) (refused_start q.now + place) ≡ Some (form_on q.now result) }
+    ensures form { slice_get (encoding_of q.now) (refused_start q.now + place)
+        ≡ Some (form_on q.now result) }
     ensures vertices { LineIsIn q.now result }
 {
     let width = u32::from(q.target().size());
@@ -60,10 +62,14 @@ fn refused_line(q: &Problem, numbers: &[u32], place: u64) -> Line
 
 /// The form at a place among those of pairs of pattern vertices: of the pairs with an edge, or of those without.
 fn pair_line(q: &Problem, numbers: &[u32], place: u64) -> Line
-    requires kind { (numbers.now ≡ edge_numbers_of q.now) ⊎ (numbers.now ≡ non_edge_numbers_of q.now) }
+    requires kind { (numbers.now ≡ edge_numbers_of q.now)
+        ⊎ (numbers.now ≡ non_edge_numbers_of q.now) }
     requires inside { place < length numbers.now * size q.now.target }
-    ensures edges { numbers.now ≡ edge_numbers_of q.now → slice_get (encoding_of q.now) (edge_start q.now + place) ≡ Some (form_on q.now result) }
-    ensures non_edges { numbers.now ≡ non_edge_numbers_of q.now → slice_get (encoding_of q.now) (non_edge_start q.now + place) ≡ Some (form_on q.now result) }
+    ensures edges { numbers.now ≡ edge_numbers_of q.now
+        → slice_get (encoding_of q.now) (edge_start q.now + place) ≡ Some (form_on q.now result) }
+    ensures non_edges { numbers.now ≡ non_edge_numbers_of q.now
+        → slice_get (encoding_of q.now) (non_edge_start q.now + place)
+        ≡ Some (form_on q.now result) }
     ensures vertices { LineIsIn q.now result }
 {
     let vertices = u32::from(q.pattern().size());

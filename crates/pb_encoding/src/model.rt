@@ -9,5 +9,6 @@ ghost use Rattle.pb_encoding.specs.Model.{model_of};
 /// The encoding of a problem within the limits is within those of the format: its lines are sorted and narrow, and their
 /// variables are among those counted. So its text, once written, is read back as it was.
 pub fn encodings_are_models()
-    ensures { (q : Problem) → size q.pattern ≤ 1024 → size q.target ≤ 8192 → IsOpbModel (model_of q) }
+    ensures { (q : Problem) → size q.pattern ≤ 1024 → size q.target ≤ 8192
+        → IsOpbModel (model_of q) }
 {}

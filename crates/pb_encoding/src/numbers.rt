@@ -60,7 +60,8 @@ pub(crate) fn non_edge_numbers(alloc: Global, q: &Problem) -> Result<Vec<u32>, A
 
 /// Where the number stands in a rising list, or none where it does not. Cost: logarithmic.
 pub(crate) fn place_of(numbers: &[u32], number: u32) -> Option<usize>
-    requires { (i j : ℕ) → i ≤ j → j < length numbers.now → slice_index numbers.now i ≤ slice_index numbers.now j }
+    requires { (i j : ℕ) → i ≤ j → j < length numbers.now
+        → slice_index numbers.now i ≤ slice_index numbers.now j }
     ensures found { IfSome result (λ k. slice_get numbers.now k ≡ Some number) }
     ensures none { IfNone result ((k : ℕ) → ¬ (slice_get numbers.now k ≡ Some number)) }
 {
@@ -69,7 +70,8 @@ pub(crate) fn place_of(numbers: &[u32], number: u32) -> Option<usize>
 
 /// Where a number that stands in a rising list stands there. Cost: logarithmic.
 pub(crate) fn place_in(numbers: &[u32], number: u32) -> u64
-    requires rise { (i j : ℕ) → i ≤ j → j < length numbers.now → slice_index numbers.now i ≤ slice_index numbers.now j }
+    requires rise { (i j : ℕ) → i ≤ j → j < length numbers.now
+        → slice_index numbers.now i ≤ slice_index numbers.now j }
     requires there { Contains numbers.now number }
     ensures { slice_get numbers.now result ≡ Some number }
 {

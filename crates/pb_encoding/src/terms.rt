@@ -1,7 +1,7 @@
 //! The terms of a line, and the constraint that they make.
 
-ghost use Rattle.std.specs.Prelude.{◌≡◌, ◌<◌, ◌≤◌, ◌+◌, ◌*◌, ◌^◌, ◌++◌, ◌∷◌, [], ℕ, ℤ, pos, negsuc, unsigned_abs, IfOk, OnOk};
-ghost use Rattle.graph_theory.specs.Graph.{size};
+ghost use Rattle.std.specs.Prelude.{◌≡◌, ◌<◌, ◌≤◌, ◌+◌, ◌*◌, ◌^◌, ◌++◌, ◌∷◌, [], ℕ, ℤ, true, is_some, pos, negsuc, unsigned_abs, IfOk, OnOk};
+ghost use Rattle.graph_theory.specs.Graph.{size, edge};
 ghost use Rattle.proof_theory.specs.Forms.{form_of, size as size_of_terms};
 ghost use Rattle.encoding_theory.specs.Variables.{variable as variable_of, when};
 ghost use Rattle.encoding_theory.specs.Pairs.{is_compatible as is_compatible_pair};
@@ -10,6 +10,7 @@ ghost use Rattle.pb_encoding.specs.Lines.{form_on, LineIsIn};
 
 use crate::line::Line;
 use crate::pair_tests::is_compatible;
+use bit_rows::next_member;
 use graph_rows::Problem;
 use pb_terms::{Constraint, PbFault};
 use std::alloc::{AllocError, Global};
@@ -47,7 +48,8 @@ fn vertex_terms(
     requires p_in { p < size q.now.pattern }
     requires coefficient { unsigned_abs coefficient ≤ 1 }
     ensures few { IfOk result (λ v. size_of_terms v.items ≤ 2 ^ 14) }
-    ensures terms { IfOk result (λ v. v.items ≡ terms_where coefficient every (variable_of q.now p) (size q.now.target)) }
+    ensures terms { IfOk result
+        (λ v. v.items ≡ terms_where coefficient every (variable_of q.now p) (size q.now.target)) }
 {
     let mut out = Vec::new(alloc);
     for t in 0..q.target().size() {
@@ -60,7 +62,9 @@ fn vertex_terms(
 fn target_terms(alloc: Global, q: &Problem, t: u16) -> Result<Vec<Term>, AllocError>
     requires { t < size q.now.target }
     ensures few { IfOk result (λ v. size_of_terms v.items ≤ 2 ^ 14) }
-    ensures terms { IfOk result (λ v. v.items ≡ terms_where (negsuc 0) every (λ p. variable_of q.now p t) (size q.now.pattern)) }
+    ensures terms { IfOk result
+        (λ v. v.items ≡ terms_where (negsuc 0) every (λ p. variable_of q.now p t)
+        (size q.now.pattern)) }
 {
     let mut out = Vec::new(alloc);
     for p in 0..q.pattern().size() {
@@ -69,7 +73,49 @@ fn target_terms(alloc: Global, q: &Problem, t: u16) -> Result<Vec<Term>, AllocEr
     Ok(out)
 }
 
-/// The variables of `r` at the places that are right where `p` goes to `t`. Cost: four words for each target vertex.
+/// The variables of `r` at the places that are right where `p` goes to `t`, of two vertices with an edge: such a place is a neighbour of `t`.
+/// Cost: four words for each neighbour of `t`, and one for each word of its row.
+fn push_beside(out: &mut Vec<Term>, q: &Problem, p: u16, r: u16, t: u16) -> Result<(), AllocError>
+    requires p_in { p < size q.now.pattern }
+    requires r_in { r < size q.now.pattern }
+    requires t_in { t < size q.now.target }
+    requires beside { is_some (edge q.now.pattern p r) ≡ true }
+    ensures { OnOk result
+        (out.new.items ≡ out.old.items
+        ++ terms_where (pos 1) (is_compatible_pair q.now p t r) (variable_of q.now r)
+        (size q.now.target)) }
+{
+    let target = q.target();
+    let _size = target.size();
+    let near = target.row(t);
+    let mut u = next_member(near, 0);
+    while u < 64 * near.len() {
+        let passes = is_compatible(q, p, t, r, u as u16);
+        push_where(out, passes, (variable(q, r, u as u16), 1))?;
+        u = next_member(near, u + 1);
+    }
+    Ok(())
+}
+
+/// The same for any two vertices. Cost: four words for each target vertex.
+fn push_anywhere(out: &mut Vec<Term>, q: &Problem, p: u16, r: u16, t: u16) -> Result<(), AllocError>
+    requires p_in { p < size q.now.pattern }
+    requires r_in { r < size q.now.pattern }
+    requires t_in { t < size q.now.target }
+    ensures { OnOk result
+        (out.new.items ≡ out.old.items
+        ++ terms_where (pos 1) (is_compatible_pair q.now p t r) (variable_of q.now r)
+        (size q.now.target)) }
+{
+    for u in 0..q.target().size() {
+        let passes = is_compatible(q, p, t, r, u);
+        push_where(out, passes, (variable(q, r, u), 1))?;
+    }
+    Ok(())
+}
+
+/// The variables of `r` at the places that are right where `p` goes to `t`. Cost: that of the walk over the neighbours of `t` where the two
+/// vertices have an edge, else four words for each target vertex.
 fn push_compatible(
     out: &mut Vec<Term>,
     q: &Problem,
@@ -80,13 +126,16 @@ fn push_compatible(
     requires p_in { p < size q.now.pattern }
     requires r_in { r < size q.now.pattern }
     requires t_in { t < size q.now.target }
-    ensures { OnOk result (out.new.items ≡ out.old.items ++ terms_where (pos 1) (is_compatible_pair q.now p t r) (variable_of q.now r) (size q.now.target)) }
+    ensures { OnOk result
+        (out.new.items ≡ out.old.items
+        ++ terms_where (pos 1) (is_compatible_pair q.now p t r) (variable_of q.now r)
+        (size q.now.target)) }
 {
-    for u in 0..q.target().size() {
-        let passes = is_compatible(q, p, t, r, u);
-        push_where(out, passes, (variable(q, r, u), 1))?;
+    if q.pattern().has_edge(p, r) {
+        push_beside(out, q, p, r, t)
+    } else {
+        push_anywhere(out, q, p, r, t)
     }
-    Ok(())
 }
 
 /// The terms of `p` and `r` where `p` goes to `t`, by rising variable.

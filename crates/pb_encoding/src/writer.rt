@@ -18,12 +18,13 @@ use std::alloc::{AllocError, Global};
 /// How many bytes are gathered before they are put.
 const PIECE: usize = 65_536;
 
-/// Puts what the buffer holds where that is a whole piece, and empties it.
-fn put_piece<S: Sink>(buffer: &mut Vec<u8>, sink: &mut S) -> Result<(), Failed>
-    ensures text { PutsFront result (S.spot sink.old).steady (S.contents sink.old) (S.contents sink.new) buffer.old.items buffer.new.items }
+/// Puts what the buffer holds where that is so many bytes at least, and empties it.
+fn put_piece<S: Sink>(least: usize, buffer: &mut Vec<u8>, sink: &mut S) -> Result<(), Failed>
+    ensures text { PutsFront result (S.spot sink.old).steady (S.contents sink.old)
+        (S.contents sink.new) buffer.old.items buffer.new.items }
     ensures cause { HasBlame S.spot S.rest S.faults S.blamed sink.old sink.new result }
 {
-    if buffer.len() < PIECE {
+    if buffer.len() < least {
         return Ok(());
     }
     sink.put(buffer.as_slice())?;
@@ -48,18 +49,34 @@ impl<'a> Encoding<'a> {
         append_line(&constraint, buffer)
     }
 
-    /// Puts the lines of all constraints.
-    fn write_constraints<S: Sink>(&self, alloc: Global, sink: &mut S) -> Result<(), PutFault>
-        ensures text { Wrote (S.spot sink.old).steady (S.contents sink.old) (S.contents sink.new) result (forms_text (encoding_of self.now)) }
+    /// Puts the lines of all constraints, so many bytes at least at a time.
+    fn write_constraints<S: Sink>(
+        &self,
+        alloc: Global,
+        least: usize,
+        sink: &mut S,
+    ) -> Result<(), PutFault>
+        ensures text { Wrote (S.spot sink.old).steady (S.contents sink.old) (S.contents sink.new)
+            result (forms_text (encoding_of self.now)) }
         ensures cause { HasPutCause S.spot S.rest S.faults S.blamed sink.old sink.new result }
     {
         let mut buffer = Vec::new(alloc);
         for i in 0..self.len() {
             self.append_constraint(alloc, i + 1, &mut buffer)?;
-            put_piece(&mut buffer, sink)?;
+            put_piece(least, &mut buffer, sink)?;
         }
         sink.put(buffer.as_slice())?;
         Ok(())
+    }
+
+    /// Puts the first line and then those of all constraints, so many bytes at least at a time.
+    fn write_by<S: Sink>(&self, alloc: Global, least: usize, sink: &mut S) -> Result<(), PutFault>
+        ensures text { Wrote (S.spot sink.old).steady (S.contents sink.old) (S.contents sink.new)
+            result (encoding_text self.now) }
+        ensures cause { HasPutCause S.spot S.rest S.faults S.blamed sink.old sink.new result }
+    {
+        write_head(self.variables(), self.len(), sink)?;
+        self.write_constraints(alloc, least, sink)
     }
 
     /// Puts the whole encoding as OPB text. The lines are gathered in one buffer, which is put when it holds 65,536 bytes
@@ -68,10 +85,19 @@ impl<'a> Encoding<'a> {
     /// Cost: that of making each constraint once, and of the text's bytes. Where memory is refused a front part of the
     /// text was put.
     pub fn write<S: Sink>(&self, alloc: Global, sink: &mut S) -> Result<(), PutFault>
-        ensures text { Wrote (S.spot sink.old).steady (S.contents sink.old) (S.contents sink.new) result (encoding_text self.now) }
+        ensures text { Wrote (S.spot sink.old).steady (S.contents sink.old) (S.contents sink.new)
+            result (encoding_text self.now) }
         ensures cause { HasPutCause S.spot S.rest S.faults S.blamed sink.old sink.new result }
     {
-        write_head(self.variables(), self.len(), sink)?;
-        self.write_constraints(alloc, sink)
+        self.write_by(alloc, PIECE, sink)
+    }
+
+    /// Puts the same text a line at a time, for a sink that gathers bytes itself: the memory is that of one line.
+    pub fn write_lines<S: Sink>(&self, alloc: Global, sink: &mut S) -> Result<(), PutFault>
+        ensures text { Wrote (S.spot sink.old).steady (S.contents sink.old) (S.contents sink.new)
+            result (encoding_text self.now) }
+        ensures cause { HasPutCause S.spot S.rest S.faults S.blamed sink.old sink.new result }
+    {
+        self.write_by(alloc, 1, sink)
     }
 }

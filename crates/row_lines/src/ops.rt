@@ -29,7 +29,9 @@ fn add_edge(
     requires b_in { b < size known.now.pattern }
     requires t_in { t < size known.now.target }
     requires pair { wanted ≡ true → is_edge_pair known.now a b ≡ true }
-    ensures { OnOk result (ops.new.items ≡ ops.old.items ++ when wanted (PushOp (edge_line known.now a b t) ∷ AddOp ∷ [])) }
+    ensures { OnOk result
+        (ops.new.items ≡ ops.old.items
+        ++ when wanted (PushOp (edge_line known.now a b t) ∷ AddOp ∷ [])) }
 {
     if wanted {
         ops.push(Op::Push(known.edge(a, b, t)))?;
@@ -44,7 +46,10 @@ fn add_shared(known: &Known, ops: &mut Vec<Op>, p: u16, t: u16, r: u16) -> Resul
     requires p_in { p < size known.now.pattern }
     requires r_in { r < size known.now.pattern }
     requires t_in { t < size known.now.target }
-    ensures { OnOk result (ops.new.items ≡ ops.old.items ++ adds_where (is_shared_by known.now.pattern p r) (λ m. PushOp (edge_line known.now p m t)) (size known.now.pattern)) }
+    ensures { OnOk result
+        (ops.new.items ≡ ops.old.items
+        ++ adds_where (is_shared_by known.now.pattern p r)
+        (λ m. PushOp (edge_line known.now p m t)) (size known.now.pattern)) }
 {
     for m in 0..known.vertices() {
         let wanted = known.is_shared(p, r, m);
@@ -59,7 +64,10 @@ fn add_backs(known: &Known, ops: &mut Vec<Op>, p: u16, r: u16, w: u16) -> Result
     requires p_in { p < size known.now.pattern }
     requires r_in { r < size known.now.pattern }
     requires w_in { w < size known.now.target }
-    ensures { OnOk result (ops.new.items ≡ ops.old.items ++ adds_where (is_shared_by known.now.pattern p r) (λ m. PushOp (edge_line known.now m r w)) (size known.now.pattern)) }
+    ensures { OnOk result
+        (ops.new.items ≡ ops.old.items
+        ++ adds_where (is_shared_by known.now.pattern p r)
+        (λ m. PushOp (edge_line known.now m r w)) (size known.now.pattern)) }
 {
     for m in 0..known.vertices() {
         let wanted = known.is_shared(p, r, m);
@@ -78,7 +86,9 @@ fn add_there(
 ) -> Result<(), AllocError>
     requires v_in { v < size known.now.pattern }
     requires w_in { w < size known.now.target }
-    ensures { OnOk result (ops.new.items ≡ ops.old.items ++ when wanted (AxiomOp (there_at known.now w v) ∷ AddOp ∷ [])) }
+    ensures { OnOk result
+        (ops.new.items ≡ ops.old.items
+        ++ when wanted (AxiomOp (there_at known.now w v) ∷ AddOp ∷ [])) }
 {
     if wanted {
         ops.push(Op::Axiom(known.there(w, v)))?;
@@ -92,7 +102,10 @@ fn add_others(known: &Known, ops: &mut Vec<Op>, p: u16, r: u16, w: u16) -> Resul
     requires p_in { p < size known.now.pattern }
     requires r_in { r < size known.now.pattern }
     requires w_in { w < size known.now.target }
-    ensures { OnOk result (ops.new.items ≡ ops.old.items ++ adds_where (λ v. not (is_shared_by known.now.pattern p r v)) (λ v. AxiomOp (there_at known.now w v)) (size known.now.pattern)) }
+    ensures { OnOk result
+        (ops.new.items ≡ ops.old.items
+        ++ adds_where (λ v. not (is_shared_by known.now.pattern p r v))
+        (λ v. AxiomOp (there_at known.now w v)) (size known.now.pattern)) }
 {
     for v in 0..known.vertices() {
         let wanted = !known.is_shared(p, r, v);
@@ -157,7 +170,10 @@ fn add_spread(
     requires r_in { r < size known.now.pattern }
     requires w_in { w < size known.now.target }
     requires sharing { IsSharing known.now p r sharing }
-    ensures { OnOk result (ops.new.items ≡ ops.old.items ++ when wanted (PushOp (spread_ref_of known.now spreads.now sharing p r w) ∷ AddOp ∷ [])) }
+    ensures { OnOk result
+        (ops.new.items ≡ ops.old.items
+        ++ when wanted (PushOp (spread_ref_of known.now spreads.now sharing p r w) ∷ AddOp
+        ∷ [])) }
 {
     if wanted {
         ops.push(Op::Push(spread_ref(known, spreads, sharing, p, r, w)))?;
@@ -180,7 +196,11 @@ fn add_spreads(
     requires r_in { r < size known.now.pattern }
     requires t_in { t < size known.now.target }
     requires sharing { IsSharing known.now p r sharing }
-    ensures { OnOk result (ops.new.items ≡ ops.old.items ++ adds_where (is_neighbour known.now.target t) (λ w. PushOp (spread_ref_of known.now spreads.now sharing p r w)) (size known.now.target)) }
+    ensures { OnOk result
+        (ops.new.items ≡ ops.old.items
+        ++ adds_where (is_neighbour known.now.target t)
+        (λ w. PushOp (spread_ref_of known.now spreads.now sharing p r w))
+        (size known.now.target)) }
 {
     for w in 0..known.targets() {
         let wanted = known.is_near(t, w);
@@ -292,7 +312,9 @@ pub(crate) fn row_ops(
     requires r_in { r < size known.now.pattern }
     requires t_in { t < size known.now.target }
     requires sharing { IsSharing known.now p r sharing }
-    ensures { IfOk result (λ ops. ops ≡ row_ops_of known.now spreads.now sharing (own_line_of known.now p r t) p t r) }
+    ensures { IfOk result
+        (λ ops. ops ≡ row_ops_of known.now spreads.now sharing (own_line_of known.now p r t) p t
+        r) }
 {
     let own = own_line(known, p, r, t);
     match sharing {

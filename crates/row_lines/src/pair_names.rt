@@ -57,7 +57,9 @@ impl PairNames {
     /// Adds the name for `p` and `r` at `w`, which had none. Cost: as that of `find`.
     pub(crate) fn add(&mut self, p: u16, r: u16, w: u16, name: Name) -> Result<(), AllocError>
         requires { IsName name }
-        ensures added { OnOk result ((k : ℕ) → entry_at self.new k ≡ cond (k == pair_key p r w) (Some name) (entry_at self.old k)) }
+        ensures added { OnOk result
+            ((k : ℕ) → entry_at self.new k
+            ≡ cond (k == pair_key p r w) (Some name) (entry_at self.old k)) }
         ensures refused { OnErr result (self.new ≡ self.old) }
     {
         self.names.insert(key(p, r, w), name)?;

@@ -41,7 +41,9 @@ fn keep_spread<K: Keeper>(
     requires w_in { w < size known.now.target }
     requires others { p ≡ r → ⊥ }
     requires shared { IsSharing known.now p r (ManyShared count) }
-    ensures goes { (f : Frame) → IsFrameOf known.now (K.owner keeper.old) f → Goes f (K.kept keeper.old) (K.kept keeper.new) (AreSpreads f known.now spreads.old) (AreSpreads f known.now spreads.new) }
+    ensures goes { (f : Frame) → IsFrameOf known.now (K.owner keeper.old) f
+        → Goes f (K.kept keeper.old) (K.kept keeper.new) (AreSpreads f known.now spreads.old)
+        (AreSpreads f known.now spreads.new) }
     ensures there { OnOk result (IsSome (pair_name spreads.new p r w)) }
     ensures stay { Stay spreads.old spreads.new }
     ensures owner { K.owner keeper.new ≡ K.owner keeper.old }
@@ -72,8 +74,11 @@ fn keep_spread_at<K: Keeper>(
     requires w_in { w < size known.now.target }
     requires others { p ≡ r → ⊥ }
     requires shared { IsSharing known.now p r (ManyShared count) }
-    ensures goes { (f : Frame) → IsFrameOf known.now (K.owner keeper.old) f → Goes f (K.kept keeper.old) (K.kept keeper.new) (AreSpreads f known.now spreads.old) (AreSpreads f known.now spreads.new) }
-    ensures there { OnOk result (is_neighbour known.now.target t w ≡ true → IsSome (pair_name spreads.new p r w)) }
+    ensures goes { (f : Frame) → IsFrameOf known.now (K.owner keeper.old) f
+        → Goes f (K.kept keeper.old) (K.kept keeper.new) (AreSpreads f known.now spreads.old)
+        (AreSpreads f known.now spreads.new) }
+    ensures there { OnOk result
+        (is_neighbour known.now.target t w ≡ true → IsSome (pair_name spreads.new p r w)) }
     ensures stay { Stay spreads.old spreads.new }
     ensures owner { K.owner keeper.new ≡ K.owner keeper.old }
     ensures notes { K.notes keeper.new ≡ K.notes keeper.old }
@@ -103,7 +108,9 @@ fn keep_around<K: Keeper>(
     requires r_in { r < size known.now.pattern }
     requires others { p ≡ r → ⊥ }
     requires shared { IsSharing known.now p r (ManyShared count) }
-    ensures goes { (f : Frame) → IsFrameOf known.now (K.owner keeper.old) f → Goes f (K.kept keeper.old) (K.kept keeper.new) (AreSpreads f known.now spreads.old) (AreSpreads f known.now spreads.new) }
+    ensures goes { (f : Frame) → IsFrameOf known.now (K.owner keeper.old) f
+        → Goes f (K.kept keeper.old) (K.kept keeper.new) (AreSpreads f known.now spreads.old)
+        (AreSpreads f known.now spreads.new) }
     ensures there { OnOk result (HasAround known.now spreads.new (ManyShared count) p t r) }
     ensures owner { K.owner keeper.new ≡ K.owner keeper.old }
     ensures notes { K.notes keeper.new ≡ K.notes keeper.old }
@@ -131,7 +138,9 @@ fn keep_spreads<K: Keeper>(
     requires r_in { r < size known.now.pattern }
     requires others { p ≡ r → ⊥ }
     requires shared { IsSharing known.now p r sharing }
-    ensures goes { (f : Frame) → IsFrameOf known.now (K.owner keeper.old) f → Goes f (K.kept keeper.old) (K.kept keeper.new) (AreSpreads f known.now spreads.old) (AreSpreads f known.now spreads.new) }
+    ensures goes { (f : Frame) → IsFrameOf known.now (K.owner keeper.old) f
+        → Goes f (K.kept keeper.old) (K.kept keeper.new) (AreSpreads f known.now spreads.old)
+        (AreSpreads f known.now spreads.new) }
     ensures there { OnOk result (HasAround known.now spreads.new sharing p t r) }
     ensures owner { K.owner keeper.new ≡ K.owner keeper.old }
     ensures notes { K.notes keeper.new ≡ K.notes keeper.old }
@@ -161,7 +170,9 @@ fn keep_row<K: Keeper>(
     requires others { p ≡ r → ⊥ }
     requires shared { IsSharing known.now p r sharing }
     requires there { HasAround known.now spreads.now sharing p t r }
-    ensures goes { (f : Frame) → IsFrameOf known.now (K.owner keeper.old) f → Goes f (K.kept keeper.old) (K.kept keeper.new) (AreSpreads f known.now spreads.now) (IsRowLine f known.now p t r result) }
+    ensures goes { (f : Frame) → IsFrameOf known.now (K.owner keeper.old) f
+        → Goes f (K.kept keeper.old) (K.kept keeper.new) (AreSpreads f known.now spreads.now)
+        (IsRowLine f known.now p t r result) }
     ensures name { IfOk result IsName }
     ensures owner { K.owner keeper.new ≡ K.owner keeper.old }
     ensures notes { K.notes keeper.new ≡ K.notes keeper.old }
@@ -191,7 +202,9 @@ pub fn row_line_with<K: Keeper>(
     requires t_in { t < size q.now.target }
     requires r_in { r < size q.now.pattern }
     requires others { p ≡ r → ⊥ }
-    ensures goes { (w : Frame) → IsFrameOf q.now (K.owner keeper.old) w → Goes w (K.kept keeper.old) (K.kept keeper.new) (AreSpreads w q.now spreads.old) (IsRow w q.now p t r spreads.new result) }
+    ensures goes { (w : Frame) → IsFrameOf q.now (K.owner keeper.old) w
+        → Goes w (K.kept keeper.old) (K.kept keeper.new) (AreSpreads w q.now spreads.old)
+        (IsRow w q.now p t r spreads.new result) }
     ensures name { IfOk result IsName }
     ensures owner { K.owner keeper.new ≡ K.owner keeper.old }
     ensures notes { K.notes keeper.new ≡ K.notes keeper.old }
@@ -218,7 +231,8 @@ pub fn row_line<K: Keeper>(
     requires t_in { t < size q.now.target }
     requires r_in { r < size q.now.pattern }
     requires others { p ≡ r → ⊥ }
-    ensures goes { (w : Frame) → IsFrameOf q.now (K.owner keeper.old) w → Goes w (K.kept keeper.old) (K.kept keeper.new) AnyForms (IsRowLine w q.now p t r result) }
+    ensures goes { (w : Frame) → IsFrameOf q.now (K.owner keeper.old) w
+        → Goes w (K.kept keeper.old) (K.kept keeper.new) AnyForms (IsRowLine w q.now p t r result) }
     ensures name { IfOk result IsName }
     ensures owner { K.owner keeper.new ≡ K.owner keeper.old }
     ensures notes { K.notes keeper.new ≡ K.notes keeper.old }

@@ -77,7 +77,9 @@ impl RowLines {
         requires t_in { t < size q.now.target }
         requires r_in { r < size q.now.pattern }
         requires others { p ≡ r → ⊥ }
-        ensures goes { (w : Frame) → IsFrameOf q.now (K.owner keeper.old) w → Goes w (K.kept keeper.old) (K.kept keeper.new) (Knows w q.now self.old) (IsKnownRow w q.now p t r self.new result) }
+        ensures goes { (w : Frame) → IsFrameOf q.now (K.owner keeper.old) w
+            → Goes w (K.kept keeper.old) (K.kept keeper.new) (Knows w q.now self.old)
+            (IsKnownRow w q.now p t r self.new result) }
         ensures fits { IfOk result IsRef }
         ensures owner { K.owner keeper.new ≡ K.owner keeper.old }
         ensures notes { K.notes keeper.new ≡ K.notes keeper.old }

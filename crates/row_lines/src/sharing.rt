@@ -31,7 +31,7 @@ fn first_shared(known: &Known, p: u16, r: u16) -> Option<u16>
     None
 }
 
-/// How many neighbours the two share. Cost: two words for each word of a row, and where it is one alone, two for each vertex.
+/// How many neighbours the two share. Cost: two words for each word of a row, and only where it is one alone, four for each vertex up to it.
 pub(crate) fn sharing_of(
     alloc: Global,
     known: &Known,
@@ -46,6 +46,9 @@ pub(crate) fn sharing_of(
     let count = Counts::new(alloc, known.pattern())?.count(p, r);
     if count > 1 {
         return Ok(Sharing::Many(count));
+    }
+    if count == 0 {
+        return Ok(Sharing::Nothing);
     }
     match first_shared(known, p, r) {
         Some(m) => Ok(Sharing::One(m)),

@@ -1,45 +1,21 @@
 //! The lines of small problems to the letter, and a checker that takes them.
 
-ghost use Rattle.std.specs.Prelude.{◌≡◌, ◌≤◌, IfSome};
+ghost use Rattle.std.specs.Prelude.{◌≡◌, ◌<◌, true};
 ghost use Rattle.graph_theory.specs.Graph.{size};
 
 use crate::{PairNames, RowLines, row_line, row_line_with};
-use graph_rows::{Graph, Problem};
-use journals::{Journal, Keeper};
-use lad_reader::{LadKind, read_lad};
+use graph_rows::Problem;
+use journals::Journal;
 use log_theory::{Name, Ref, Verdict};
 use opb_text::{Model, read_opb};
 use outer_io::MemorySink;
 use pb_encoding::Encoding;
 use proof_checker::check;
-use std::alloc::Global;
+use sample_graphs::{APART, EDGE, FOUR_CYCLE, TRIANGLE, graph};
+use std::alloc::{AllocError, Global};
 use std::test::Fail;
 
-const EDGE: &[u8] = b"2 1 1 1 0";
-
-const TWO: &[u8] = b"2 0 0";
-
-const TRIANGLE: &[u8] = b"3 2 1 2 2 0 2 2 0 1";
-
-const CYCLE: &[u8] = b"4 2 1 3 2 0 2 2 1 3 2 0 2";
-
 const FOUR: &[u8] = b"4 3 1 2 3 3 0 2 3 3 0 1 3 3 0 1 2";
-
-/// The graph of a text of at most 1,024 vertices.
-fn graph(alloc: Global, text: &[u8]) -> Option<Graph>
-    ensures { IfSome result (λ g. size g ≤ 1024) }
-{
-    let Ok(parts) = read_lad(alloc, text, LadKind::Lad, 1024) else {
-        return None;
-    };
-    let Ok(graph) = Graph::new(alloc, &parts) else {
-        return None;
-    };
-    if graph.size() > 1024 {
-        return None;
-    }
-    Some(graph)
-}
 
 /// The problem of two texts.
 fn problem(alloc: Global, pattern: &[u8], target: &[u8], induced: bool) -> Option<Problem> {
@@ -48,53 +24,72 @@ fn problem(alloc: Global, pattern: &[u8], target: &[u8], induced: bool) -> Optio
     Some(Problem::new(pattern, target, induced))
 }
 
-/// A line for a pair, with or without a table, where the three are vertices and two of them not the same.
-fn give<K: Keeper>(
+/// Whether the three are vertices, and two of them not the same.
+fn is_pair(q: &Problem, p: u16, t: u16, r: u16) -> bool
+    ensures p_in { result ≡ true → p < size q.now.pattern }
+    ensures t_in { result ≡ true → t < size q.now.target }
+    ensures r_in { result ≡ true → r < size q.now.pattern }
+    ensures others { result ≡ true → p ≡ r → ⊥ }
+{
+    p < q.pattern().size() && r < q.pattern().size() && t < q.target().size() && p != r
+}
+
+/// The line for a pair, without a table.
+fn made_alone(
     alloc: Global,
     q: &Problem,
     lines: &Encoding,
-    spreads: Option<&mut PairNames>,
-    keeper: &mut K,
-    pair: (u16, u16, u16),
-) -> Result<Name, Fail>
+    journal: &mut Journal,
+    p: u16,
+    t: u16,
+    r: u16,
+) -> Result<Name, AllocError>
     requires { lines.now ≡ q.now }
 {
-    let (p, t, r) = pair;
-    let vertices = q.pattern().size();
-    if p >= vertices || r >= vertices || t >= q.target().size() || p == r {
-        return Err("no pair")?;
-    }
-    match spreads {
-        Some(spreads) => Ok(row_line_with(alloc, q, lines, spreads, keeper, p, t, r)?),
-        None => Ok(row_line(alloc, q, lines, keeper, p, t, r)?),
+    if is_pair(q, p, t, r) {
+        row_line(alloc, q, lines, journal, p, t, r)
+    } else {
+        Err(AllocError)
     }
 }
 
-/// A reference to a line for a pair, where the three are vertices and two of them not the same.
-fn ask<K: Keeper>(
+/// The line for a pair, with a table.
+fn made_with(
+    alloc: Global,
+    q: &Problem,
+    lines: &Encoding,
+    spreads: &mut PairNames,
+    journal: &mut Journal,
+    p: u16,
+    t: u16,
+    r: u16,
+) -> Result<Name, AllocError>
+    requires { lines.now ≡ q.now }
+{
+    if is_pair(q, p, t, r) {
+        row_line_with(alloc, q, lines, spreads, journal, p, t, r)
+    } else {
+        Err(AllocError)
+    }
+}
+
+/// A reference to a line for a pair.
+fn ask(
     alloc: Global,
     q: &Problem,
     lines: &Encoding,
     made: &mut RowLines,
-    keeper: &mut K,
-    pair: (u16, u16, u16),
-) -> Result<Ref, Fail>
+    journal: &mut Journal,
+    p: u16,
+    t: u16,
+    r: u16,
+) -> Result<Ref, AllocError>
     requires { lines.now ≡ q.now }
 {
-    let (p, t, r) = pair;
-    let vertices = q.pattern().size();
-    if p >= vertices || r >= vertices || t >= q.target().size() || p == r {
-        return Err("no pair")?;
-    }
-    Ok(made.row(alloc, q, lines, keeper, p, t, r)?)
-}
-
-/// A reference as a log writes it.
-fn name_of(alloc: Global, line: Ref) -> Result<String, Fail> {
-    match line {
-        Ref::Line(k) => Ok(format!(in alloc; "{k}")?),
-        Ref::Made(name) => Ok(format!(in alloc; "{}.{}", name.owner, name.number)?),
-        Ref::Shared(row) => Ok(format!(in alloc; "#{row}")?),
+    if is_pair(q, p, t, r) {
+        made.row(alloc, q, lines, journal, p, t, r)
+    } else {
+        Err(AllocError)
     }
 }
 
@@ -105,120 +100,177 @@ fn model_of(alloc: Global, lines: &Encoding) -> Option<Model> {
     read_opb(alloc, sink.bytes()).ok()
 }
 
-/// What a checker says of the encoding and lines of owner 1.
-fn verdict(alloc: Global, lines: &Encoding, text: &str) -> Result<Verdict, Fail> {
-    let model = model_of(alloc, lines).ok_or("no model")?;
-    let log = format!(in alloc; "embedding proof 1\nm {}\n{text}q\n", lines.len())?;
-    Ok(check(alloc, &model, log.as_bytes()))
+/// The two head lines of a log, these lines, and one that ends it.
+fn log_of(alloc: Global, head: &[u8], text: &[u8]) -> Result<Vec<u8>, AllocError> {
+    let mut log = Vec::from_slice(alloc, head)?;
+    log.extend_from_slice(text)?;
+    log.extend_from_slice(b"q\n")?;
+    Ok(log)
 }
 
-/// The lines of a problem for pairs, with one table for all of them or none.
-fn made(
+/// Whether a checker takes these lines behind an encoding, and waits for more.
+fn are_taken(
     alloc: Global,
-    q: &Problem,
     lines: &Encoding,
-    pairs: &[(u16, u16, u16)],
-    is_shared: bool,
-) -> Result<Journal, Fail>
-    requires { lines.now ≡ q.now }
-{
-    let mut spreads = PairNames::new(alloc);
-    let mut journal = Journal::new(alloc, 1);
-    for pair in pairs {
-        let table = if is_shared { Some(&mut spreads) } else { None };
-        give(alloc, q, lines, table, &mut journal, *pair)?;
+    head: &[u8],
+    text: &[u8],
+) -> Result<bool, AllocError> {
+    let log = log_of(alloc, head, text)?;
+    match model_of(alloc, lines) {
+        Some(model) => Ok(matches!(check(alloc, &model, &log), Verdict::Undecided)),
+        None => Ok(false),
     }
-    Ok(journal)
 }
 
-/// The lines of a problem for pairs, and what a checker says of them.
-fn lines_of(
+/// Whether the line of a problem for a pair is this one, and a checker takes it.
+fn is_this(
     alloc: Global,
     q: &Problem,
-    pairs: &[(u16, u16, u16)],
-    is_shared: bool,
-) -> Result<(String, Verdict), Fail> {
+    p: u16,
+    t: u16,
+    r: u16,
+    head: &[u8],
+    text: &[u8],
+) -> Result<bool, AllocError> {
     let lines = Encoding::new(alloc, q)?;
-    let journal = made(alloc, q, &lines, pairs, is_shared)?;
-    let text = str::from_utf8(journal.text()).ok().ok_or("no log")?;
-    let said = verdict(alloc, &lines, text)?;
-    Ok((String::from_str(alloc, text)?, said))
+    let mut journal = Journal::new(alloc, 1);
+    made_alone(alloc, q, &lines, &mut journal, p, t, r)?;
+    Ok(journal.text() == text && are_taken(alloc, &lines, head, text)?)
 }
 
-const TWO_SHARED: &str = "p 1.1 10 x2 + x10 + 1 * 26 + 42 + 2 d ;
+#[test]
+fn an_edge_asks_two_lines_of_the_encoding(rt: HostRuntime) -> Result<(), Fail> {
+    let q = problem(rt.alloc(), EDGE, FOUR_CYCLE, false).ok_or("no problem")?;
+    let head = b"embedding proof 1\nm 16\n";
+    let is_so = is_this(rt.alloc(), &q, 0, 2, 1, head, b"p 1.1 11 4 + ;\n")?;
+    assert!(rt; is_so);
+    Ok(())
+}
+
+#[test]
+fn so_do_two_apart_in_the_induced_kind(rt: HostRuntime) -> Result<(), Fail> {
+    let q = problem(rt.alloc(), APART, FOUR_CYCLE, true).ok_or("no problem")?;
+    let head = b"embedding proof 1\nm 16\n";
+    let is_so = is_this(rt.alloc(), &q, 1, 0, 0, head, b"p 1.1 13 2 + ;\n")?;
+    assert!(rt; is_so);
+    Ok(())
+}
+
+#[test]
+fn a_free_pair_asks_one(rt: HostRuntime) -> Result<(), Fail> {
+    let q = problem(rt.alloc(), APART, FOUR_CYCLE, false).ok_or("no problem")?;
+    let head = b"embedding proof 1\nm 8\n";
+    let is_so = is_this(rt.alloc(), &q, 0, 2, 1, head, b"p 1.1 7 ;\n")?;
+    assert!(rt; is_so);
+    Ok(())
+}
+
+const ONE_SHARED: &[u8] = b"p 1.1 4 2 * 11 + 4 * 15 + 32 + 33 + 34 + ;\n";
+
+#[test]
+fn one_shared_neighbour_is_counted_by_its_own_lines(rt: HostRuntime) -> Result<(), Fail> {
+    let q = problem(rt.alloc(), TRIANGLE, FOUR, false).ok_or("no problem")?;
+    let head = b"embedding proof 1\nm 34\n";
+    let is_so = is_this(rt.alloc(), &q, 0, 0, 1, head, ONE_SHARED)?;
+    assert!(rt; is_so);
+    Ok(())
+}
+
+const TWO_SHARED: &[u8] = b"p 1.1 10 x2 + x10 + 1 * 26 + 42 + 2 d ;
 p 1.2 12 x4 + x12 + 1 * 28 + 44 + 2 d ;
 p 1.3 6 9 + 3 * 13 + 17 + 1.1 + 1.2 + ;
 p 1.4 6 11 + 3 * 15 + 19 + 1.1 + 1.2 + ;
 ";
 
+/// Whether the lines of a problem for 0 and 2 at 0 and at 2 are these, with one table for both, and a checker takes them.
+fn are_these(alloc: Global, q: &Problem, head: &[u8], text: &[u8]) -> Result<bool, AllocError> {
+    let lines = Encoding::new(alloc, q)?;
+    let mut spreads = PairNames::new(alloc);
+    let mut journal = Journal::new(alloc, 1);
+    made_with(alloc, q, &lines, &mut spreads, &mut journal, 0, 0, 2)?;
+    made_with(alloc, q, &lines, &mut spreads, &mut journal, 0, 2, 2)?;
+    Ok(journal.text() == text && are_taken(alloc, &lines, head, text)?)
+}
+
+// Two shared neighbours have lines for all places, which are made once.
 #[test]
-fn lines_to_the_letter(rt: HostRuntime) -> Result<(), Fail> {
-    let rows = [
-        // An edge asks two lines of the encoding.
-        (
-            EDGE,
-            CYCLE,
-            false,
-            [(0, 2, 1)].as_slice(),
-            "p 1.1 11 4 + ;\n",
-        ),
-        // So do two vertices without one in the induced kind.
-        (TWO, CYCLE, true, [(1, 0, 0)].as_slice(), "p 1.1 13 2 + ;\n"),
-        // A free pair asks one.
-        (TWO, CYCLE, false, [(0, 2, 1)].as_slice(), "p 1.1 7 ;\n"),
-        // One shared neighbour is counted by its own lines.
-        (
-            TRIANGLE,
-            FOUR,
-            false,
-            [(0, 0, 1)].as_slice(),
-            "p 1.1 4 2 * 11 + 4 * 15 + 32 + 33 + 34 + ;\n",
-        ),
-        // Two shared neighbours have lines for all places, which are made once.
-        (
-            CYCLE,
-            CYCLE,
-            false,
-            [(0, 0, 2), (0, 2, 2)].as_slice(),
-            TWO_SHARED,
-        ),
-    ];
-    for (pattern, target, induced, pairs, text) in rows {
-        let q = problem(rt.alloc(), pattern, target, induced).ok_or("no problem")?;
-        let (lines, said) = lines_of(rt.alloc(), &q, pairs, pairs.len() > 1)?;
-        assert_eq!(rt; lines.as_str(), text);
-        assert_eq!(rt; said, Verdict::Undecided);
-    }
+fn places_share_the_lines_of_shared_neighbours(rt: HostRuntime) -> Result<(), Fail> {
+    let q = problem(rt.alloc(), FOUR_CYCLE, FOUR_CYCLE, false).ok_or("no problem")?;
+    let head = b"embedding proof 1\nm 44\n";
+    let is_so = are_these(rt.alloc(), &q, head, TWO_SHARED)?;
+    assert!(rt; is_so);
     Ok(())
 }
 
+/// Whether the line for a pair is the one of owner 1 with this number.
+fn is_named(
+    alloc: Global,
+    q: &Problem,
+    lines: &Encoding,
+    made: &mut RowLines,
+    journal: &mut Journal,
+    pair: (u16, u16, u16),
+    number: u64,
+) -> Result<bool, AllocError>
+    requires { lines.now ≡ q.now }
+{
+    let line = ask(alloc, q, lines, made, journal, pair.0, pair.1, pair.2)?;
+    Ok(line == Ref::Made(Name { owner: 1, number }))
+}
+
+const ONCE_EACH: &[u8] = b"p 1.1 10 x2 + x10 + 1 * 26 + 42 + 2 d ;
+p 1.2 12 x4 + x12 + 1 * 28 + 44 + 2 d ;
+p 1.3 6 9 + 3 * 13 + 17 + 1.1 + 1.2 + ;
+p 1.4 6 11 + 3 * 15 + 19 + 1.1 + 1.2 + ;
+p 1.5 14 4 + ;
+";
+
+/// Whether the lines for pairs have these numbers and this text.
+fn are_named(
+    alloc: Global,
+    q: &Problem,
+    asked: &[((u16, u16, u16), u64)],
+    text: &[u8],
+) -> Result<bool, AllocError> {
+    let lines = Encoding::new(alloc, q)?;
+    let mut made = RowLines::new(alloc);
+    let mut journal = Journal::new(alloc, 1);
+    for (pair, number) in asked {
+        if !is_named(alloc, q, &lines, &mut made, &mut journal, *pair, *number)? {
+            return Ok(false);
+        }
+    }
+    Ok(journal.text() == text)
+}
+
+const ASKED: [((u16, u16, u16), u64); 4] = [
+    ((0, 0, 2), 3),
+    ((0, 2, 2), 4),
+    ((0, 0, 2), 3),
+    ((0, 1, 1), 5),
+];
+
 #[test]
 fn each_line_is_made_once(rt: HostRuntime) -> Result<(), Fail> {
-    let q = problem(rt.alloc(), CYCLE, CYCLE, false).ok_or("no problem")?;
-    let lines = Encoding::new(rt.alloc(), &q)?;
-    let mut made = RowLines::new(rt.alloc());
-    let mut journal = Journal::new(rt.alloc(), 1);
-    let pairs = [(0, 0, 2), (0, 2, 2), (0, 0, 2), (0, 1, 1)];
-    let names = ["1.3", "1.4", "1.3", "1.5"];
-    for (pair, name) in pairs.iter().zip(names.iter()) {
-        let line = ask(rt.alloc(), &q, &lines, &mut made, &mut journal, *pair)?;
-        let said = name_of(rt.alloc(), line)?;
-        assert_eq!(rt; said.as_str(), *name);
-    }
-    let text = str::from_utf8(journal.text()).ok().ok_or("no log")?;
-    let whole = format!(in rt.alloc(); "{TWO_SHARED}p 1.5 14 4 + ;\n")?;
-    assert_eq!(rt; text, whole.as_str());
+    let q = problem(rt.alloc(), FOUR_CYCLE, FOUR_CYCLE, false).ok_or("no problem")?;
+    let is_so = are_named(rt.alloc(), &q, &ASKED, ONCE_EACH)?;
+    assert!(rt; is_so);
     Ok(())
+}
+
+/// Whether the answer for 0 at 2 and 1 is this line of the encoding, and nothing is made.
+fn is_there(alloc: Global, q: &Problem, number: u64) -> Result<bool, AllocError> {
+    let lines = Encoding::new(alloc, q)?;
+    let mut made = RowLines::new(alloc);
+    let mut journal = Journal::new(alloc, 1);
+    let line = ask(alloc, q, &lines, &mut made, &mut journal, 0, 2, 1)?;
+    Ok(line == Ref::Line(number) && journal.text().is_empty())
 }
 
 #[test]
 fn a_line_of_the_encoding_is_not_made_again(rt: HostRuntime) -> Result<(), Fail> {
-    let q = problem(rt.alloc(), TWO, CYCLE, false).ok_or("no problem")?;
-    let lines = Encoding::new(rt.alloc(), &q)?;
-    let mut made = RowLines::new(rt.alloc());
-    let mut journal = Journal::new(rt.alloc(), 1);
-    let line = ask(rt.alloc(), &q, &lines, &mut made, &mut journal, (0, 2, 1))?;
-    assert_eq!(rt; name_of(rt.alloc(), line)?.as_str(), "7");
-    assert_eq!(rt; journal.text(), b"".as_slice());
+    let q = problem(rt.alloc(), APART, FOUR_CYCLE, false).ok_or("no problem")?;
+    let is_so = is_there(rt.alloc(), &q, 7)?;
+    assert!(rt; is_so);
     Ok(())
 }

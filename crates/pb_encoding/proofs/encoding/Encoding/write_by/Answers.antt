@@ -8,7 +8,7 @@ use Rattle.opb_text.proofs.Putting.{Wrote-then}
 use Rattle.encoding_theory.specs.Variables.{variables}
 use Rattle.encoding_theory.specs.Encoding.{encoding}
 use Rattle.pb_encoding.specs.Writing.{forms_text}
-use Rattle.pb_encoding.proofs.encoding.Encoding.write.Goals as goal
+use Rattle.pb_encoding.proofs.encoding.Encoding.write_by.Goals as goal
 
 pub returns-in_err-write_head-clause-text : goal.returns-in_err-write_head-clause-text
 returns-in_err-write_head-clause-text g c =
