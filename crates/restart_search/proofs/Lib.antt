@@ -7,6 +7,7 @@ pub mod Choosing
 pub mod Moments
 pub mod Positions
 pub mod Publishing
+pub mod Learning
 pub mod KeepingUp
 pub mod Restarting
 pub mod Logging

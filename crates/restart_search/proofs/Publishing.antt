@@ -151,7 +151,7 @@ published_more a K i p row above below vertex is above_is all = record { each = 
         by_place (inr least) = last j r t (omega arith) v h
 
 -- after a level without a vertex there is none with one
-no_vertex_after : (ss : List Step) (v : Option ℕ) (us : List ℕ) (i j p : ℕ) → (level_among ss v us i).vertex ≡ None → i ≤ j → (level_among ss v us j).vertex ≡ Some p → ⊥
+pub no_vertex_after : (ss : List Step) (v : Option ℕ) (us : List ℕ) (i j p : ℕ) → (level_among ss v us i).vertex ≡ None → i ≤ j → (level_among ss v us j).vertex ≡ Some p → ⊥
 no_vertex_after [] v us zero zero p none le is = cc
 no_vertex_after [] v us zero (suc j) p none le is = cc
 no_vertex_after [] v us (suc i) zero p none le is = absurd (omega arith)
@@ -171,21 +171,26 @@ published_ended a o from rows i below none = record { each = each }
         by_place (inl less) = below.each j p t less v h
         by_place (inr least) = absurd (no_vertex_after a.steps a.vertex a.refuted i j p none least v)
 
+-- a level that has a vertex is one of as many as there are pattern vertices
+pub level_few : (q : Problem) (a : Account) (j p : ℕ) → Honest q a → IsPath (path a) → InRange a.pattern a.target (path a)
+    → IfSome a.vertex (λ r. (r < a.pattern) × NotOn (path a) r) → (level_at a j).vertex ≡ Some p → j < size q.pattern
+level_few q a j p honest path_is range off v =
+    let level = level_is q a j p honest path_is range off v in
+    let few : length (take j (path a)) < size q.pattern =
+    path_fewer (size q.pattern) (suc (size q.target)) (take j (path a)) p 0 level.1.path_is (wider (take j (path a)) level.1.in_range) level.1.off level.1.vertex_in (omega arith) in
+    omega (arith, few, level.0, length-take-le j (path a) level.0)
+  where
+    wider : (xs : Pairs) → InRange (size q.pattern) (size q.target) xs → InRange (size q.pattern) (suc (size q.target)) xs
+    wider [] r = tt
+    wider (x ∷ xs) r = (r.0, omega (arith, r.1), wider xs r.2)
+
 -- and where as many levels are looked at as there are pattern vertices
 pub published_all : (q : Problem) (a : Account) (o from : ℕ) (rows : List Row) (n : ℕ) → n ≡ size q.pattern → Honest q a → IsPath (path a) → InRange a.pattern a.target (path a)
     → IfSome a.vertex (λ r. (r < a.pattern) × NotOn (path a) r) → PublishedBelow a (IsRowOf o from rows) n → IsPublished a o from rows
 published_all q a o from rows n is honest path_is range off below = record { each = each }
   where
     each : (j p t : ℕ) → (level_at a j).vertex ≡ Some p → Contains (level_at a j).refuted t → IsRowOf o from rows (take j (path a) ++ (p, t) ∷ [])
-    each j p t v h =
-        let level = level_is q a j p honest path_is range off v in
-        let few : length (take j (path a)) < size q.pattern =
-        path_fewer (size q.pattern) (suc (size q.target)) (take j (path a)) p 0 level.1.path_is (wider (take j (path a)) level.1.in_range) level.1.off level.1.vertex_in (omega arith) in
-        below.each j p t (omega (arith, few, level.0, length-take-le j (path a) level.0)) v h
-      where
-        wider : (xs : Pairs) → InRange (size q.pattern) (size q.target) xs → InRange (size q.pattern) (suc (size q.target)) xs
-        wider [] r = tt
-        wider (x ∷ xs) r = (r.0, omega (arith, r.1), wider xs r.2)
+    each j p t v h = below.each j p t (omega (arith, level_few q a j p honest path_is range off v)) v h
 
 -- ---- the guesses
 

@@ -1,15 +1,16 @@
 -- What a worker shares by a book of nogoods: what it publishes, which rows are in force in its domains, and that it keeps up.
 
-use Rattle.std.specs.Prelude.{◌≡◌, ℕ, ◌+◌, ◌<◌, ◌≤◌, ◌⊎◌, false, List, [], ◌∷◌, ◌++◌, length, take, Contains, Option, Some, None, slice_get}
+use Rattle.std.specs.Prelude.{◌≡◌, ℕ, zero, suc, ◌+◌, ◌<◌, ◌≤◌, ◌⊎◌, false, List, [], ◌∷◌, ◌++◌, length, map, take, Contains, Option, Some, None, slice_get}
 use Rattle.graph_theory.specs.Embedding.{Problem}
 use Rattle.search_theory.specs.Account.{Account, path, level_at}
 use Rattle.domain_bits.specs.Removals.{State, in_domain}
 use Rattle.nogood_watch.specs.Nogoods.{literal}
 use Rattle.nogood_watch.specs.Watching.{IsAssigned, AllBut}
 use Rattle.nogood_book.specs.declared.row.Row.{Row}
-use Rattle.nogood_book.specs.declared.row.RowKind.TheVariants.{Nogood}
+use Rattle.nogood_book.specs.declared.row.RowKind.{RowKind}
+use Rattle.nogood_book.specs.declared.row.RowKind.TheVariants.{Step, Nogood}
 use Rattle.nogood_book.specs.Rows.{Pairs, path_at}
-use Rattle.nogood_book.specs.Places.{IsNogoodRow, nogoods_by}
+use Rattle.nogood_book.specs.Places.{IsNogoodRow, nogoods_by, places}
 use Rattle.nogood_book.specs.Facts.{Facts, Grew}
 
 -- The seat is one of this owner, for this problem.
@@ -32,6 +33,42 @@ pub record IsRowOf (owner from : ℕ) (rows : List Row) (xs : Pairs) : Type 0 wh
 -- What the account's position has refuted is published: at each level that has a vertex, each value refuted there, with the path above.
 pub record IsPublished (a : Account) (owner from : ℕ) (rows : List Row) : Type 0 where
   pub each : (i p t : ℕ) → (level_at a i).vertex ≡ Some p → Contains (level_at a i).refuted t → IsRowOf owner from rows (take i (path a) ++ (p, t) ∷ [])
+
+-- The path of a row, where it is a nogood.
+abbrev pub if_nogood : RowKind → Pairs → List Pairs
+if_nogood Step xs = []
+if_nogood Nogood xs = xs ∷ []
+
+abbrev pub nogood_of : Option Row → Pairs → List Pairs
+nogood_of None xs = []
+nogood_of (Some r) xs = if_nogood r.kind xs
+
+-- The paths of the nogoods among the rows at these places.
+abbrev pub nogoods_at : List Row → List ℕ → List Pairs
+nogoods_at rows [] = []
+nogoods_at rows (k ∷ ks) = nogood_of (slice_get rows k) (path_at rows k) ++ nogoods_at rows ks
+
+-- What an owner has learned: the paths of all nogoods that it has written among the rows, in the order of their places.
+abbrev pub learned_by : ℕ → List Row → List Pairs
+learned_by owner rows = nogoods_at rows (places owner rows)
+
+-- What a level has refuted: the decisions above it, and then each value refuted for its vertex.
+abbrev pub refuted_at : Pairs → Option ℕ → List ℕ → List Pairs
+refuted_at above None us = []
+refuted_at above (Some p) us = map (λ t. above ++ (p, t) ∷ []) us
+
+-- What the first n levels have refuted, in their order, and the values of each rising.
+abbrev pub refuted_below : Account → ℕ → List Pairs
+refuted_below a zero = []
+refuted_below a (suc n) = refuted_below a n ++ refuted_at (take n (path a)) (level_at a n).vertex (level_at a n).refuted
+
+-- What the position has refuted: at the levels of the path, and at the one after it.
+abbrev pub refuted_in : Account → List Pairs
+refuted_in a = refuted_below a (length (path a) + 1)
+
+-- From the first to the second of these the seat's owner has learned exactly what the position had refuted, in order; or every row of the book is used and seen.
+abbrev pub HasLearned : Account → Facts → Facts → Type 0
+HasLearned a s t = (learned_by s.owner t.seen ≡ learned_by s.owner s.seen ++ refuted_in a) ⊎ (t.size ≤ length t.seen)
 
 -- The same seat has seen no less, and has not looked again.
 pub record Went (s t : Facts) : Type 0 where

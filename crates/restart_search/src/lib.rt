@@ -15,8 +15,6 @@ pub mod root;
 pub mod search;
 mod shared;
 mod sharing;
-#[cfg(test)]
-mod tests;
 mod value_choice;
 pub mod worker;
 

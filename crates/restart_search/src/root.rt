@@ -81,7 +81,8 @@ fn settle_root<T: Trail, R: Recorder>(
     ensures filters { filters.new ≡ unlearned q.now }
     ensures is_of { IsOf q.now d.new }
     ensures fails { IfErr result (Fails q.now None d.new (R.changes told.new) (R.short told.new)) }
-    ensures told { Tells q.now None d.old (R.changes told.old) → Tells q.now None d.new (R.changes told.new) }
+    ensures told { Tells q.now None d.old (R.changes told.old)
+        → Tells q.now None d.new (R.changes told.new) }
     ensures guesses { NoNewGuess (R.changes told.old) (R.changes told.new) }
 {
     begin(q, kept, d, waiting, told, row)?;
@@ -98,7 +99,8 @@ pub fn root<T: Trail, R: Recorder>(
     told: R,
 ) -> Rooted<T, R>
     requires kinds { kinds.now.problem ≡ q.now }
-    requires told { Tells q.now None (full (size q.now.pattern) (size q.now.target)) (R.changes told) }
+    requires told { Tells q.now None (full (size q.now.pattern) (size q.now.target))
+        (R.changes told) }
     ensures { RootSays R.changes R.short result q.now }
 {
     match take_root::<T, R>(alloc, q, kinds, most, told) {
@@ -116,7 +118,8 @@ fn take_root<T: Trail, R: Recorder>(
     told: R,
 ) -> Result<Rooted<T, R>, AllocError>
     requires kinds { kinds.now.problem ≡ q.now }
-    requires told { Tells q.now None (full (size q.now.pattern) (size q.now.target)) (R.changes told) }
+    requires told { Tells q.now None (full (size q.now.pattern) (size q.now.target))
+        (R.changes told) }
     ensures { IfOk result (λ answer. RootSays R.changes R.short answer q.now) }
 {
     let vertices = q.pattern().size();

@@ -15,7 +15,7 @@ ghost use Rattle.restart_search.specs.Acting.{Acting, WereActedOn};
 ghost use Rattle.propagation.specs.Holding.{HoldsRows, KeepsSame};
 ghost use Rattle.nogood_book.specs.Facts.{CaughtUp};
 ghost use Rattle.nogood_book.specs.Rows as book;
-ghost use Rattle.restart_search.specs.Sharing.{IsSeatFor};
+ghost use Rattle.restart_search.specs.Sharing.{IsSeatFor, HasLearned};
 ghost use Rattle.restart_search.specs.Logging.{IsTold, IsLogged, LogsOn, IfRefuted};
 ghost use Rattle.restart_search.specs.Searching.{AtRest, Based, Sound, Begun, BeganAgain, IsAtRoot, TookUp, Knows, Ends, IsNotStopped, Leaves, FoundOf, IsBest, IsFirstUndecided, IsNextBest, ComesFirst, IsNow, IsUndecided};
 
@@ -116,9 +116,11 @@ fn level_vertex<T: Trail>(
     requires rest { AtRest q.now (path account.now) d.now }
     requires left { LeavesPast q.now d.now undecided.now }
     requires sizes { account.now.pattern ≡ size q.now.pattern }
-    ensures some { IfSome result (λ p. (p < size q.now.pattern) × NotOn (path account.now) p × IsAt account.now.vertex p) }
+    ensures some { IfSome result
+        (λ p. (p < size q.now.pattern) × NotOn (path account.now) p × IsAt account.now.vertex p) }
     ensures fresh { account.now.vertex ≡ None → IfSome result (IsFirstUndecided q.now d.now) }
-    ensures none { IfNone result ((p : ℕ) → p < size q.now.pattern → (t : ℕ) × Single (in_domain d.now) p t) }
+    ensures none { IfNone result
+        ((p : ℕ) → p < size q.now.pattern → (t : ℕ) × Single (in_domain d.now) p t) }
 {
     match account.vertex() {
         Some(p) => Some(p),
@@ -135,8 +137,10 @@ fn fill_untried<T: Trail>(d: &Domains<T>, account: &Account, p: u16, row: &mut [
     requires vertices { account.now.pattern ≡ d.now.vertices }
     requires values { account.now.target ≡ d.now.values }
     requires long { length row.old ≡ words_for d.now.values }
-    ensures untried { (t : ℕ) → has row.new t ≡ true → (in_domain d.now p t ≡ true) × NotAmong account.now.refuted t }
-    ensures all { (t : ℕ) → in_domain d.now p t ≡ true → NotAmong account.now.refuted t → has row.new t ≡ true }
+    ensures untried { (t : ℕ) → has row.new t ≡ true → (in_domain d.now p t ≡ true)
+        × NotAmong account.now.refuted t }
+    ensures all { (t : ℕ) → in_domain d.now p t ≡ true → NotAmong account.now.refuted t
+        → has row.new t ≡ true }
     ensures long { length row.new ≡ words_for d.now.values }
     ensures short { length row.new ≤ 1024 }
 {
@@ -174,8 +178,12 @@ fn take_back<T: Trail, R: Recorder>(
     requires some { 0 < length (path account.old) }
     requires dead { Dead q.now (path account.old) }
     ensures sound { Sound q.now d.new undecided.new account.new marks.new.items root }
-    ensures acting { (nogoods : Option watched.State) → WereActedOn d.old nogoods marks.old.items root → Acting d.new nogoods marks.new.items root }
-    ensures told { (nogoods : Option watched.State) → IsTold q.now nogoods d.old (path account.old) marks.old.items (R.changes told.old) → IsTold q.now nogoods d.new (path account.new) marks.new.items (R.changes told.new) }
+    ensures acting { (nogoods : Option watched.State)
+        → WereActedOn d.old nogoods marks.old.items root
+        → Acting d.new nogoods marks.new.items root }
+    ensures told { (nogoods : Option watched.State)
+        → IsTold q.now nogoods d.old (path account.old) marks.old.items (R.changes told.old)
+        → IsTold q.now nogoods d.new (path account.new) marks.new.items (R.changes told.new) }
     ensures failed { FailsTo account.old account.new }
     ensures nearer { remaining account.new < remaining account.old }
     ensures budget { account.new.budget ≡ account.old.budget }
@@ -208,7 +216,9 @@ fn restart<T: Trail, R: Recorder>(
     requires due { account.old.count ≡ cutoff account.old.run }
     ensures at_root { IsAtRoot q.now d.new undecided.new account.new marks.new.items root }
     ensures restarted { account.new ≡ restarted account.old }
-    ensures told { (nogoods : Option watched.State) → IsTold q.now nogoods d.old (path account.old) marks.old.items (R.changes told.old) → IsTold q.now nogoods d.new (path account.new) marks.new.items (R.changes told.new) }
+    ensures told { (nogoods : Option watched.State)
+        → IsTold q.now nogoods d.old (path account.old) marks.old.items (R.changes told.old)
+        → IsTold q.now nogoods d.new (path account.new) marks.new.items (R.changes told.new) }
     ensures nearer { remaining account.new < remaining account.old }
     ensures room { vec_capacity marks.old ≤ vec_capacity marks.new }
 {
@@ -241,7 +251,8 @@ pub(crate) fn take_up_book<T: Trail, B: Book, L: ProofLogger>(
     requires fits { B.fits book.now seat.old }
     requires seat { (B.Seat.shows seat.old).problem ≡ q.now }
     requires owner { L.owner log.old ≡ (B.Seat.shows seat.old).owner }
-    requires logged { IsLogged q.now (B.Seat.shows seat.old).seen filters.old.nogoods d.old account.now marks.now (L.Told.changes told.old) (L.writes log.old) }
+    requires logged { IsLogged q.now (B.Seat.shows seat.old).seen filters.old.nogoods d.old
+        account.now marks.now (L.Told.changes told.old) (L.writes log.old) }
     requires begun { taken ≤ length (B.Seat.shows seat.old).seen }
     requires problem { filters.old.problem ≡ q.now }
     requires holds { HoldsRows (take taken (B.Seat.shows seat.old).seen) filters.old.nogoods }
@@ -250,9 +261,14 @@ pub(crate) fn take_up_book<T: Trail, B: Book, L: ProofLogger>(
     ensures fits { B.fits book.now seat.new }
     ensures caught { CaughtUp (B.Seat.shows seat.old) (B.Seat.shows seat.new) }
     ensures problem { filters.new.problem ≡ q.now }
-    ensures took { IfOk result (λ some. TookUp some q.now filters.new.nogoods d.new undecided.new account.now marks.now root.new (B.Seat.shows seat.new).seen) }
+    ensures took { IfOk result
+        (λ some. TookUp some q.now filters.new.nogoods d.new undecided.new account.now marks.now
+        root.new (B.Seat.shows seat.new).seen) }
     ensures owner { L.owner log.new ≡ L.owner log.old }
-    ensures logged { IfOk result (λ some. LogsOn some q.now (B.Seat.shows seat.new).seen filters.new.nogoods d.new account.now marks.now (L.Told.changes told.new) (L.writes log.new) (L.refutes log.new)) }
+    ensures logged { IfOk result
+        (λ some. LogsOn some q.now (B.Seat.shows seat.new).seen filters.new.nogoods d.new
+        account.now marks.now (L.Told.changes told.new) (L.writes log.new)
+        (L.refutes log.new)) }
     ensures steps { L.steps log.new q.now (B.Seat.shows seat.new).seen }
 {
     book.catch_up(seat);
@@ -292,18 +308,28 @@ fn begin_again<T: Trail, B: Book, L: ProofLogger>(
     requires fits { B.fits book.now seat.old }
     requires seat { IsSeatFor author.now.problem.now author.now.owner (B.Seat.shows seat.old) }
     requires owner { L.owner log.old ≡ author.now.owner }
-    requires logged { IsLogged author.now.problem.now (B.Seat.shows seat.old).seen filters.old.nogoods d.old account.old marks.old.items (L.Told.changes told.old) (L.writes log.old) }
+    requires logged { IsLogged author.now.problem.now (B.Seat.shows seat.old).seen
+        filters.old.nogoods d.old account.old marks.old.items (L.Told.changes told.old)
+        (L.writes log.old) }
     requires narrow { author.now.owner < 128 }
     requires problem { filters.old.problem ≡ author.now.problem.now }
-    requires begun { Begun author.now.problem.now filters.old.nogoods d.old undecided.old account.old marks.old.items root.old (B.Seat.shows seat.old) }
+    requires begun { Begun author.now.problem.now filters.old.nogoods d.old undecided.old
+        account.old marks.old.items root.old (B.Seat.shows seat.old) }
     requires due { account.old.count ≡ cutoff account.old.run }
     requires long { length waiting.old ≡ size author.now.problem.now.pattern }
     ensures fits { B.fits book.now seat.new }
     ensures seat { IsSeatFor author.now.problem.now author.now.owner (B.Seat.shows seat.new) }
     ensures problem { filters.new.problem ≡ author.now.problem.now }
-    ensures begun { IfOk result (λ some. BeganAgain some author.now.problem.now filters.new.nogoods d.new undecided.new account.new marks.new.items root.new (B.Seat.shows seat.new)) }
+    ensures begun { IfOk result
+        (λ some. BeganAgain some author.now.problem.now filters.new.nogoods d.new undecided.new
+        account.new marks.new.items root.new (B.Seat.shows seat.new)) }
+    ensures learned { OnOk result
+        (HasLearned account.old (B.Seat.shows seat.old) (B.Seat.shows seat.new)) }
     ensures owner { L.owner log.new ≡ L.owner log.old }
-    ensures logged { IfOk result (λ some. LogsOn some author.now.problem.now (B.Seat.shows seat.new).seen filters.new.nogoods d.new account.new marks.new.items (L.Told.changes told.new) (L.writes log.new) (L.refutes log.new)) }
+    ensures logged { IfOk result
+        (λ some. LogsOn some author.now.problem.now (B.Seat.shows seat.new).seen filters.new.nogoods
+        d.new account.new marks.new.items (L.Told.changes told.new) (L.writes log.new)
+        (L.refutes log.new)) }
     ensures steps { L.steps log.new author.now.problem.now (B.Seat.shows seat.new).seen }
     ensures nearer { IfOk result (λ some. remaining account.new < remaining account.old) }
     ensures budget { account.new.budget ≡ account.old.budget }
@@ -366,7 +392,8 @@ fn guess<T: Trail, L: ProofLogger>(
     requires rows { book.Sound q.now rows.now }
     requires few { length rows.now < 2 ^ 32 }
     requires holds { HoldsRows rows.now filters.old.nogoods }
-    requires logged { IsLogged q.now rows.now filters.old.nogoods d.old account.old marks.old.items (L.Told.changes told.old) (L.writes log.old) }
+    requires logged { IsLogged q.now rows.now filters.old.nogoods d.old account.old marks.old.items
+        (L.Told.changes told.old) (L.writes log.old) }
     requires unspent { account.old.all < account.old.budget }
     requires before_cutoff { account.old.count < cutoff account.old.run }
     requires may { MayGuess q.now account.old p t }
@@ -377,7 +404,9 @@ fn guess<T: Trail, L: ProofLogger>(
     ensures sound { OnOk result (Sound q.now d.new undecided.new account.new marks.new.items root) }
     ensures acting { OnOk result (Acting d.new filters.new.nogoods marks.new.items root) }
     ensures kept { KeepsSame filters.old.nogoods filters.new.nogoods }
-    ensures logged { OnOk result (IsLogged q.now rows.now filters.new.nogoods d.new account.new marks.new.items (L.Told.changes told.new) (L.writes log.new)) }
+    ensures logged { OnOk result
+        (IsLogged q.now rows.now filters.new.nogoods d.new account.new marks.new.items
+        (L.Told.changes told.new) (L.writes log.new)) }
     ensures owner { L.owner log.new ≡ L.owner log.old }
     ensures steps { L.steps log.new q.now rows.now }
     ensures nearer { OnOk result (remaining account.new < remaining account.old) }
@@ -466,9 +495,12 @@ pub(crate) fn run<'a, T: Trail, B: Book, L: ProofLogger, G: Gate>(
     requires seat { IsSeatFor author.now.problem.now author.now.owner (B.Seat.shows seat.old) }
     requires narrow { author.now.owner < 128 }
     requires problem { filters.old.problem ≡ author.now.problem.now }
-    requires begun { Begun author.now.problem.now filters.old.nogoods d.old undecided.old account.old marks.old.items root.old (B.Seat.shows seat.old) }
+    requires begun { Begun author.now.problem.now filters.old.nogoods d.old undecided.old
+        account.old marks.old.items root.old (B.Seat.shows seat.old) }
     requires owner { L.owner log.old ≡ author.now.owner }
-    requires logged { IsLogged author.now.problem.now (B.Seat.shows seat.old).seen filters.old.nogoods d.old account.old marks.old.items (L.Told.changes told.old) (L.writes log.old) }
+    requires logged { IsLogged author.now.problem.now (B.Seat.shows seat.old).seen
+        filters.old.nogoods d.old account.old marks.old.items (L.Told.changes told.old)
+        (L.writes log.old) }
     requires long { length waiting.old ≡ size author.now.problem.now.pattern }
     requires words { length untried.old ≡ words_for (size author.now.problem.now.target) }
     requires choice { choice.old ≡ size author.now.problem.now.target }
@@ -478,11 +510,16 @@ pub(crate) fn run<'a, T: Trail, B: Book, L: ProofLogger, G: Gate>(
     ensures ends { Ends result author.now.problem.now account.new }
     ensures alone { cell.entry ≡ None → IsNotStopped result }
     ensures budget { account.new.budget ≡ account.old.budget }
-    ensures begun { Leaves result (Begun author.now.problem.now filters.new.nogoods d.new undecided.new account.new marks.new.items root.new (B.Seat.shows seat.new)) }
+    ensures begun { Leaves result
+        (Begun author.now.problem.now filters.new.nogoods d.new undecided.new account.new
+        marks.new.items root.new (B.Seat.shows seat.new)) }
     ensures owner { L.owner log.new ≡ L.owner log.old }
-    ensures logged { Leaves result (IsLogged author.now.problem.now (B.Seat.shows seat.new).seen filters.new.nogoods d.new account.new marks.new.items (L.Told.changes told.new) (L.writes log.new)) }
+    ensures logged { Leaves result
+        (IsLogged author.now.problem.now (B.Seat.shows seat.new).seen filters.new.nogoods d.new
+        account.new marks.new.items (L.Told.changes told.new) (L.writes log.new)) }
     ensures steps { L.steps log.new author.now.problem.now (B.Seat.shows seat.new).seen }
-    ensures refutes { IfRefuted result (L.refutes log.new author.now.problem.now (B.Seat.shows seat.new).seen) }
+    ensures refutes { IfRefuted result
+        (L.refutes log.new author.now.problem.now (B.Seat.shows seat.new).seen) }
     ensures problem { filters.new.problem ≡ author.now.problem.now }
     ensures choice { choice.new ≡ size author.now.problem.now.target }
     ensures room { size author.now.problem.now.pattern ≤ vec_capacity marks.new }

@@ -11,7 +11,7 @@ ghost use Rattle.graph_theory.specs.Neighbours.{members};
 ghost use Rattle.search_theory.specs.Account.{InRange, Honest, path, level_at};
 ghost use Rattle.proof_logger.specs.Logging.{GrowsBeside};
 ghost use Rattle.nogood_book.specs.Reaching.{Reaches, MayStand};
-ghost use Rattle.restart_search.specs.Sharing.{IsSeatFor, IsRowOf, IsPublished, Went};
+ghost use Rattle.restart_search.specs.Sharing.{IsSeatFor, IsRowOf, IsPublished, Went, learned_by, refuted_at, refuted_in};
 
 use bit_rows::next_member;
 use fail_account::Account;
@@ -53,13 +53,22 @@ fn publish_nogood<B: Book, L: ProofLogger>(
     requires above { above.now ≡ take level (path account.now) }
     requires spare { 1 ≤ L.spare log.old }
     requires owner { L.owner log.old ≡ author.now.owner }
-    requires writes { L.writes log.old author.now.problem.now (B.Seat.shows seat.old).seen account.now }
+    requires writes { L.writes log.old author.now.problem.now (B.Seat.shows seat.old).seen
+        account.now }
     ensures owner { L.owner log.new ≡ L.owner log.old }
-    ensures writes { L.writes log.new author.now.problem.now (B.Seat.shows seat.new).seen account.now }
+    ensures writes { L.writes log.new author.now.problem.now (B.Seat.shows seat.new).seen
+        account.now }
     ensures fits { B.fits book.now seat.new }
     ensures went { Went (B.Seat.shows seat.old) (B.Seat.shows seat.new) }
-    ensures row { result ≡ true → IsRowOf author.now.owner (length (B.Seat.shows seat.old).seen) (B.Seat.shows seat.new).seen (above.now ++ pair ∷ []) }
-    ensures full { result ≡ false → length (B.Seat.shows seat.new).seen ≡ (B.Seat.shows seat.new).size }
+    ensures row { result ≡ true
+        → IsRowOf author.now.owner (length (B.Seat.shows seat.old).seen)
+        (B.Seat.shows seat.new).seen (above.now ++ pair ∷ []) }
+    ensures learned { result ≡ true
+        → learned_by author.now.owner (B.Seat.shows seat.new).seen
+        ≡ learned_by author.now.owner (B.Seat.shows seat.old).seen
+        ++ (above.now ++ pair ∷ []) ∷ [] }
+    ensures full { result ≡ false
+        → length (B.Seat.shows seat.new).seen ≡ (B.Seat.shows seat.new).size }
 {
     let _pattern = author.problem.pattern();
     let _target = author.problem.target();
@@ -96,9 +105,14 @@ fn publish_step<B: Book>(
     requires stands { MayStand author.now.problem.now above.now pair }
     ensures fits { B.fits book.now seat.new }
     ensures went { Went (B.Seat.shows seat.old) (B.Seat.shows seat.new) }
-    ensures beside { GrowsBeside author.now.owner (B.Seat.shows seat.old).seen (B.Seat.shows seat.new).seen }
-    ensures next { IfSome result (λ at. Reaches (B.Seat.shows seat.new).seen (Some at) (above.now ++ pair ∷ [])) }
-    ensures full { IfNone result (length (B.Seat.shows seat.new).seen ≡ (B.Seat.shows seat.new).size) }
+    ensures beside { GrowsBeside author.now.owner (B.Seat.shows seat.old).seen
+        (B.Seat.shows seat.new).seen }
+    ensures next { IfSome result
+        (λ at. Reaches (B.Seat.shows seat.new).seen (Some at) (above.now ++ pair ∷ [])) }
+    ensures learned { IfSome result (λ at. learned_by author.now.owner (B.Seat.shows seat.new).seen
+        ≡ learned_by author.now.owner (B.Seat.shows seat.old).seen) }
+    ensures full { IfNone result
+        (length (B.Seat.shows seat.new).seen ≡ (B.Seat.shows seat.new).size) }
 {
     let _pattern = author.problem.pattern();
     let _target = author.problem.target();
@@ -136,19 +150,32 @@ fn publish_level<B: Book, L: ProofLogger>(
     requires fresh { NotOn above.now p }
     requires vertex { p < size author.now.problem.now.pattern }
     requires long { length refuted.now ≡ words_for (size author.now.problem.now.target) }
-    requires refuted { (t : ℕ) → has refuted.now t ≡ true → (t < size author.now.problem.now.target) × Dead author.now.problem.now (above.now ++ (p, t) ∷ []) }
+    requires refuted { (t : ℕ) → has refuted.now t ≡ true → (t < size author.now.problem.now.target)
+        × Dead author.now.problem.now (above.now ++ (p, t) ∷ []) }
     requires level { (level_at account.now level).vertex ≡ Some p }
-    requires row { members (has refuted.now) account.now.target ≡ (level_at account.now level).refuted }
+    requires row { members (has refuted.now) account.now.target
+        ≡ (level_at account.now level).refuted }
     requires target { account.now.target ≡ size author.now.problem.now.target }
     requires above { above.now ≡ take level (path account.now) }
     requires owner { L.owner log.old ≡ author.now.owner }
-    requires writes { L.writes log.old author.now.problem.now (B.Seat.shows seat.old).seen account.now }
+    requires writes { L.writes log.old author.now.problem.now (B.Seat.shows seat.old).seen
+        account.now }
     ensures owner { L.owner log.new ≡ L.owner log.old }
-    ensures writes { L.writes log.new author.now.problem.now (B.Seat.shows seat.new).seen account.now }
+    ensures writes { L.writes log.new author.now.problem.now (B.Seat.shows seat.new).seen
+        account.now }
     ensures fits { B.fits book.now seat.new }
     ensures went { Went (B.Seat.shows seat.old) (B.Seat.shows seat.new) }
-    ensures all { IfOk result (λ whole. whole ≡ true → (t : ℕ) → has refuted.now t ≡ true → IsRowOf author.now.owner (length (B.Seat.shows seat.old).seen) (B.Seat.shows seat.new).seen (above.now ++ (p, t) ∷ [])) }
-    ensures full { IfOk result (λ whole. whole ≡ false → length (B.Seat.shows seat.new).seen ≡ (B.Seat.shows seat.new).size) }
+    ensures all { IfOk result
+        (λ whole. whole ≡ true → (t : ℕ) → has refuted.now t ≡ true
+        → IsRowOf author.now.owner (length (B.Seat.shows seat.old).seen)
+        (B.Seat.shows seat.new).seen (above.now ++ (p, t) ∷ [])) }
+    ensures learned { IfOk result (λ whole. whole ≡ true
+        → learned_by author.now.owner (B.Seat.shows seat.new).seen
+        ≡ learned_by author.now.owner (B.Seat.shows seat.old).seen
+        ++ refuted_at above.now (Some p) (members (has refuted.now) account.now.target)) }
+    ensures full { IfOk result
+        (λ whole. whole ≡ false
+        → length (B.Seat.shows seat.new).seen ≡ (B.Seat.shows seat.new).size) }
 {
     let _few = author.problem.target().size();
     let _rows = seat.rows();
@@ -178,12 +205,19 @@ fn publish_guess<B: Book>(
     requires narrow { author.now.owner < 128 }
     requires parent { Reaches (B.Seat.shows seat.old).seen parent.old (take at path.now) }
     requires path { IsPath path.now }
-    requires range { InRange (size author.now.problem.now.pattern) (size author.now.problem.now.target) path.now }
+    requires range { InRange (size author.now.problem.now.pattern)
+        (size author.now.problem.now.target) path.now }
     ensures fits { B.fits book.now seat.new }
     ensures went { Went (B.Seat.shows seat.old) (B.Seat.shows seat.new) }
-    ensures beside { GrowsBeside author.now.owner (B.Seat.shows seat.old).seen (B.Seat.shows seat.new).seen }
-    ensures next { result ≡ true → Reaches (B.Seat.shows seat.new).seen parent.new (take (at + 1) path.now) }
-    ensures full { result ≡ false → length (B.Seat.shows seat.new).seen ≡ (B.Seat.shows seat.new).size }
+    ensures beside { GrowsBeside author.now.owner (B.Seat.shows seat.old).seen
+        (B.Seat.shows seat.new).seen }
+    ensures next { result ≡ true
+        → Reaches (B.Seat.shows seat.new).seen parent.new (take (at + 1) path.now) }
+    ensures learned { result ≡ true
+        → learned_by author.now.owner (B.Seat.shows seat.new).seen
+        ≡ learned_by author.now.owner (B.Seat.shows seat.old).seen }
+    ensures full { result ≡ false
+        → length (B.Seat.shows seat.new).seen ≡ (B.Seat.shows seat.new).size }
 {
     let _rows = seat.rows();
     if at >= path.len() {
@@ -213,13 +247,23 @@ pub(crate) fn publish_position<B: Book, L: ProofLogger>(
     requires narrow { author.now.owner < 128 }
     requires honest { Honest author.now.problem.now account.now }
     requires owner { L.owner log.old ≡ author.now.owner }
-    requires writes { L.writes log.old author.now.problem.now (B.Seat.shows seat.old).seen account.now }
+    requires writes { L.writes log.old author.now.problem.now (B.Seat.shows seat.old).seen
+        account.now }
     ensures owner { L.owner log.new ≡ L.owner log.old }
-    ensures writes { L.writes log.new author.now.problem.now (B.Seat.shows seat.new).seen account.now }
+    ensures writes { L.writes log.new author.now.problem.now (B.Seat.shows seat.new).seen
+        account.now }
     ensures fits { B.fits book.now seat.new }
     ensures went { Went (B.Seat.shows seat.old) (B.Seat.shows seat.new) }
-    ensures all { IfOk result (λ whole. whole ≡ true → IsPublished account.now author.now.owner (length (B.Seat.shows seat.old).seen) (B.Seat.shows seat.new).seen) }
-    ensures full { IfOk result (λ whole. whole ≡ false → length (B.Seat.shows seat.new).seen ≡ (B.Seat.shows seat.new).size) }
+    ensures all { IfOk result
+        (λ whole. whole ≡ true
+        → IsPublished account.now author.now.owner (length (B.Seat.shows seat.old).seen)
+        (B.Seat.shows seat.new).seen) }
+    ensures learned { IfOk result (λ whole. whole ≡ true
+        → learned_by author.now.owner (B.Seat.shows seat.new).seen
+        ≡ learned_by author.now.owner (B.Seat.shows seat.old).seen ++ refuted_in account.now) }
+    ensures full { IfOk result
+        (λ whole. whole ≡ false
+        → length (B.Seat.shows seat.new).seen ≡ (B.Seat.shows seat.new).size) }
 {
     let _vertex = account.vertex();
     let _rows = seat.rows();

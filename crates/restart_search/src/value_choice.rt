@@ -1,6 +1,11 @@
-//! The choice of a value among those that are untried: biased to the values of great degree in the target.
+//! The choice of a value among those that are untried: biased to the values of great degree in the target, or uniform.
+//!
+//! The bias sends all workers into the same values first, where they refute the same before they have read of each other. So every other
+//! worker gives all values the same weight: two workers beside each other begin apart, and what each publishes is new to the other.
+//! Worker 1 is biased, so that one thread searches as by itself. (Workers that differ in how they choose, and not in where they look:
+//! the portfolios of Hamadi, Jabbour and Sais 2009.)
 
-ghost use Rattle.std.specs.Prelude.{◌≡◌, ℕ, ◌<◌, ◌≤◌, true, length, IfOk};
+ghost use Rattle.std.specs.Prelude.{◌≡◌, ℕ, ◌<◌, ◌≤◌, ◌%◌, true, length, IfOk};
 ghost use Rattle.graph_theory.specs.Graph.{size};
 ghost use Rattle.domain_bits.specs.BitRows.{has};
 
@@ -9,7 +14,7 @@ use graph_rows::Problem;
 use std::alloc::{AllocError, Global};
 use std::marker::Model;
 
-/// What a worker chooses values with: the degree of each target vertex, and its stream of words. Contracts see how many
+/// What a worker chooses values with: the degree that it weighs each target vertex by, and its stream of words. Contracts see how many
 /// target vertices there are.
 #[derive(Drop)]
 pub struct ValueChoice {
@@ -25,9 +30,18 @@ impl Model for ValueChoice {
     ghost view = { λ v. length v.degrees.items };
 }
 
+/// The degree that a worker weighs a value of this degree by: a worker of even number weighs all alike.
+fn weighed(worker: u8, degree: u16) -> u16
+    ensures odd { worker % 2 ≡ 1 → result ≡ degree }
+    ensures even { worker % 2 ≡ 0 → result ≡ 0 }
+{
+    if worker % 2 == 0 { 0 } else { degree }
+}
+
 impl ValueChoice {
     /// The choice of the worker of this number, from 1, whose stream is that of the seed after as many jumps as there are workers before
-    /// it. Cost: one step for each target vertex, and for each jump some hundred.
+    /// it: biased where the number is odd, and uniform where it is even. Cost: one step for each target vertex, and for each jump some
+    /// hundred.
     pub fn new(alloc: Global, q: &Problem, seed: u64, worker: u8) -> Result<ValueChoice, AllocError>
         requires { 1 ≤ worker }
         ensures { IfOk result (λ v. v ≡ size q.now.target) }
@@ -35,7 +49,7 @@ impl ValueChoice {
         let target = q.target();
         let mut degrees = Vec::new(alloc);
         for t in 0..target.size() {
-            degrees.push(target.degree(t))?;
+            degrees.push(weighed(worker, target.degree(t)))?;
         }
         let chooser = Chooser::new(seed, u32::from(worker));
         Ok(ValueChoice { degrees, chooser })

@@ -100,7 +100,8 @@ impl<'a, T: Trail, R: Recorder> Equipment<'a, T, R> {
         requires budget { budget < 2 ^ 63 }
         ensures problem { IfOk result (λ e. e.problem ≡ q.entry.now) }
         ensures number { IfOk result (λ e. e.number ≡ number) }
-        ensures account { IfOk result (λ e. e.account ≡ fresh (size q.entry.now.pattern) (size q.entry.now.target) budget) }
+        ensures account { IfOk result
+            (λ e. e.account ≡ fresh (size q.entry.now.pattern) (size q.entry.now.target) budget) }
     {
         let account = Account::new(alloc, q, budget)?;
         let vertices = usize::from(q.pattern().size());
@@ -236,8 +237,10 @@ impl<'a, S: RowSeat + Drop, T: Trail, L: ProofLogger> Worker<'a, S, T, L> {
         ensures number { self.new.number ≡ self.old.number }
         ensures owner { L.owner self.new.log ≡ L.owner self.old.log }
         ensures steps { L.steps self.new.log self.new.problem self.new.facts.seen }
-        ensures writes { Leaves result (L.writes self.new.log self.new.problem self.new.facts.seen self.new.account) }
-        ensures refutes { IfRefuted result (L.refutes self.new.log self.new.problem self.new.facts.seen) }
+        ensures writes { Leaves result
+            (L.writes self.new.log self.new.problem self.new.facts.seen self.new.account) }
+        ensures refutes { IfRefuted result
+            (L.refutes self.new.log self.new.problem self.new.facts.seen) }
         ensures budget { self.new.account.budget ≡ self.old.account.budget }
         ensures stage { self.new.stage ≡ stage_after result }
         ensures paused { Leaves result (IsPaused self.new) }
@@ -323,9 +326,12 @@ fn run_fresh<'a, T: Trail, B: Book, L: ProofLogger, G: Gate>(
     requires seat { IsSeatFor author.now.problem.now author.now.owner (B.Seat.shows seat.old) }
     requires narrow { author.now.owner < 128 }
     requires problem { filters.old.problem ≡ author.now.problem.now }
-    requires stands { NotBegun author.now.problem.now filters.old.nogoods d.old undecided.old account.old marks.old.items root.old }
+    requires stands { NotBegun author.now.problem.now filters.old.nogoods d.old undecided.old
+        account.old marks.old.items root.old }
     requires owner { L.owner log.old ≡ author.now.owner }
-    requires logged { IsLogged author.now.problem.now (B.Seat.shows seat.old).seen filters.old.nogoods d.old account.old marks.old.items (L.Told.changes told.old) (L.writes log.old) }
+    requires logged { IsLogged author.now.problem.now (B.Seat.shows seat.old).seen
+        filters.old.nogoods d.old account.old marks.old.items (L.Told.changes told.old)
+        (L.writes log.old) }
     requires long { length waiting.old ≡ size author.now.problem.now.pattern }
     requires words { length untried.old ≡ words_for (size author.now.problem.now.target) }
     requires choice { choice.old ≡ size author.now.problem.now.target }
@@ -335,11 +341,16 @@ fn run_fresh<'a, T: Trail, B: Book, L: ProofLogger, G: Gate>(
     ensures ends { Ends result author.now.problem.now account.new }
     ensures alone { cell.entry ≡ None → IsNotStopped result }
     ensures budget { account.new.budget ≡ account.old.budget }
-    ensures begun { Leaves result (Begun author.now.problem.now filters.new.nogoods d.new undecided.new account.new marks.new.items root.new (B.Seat.shows seat.new)) }
+    ensures begun { Leaves result
+        (Begun author.now.problem.now filters.new.nogoods d.new undecided.new account.new
+        marks.new.items root.new (B.Seat.shows seat.new)) }
     ensures owner { L.owner log.new ≡ L.owner log.old }
-    ensures logged { Leaves result (IsLogged author.now.problem.now (B.Seat.shows seat.new).seen filters.new.nogoods d.new account.new marks.new.items (L.Told.changes told.new) (L.writes log.new)) }
+    ensures logged { Leaves result
+        (IsLogged author.now.problem.now (B.Seat.shows seat.new).seen filters.new.nogoods d.new
+        account.new marks.new.items (L.Told.changes told.new) (L.writes log.new)) }
     ensures steps { L.steps log.new author.now.problem.now (B.Seat.shows seat.new).seen }
-    ensures refutes { IfRefuted result (L.refutes log.new author.now.problem.now (B.Seat.shows seat.new).seen) }
+    ensures refutes { IfRefuted result
+        (L.refutes log.new author.now.problem.now (B.Seat.shows seat.new).seen) }
     ensures problem { filters.new.problem ≡ author.now.problem.now }
     ensures long { length waiting.new ≡ size author.now.problem.now.pattern }
     ensures words { length untried.new ≡ words_for (size author.now.problem.now.target) }
@@ -397,9 +408,12 @@ fn run_from<'a, T: Trail, B: Book, L: ProofLogger, G: Gate>(
     requires seat { IsSeatFor author.now.problem.now author.now.owner (B.Seat.shows seat.old) }
     requires narrow { author.now.owner < 128 }
     requires problem { filters.old.problem ≡ author.now.problem.now }
-    requires stands { AtStage stage author.now.problem.now filters.old.nogoods d.old undecided.old account.old marks.old.items root.old (B.Seat.shows seat.old) }
+    requires stands { AtStage stage author.now.problem.now filters.old.nogoods d.old undecided.old
+        account.old marks.old.items root.old (B.Seat.shows seat.old) }
     requires owner { L.owner log.old ≡ author.now.owner }
-    requires logged { IsLogged author.now.problem.now (B.Seat.shows seat.old).seen filters.old.nogoods d.old account.old marks.old.items (L.Told.changes told.old) (L.writes log.old) }
+    requires logged { IsLogged author.now.problem.now (B.Seat.shows seat.old).seen
+        filters.old.nogoods d.old account.old marks.old.items (L.Told.changes told.old)
+        (L.writes log.old) }
     requires long { length waiting.old ≡ size author.now.problem.now.pattern }
     requires words { length untried.old ≡ words_for (size author.now.problem.now.target) }
     requires choice { choice.old ≡ size author.now.problem.now.target }
@@ -409,11 +423,16 @@ fn run_from<'a, T: Trail, B: Book, L: ProofLogger, G: Gate>(
     ensures ends { Ends result author.now.problem.now account.new }
     ensures alone { cell.entry ≡ None → IsNotStopped result }
     ensures budget { account.new.budget ≡ account.old.budget }
-    ensures begun { Leaves result (Begun author.now.problem.now filters.new.nogoods d.new undecided.new account.new marks.new.items root.new (B.Seat.shows seat.new)) }
+    ensures begun { Leaves result
+        (Begun author.now.problem.now filters.new.nogoods d.new undecided.new account.new
+        marks.new.items root.new (B.Seat.shows seat.new)) }
     ensures owner { L.owner log.new ≡ L.owner log.old }
-    ensures logged { Leaves result (IsLogged author.now.problem.now (B.Seat.shows seat.new).seen filters.new.nogoods d.new account.new marks.new.items (L.Told.changes told.new) (L.writes log.new)) }
+    ensures logged { Leaves result
+        (IsLogged author.now.problem.now (B.Seat.shows seat.new).seen filters.new.nogoods d.new
+        account.new marks.new.items (L.Told.changes told.new) (L.writes log.new)) }
     ensures steps { L.steps log.new author.now.problem.now (B.Seat.shows seat.new).seen }
-    ensures refutes { IfRefuted result (L.refutes log.new author.now.problem.now (B.Seat.shows seat.new).seen) }
+    ensures refutes { IfRefuted result
+        (L.refutes log.new author.now.problem.now (B.Seat.shows seat.new).seen) }
     ensures problem { filters.new.problem ≡ author.now.problem.now }
     ensures long { length waiting.new ≡ size author.now.problem.now.pattern }
     ensures words { length untried.new ≡ words_for (size author.now.problem.now.target) }

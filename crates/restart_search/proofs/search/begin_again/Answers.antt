@@ -7,6 +7,7 @@ use Rattle.restart_search.specs.Sharing.{KeepsUp}
 use Rattle.restart_search.specs.declared.search.Moment.{Moment}
 use Rattle.restart_search.specs.Searching.{TookUp}
 use Rattle.restart_search.proofs.KeepingUp.{keeps_again}
+use Rattle.restart_search.proofs.Learning.{has_learned, on_ok}
 use Rattle.restart_search.proofs.Restarting.{began_again, take_all_seen}
 use Rattle.restart_search.proofs.Publishing.{seat_went}
 use Rattle.restart_search.specs.Logging.{LogsOn}
@@ -70,3 +71,9 @@ returns-clause-logged g c =
 
 pub returns-clause-owner : goal.returns-clause-owner
 returns-clause-owner g c = c.take_up_book.ensures.owner ∙ (c.restart-2.ensures.owner ∙ c.publish_position-published.ensures.owner)
+
+pub returns-clause-learned : goal.returns-clause-learned
+returns-clause-learned g c =
+    on_ok c.take_up_book.result _
+    (has_learned c.args.account.now c.args.author.now.owner c.in_ok-_whole._whole (g.B.Seat.RowSeat.shows c.args.seat.now) (g.B.Seat.RowSeat.shows c.publish_position-published.new.seat) (g.B.Seat.RowSeat.shows c.take_up_book.new.seat)
+    c.requires.seat.owner_is c.publish_position-published.ensures.went c.take_up_book.ensures.caught c.in_ok-_whole.ensures.learned c.in_ok-_whole.ensures.full)

@@ -1,8 +1,10 @@
 use Rattle.std.proofs.Common.{length, refl, arith, ◌∙◌}
 use Rattle.domain_bits.specs.BitRows.{has}
+use Rattle.domain_bits.proofs.Rows.{has_past}
 use Rattle.nogood_book.proofs.Reaching.{reaches_more}
-use Rattle.restart_search.specs.Sharing.{IsRowOf}
-use Rattle.restart_search.proofs.Publishing.{went_more, row_on, row_later, level_more}
+use Rattle.restart_search.specs.Sharing.{IsRowOf, learned_by}
+use Rattle.restart_search.proofs.Publishing.{went_none, level_before, went_more, row_on, row_later, level_more}
+use Rattle.restart_search.proofs.Learning.{level_first, level_next, level_end, has_none}
 use Rattle.restart_search.proofs.Noting.{passes_member}
 use Rattle.restart_search.proofs.sharing.publish_level.Goals as goal
 
@@ -23,6 +25,8 @@ loop-t-preserved g c =
           c.loop-t.invariant.below
           (row_later o first mid last _ c.loop-t.invariant.went (c.if-not-publish_nogood.ensures.row refl))
           c.next_member-t-in-loop-t.ensures.none;
+      learned = level_next (learned_by o first.seen) (learned_by o mid.seen) (learned_by o last.seen) c.args.above.now c.args.p (has c.args.refuted.now) c.loop-t.t c.next_member-t-in-loop-t.result
+          c.loop-t.invariant.learned (c.if-not-publish_nogood.ensures.learned refl) (c.loop-t.invariant.member c.loop-t-test.true) c.next_member-t-in-loop-t.ensures.low c.next_member-t-in-loop-t.ensures.none;
       within = c.next_member-t-in-loop-t.ensures.high;
       member = c.next_member-t-in-loop-t.ensures.member;
       owner = c.publish_nogood.ensures.owner ∙ (c.in_ok-room.ensures.owner ∙ c.loop-t.invariant.owner);
@@ -42,3 +46,26 @@ publish_nogood-requires-clause-owner g c = c.in_ok-room.ensures.owner ∙ (c.loo
 
 pub returns-in_err-room-clause-writes : goal.returns-in_err-room-clause-writes
 returns-in_err-room-clause-writes g c = c.in_err-room.ensures.writes _ _ _ c.loop-t.invariant.writes
+
+pub returns-clause-learned : goal.returns-clause-learned
+returns-clause-learned g c = λ yes.
+    let o = c.args.author.now.owner in
+    level_end (learned_by o (g.B.Seat.RowSeat.shows c.args.seat.now).seen) (learned_by o (g.B.Seat.RowSeat.shows c.loop-t.seat).seen) c.args.above.now c.args.p (has c.args.refuted.now) c.loop-t.t c.args.account.now.target
+    c.loop-t.invariant.learned
+    (λ i past. has_past c.args.refuted.now i (omega (arith, past, c.loop-t-test.false)))
+    (λ i past. has_none c.args.refuted.now i (λ here. omega (arith, past, (c.requires.refuted i here).0, c.requires.target)))
+
+pub loop-t-init : goal.loop-t-init
+loop-t-init g c =
+    let first = g.B.Seat.RowSeat.shows c.args.seat.now in
+    let o = c.args.author.now.owner in
+    record {
+      fits = c.requires.fits;
+      went = went_none first c.rows-rows.ensures.sound;
+      below = level_before (IsRowOf o (length first.seen) first.seen) c.args.refuted.now c.args.above.now c.args.p c.next_member-t.result c.next_member-t.ensures.none;
+      learned = level_first (learned_by o first.seen) c.args.above.now c.args.p (has c.args.refuted.now) c.next_member-t.result c.next_member-t.ensures.none;
+      within = c.next_member-t.ensures.high;
+      member = c.next_member-t.ensures.member;
+      owner = refl;
+      writes = c.requires.writes;
+    }

@@ -2,6 +2,7 @@ use Rattle.std.proofs.Common.{◌≤◌, refl, sym, subst, ◌∙◌}
 use Rattle.graph_theory.specs.Graph.{Graph, size}
 use Rattle.restart_search.proofs.Publishing.{may_publish, went_at, went_full, full_after, row_published}
 use Rattle.restart_search.proofs.Noting.{beside_full, publishes_at}
+use Rattle.restart_search.proofs.Learning.{learned_nogood}
 use Rattle.restart_search.proofs.sharing.publish_nogood.Goals as goal
 
 pub publish-requires-clause-owner : goal.publish-requires-clause-owner
@@ -35,3 +36,6 @@ pub returns-in-Full-clause-writes : goal.returns-in-Full-clause-writes
 returns-in-Full-clause-writes g c =
     c.stays.ensures.grown c.args.author.now.problem.now (g.B.Seat.RowSeat.shows c.args.seat.now).seen (g.B.Seat.RowSeat.shows c.publish.new.seat).seen c.args.account.now
     (beside_full (g.L.ProofLogger.owner c.args.log.now) _ _ (c.requires.seat.owner_is ∙ sym c.requires.owner) c.in-Full.ensures.placed) c.requires.writes
+
+pub returns-in-At-clause-learned : goal.returns-in-At-clause-learned
+returns-in-At-clause-learned g c = λ yes. learned_nogood _ _ c.args.author.now.owner _ _ c.args.above.now c.in-At.ensures.placed c.requires.parent refl c.requires.seat.owner_is

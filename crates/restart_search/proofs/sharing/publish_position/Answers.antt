@@ -1,13 +1,14 @@
-use Rattle.std.proofs.Common.{◌≡◌, ℕ, ◌+◌, ◌<◌, ◌≤◌, Option, IfSome, length, take, refl, sym, ap, ◌∙◌, subst, arith}
+use Rattle.std.proofs.Common.{◌≡◌, ℕ, ◌+◌, ◌<◌, ◌≤◌, ◌++◌, List, Option, IfSome, length, take, refl, sym, ap, ◌∙◌, subst, arith}
 use Rattle.std.proofs.lemmas.List.{length-take-le}
 use Rattle.graph_theory.specs.Graph.{size}
 use Rattle.graph_theory.specs.Path.{NotOn}
 use Rattle.search_theory.specs.Account.{path}
 use Rattle.nogood_book.specs.Rows.{Pairs}
 use Rattle.nogood_book.proofs.Reaching.{reaches_more}
-use Rattle.restart_search.specs.Sharing.{IsRowOf}
+use Rattle.restart_search.specs.Sharing.{IsRowOf, learned_by, refuted_in, refuted_below}
 use Rattle.restart_search.proofs.Positions.{level_is, refuted_dead}
-use Rattle.restart_search.proofs.Publishing.{went_more, row_on, row_later, published_on, published_more, published_ended, published_all}
+use Rattle.restart_search.proofs.Publishing.{went_more, row_on, row_later, published_on, published_more, published_ended, published_all, level_few}
+use Rattle.restart_search.proofs.Learning.{below_more, below_all, none_after, no_vertex}
 use Rattle.proof_logger.specs.Logging.{GrowsBeside}
 use Rattle.restart_search.proofs.sharing.publish_position.Goals as goal
 
@@ -75,6 +76,8 @@ loop-i-preserved g c =
       parent = rw (sym c.from-at.ensures) (c.if-not-publish_guess.ensures.next refl);
       published = published_on c.args.account.now K (IsRowOf o (length first.seen) last.seen) (c.loop-i.i + 1)
           (λ xs. row_on o (length first.seen) (length first.seen) next.seen last.seen xs c.publish_guess.ensures.went.grew.seen (omega arith)) level;
+      learned = below_more c.args.account.now (learned_by o first.seen) (learned_by o mid.seen) (learned_by o next.seen) (learned_by o last.seen) (take c.from-at.result c.path-path.result.now) c.loop-i.i c.in-Some.p _
+          c.loop-i.invariant.learned (c.in_ok-whole.ensures.learned c.if-not-whole.false) (c.if-not-publish_guess.ensures.learned refl) above (sym c.level-vertex.ensures.vertex ∙ c.in-Some.is) c.level-vertex.ensures.refuted;
       owner = c.publish_level.ensures.owner ∙ c.loop-i.invariant.owner;
       writes = c.stays.ensures.grown c.args.author.now.problem.now next.seen last.seen c.args.account.now
           (subst (λ (n : ℕ). GrowsBeside n next.seen last.seen) (sym (c.publish_level.ensures.owner ∙ (c.loop-i.invariant.owner ∙ c.requires.owner))) c.publish_guess.ensures.beside)
@@ -106,3 +109,27 @@ returns-then-not-publish_guess-clause-writes g c =
     c.stays.ensures.grown c.args.author.now.problem.now next.seen last.seen c.args.account.now
     (subst (λ (n : ℕ). GrowsBeside n next.seen last.seen) (sym (c.publish_level.ensures.owner ∙ (c.loop-i.invariant.owner ∙ c.requires.owner))) c.publish_guess.ensures.beside)
     c.publish_level.ensures.writes
+
+pub returns-in_default-clause-learned : goal.returns-in_default-clause-learned
+returns-in_default-clause-learned g c = λ yes.
+    let o = c.args.author.now.owner in
+    c.loop-i.invariant.learned
+    ∙ ap (λ (zs : List Pairs). learned_by o (g.B.Seat.RowSeat.shows c.args.seat.now).seen ++ zs)
+    (below_all c.args.account.now c.loop-i.i (none_after c.args.account.now c.loop-i.i (sym c.level-vertex.ensures.vertex ∙ c.in_default.is)))
+
+pub returns-clause-learned : goal.returns-clause-learned
+returns-clause-learned g c = λ yes.
+    let o = c.args.author.now.owner in
+    let end : c.loop-i.i ≡ size c.args.author.now.problem.now.pattern =
+    omega (arith, c.loop-i.auto.i-end, c.loop-i-test.false) ∙ c.size-i-end.ensures.size ∙ ap size c.pattern.ensures.pattern in
+    c.loop-i.invariant.learned
+    ∙ ap (λ (zs : List Pairs). learned_by o (g.B.Seat.RowSeat.shows c.args.seat.now).seen ++ zs)
+    (below_all c.args.account.now c.loop-i.i
+    (λ j le. no_vertex _ (λ p is.
+    omega (
+      arith,
+      le,
+      end,
+      level_few c.args.author.now.problem.now c.args.account.now j p c.requires.honest c.path-path.ensures.vertices c.path-path.ensures.in_range
+          (subst (λ (v : Option ℕ). IfSome v (λ r. (r < c.args.account.now.pattern) × NotOn (path c.args.account.now) r)) c.vertex-vertex.ensures.is c.vertex-vertex.ensures.off_path) is,
+    ))))

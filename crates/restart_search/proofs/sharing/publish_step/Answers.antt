@@ -3,6 +3,7 @@ use Rattle.graph_theory.specs.Graph.{Graph, size}
 use Rattle.nogood_book.proofs.Reaching.{reaches_next}
 use Rattle.restart_search.proofs.Publishing.{may_publish, went_at, went_full, full_after}
 use Rattle.restart_search.proofs.Noting.{beside_full, beside_step}
+use Rattle.restart_search.proofs.Learning.{learned_step}
 use Rattle.restart_search.proofs.sharing.publish_step.Goals as goal
 
 pub publish-requires-clause-owner : goal.publish-requires-clause-owner
@@ -33,3 +34,6 @@ returns-in-At-clause-beside g c = beside_step _ _ c.args.author.now.owner _ _ c.
 
 pub returns-in-Full-clause-beside : goal.returns-in-Full-clause-beside
 returns-in-Full-clause-beside g c = beside_full c.args.author.now.owner _ _ c.requires.seat.owner_is c.in-Full.ensures.placed
+
+pub returns-in-At-clause-learned : goal.returns-in-At-clause-learned
+returns-in-At-clause-learned g c = learned_step _ _ c.args.author.now.owner _ _ c.args.above.now c.in-At.ensures.placed c.requires.parent refl c.requires.seat.owner_is
