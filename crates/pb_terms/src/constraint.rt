@@ -1,7 +1,7 @@
 // A constraint and the rules on it.
 
 ghost use Rattle.std.specs.Prelude.{◌≡◌, ℕ, ℤ, pos, zero, ◌+◌, ◌≤◌, ◌<◌, ◌^◌, ◌↔◌, List, Bool, length, slice_index_or, IsTrue, IfOk};
-ghost use Rattle.proof_theory.specs.Forms.{Form, Holds, Rises, assignment, size, sorted};
+ghost use Rattle.proof_theory.specs.Forms.{Form, Holds, IsNarrow, Rises, assignment, form_of, size, sorted};
 ghost use Rattle.proof_theory.specs.Rules.{sum_of, times_of, divide_of, saturate_of, is_contradiction};
 ghost use Rattle.proof_theory.specs.Slack.{setting, slack, Forces};
 ghost use Rattle.pb_terms.specs.Faults.{Gives, Makes};
@@ -12,7 +12,7 @@ use super::rules::{
     cut_terms, degree_of, divided_degree, divided_terms, negatives_of, positive_part, scaled,
     scaled_terms,
 };
-use super::slack::{is_forced, open_of, value_at, value_of};
+use super::slack::{greatest_of, is_forced, value_at, value_of};
 use super::sums::{combine, is_rising, merge};
 use super::width::{is_narrow, is_narrow_times};
 use std::alloc::{AllocError, Global};
@@ -37,29 +37,47 @@ impl Model for Constraint {
     ghost invariant = { λ c. Rises 0 c.terms.items × IsNarrow c.terms.items c.bound };
 }
 
-/// The constraint of terms that rise, if it is narrow.
-fn finish(terms: Vec<(u32, i128)>, bound: i128) -> Result<Constraint, PbFault>
+/// The constraint of terms that rise, if it is narrow, in no more room than they need.
+fn finish(mut terms: Vec<(u32, i128)>, bound: i128) -> Result<Constraint, PbFault>
     requires { Rises 0 terms.items }
     ensures { Gives result (record { terms = terms.items; bound = bound }) }
 {
     if is_narrow(&terms, bound) {
+        terms.shrink_to_fit();
         Ok(Constraint { terms, bound })
     } else {
         Err(PbFault::Wide)
     }
 }
 
-/// Terms in any order as sorted ones, like terms added.
-fn sorted_terms(alloc: Global, terms: &[(u32, i128)]) -> Result<Vec<(u32, i128)>, AllocError>
-    requires { size terms.now ≤ 2 ^ 125 }
-    ensures { IfOk result (λ v. v.items ≡ sorted terms.now) }
+/// The same terms in no more room than they need.
+fn fitted(mut terms: Vec<(u32, i128)>) -> Vec<(u32, i128)>
+    ensures { result.items ≡ terms.items }
 {
-    let mut copied = Vec::from_slice(alloc, terms)?;
-    if is_rising(terms) {
-        return Ok(copied);
+    terms.shrink_to_fit();
+    terms
+}
+
+/// Terms in any order as sorted ones, like terms added. The sort merges what rises already, so that k sorted lists one behind the other
+/// cost their terms times the logarithm of k.
+fn ordered(alloc: Global, mut terms: Vec<(u32, i128)>) -> Result<Vec<(u32, i128)>, AllocError>
+    requires { size terms.items ≤ 2 ^ 125 }
+    ensures { IfOk result (λ v. v.items ≡ sorted terms.items) }
+{
+    terms.sort_by_key(|t| t.0)?;
+    let made = combine(alloc, &terms)?;
+    Ok(fitted(made))
+}
+
+/// Terms in any order as sorted ones, like terms added. One pass where they rise already.
+fn sorted_terms(alloc: Global, terms: Vec<(u32, i128)>) -> Result<Vec<(u32, i128)>, AllocError>
+    requires { size terms.items ≤ 2 ^ 125 }
+    ensures { IfOk result (λ v. v.items ≡ sorted terms.items) }
+{
+    if is_rising(&terms) {
+        return Ok(fitted(terms));
     }
-    copied.sort_unstable_by_key(|t| t.0);
-    combine(alloc, &copied)
+    ordered(alloc, terms)
 }
 
 impl Constraint {
@@ -70,6 +88,19 @@ impl Constraint {
         if !is_narrow(terms, bound) {
             return Err(PbFault::Wide);
         }
+        let copied = Vec::from_slice(alloc, terms)?;
+        Ok(Constraint::from_terms(alloc, copied, bound)?)
+    }
+
+    /// The constraint of narrow terms in any order, as `new` makes it, without a copy where they rise.
+    pub(crate) fn from_terms(
+        alloc: Global,
+        terms: Vec<(u32, i128)>,
+        bound: i128,
+    ) -> Result<Constraint, AllocError>
+        requires { IsNarrow terms.items bound }
+        ensures { IfOk result (λ made. made ≡ form_of terms.items bound) }
+    {
         let terms = sorted_terms(alloc, terms)?;
         Ok(Constraint { terms, bound })
     }
@@ -145,11 +176,11 @@ impl Constraint {
         self.bound
     }
 
-    /// By how much the sum of what can still be true exceeds the degree. Two passes, of which the second is over the terms alone.
+    /// By how much the sum of what can still be true exceeds the degree. One pass.
     pub fn slack(&self, set: &Literals) -> i128
         ensures { result ≡ slack (setting set.now) self.now }
     {
-        open_of(set.values(), &self.terms) as i128 - degree_of(&self.terms, self.bound)
+        greatest_of(set.values(), &self.terms) - self.bound
     }
 
     /// Whether the literal at a place of the terms is unset and its coefficient exceeds the slack. As long as `slack`.

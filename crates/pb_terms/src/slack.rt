@@ -1,9 +1,10 @@
 // Slack and forced literals of sorted terms, under a value for some of the variables.
 
-ghost use Rattle.std.specs.Prelude.{◌≡◌, ◌↔◌, IsTrue, ◌<ℤ◌, ℕ, ◌≤◌, ◌^◌, cond, pos, zero, unsigned_abs};
+ghost use Rattle.std.specs.Prelude.{◌≡◌, ◌↔◌, IsTrue, ◌<ℤ◌, ◌-ℤ◌, ℕ, ◌≤◌, ◌^◌, cond, pos, zero, unsigned_abs};
 ghost use Rattle.proof_theory.specs.Forms.{assignment, size, value};
-ghost use Rattle.proof_theory.specs.Slack.{setting, open_at, open_sum};
-ghost use Rattle.pb_terms.specs.Forcing.{ForcesWhatIsSetAfter};
+ghost use Rattle.proof_theory.specs.Rules.{negatives};
+ghost use Rattle.proof_theory.specs.Slack.{setting, open_sum};
+ghost use Rattle.pb_terms.specs.Forcing.{ForcesWhatIsSetAfter, greatest_at};
 
 /// The value of a variable, if it is set.
 pub fn value_of(values: &[Option<bool>], variable: u32) -> Option<bool>
@@ -15,28 +16,27 @@ pub fn value_of(values: &[Option<bool>], variable: u32) -> Option<bool>
     }
 }
 
-/// Whether the normal form's literal of a coefficient is not false.
-fn is_open(value: Option<bool>, coefficient: i128) -> bool
-    ensures { result ≡ open_at value coefficient }
+/// The greatest that a term can still add to the sum.
+fn greatest(value: Option<bool>, coefficient: i128) -> i128
+    ensures { result ≡ greatest_at value coefficient }
 {
     match value {
-        None => true,
-        Some(true) => coefficient >= 0,
-        Some(false) => coefficient < 0,
+        None => coefficient.max(0),
+        Some(true) => coefficient,
+        Some(false) => 0,
     }
 }
 
-/// The sum of the normal form's coefficients at literals that are not false. One pass.
-pub fn open_of(values: &[Option<bool>], terms: &[(u32, i128)]) -> u128
+/// The greatest sum of the terms that can still be. One pass.
+pub fn greatest_of(values: &[Option<bool>], terms: &[(u32, i128)]) -> i128
     requires { size terms.now ≤ 2 ^ 125 }
-    ensures exact { result ≡ open_sum (setting values.now) terms.now }
-    ensures small { result ≤ 2 ^ 125 }
+    ensures exact { result
+        ≡ pos (open_sum (setting values.now) terms.now) -ℤ pos (negatives terms.now) }
+    ensures small { unsigned_abs result ≤ 2 ^ 125 }
 {
-    let mut sum: u128 = 0;
+    let mut sum: i128 = 0;
     for &(variable, coefficient) in terms {
-        if is_open(value_of(values, variable), coefficient) {
-            sum += coefficient.unsigned_abs();
-        }
+        sum += greatest(value_of(values, variable), coefficient);
     }
     sum
 }

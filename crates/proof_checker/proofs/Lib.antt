@@ -3,4 +3,5 @@ pub mod SharedRows
 pub mod Propagation
 pub mod Claims
 pub mod Leading
-pub mod WholeLog
+pub mod FedLines
+pub mod PieceFed

@@ -4,3 +4,4 @@ pub mod Reach
 pub mod Ones
 pub mod Turns
 pub mod Stages
+pub mod Feeding

@@ -3,8 +3,8 @@ use Rattle.std.specs.Prelude.{◌≡◌}
 use Rattle.log_theory.specs.Tables.{Table, empty_table}
 use Rattle.log_theory.specs.Verdicts.{Stage}
 use Rattle.log_theory.specs.Verdicts as verdicts
-use Rattle.proof_checker.specs.declared.checker.Place.{Place}
-use Rattle.proof_checker.specs.declared.checker.Place.TheVariants.{Opening, Counting, Proving}
+use Rattle.proof_checker.specs.declared.line_checker.Place.{Place}
+use Rattle.proof_checker.specs.declared.line_checker.Place.TheVariants.{Opening, Counting, Proving}
 
 abbrev pub stage_of : Place → Table → Stage
 stage_of Opening t = verdicts.Opening

@@ -1,10 +1,11 @@
 -- What a checker stands at, and what an answer of its code says of where a line leads and of a whole log's verdict.
-use Rattle.std.specs.Prelude.{◌≡◌, ◌≢◌, ℕ, ◌<◌, slice_index, List, ◌∷◌, [], length, ◌==◌, Option, None, Some, Result, Ok, Err}
+use Rattle.std.specs.Prelude.{◌≡◌, ◌≢◌, ℕ, ◌<◌, slice_index, List, ◌∷◌, ◌++◌, length, ◌==◌, Option, None, Some, Result, Ok, Err}
 use Rattle.proof_theory.specs.Forms.{Form}
 use Rattle.log_theory.specs.declared.step.Cause.{Cause as Reason}
 use Rattle.log_theory.specs.declared.step.Verdict.{Verdict}
-use Rattle.log_theory.specs.declared.step.Verdict.TheVariants.{Refused, NoMemory as Unanswered}
+use Rattle.log_theory.specs.declared.step.Verdict.TheVariants.{NoMemory as Unanswered}
 use Rattle.log_theory.specs.Words.{pieces}
+use Rattle.log_theory.specs.Acceptance.{NoFeed}
 use Rattle.log_theory.specs.Verdicts.{Stage, Progress, Goes, Ends, verdict_from}
 use Rattle.proof_checker.specs.declared.fault.LineFault.{LineFault}
 use Rattle.proof_checker.specs.declared.fault.LineFault.TheVariants.{Cause, NoMemory}
@@ -33,17 +34,12 @@ abbrev pub Answers : Verdict → Verdict → Type 0
 Answers Unanswered v = Unit {0}
 Answers answer v = v ≡ answer
 
--- The text's first line and the text behind it, or that it has no LF.
+-- The text's first line and the text behind its LF, or that it has no LF.
 abbrev pub Splits : List ℕ → Option (List ℕ × List ℕ) → Type 0
-Splits text None = pieces (λ b. b == 10) text ≡ text ∷ []
-Splits text (Some p) = (pieces (λ b. b == 10) text ≡ p.0 ∷ pieces (λ b. b == 10) p.1) × (length p.1 < length text)
+Splits text None = NoFeed text
+Splits text (Some p) = (text ≡ p.0 ++ 10 ∷ p.1) × NoFeed p.0
 
 -- The first LF stands here, or there is none.
 abbrev pub FirstFeed : List ℕ → Option ℕ → Type 0
 FirstFeed text None = (k : ℕ) → k < length text → slice_index text k ≢ 10
 FirstFeed text (Some i) = (i < length text) × (slice_index text i ≡ 10) × ((k : ℕ) → k < i → slice_index text k ≢ 10)
-
--- The refusal of a line for its cause, or want of memory.
-abbrev pub RefusedAs : Verdict → ℕ → LineFault → Type 0
-RefusedAs v n (Cause e) = v ≡ Refused n e
-RefusedAs v n NoMemory = v ≡ Unanswered

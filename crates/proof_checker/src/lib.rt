@@ -2,12 +2,15 @@
 // definition: the claim of the last line, or the first faulty line with its first cause. It shares no code with a search, names no
 // graph, and takes a log of any origin. The lines are those of a pseudo-Boolean proof log (Gocht, McCreesh, Nordström 2020): cutting
 // planes in reverse Polish notation, clauses by unit propagation along the references that they name, and shared rows. What the
-// layers above use is `check`; `Checker` takes one line at a time and needs no more of the log than that line.
+// layers above use is `check`. It stands on `Checker`, which is fed a log cut anywhere and keeps of its text the unfinished line alone;
+// `LineChecker` below it takes one line at a time.
 #![tactic(auto)]
 
 mod checker;
 mod clauses;
+mod cutting;
 mod fault;
+mod line_checker;
 mod lines;
 mod ones;
 mod propagate;
@@ -18,6 +21,7 @@ mod whole_log;
 
 pub use checker::Checker;
 pub use fault::LineFault;
+pub use line_checker::LineChecker;
 pub use lines::Turn;
 pub use whole_log::check;
 

@@ -81,7 +81,8 @@ pub fn prove(
     step: &Step,
 ) -> Result<Turn, LineFault>
     requires { in_range variables (step_variables step.now) ≡ true }
-    ensures { Turns result (progress_of model.now (Proving table.old) step.now) (Proving table.new) }
+    ensures { Turns result (progress_of model.now (Proving table.old) step.now)
+        (Proving table.new) }
 {
     match step {
         Step::P { name, ops } => {

@@ -30,7 +30,8 @@ fn greatest(ones: &[u32]) -> u32
 fn mark(values: &mut Vec<bool>, variable: u32) -> bool
     requires from_one { 0 < variable }
     requires within { variable ≤ length values.old.items }
-    ensures marks { Marks result (assignment values.old.items) variable (assignment values.new.items) }
+    ensures marks { Marks result (assignment values.old.items) variable
+        (assignment values.new.items) }
     ensures long { length values.new.items ≡ length values.old.items }
 {
     let at = variable as usize - 1;

@@ -33,7 +33,9 @@ fn value_of(set: &Literals, variable: u32) -> Option<bool>
 fn force_one(set: &mut Literals, variable: u32, coefficient: i128, slack: i128)
     requires within { variable < length set.old }
     requires narrow { unsigned_abs coefficient ≤ 2 ^ 125 }
-    ensures set { (v : ℕ) → setting set.new v ≡ or_else (setting set.old v) (cond (variable == v) (forced_by slack coefficient) None) }
+    ensures set { (v : ℕ)
+        → setting set.new v
+        ≡ or_else (setting set.old v) (cond (variable == v) (forced_by slack coefficient) None) }
     ensures long { length set.new ≡ length set.old }
 {
     if value_of(set, variable).is_none() && slack < coefficient.unsigned_abs() as i128 {
@@ -49,7 +51,8 @@ fn force(set: &mut Literals, terms: &[(u32, i128)], slack: i128)
     requires rises { Rises 0 terms.now }
     requires narrow { size terms.now ≤ 2 ^ 125 }
     requires within { Reaches (length set.old) terms.now }
-    ensures set { (v : ℕ) → setting set.new v ≡ or_else (setting set.old v) (forced_at slack terms.now v) }
+    ensures set { (v : ℕ)
+        → setting set.new v ≡ or_else (setting set.old v) (forced_at slack terms.now v) }
     ensures long { length set.new ≡ length set.old }
 {
     for &(variable, coefficient) in terms {
@@ -190,7 +193,8 @@ pub fn derive(
     literals: &[Literal],
     refs: &[Ref],
 ) -> Result<Constraint, LineFault>
-    ensures { (name : Name) → Told result (makes (find model.now table.now) (U name literals.now refs.now)) }
+    ensures { (name : Name)
+        → Told result (makes (find model.now table.now) (U name literals.now refs.now)) }
 {
     let named = reach_of(model, table, refs);
     clear(alloc, set, above(literals).max(named.unwrap_or(0)))?;

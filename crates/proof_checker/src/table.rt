@@ -79,8 +79,11 @@ fn push_at(
     made: Constraint,
 ) -> Result<(), AllocError>
     requires { owner < length lists.old.items }
-    ensures ok { OnOk result (map (λ v. v.items) lists.new.items ≡ grown (map (λ v. v.items) lists.old.items) owner made) }
-    ensures err { OnErr result (map (λ v. v.items) lists.new.items ≡ map (λ v. v.items) lists.old.items) }
+    ensures ok { OnOk result
+        (map (λ v. v.items) lists.new.items
+        ≡ grown (map (λ v. v.items) lists.old.items) owner made) }
+    ensures err { OnErr result
+        (map (λ v. v.items) lists.new.items ≡ map (λ v. v.items) lists.old.items) }
 {
     lists[owner].push(made)?;
     Ok(())
@@ -93,8 +96,11 @@ fn push_row(
     row: u32,
     place: Place,
 ) -> Result<(), AllocError>
-    ensures ok { OnOk result ((rows.new.items ≡ rows.old.items ++ row ∷ []) × (places.new.items ≡ places.old.items ++ place ∷ [])) }
-    ensures err { OnErr result ((rows.new.items ≡ rows.old.items) × (places.new.items ≡ places.old.items)) }
+    ensures ok { OnOk result
+        ((rows.new.items ≡ rows.old.items ++ row ∷ [])
+        × (places.new.items ≡ places.old.items ++ place ∷ [])) }
+    ensures err { OnErr result
+        ((rows.new.items ≡ rows.old.items) × (places.new.items ≡ places.old.items)) }
 {
     rows.reserve(1)?;
     places.reserve(1)?;
@@ -200,7 +206,8 @@ impl Table {
 
     /// Shares what a name names under a row, as the definition's step of such a line. Logarithmic in the number of rows.
     pub fn share(&mut self, row: u32, name: Name) -> Result<(), LineFault>
-        ensures { (model : List Form) → Leads result (step_of model self.old (N row name)) self.new }
+        ensures { (model : List Form)
+            → Leads result (step_of model self.old (N row name)) self.new }
     {
         self.fresh_row(row)?;
         let made = self.made_by(name.owner).len() as u64;

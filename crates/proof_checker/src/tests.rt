@@ -1,12 +1,15 @@
 // Worked logs: what each shows over small models, line and cause of each refusal.
 
-use super::check;
+ghost use Rattle.std.specs.Prelude.{◌<◌};
+
 use super::whole_log::check_parts;
+use super::{Checker, check};
 use log_theory::{Cause, Verdict};
-use opb_text::read_opb;
+use opb_text::{Model, read_opb};
 use pb_terms::Constraint;
-use std::alloc::Global;
+use std::alloc::{AllocError, Global};
 use std::process::Abort;
+use std::test::Fail;
 
 /// A model of constraints in a compact form: bound and terms.
 fn model(rt: &impl Abort, alloc: Global, lines: &[(i128, &[(u32, i128)])]) -> Vec<Constraint> {
@@ -224,8 +227,7 @@ fn each_front_of_an_accepted_log_ends_early(rt: HostRuntime) {
 #[test]
 fn a_model_from_its_text(rt: HostRuntime) {
     let alloc = rt.alloc();
-    let text = "* #variable= 1 #constraint= 2\n+1 x1 >= 1 ;\n-1 x1 >= 0 ;\n";
-    let Ok(model) = read_opb(alloc, text.as_bytes()) else {
+    let Some(model) = model_of_two(alloc) else {
         assert!(rt; false, "the model is read");
         return;
     };
@@ -243,4 +245,63 @@ fn a_model_from_its_text(rt: HostRuntime) {
         let verdict = check(alloc, &model, log.as_bytes());
         assert!(rt; verdict == expected, "{log}");
     }
+}
+
+/// The verdict of a log that is fed by pieces of so many bytes.
+fn fed_by(
+    alloc: Global,
+    variables: u32,
+    lines: &[Constraint],
+    log: &[u8],
+    size: usize,
+) -> Result<Verdict, AllocError>
+    requires { 0 < size }
+{
+    let mut checker = Checker::over(alloc, variables, lines)?;
+    for piece in log.chunks(size) {
+        checker.feed(alloc, piece)?;
+    }
+    Ok(checker.finish())
+}
+
+/// Whether a log has this verdict by pieces of one byte, of two and so on.
+fn shows_however_cut(
+    alloc: Global,
+    variables: u32,
+    lines: &[Constraint],
+    log: &[u8],
+    expected: Verdict,
+) -> Result<bool, AllocError> {
+    for less in 0..log.len() {
+        if fed_by(alloc, variables, lines, log, less + 1)? != expected {
+            return Ok(false);
+        }
+    }
+    Ok(true)
+}
+
+#[test]
+fn a_log_is_accepted_however_it_is_cut(rt: HostRuntime) -> Result<(), Fail> {
+    let alloc = rt.alloc();
+    let lines = triangle_into_cycle(&rt, alloc);
+    let log = WHOLE_LOG.as_bytes();
+    let same = shows_however_cut(alloc, 12, &lines, log, Verdict::Unsatisfiable)?;
+    assert!(rt; same);
+    Ok(())
+}
+
+#[test]
+fn text_behind_a_claim_is_refused_however_it_is_cut(rt: HostRuntime) -> Result<(), Fail> {
+    let alloc = rt.alloc();
+    let lines = two_lines(&rt, alloc);
+    let log = b"embedding proof 1\nm 2\nq\nq\nx";
+    let same = shows_however_cut(alloc, 1, &lines, log, refused(4, Cause::Form))?;
+    assert!(rt; same);
+    Ok(())
+}
+
+/// The model of `x1 >= 1` and `-x1 >= 0`, from its text.
+fn model_of_two(alloc: Global) -> Option<Model> {
+    let text = "* #variable= 1 #constraint= 2\n+1 x1 >= 1 ;\n-1 x1 >= 0 ;\n";
+    read_opb(alloc, text.as_bytes()).ok()
 }

@@ -1,7 +1,7 @@
 use Rattle.std.proofs.Common.{◌-◌, ◌+◌, length, drop, arith, refl, length-drop}
 use Rattle.std.proofs.lemmas.List.{take_all}
-use Rattle.proof_checker.proofs.WholeLog.{pieces_none, split_at}
-use Rattle.proof_checker.proofs.whole_log.first_line.Goals as goal
+use Rattle.proof_checker.proofs.FedLines.{no_feed_in, split_at}
+use Rattle.proof_checker.proofs.cutting.first_line.Goals as goal
 
 pub returns-in-Some : goal.returns-in-Some
 returns-in-Some c =
@@ -9,4 +9,4 @@ returns-in-Some c =
     split_at c.args.text.now c.in-Some.at _ _ refl (take_all (length c.args.text.now - (c.in-Some.at + 1)) (drop (c.in-Some.at + 1) c.args.text.now) (omega arith)) c.in-Some.ensures.0 c.in-Some.ensures.1 c.in-Some.ensures.2
 
 pub returns-in-None : goal.returns-in-None
-returns-in-None c = pieces_none c.args.text.now c.in-None.ensures
+returns-in-None c = no_feed_in c.args.text.now c.in-None.ensures

@@ -1,0 +1,130 @@
+// A checker of a proof log, line by line. It keeps the model, the table of what was made and where the log stands, and needs no more
+// of the log than the next line.
+
+ghost use Rattle.std.specs.Prelude.{◌≡◌, true, length, IfOk};
+ghost use Rattle.log_theory.specs.Verdicts.{Opening, Counting, Proving, in_range, line_progress, progress_of, step_variables};
+ghost use Rattle.log_theory.specs.declared.step.Cause.TheVariants.{Form};
+ghost use Rattle.log_theory.specs.LogText.{read_line};
+ghost use Rattle.log_theory.specs.Steps.{or_fault};
+ghost use Rattle.proof_checker.specs.Told.{Told};
+ghost use Rattle.proof_checker.specs.Turns.{Turns};
+
+use super::fault::LineFault;
+use super::lines::{Turn, prove};
+use super::ranges::is_in_range;
+use super::table::Table;
+use log_theory::{Cause, Step};
+use pb_terms::{Constraint, Literals};
+use proof_log::{StepFault, read_step};
+use std::alloc::{AllocError, Global};
+use std::marker::Model;
+
+/// Where a log stands: before its first line, before its second, or behind both.
+#[derive(Clone, Copy, Debug)]
+enum Place {
+    Opening,
+    Counting,
+    Proving,
+}
+
+/// The model and where a log over it stands. Contracts see both, with the table of what the log has made.
+#[derive(Drop)]
+pub struct LineChecker<'a> {
+    variables: u32,
+    model: &'a [Constraint],
+    place: Place,
+    table: Table,
+    set: Literals,
+}
+
+impl<'a> Model for LineChecker<'a> {
+    ghost use Rattle.proof_checker.specs.Turns.{Checking};
+    ghost use Rattle.proof_checker.specs.Stages.{StandsWith, stage_of};
+
+    ghost Value = { Checking };
+
+    ghost view = { λ c. record { variables = c.variables; model = c.model.now; stage = stage_of c.place c.table } };
+
+    ghost invariant = { λ c. StandsWith c.place c.table };
+}
+
+/// The step that a line tells, or why it tells none.
+fn step_in(alloc: Global, line: &[u8]) -> Result<Step, LineFault>
+    ensures { Told result (or_fault (read_line line.now) Form) }
+{
+    match read_step(alloc, line) {
+        Ok(step) => Ok(step),
+        Err(StepFault::Form) => Err(LineFault::Cause(Cause::Form)),
+        Err(StepFault::NoMemory) => Err(LineFault::NoMemory),
+    }
+}
+
+impl<'a> LineChecker<'a> {
+    /// A checker before the first line.
+    pub fn new(
+        alloc: Global,
+        variables: u32,
+        model: &'a [Constraint],
+    ) -> Result<LineChecker<'a>, AllocError>
+        ensures { IfOk result
+            (λ c. c ≡ record { variables = variables; model = model.now; stage = Opening }) }
+    {
+        let table = Table::new(alloc)?;
+        let set = Literals::new(alloc, 0)?;
+        Ok(LineChecker {
+            variables,
+            model,
+            place: Place::Opening,
+            table,
+            set,
+        })
+    }
+
+    /// What a step leads to.
+    fn take(&mut self, alloc: Global, step: &Step) -> Result<Turn, LineFault>
+        requires { in_range self.old.variables (step_variables step.now) ≡ true }
+        ensures same { (self.new.variables ≡ self.old.variables)
+            × (self.new.model ≡ self.old.model) }
+        ensures turns { Turns result (progress_of self.old.model self.old.stage step.now)
+            self.new.stage }
+    {
+        match (self.place, step) {
+            (Place::Opening, Step::Head) => {
+                self.place = Place::Counting;
+                Ok(Turn::Goes)
+            }
+            (Place::Counting, Step::Model(count)) => {
+                if *count != self.model.len() as u64 {
+                    return Err(LineFault::Cause(Cause::Form));
+                }
+                self.place = Place::Proving;
+                Ok(Turn::Goes)
+            }
+            (Place::Proving, step) => prove(
+                alloc,
+                &mut self.set,
+                self.variables,
+                self.model,
+                &mut self.table,
+                step,
+            ),
+            _ => Err(LineFault::Cause(Cause::Form)),
+        }
+    }
+
+    /// What the next line, without its LF, leads to. Costs the line and the terms that it touches. Nothing is said of where the checker
+    /// stands after a fault, or behind a last line.
+    pub fn step(&mut self, alloc: Global, line: &[u8]) -> Result<Turn, LineFault>
+        ensures same { (self.new.variables ≡ self.old.variables)
+            × (self.new.model ≡ self.old.model) }
+        ensures turns { Turns result
+            (line_progress self.old.variables self.old.model self.old.stage line.now)
+            self.new.stage }
+    {
+        let step = step_in(alloc, line)?;
+        if !is_in_range(self.variables, &step) {
+            return Err(LineFault::Cause(Cause::Form));
+        }
+        self.take(alloc, &step)
+    }
+}
