@@ -1,4 +1,5 @@
 pub mod KnownTexts
+pub mod HeldBytes
 pub mod JoinedPieces
 pub mod OtherFiles
 pub mod FilesInMemory

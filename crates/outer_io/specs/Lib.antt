@@ -7,3 +7,4 @@ pub mod Memory
 pub mod MemorySinks
 pub mod MemoryTold
 pub mod RealEdge
+pub mod FileCauses

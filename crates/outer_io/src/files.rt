@@ -38,12 +38,14 @@ pub trait Files {
     /// Chooses the file to read, from its first byte. A file that is not there is a fault.
     fn start(&mut self, name: &str) -> Result<(), Failed>
         requires { length name.now ≤ NAME_LIMIT }
-        ensures chosen { MatchResult result (λ _. chosen self.new ≡ Some name.now) (λ _. chosen self.new ≡ None) }
+        ensures chosen { MatchResult result (λ _. chosen self.new ≡ Some name.now)
+            (λ _. chosen self.new ≡ None) }
         ensures left { OnOk result (left self.new ≡ content self.old name.now) }
         ensures there { OnOk result (IsTrue (tells self.old) → IsSome (content self.old name.now)) }
 
         ensures cause { HasCause (faults self.old) (faults self.new) result }
-        ensures fault_at { TellsFault (name.now, Purpose.Reading) (fault_at self.old) (fault_at self.new) result }
+        ensures fault_at { TellsFault (name.now, Purpose.Reading) (fault_at self.old)
+            (fault_at self.new) result }
 
         ensures same { SameFiles (content self.old) (content self.new) }
         ensures tells { tells self.new ≡ tells self.old }
@@ -69,13 +71,16 @@ pub trait Files {
     /// as it was or empty.
     fn begin(&mut self, name: &str) -> Result<(), Failed>
         requires { length name.now ≤ NAME_LIMIT }
-        ensures begun { MatchResult result (λ _. begun self.new ≡ Some name.now) (λ _. begun self.new ≡ None) }
-        ensures empty { OnOk result (IsTrue (tells self.old) → content self.new name.now ≡ Some []) }
+        ensures begun { MatchResult result (λ _. begun self.new ≡ Some name.now)
+            (λ _. begun self.new ≡ None) }
+        ensures empty { OnOk result
+            (IsTrue (tells self.old) → content self.new name.now ≡ Some []) }
         ensures at_fault { OnErr result ((content self.new name.now ≡ content self.old name.now)
             ⊎ (content self.new name.now ≡ Some [])) }
 
         ensures cause { HasCause (faults self.old) (faults self.new) result }
-        ensures fault_at { TellsFault (name.now, Purpose.Writing) (fault_at self.old) (fault_at self.new) result }
+        ensures fault_at { TellsFault (name.now, Purpose.Writing) (fault_at self.old)
+            (fault_at self.new) result }
 
         ensures others { SameOthers name.now (content self.old) (content self.new) }
         ensures tells { tells self.new ≡ tells self.old }

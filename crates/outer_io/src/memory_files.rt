@@ -44,7 +44,13 @@ impl Model for MemoryFile {
 
 impl MemoryFile {
     fn new(alloc: Global, part: MemoryPart) -> Result<MemoryFile, AllocError>
-        ensures { IfOk result (λ made. made ≡ record { name = string_bytes part.name; bytes = option_map (λ bytes. bytes.items) part.bytes; room = part.room }) }
+        ensures { IfOk result
+            (λ made. made ≡ record {
+              name = string_bytes part.name;
+              bytes = option_map (λ bytes. bytes.items)
+                  part.bytes;
+              room = part.room;
+            }) }
     {
         let MemoryPart { name, bytes, room } = part;
         let exists = bytes.is_some();
@@ -135,7 +141,8 @@ fn empty_file(files: &mut [MemoryFile], name: &[u8]) -> bool
 /// Appends to the file of a name what there is room for, and says whether that is the whole piece.
 fn append_to(files: &mut [MemoryFile], name: &[u8], piece: &[u8]) -> bool
     ensures fits { IsTrue result ↔ HasRoom (file_in files.old name.now) piece.now }
-    ensures text { MatchBool result (content_in files.new name.now ≡ append_known (content_in files.old name.now) piece.now)
+    ensures text { MatchBool result
+        (content_in files.new name.now ≡ append_known (content_in files.old name.now) piece.now)
         (StopsIn true (content_in files.old name.now) (content_in files.new name.now) piece.now) }
     ensures others { SameOthers name.now (content_in files.old) (content_in files.new) }
     ensures labels { SameLabels files.old files.new }
@@ -179,7 +186,8 @@ impl MemoryFiles {
         failing: Vec<u64>,
     ) -> Result<MemoryFiles, AllocError>
         ensures parts { IfOk result (λ files. files_kept files ≡ map kept_part parts.items) }
-        ensures failing { IfOk result (λ files. files_calls files ≡ record { made = 0; failing = failing.items }) }
+        ensures failing { IfOk result
+            (λ files. files_calls files ≡ record { made = 0; failing = failing.items }) }
         ensures no_fault { IfOk result (λ files. files_faults files ≡ 0) }
     {
         let mut files = Vec::new(alloc);
@@ -224,21 +232,26 @@ impl Files for MemoryFiles {
 
     fn start(&mut self, name: &str) -> Result<(), Failed>
         requires { length name.now ≤ NAME_LIMIT }
-        ensures chosen { MatchResult result (λ _. files_chosen self.new ≡ Some name.now) (λ _. files_chosen self.new ≡ None) }
+        ensures chosen { MatchResult result (λ _. files_chosen self.new ≡ Some name.now)
+            (λ _. files_chosen self.new ≡ None) }
         ensures left { OnOk result (files_left self.new ≡ files_content self.old name.now) }
-        ensures there { OnOk result (IsTrue (files_tell self.old) → IsSome (files_content self.old name.now)) }
+        ensures there { OnOk result
+            (IsTrue (files_tell self.old) → IsSome (files_content self.old name.now)) }
 
         ensures cause { HasCause (files_faults self.old) (files_faults self.new) result }
-        ensures fault_at { TellsFault (name.now, Purpose.Reading) (files_fault_at self.old) (files_fault_at self.new) result }
+        ensures fault_at { TellsFault (name.now, Purpose.Reading) (files_fault_at self.old)
+            (files_fault_at self.new) result }
 
         ensures same { SameFiles (files_content self.old) (files_content self.new) }
         ensures tells { files_tell self.new ≡ files_tell self.old }
         ensures begun { files_begun self.new ≡ files_begun self.old }
 
-        ensures succeeds { IsOk result ↔ (¬ IsToFail (files_calls self.old) × IsSome (files_content self.old name.now)) }
+        ensures succeeds { IsOk result
+            ↔ (¬ IsToFail (files_calls self.old) × IsSome (files_content self.old name.now)) }
         ensures counted { files_calls self.new ≡ counted (files_calls self.old) }
         ensures labels { SameLabels (files_kept self.old) (files_kept self.new) }
-        ensures nothing { IsToFail (files_calls self.old) → files_kept self.new ≡ files_kept self.old }
+        ensures nothing { IsToFail (files_calls self.old)
+            → files_kept self.new ≡ files_kept self.old }
     {
         self.read_at = None;
         if self.calls.count() {
@@ -262,16 +275,19 @@ impl Files for MemoryFiles {
 
         ensures cause { HasCause (files_faults self.old) (files_faults self.new) result }
         ensures fault_at { (file : List ℕ) → files_chosen self.old ≡ Some file
-            → TellsFault (file, Purpose.Reading) (files_fault_at self.old) (files_fault_at self.new) result }
+            → TellsFault (file, Purpose.Reading) (files_fault_at self.old) (files_fault_at self.new)
+            result }
 
         ensures same { SameFiles (files_content self.old) (files_content self.new) }
         ensures tells { files_tell self.new ≡ files_tell self.old }
         ensures begun { files_begun self.new ≡ files_begun self.old }
 
-        ensures succeeds { IsOk result ↔ (¬ IsToFail (files_calls self.old) × IsSome (files_left self.old)) }
+        ensures succeeds { IsOk result
+            ↔ (¬ IsToFail (files_calls self.old) × IsSome (files_left self.old)) }
         ensures counted { files_calls self.new ≡ counted (files_calls self.old) }
         ensures labels { SameLabels (files_kept self.old) (files_kept self.new) }
-        ensures nothing { IsToFail (files_calls self.old) → files_kept self.new ≡ files_kept self.old }
+        ensures nothing { IsToFail (files_calls self.old)
+            → files_kept self.new ≡ files_kept self.old }
     {
         let name = self.read_name.as_bytes();
         if self.calls.count() {
@@ -294,23 +310,29 @@ impl Files for MemoryFiles {
 
     fn begin(&mut self, name: &str) -> Result<(), Failed>
         requires { length name.now ≤ NAME_LIMIT }
-        ensures begun { MatchResult result (λ _. files_begun self.new ≡ Some name.now) (λ _. files_begun self.new ≡ None) }
-        ensures empty { OnOk result (IsTrue (files_tell self.old) → files_content self.new name.now ≡ Some []) }
-        ensures at_fault { OnErr result ((files_content self.new name.now ≡ files_content self.old name.now)
+        ensures begun { MatchResult result (λ _. files_begun self.new ≡ Some name.now)
+            (λ _. files_begun self.new ≡ None) }
+        ensures empty { OnOk result
+            (IsTrue (files_tell self.old) → files_content self.new name.now ≡ Some []) }
+        ensures at_fault { OnErr result
+            ((files_content self.new name.now ≡ files_content self.old name.now)
             ⊎ (files_content self.new name.now ≡ Some [])) }
 
         ensures cause { HasCause (files_faults self.old) (files_faults self.new) result }
-        ensures fault_at { TellsFault (name.now, Purpose.Writing) (files_fault_at self.old) (files_fault_at self.new) result }
+        ensures fault_at { TellsFault (name.now, Purpose.Writing) (files_fault_at self.old)
+            (files_fault_at self.new) result }
 
         ensures others { SameOthers name.now (files_content self.old) (files_content self.new) }
         ensures tells { files_tell self.new ≡ files_tell self.old }
         ensures chosen { files_chosen self.new ≡ files_chosen self.old }
 
         ensures succeeds { IsOk result
-            ↔ (¬ IsToFail (files_calls self.old) × IsSome (file_in (files_kept self.old) name.now)) }
+            ↔ (¬ IsToFail (files_calls self.old)
+            × IsSome (file_in (files_kept self.old) name.now)) }
         ensures counted { files_calls self.new ≡ counted (files_calls self.old) }
         ensures labels { SameLabels (files_kept self.old) (files_kept self.new) }
-        ensures nothing { IsToFail (files_calls self.old) → files_kept self.new ≡ files_kept self.old }
+        ensures nothing { IsToFail (files_calls self.old)
+            → files_kept self.new ≡ files_kept self.old }
     {
         self.is_begun = false;
         if self.calls.count() {
@@ -329,12 +351,14 @@ impl Files for MemoryFiles {
     fn add(&mut self, piece: &[u8]) -> Result<(), Failed>
         requires { IsSome (files_begun self.old) }
         ensures text { (file : List ℕ) → files_begun self.old ≡ Some file
-            → Wrote true (files_content self.old file) (files_content self.new file) result piece.now }
+            → Wrote true (files_content self.old file) (files_content self.new file) result
+            piece.now }
         ensures begun { files_begun self.new ≡ files_begun self.old }
 
         ensures cause { HasCause (files_faults self.old) (files_faults self.new) result }
         ensures fault_at { (file : List ℕ) → files_begun self.old ≡ Some file
-            → TellsFault (file, Purpose.Writing) (files_fault_at self.old) (files_fault_at self.new) result }
+            → TellsFault (file, Purpose.Writing) (files_fault_at self.old) (files_fault_at self.new)
+            result }
 
         ensures others { (file : List ℕ) → files_begun self.old ≡ Some file
             → SameOthers file (files_content self.old) (files_content self.new) }
@@ -342,10 +366,12 @@ impl Files for MemoryFiles {
         ensures chosen { files_chosen self.new ≡ files_chosen self.old }
 
         ensures succeeds { (file : List ℕ) → files_begun self.old ≡ Some file → (IsOk result
-            ↔ (¬ IsToFail (files_calls self.old) × HasRoom (file_in (files_kept self.old) file) piece.now)) }
+            ↔ (¬ IsToFail (files_calls self.old)
+            × HasRoom (file_in (files_kept self.old) file) piece.now)) }
         ensures counted { files_calls self.new ≡ counted (files_calls self.old) }
         ensures labels { SameLabels (files_kept self.old) (files_kept self.new) }
-        ensures nothing { IsToFail (files_calls self.old) → files_kept self.new ≡ files_kept self.old }
+        ensures nothing { IsToFail (files_calls self.old)
+            → files_kept self.new ≡ files_kept self.old }
     {
         let name = self.write_name.as_bytes();
         if self.calls.count() {

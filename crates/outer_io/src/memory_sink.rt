@@ -26,7 +26,8 @@ impl MemorySink {
     pub fn new(alloc: Global, room: u64, failing: Vec<u64>) -> Result<MemorySink, AllocError>
         ensures empty { IfOk result (λ sink. sink_bytes sink ≡ []) }
         ensures room { IfOk result (λ sink. sink_room sink ≡ room) }
-        ensures failing { IfOk result (λ sink. sink_calls sink ≡ record { made = 0; failing = failing.items }) }
+        ensures failing { IfOk result
+            (λ sink. sink_calls sink ≡ record { made = 0; failing = failing.items }) }
         ensures no_fault { IfOk result (λ sink. sink_faults sink ≡ 0) }
     {
         let held = BoundedBytes::new(Vec::new(alloc), room)?;
@@ -59,12 +60,15 @@ impl Sink for MemorySink {
     ghost blamed = { sink_blamed };
 
     fn put(&mut self, piece: &[u8]) -> Result<(), Failed>
-        ensures text { Wrote (sink_spot self.old).steady (sink_contents self.old) (sink_contents self.new) result piece.now }
-        ensures cause { HasBlame sink_spot sink_rest sink_faults sink_blamed self.old self.new result }
+        ensures text { Wrote (sink_spot self.old).steady (sink_contents self.old)
+            (sink_contents self.new) result piece.now }
+        ensures cause { HasBlame sink_spot sink_rest sink_faults sink_blamed self.old self.new
+            result }
 
         ensures fails { IsErr result ↔ (IsToFail (sink_calls self.old)
             ⊎ (sink_room self.old - length (sink_bytes self.old) < length piece.now)) }
-        ensures nothing { IsToFail (sink_calls self.old) → sink_bytes self.new ≡ sink_bytes self.old }
+        ensures nothing { IsToFail (sink_calls self.old)
+            → sink_bytes self.new ≡ sink_bytes self.old }
         ensures counted { sink_calls self.new ≡ counted (sink_calls self.old) }
         ensures room { sink_room self.new ≡ sink_room self.old }
     {

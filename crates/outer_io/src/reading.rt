@@ -27,8 +27,10 @@ pub fn load<F: Files>(
     ensures too_long { IsErrOf result LoadFault.TooLong → IsTrue (F.tells files.old)
         → IsSomeAnd (F.content files.old name.now) (λ bytes. most < length bytes) }
 
-    ensures rose { IsErrOf result LoadFault.Failed → Rose (F.faults files.old) (F.faults files.new) }
-    ensures fault_at { IsErrOf result LoadFault.Failed → F.fault_at files.new ≡ Some (name.now, Purpose.Reading) }
+    ensures rose { IsErrOf result LoadFault.Failed
+        → Rose (F.faults files.old) (F.faults files.new) }
+    ensures fault_at { IsErrOf result LoadFault.Failed
+        → F.fault_at files.new ≡ Some (name.now, Purpose.Reading) }
     ensures quiet { IsErrOf result LoadFault.Failed ⊎ (F.faults files.new ≡ F.faults files.old) }
     ensures later { F.faults files.old ≤ F.faults files.new }
 

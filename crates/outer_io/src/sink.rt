@@ -27,6 +27,7 @@ pub trait Sink {
 
     /// Appends the whole piece. At an `Err` a front part of it may have been appended.
     fn put(&mut self, piece: &[u8]) -> Result<(), Failed>
-        ensures text { Wrote (spot self.old).steady (contents self.old) (contents self.new) result piece.now }
+        ensures text { Wrote (spot self.old).steady (contents self.old) (contents self.new) result
+            piece.now }
         ensures cause { HasBlame spot rest faults blamed self.old self.new result };
 }

@@ -9,6 +9,8 @@ use crate::file_sink::FileSink;
 use crate::files::{Files, NAME_LIMIT};
 use crate::memory_files::{MemoryFiles, MemoryPart};
 use crate::memory_sink::MemorySink;
+use crate::piece_room::PieceRoom;
+use crate::pieces::Pieces;
 use crate::put::put_all;
 use crate::reading::load;
 use crate::real_files::RealFiles;
@@ -226,4 +228,81 @@ fn real_files_are_written_and_loaded(rt: HostRuntime) -> Result<(), Fail> {
 fn real_sink_takes_bytes(rt: HostRuntime) {
     let mut sink = RealSink::new(io::writer(&rt));
     assert!(rt; put_twice(&mut sink).is_ok());
+}
+
+/// A text of two parts in a file, through a sink that keeps bytes back; the first is a head or not.
+fn write_in_pieces<F: Files>(
+    files: &mut F,
+    name: &str,
+    room: &mut PieceRoom,
+    is_headed: bool,
+    parts: (&[u8], &[u8]),
+) -> Result<(), Failed>
+    requires { length name.now ≤ NAME_LIMIT }
+{
+    files.begin(name)?;
+    let mut sink = if is_headed {
+        Pieces::headed(files, name, room)
+    } else {
+        Pieces::new(files, name, room)
+    };
+    sink.put(parts.0)?;
+    sink.put(parts.1)?;
+    sink.flush()
+}
+
+/// So many bytes.
+fn long_text(alloc: Global, len: u32) -> Result<Vec<u8>, AllocError> {
+    let mut text = Vec::new(alloc);
+    for i in 0..len {
+        text.push((i % 251) as u8)?;
+    }
+    Ok(text)
+}
+
+/// Whether the file holds so many bytes where a call fails: the first is `begin`, and each further one an `add`.
+fn pieces_as(
+    alloc: Global,
+    is_headed: bool,
+    lens: (u32, u32),
+    failing: u64,
+    expected: usize,
+) -> Result<bool, AllocError> {
+    let first = long_text(alloc, lens.0)?;
+    let second = long_text(alloc, lens.1)?;
+    let mut parts = Vec::new(alloc);
+    parts.push(part(alloc, "p", None, 200_000)?)?;
+    let mut files = MemoryFiles::new(alloc, parts, Vec::from_slice(alloc, &[failing])?)?;
+    let mut room = PieceRoom::new(alloc)?;
+    let texts = (first.as_slice(), second.as_slice());
+    let written = write_in_pieces(&mut files, "p", &mut room, is_headed, texts);
+    let mut whole = Vec::from_slice(alloc, &first)?;
+    whole.extend_from_slice(&second)?;
+    let is_whole = expected == whole.len();
+    Ok(written.is_ok() == is_whole && files.content("p") == whole.get(..expected))
+}
+
+#[test]
+fn pieces_are_whole_but_the_last(rt: HostRuntime) -> Result<(), Fail> {
+    let rows: [(bool, (u32, u32), u64, usize); 12] = [
+        (false, (100, 140_000), 0, 140_100),
+        (false, (100, 140_000), 2, 0),
+        (false, (100, 140_000), 3, 65_536),
+        (false, (100, 140_000), 4, 131_072),
+        (false, (100, 140_000), 5, 140_100),
+        (false, (65_535, 1), 2, 0),
+        (false, (65_535, 1), 3, 65_536),
+        (false, (0, 131_072), 4, 131_072),
+        (true, (23, 100_000), 3, 23),
+        (true, (23, 100_000), 4, 65_559),
+        (true, (23, 100_000), 5, 100_023),
+        (true, (23, 0), 3, 23),
+    ];
+    for (is_headed, lens, failing, expected) in rows {
+        assert!(rt;
+            pieces_as(rt.alloc(), is_headed, lens, failing, expected)?,
+            "{failing} {expected}"
+        );
+    }
+    Ok(())
 }

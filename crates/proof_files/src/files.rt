@@ -1,6 +1,6 @@
 //! Writing the two files.
 
-ghost use Rattle.std.specs.Prelude.{◌≡◌, ◌≢◌, ◌≤◌, ◌⊎◌, true, length, IsTrue, OnOk, OnErr, IsErrOf, Some};
+ghost use Rattle.std.specs.Prelude.{◌≡◌, ◌≢◌, ◌≤◌, ◌⊎◌, false, length, IsTrue, OnOk, OnErr, IsErrOf, Some};
 ghost use Rattle.outer_io.specs.KnownText.{Wrote};
 ghost use Rattle.log_theory.specs.Acceptance.{Accepts};
 ghost use Rattle.pb_encoding.specs.Writing.{encoding_text};
@@ -15,27 +15,30 @@ ghost use Rattle.proof_files.specs.TwoFiles.{two_files, WritingSays, KeepsOthers
 use crate::finding::Finding;
 use crate::log::{Parts, parts_of, write_log};
 use graph_rows::Problem;
-use outer_io::{Failed, FileSink, Files, PutFault};
+use outer_io::{Failed, Files, PieceRoom, Pieces, PutFault};
 use pb_encoding::Encoding;
 use std::alloc::Global;
 
-/// Adds the encoding to its file, which is begun.
+/// Adds the encoding to its file, which is begun, in pieces.
 fn add_encoding<F: Files>(
     alloc: Global,
     encoding: &Encoding,
     name: &str,
+    room: &mut PieceRoom,
     files: &mut F,
 ) -> Result<(), PutFault>
     requires { F.begun files.old ≡ Some name.now }
-    ensures text { Wrote true (F.content files.old name.now) (F.content files.new name.now) result
+    ensures text { Wrote false (F.content files.old name.now) (F.content files.new name.now) result
         (encoding_text encoding.now) }
     ensures fault { IsErrOf result PutFault.Failed
         → FailsAt name.now (F.faults files.old) (F.faults files.new) (F.fault_at files.new) }
     ensures quiet { IsErrOf result PutFault.Failed ⊎ (F.faults files.new ≡ F.faults files.old) }
     ensures files { KeepsAllBut F.tells F.content F.faults name.now files.old files.new }
 {
-    let mut sink = FileSink::new(files, name);
-    encoding.write(alloc, &mut sink)
+    let mut sink = Pieces::new(files, name, room);
+    encoding.write_lines(alloc, &mut sink)?;
+    sink.flush()?;
+    Ok(())
 }
 
 /// Writes the encoding to its file.
@@ -44,6 +47,7 @@ fn put_encoding<F: Files>(
     alloc: Global,
     encoding: &Encoding,
     name: &str,
+    room: &mut PieceRoom,
     files: &mut F,
 ) -> Result<(), PutFault>
     requires { length name.now ≤ 4095 }
@@ -58,21 +62,22 @@ fn put_encoding<F: Files>(
     ensures files { KeepsAllBut F.tells F.content F.faults name.now files.old files.new }
 {
     files.begin(name)?;
-    add_encoding(alloc, encoding, name, files)
+    add_encoding(alloc, encoding, name, room, files)
 }
 
-/// Adds the log of these parts to its file, which is begun.
+/// Adds the log of these parts to its file, which is begun: its head, and then the rest in pieces.
 fn add_log<F: Files>(
     q: &Problem,
     encoding: &Encoding,
     parts: Parts,
     name: &str,
+    room: &mut PieceRoom,
     files: &mut F,
 ) -> Result<(), Failed>
     requires same { encoding.now ≡ q.now }
     requires ready { MayBeWritten q.now parts }
     requires begun { F.begun files.old ≡ Some name.now }
-    ensures text { Wrote true (F.content files.old name.now) (F.content files.new name.now) result
+    ensures text { Wrote false (F.content files.old name.now) (F.content files.new name.now) result
         (log_text (part_steps q.now parts.entry)) }
     ensures fault { OnErr result (FailsAt name.now (F.faults files.old) (F.faults files.new)
         (F.fault_at files.new)) }
@@ -81,8 +86,9 @@ fn add_log<F: Files>(
     ensures accepted { Accepts (variables q.now) (encoding_of q.now)
         (log_text (part_steps q.now parts.entry)) (part_verdict parts.entry) }
 {
-    let mut sink = FileSink::new(files, name);
-    write_log(q, encoding, parts, &mut sink)
+    let mut sink = Pieces::headed(files, name, room);
+    write_log(q, encoding, parts, &mut sink)?;
+    sink.flush()
 }
 
 /// Writes the log of these parts to its file.
@@ -92,6 +98,7 @@ fn put_log<F: Files>(
     encoding: &Encoding,
     parts: Parts,
     name: &str,
+    room: &mut PieceRoom,
     files: &mut F,
 ) -> Result<(), Failed>
     requires same { encoding.now ≡ q.now }
@@ -110,14 +117,14 @@ fn put_log<F: Files>(
         (log_text (part_steps q.now parts.entry)) (part_verdict parts.entry)) }
 {
     files.begin(name)?;
-    add_log(q, encoding, parts, name, files)
+    add_log(q, encoding, parts, name, room, files)
 }
 
-/// Writes the encoding of the problem whole, and then the log of what was found of it. The first piece that is added to the log's file is
-/// the log's two head lines alone.
+/// Writes the encoding of the problem whole, and then the log of what was found of it, each in pieces of 65,536 bytes and a last one. The
+/// first piece that is added to the log's file is the log's two head lines alone. Neither text is whole in memory.
 ///
-/// The memory for a solution, and for what the encoding keeps, is taken before the first file is touched; the log wants none, so that memory
-/// is refused only before it is begun. Cost: that of making each constraint once, and of the texts' bytes.
+/// The memory for a solution, for what the encoding keeps, and for a piece is taken before the first file is touched; the log
+/// wants no other, so that memory is refused only before it is begun. Cost: that of making each constraint once, and of the texts' bytes.
 pub fn write_proof<F: Files>(
     alloc: Global,
     q: &Problem,
@@ -134,11 +141,13 @@ pub fn write_proof<F: Files>(
         encoding.now log.now files.old files.new) (texts q.now finding.now) }
     ensures accepted { OnOk result (IsAccepted q.now finding.now) }
     ensures quiet { IsErrOf result PutFault.Failed ⊎ (F.faults files.new ≡ F.faults files.old) }
-    ensures files { KeepsOthers F.tells F.content F.faults encoding.now log.now files.old files.new }
+    ensures files { KeepsOthers F.tells F.content F.faults encoding.now log.now files.old
+        files.new }
 {
     let lines = Encoding::new(alloc, q)?;
     let parts = parts_of(alloc, q, finding)?;
-    put_encoding(alloc, &lines, encoding, files)?;
-    put_log(q, &lines, parts, log, files)?;
+    let mut room = PieceRoom::new(alloc)?;
+    put_encoding(alloc, &lines, encoding, &mut room, files)?;
+    put_log(q, &lines, parts, log, &mut room, files)?;
     Ok(())
 }

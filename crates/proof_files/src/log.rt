@@ -73,11 +73,13 @@ pub fn write_refuted<S: Sink>(
     requires same { encoding.now ≡ q.now }
     requires proof { IsProof q.now parts.now }
     ensures text { Wrote (S.spot sink.old).steady (S.contents sink.old) (S.contents sink.new) result
-        (log_text (refutation (length (encoding_of q.now)) parts.now.journals.items parts.now.rows.items
+        (log_text (refutation (length (encoding_of q.now)) parts.now.journals.items
+        parts.now.rows.items
         parts.now.finisher)) }
     ensures cause { HasBlame S.spot S.rest S.faults S.blamed sink.old sink.new result }
     ensures accepted { Accepts (variables q.now) (encoding_of q.now)
-        (log_text (refutation (length (encoding_of q.now)) parts.now.journals.items parts.now.rows.items
+        (log_text (refutation (length (encoding_of q.now)) parts.now.journals.items
+        parts.now.rows.items
         parts.now.finisher)) Unsatisfiable }
 {
     write_refutation(

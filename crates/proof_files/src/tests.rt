@@ -1,30 +1,11 @@
 //! A vertex with a loop into two vertices of which the second has one: the files to the letter, with each call failing in turn.
 
-ghost use Rattle.std.specs.Prelude.{◌≤◌, IfSome};
-ghost use Rattle.graph_theory.specs.Graph.{size};
-
 use crate::{Finding, write_proof};
-use graph_rows::{Graph, Problem};
-use lad_reader::{LadKind, read_lad};
+use graph_rows::Problem;
 use outer_io::{MemoryFiles, MemoryPart};
+use sample_graphs::graph;
 use std::alloc::{AllocError, Global};
 use std::test::Fail;
-
-/// The graph of a text of at most 1,024 vertices.
-fn graph(alloc: Global, text: &[u8]) -> Option<Graph>
-    ensures { IfSome result (λ g. size g ≤ 1024) }
-{
-    let Ok(parts) = read_lad(alloc, text, LadKind::Lad, 1024) else {
-        return None;
-    };
-    let Ok(graph) = Graph::new(alloc, &parts) else {
-        return None;
-    };
-    if graph.size() > 1024 {
-        return None;
-    }
-    Some(graph)
-}
 
 /// The problem.
 fn problem(alloc: Global) -> Option<Problem> {
@@ -100,23 +81,18 @@ fn files_hold_the_encoding_and_a_log(rt: HostRuntime) -> Result<(), Fail> {
 
 #[test]
 fn each_call_fails_in_turn(rt: HostRuntime) -> Result<(), Fail> {
-    let rows: [(u64, bool, Contents); 11] = [
+    let rows: [(u64, bool, Contents); 6] = [
         (1, false, (Some(b"other"), None)),
         (2, false, (Some(b""), None)),
-        (3, false, (Some(b"* #variable= "), None)),
-        (4, false, (Some(b"* #variable= 2"), None)),
-        (5, false, (Some(b"* #variable= 2 #constraint= "), None)),
-        (6, false, (Some(b"* #variable= 2 #constraint= 5"), None)),
-        (7, false, (Some(b"* #variable= 2 #constraint= 5\n"), None)),
-        (8, false, (Some(ENCODING), None)),
-        (9, false, (Some(ENCODING), Some(b""))),
+        (3, false, (Some(ENCODING), None)),
+        (4, false, (Some(ENCODING), Some(b""))),
         (
-            10,
+            5,
             false,
             (Some(ENCODING), Some(b"embedding proof 1\nm 5\n")),
         ),
         (
-            11,
+            6,
             true,
             (Some(ENCODING), Some(b"embedding proof 1\nm 5\nq\n")),
         ),
