@@ -4,6 +4,8 @@
 #   make uninstall PREFIX=..          takes them away again
 #   make test                         the package's tests, each answer that a page tells, both checkers of logs against each
 #                                     other, and what is made from other files
+#   make hostile TEXTS=10000          the program on hostile texts, each held against a plain reading; with each allocation refused; and
+#                                     over files and streams that fail
 #   make docs                         makes the manual page and the picture of the crates anew
 
 PREFIX ?= /usr/local
@@ -11,12 +13,14 @@ DESTDIR ?=
 PYTHON ?= python3
 # Another program may be named, and is then taken as it is.
 PROGRAM ?= crates/subgraph/out/subgraph
+# How many hostile texts of each kind.
+TEXTS ?= 10000
 
 MODULES = $(wildcard python/subgraph_solver/*.py) python/subgraph_solver/py.typed
 FOLDER := $(shell $(PYTHON) tools/package_folder.py $(PREFIX) 2>/dev/null)
 PACKAGES = $(DESTDIR)$(or $(FOLDER),$(error $(PYTHON) does not run))/subgraph_solver
 
-.PHONY: build install uninstall test docs
+.PHONY: build install uninstall test hostile docs
 
 build:
 ifeq ($(PROGRAM),crates/subgraph/out/subgraph)
@@ -42,6 +46,11 @@ test: build
 	$(PYTHON) tools/man.py --check
 	$(PYTHON) docs/crates.py --check
 	$(PYTHON) tools/claims.py --check
+
+hostile: build
+	$(PYTHON) bench/hostile.py $(PROGRAM) --texts $(TEXTS)
+	$(PYTHON) bench/refused_memory.py $(PROGRAM)
+	bench/real_edge.sh $(PROGRAM)
 
 docs:
 	$(PYTHON) tools/man.py

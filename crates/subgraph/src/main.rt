@@ -9,11 +9,11 @@ ghost use Rattle.std.specs.Prelude.{◌≡◌, [], IfOk};
 
 use outer_io::{RealFiles, RealSink};
 use std::alloc::{AllocError, Global};
-use std::env;
 use std::io::ErrorKind;
 use std::process::ExitCode;
 use std::rt::Env;
 use std::thread::Threads;
+use std::{env, fs};
 use subgraph_cli::run;
 use subgraph_cli::stop::Stop;
 use subgraph_cli::telling::tell_stop;
@@ -44,6 +44,11 @@ fn status_of<R: Threads + Sync>(threads: &R, rt: &HostRuntime) -> Result<u8, All
 }
 
 fn main(rt: HostRuntime) -> ExitCode {
+    // The system gives a file the least number that is free: where a standard stream is closed, these take its number, so that none of
+    // the files that the program writes gets it, and what is told to the closed stream is a fault.
+    let _first = fs::open(&rt, "/dev/null");
+    let _second = fs::open(&rt, "/dev/null");
+    let _third = fs::open(&rt, "/dev/null");
     let status = match status_of(&rt, &rt) {
         Ok(status) => status,
         Err(_) => tell_stop(Stop::NoMemory, &mut RealSink::new(rt.stderr())),

@@ -1,0 +1,287 @@
+#!/usr/bin/env python3
+"""Gives the program hostile texts, and holds each of its answers against a plain reading of the formats.
+
+usage: python3 bench/hostile.py PROGRAM [--texts N] [--kinds KIND ..] [--jobs J] [--seed S] [--seconds N] [--folder FOLDER] [--keep FOLDER]
+
+PROGRAM is the built program (crates/subgraph/out/subgraph). A hostile text is a good one after one to three edits at random (`edits.py`): a
+graph in either format (`lad`, `vertexlabelledlad`) for `solve` or `encode`, a `mapping` for `verify`, an `encoding` or a `log` for `check`. The
+other files of a question are good. Status, output and the error stream are compared with what `plain.py` and `tools/plain_check.py` say; where
+several maps are right any of them will do. A run that ends by a signal or takes longer than --seconds differs too. The kind `limit` is a few fixed
+texts at the limits of sizes. Each text is made from the seed, its kind and its place, so that a run can be repeated, by whatever number of jobs.
+
+Prints what came of each kind, by status and cause. A difference is told, its hostile text made smaller as long as there is one, and its files
+stand in the folder --keep; the status is then 1.
+"""
+import argparse
+import collections
+import concurrent.futures
+import os
+import random
+import subprocess
+import sys
+import tempfile
+from dataclasses import dataclass
+from typing import Callable, List
+
+import plain
+from agree import goes, occurs, random_graph, text_of
+from check_logs import check_cases, mutant, random_pair
+from edits import hostile
+from plain import Answer
+
+TOP = os.path.dirname(os.path.dirname(os.path.abspath(__file__)))
+CHUNK = 100
+#: The status of a run that has not ended in time.
+NO_ANSWER = -1
+
+
+@dataclass
+class Question:
+    """The words of a command before its files, these files' texts, which of them is the hostile one, and what is to be answered to the texts.
+
+    The last is given the answer that was found as well, since more than one may be right."""
+
+    words: List[str]
+    texts: List[bytes]
+    at: int
+    wanted: Callable[[List[bytes], Answer], Answer]
+
+
+# The kinds of questions --------------------------------------------------------------------------------------------------------
+
+
+def graphs(rng, labelled):
+    """A pattern and a target, small enough for brute force; about half of the patterns occur."""
+    labels, loops = rng.choice([1, 2, 3]) if labelled else 1, rng.random() < 0.3
+    sizes = rng.randint(0, 6), rng.randint(0, 9)
+    return [random_graph(rng, size, rng.random(), loops, labels) for size in sizes]
+
+
+def options(labelled, induced):
+    return ["--format", "vertexlabelledlad"] * labelled + ["--induced"] * induced
+
+
+def graph_question(rng, labelled):
+    induced, at = rng.random() < 0.5, rng.randrange(2)
+    texts = [text_of(graph, labelled).encode() for graph in graphs(rng, labelled)]
+    texts[at] = hostile(rng, texts[at])
+    if rng.random() < 0.25:
+        return Question(["encode", *options(labelled, induced)], texts, at, lambda it, _: plain.encode(it, labelled, induced))
+    words = ["solve", *options(labelled, induced), "--threads", rng.choice("113")]
+    return Question(words, texts, at, lambda it, found: plain.solve(it, labelled, induced, found))
+
+
+def embedding(pattern, target, induced):
+    """The first embedding, None where there is none."""
+    if not occurs(pattern, target, induced, []):
+        return None
+    images = []
+    for p in range(len(pattern[0])):
+        fitting = (t for t in range(len(target[0])) if goes(pattern, target, induced, images, p, t))
+        images.append(next(t for t in fitting if occurs(pattern, target, induced, images + [t])))
+    return images
+
+
+def mapping_question(rng):
+    labelled, induced = rng.random() < 0.3, rng.random() < 0.5
+    pattern, target = graphs(rng, labelled)
+    images = embedding(pattern, target, induced) if rng.random() < 0.7 else None
+    if images is None:
+        images = [rng.randrange(10) for _ in pattern[0]]
+    text = "yes\n" + "".join(f"{p} -> {t}\n" for p, t in enumerate(images))
+    texts = [text_of(graph, labelled).encode() for graph in (pattern, target)] + [hostile(rng, text.encode())]
+    return Question(["verify", *options(labelled, induced)], texts, 2, lambda it, _: plain.verify(it[:2], it[2], labelled, induced))
+
+
+def proof_question(rng, at):
+    """An encoding and a log over it: worked cases, or of right form at random. Edits are those of `check_logs.py` too."""
+    case = rng.choice(CASES)
+    texts = list(random_pair(rng)) if rng.random() < 0.6 else [case[1], case[2]]
+    texts[at] = (mutant if rng.random() < 0.3 else hostile)(rng, texts[at])
+    return Question(["check"], texts, at, lambda it, _: plain.check(*it))
+
+
+CASES = [case for case in check_cases.cases() if max(map(len, case[1:3])) < 2000]
+KINDS = {
+    "lad": lambda rng: graph_question(rng, False),
+    "vertexlabelledlad": lambda rng: graph_question(rng, True),
+    "mapping": mapping_question,
+    "encoding": lambda rng: proof_question(rng, 0),
+    "log": lambda rng: proof_question(rng, 1),
+}
+
+
+def lonely(size):
+    """A graph of so many vertices without an edge."""
+    return b"%d\n" % size + b"0\n" * size
+
+
+def filled(text, size):
+    return text + b" " * (size - len(text))
+
+
+def limits():
+    """Questions at the limits of sizes, each with its one answer."""
+    most = plain.MOST_BYTES
+    edge, nothing = b"2\n1 1\n1 0\n", b"0\n"
+    cases = [
+        ("solve", [lonely(1024), lonely(1023)], Answer(1, b"none\n")),
+        ("solve", [lonely(1025), lonely(1025)], Answer(4, b"", b"pattern: word 1: TooMany\n")),
+        ("solve", [edge, lonely(8192)], Answer(1, b"none\n")),
+        ("solve", [edge, lonely(8193)], Answer(4, b"", b"target: word 1: TooMany\n")),
+        ("solve", [b"4294967295\n", edge], Answer(4, b"", b"pattern: word 1: TooMany\n")),
+        ("solve", [b"4294967296\n", edge], Answer(4, b"", b"pattern: word 1: NotNumber\n")),
+        ("solve", [b"1 4294967295\n", edge], Answer(4, b"", b"pattern: word 3: EndsEarly\n")),
+        ("solve", [filled(nothing, most), nothing], Answer(0, b"yes\n")),
+        ("solve", [filled(nothing, most + 1), nothing], Answer(4, b"", b"pattern: too long\n")),
+        ("solve", [nothing, filled(nothing, most)], Answer(0, b"yes\n")),
+        ("solve", [nothing, filled(nothing, most + 1)], Answer(4, b"", b"target: too long\n")),
+        ("solve", [b"0" * (most - 1) + b"0", nothing], Answer(0, b"yes\n")),
+        ("solve", [b"9" * most, nothing], Answer(4, b"", b"pattern: word 1: NotNumber\n")),
+        ("verify", [nothing, nothing, filled(b"yes\n", most)], Answer(4, b"", b"mapping: line 2: Form\n")),
+        ("verify", [nothing, nothing, filled(b"yes\n", most + 1)], Answer(4, b"", b"mapping: too long\n")),
+        ("verify", [nothing, nothing, b"\n" * most], Answer(4, b"", b"mapping: line 1: Form\n")),
+        ("check", [b"* #variable= 4294967295 #constraint= 0\n", b"embedding proof 1\nm 0\nq\n"], Answer(0, b"accepted undecided\n")),
+        ("check", [b"* #variable= 1 #constraint= 9223372036854775807\n", b""], Answer(4, b"", b"encoding: line 2: Count\n")),
+    ]
+    for command, texts, answer in cases:
+        yield Question([command], texts, 0, lambda *_, right=answer: right)
+
+
+# Asking ------------------------------------------------------------------------------------------------------------------------
+
+
+class Asking:
+    """Asks the program, whose files stand in a folder of this object's own."""
+
+    def __init__(self, program, seconds, folder):
+        self.program = program
+        self.seconds = seconds
+        self.folder = folder
+
+    def answer(self, question, texts):
+        files = [os.path.join(self.folder, str(i)) for i in range(len(texts))]
+        for file, text in zip(files, texts):
+            with open(file, "wb") as f:
+                f.write(text)
+        try:
+            words = [self.program, *question.words, *files]
+            done = subprocess.run(words, capture_output=True, stdin=subprocess.DEVNULL, timeout=self.seconds)
+        except subprocess.TimeoutExpired:
+            return Answer(NO_ANSWER, b"", b"no answer in time\n")
+        return Answer(done.returncode, done.stdout, done.stderr)
+
+    def answers(self, question, text):
+        """What is answered where this is the hostile text, and what is right."""
+        texts = list(question.texts)
+        texts[question.at] = text
+        found = self.answer(question, texts)
+        return found, question.wanted(texts, found)
+
+    def differs(self, question, text):
+        found, right = self.answers(question, text)
+        return found != right
+
+    def smallest(self, question):
+        """A smaller hostile text that differs too: pieces are left out as long as it does."""
+        text = question.texts[question.at]
+        size = len(text) // 2
+        while size:
+            at = 0
+            while at < len(text):
+                shorter = text[:at] + text[at + size :]
+                if self.differs(question, shorter):
+                    text = shorter
+                else:
+                    at += size
+            size //= 2
+        return text
+
+
+def what_came(answer):
+    """The status, and the line that was told without the place in it: a row of the table."""
+    line = (answer.out + answer.err).split(b"\n")[0].decode("latin-1")
+    who, _, cause = line.partition(": ")
+    if answer.status == 0 and line.startswith("* "):
+        line = "an encoding"
+    return answer.status, f"{who}: {cause.split(': ')[-1]}" if cause else line
+
+
+def told(answer):
+    return f"status {answer.status}, {(answer.out + answer.err)[:200]!r}"
+
+
+def ask(words, questions):
+    """What came of each question, and each that differs: with its smallest text, what was found and what is right."""
+    came, differences = collections.Counter(), []
+    with tempfile.TemporaryDirectory(dir=words.folder) as own:
+        asking = Asking(words.program, words.seconds, own)
+        for question in questions:
+            found, right = asking.answers(question, question.texts[question.at])
+            came[what_came(found)] += 1
+            if found != right and found.status != NO_ANSWER:
+                question.texts[question.at] = asking.smallest(question)
+                found, right = asking.answers(question, question.texts[question.at])
+            if found != right:
+                differences.append((question, found, right))
+    return came, differences
+
+
+def chunk(words, kind, begin, end):
+    rngs = [random.Random(f"{words.seed} {kind} {i}") for i in range(begin, end)]
+    return ask(words, [KINDS[kind](rng) for rng in rngs])
+
+
+def keep(folder, name, question):
+    """The files of a question, one after another, under a name."""
+    os.makedirs(folder, exist_ok=True)
+    files = [os.path.join(folder, f"{name}.{i}") for i in range(len(question.texts))]
+    for file, text in zip(files, question.texts):
+        with open(file, "wb") as f:
+            f.write(text)
+    return files
+
+
+def table(came):
+    """A row for each status and line, a column for each kind of text."""
+    kinds = list(came)
+    print("| status | what came | " + " | ".join(kinds) + " |\n|---|---" + "|---" * len(kinds) + "|")
+    for status, line in sorted({row for rows in came.values() for row in rows}):
+        print(f"| {status} | `{line}` | " + " | ".join(str(came[kind][status, line]) for kind in kinds) + " |")
+    print("| | all | " + " | ".join(str(sum(came[kind].values())) for kind in kinds) + " |")
+
+
+def main():
+    parser = argparse.ArgumentParser()
+    parser.add_argument("program")
+    parser.add_argument("--texts", type=int, default=1000, help="how many of each kind")
+    parser.add_argument("--kinds", nargs="+", choices=[*KINDS, "limit"], default=[*KINDS, "limit"])
+    parser.add_argument("--jobs", type=int, default=1)
+    parser.add_argument("--seed", type=int, default=0)
+    parser.add_argument("--seconds", type=float, default=60, help="that a run may take")
+    parser.add_argument("--folder", default="/dev/shm", help="where the files of the questions are written; memory is best")
+    parser.add_argument("--keep", default=os.path.join(TOP, "out", "hostile"), help="a folder for what differs")
+    words = parser.parse_args()
+    came, differ = {}, 0
+    with concurrent.futures.ThreadPoolExecutor(words.jobs) as pool:
+        for kind in words.kinds:
+            if kind == "limit":
+                done = [pool.submit(ask, words, [question]) for question in limits()]
+            else:
+                ends = range(0, words.texts, CHUNK)
+                done = [pool.submit(chunk, words, kind, begin, min(begin + CHUNK, words.texts)) for begin in ends]
+            came[kind] = collections.Counter()
+            for one in done:
+                counts, differences = one.result()
+                came[kind] += counts
+                for question, found, right in differences:
+                    differ += 1
+                    files = keep(words.keep, f"{differ}.{kind}", question)
+                    print(f"difference {differ}: {' '.join(question.words + files)}: {told(found)}; wanted {told(right)}", flush=True)
+    table(came)
+    print(f"{sum(sum(rows.values()) for rows in came.values())} texts, {differ} answers differ from the plain reading")
+    sys.exit(1 if differ else 0)
+
+
+if __name__ == "__main__":
+    main()

@@ -1,0 +1,181 @@
+"""What the program is to answer, in plain Python, read off docs/FORMATS.md and the README alone: it shares nothing with the program.
+
+Encodings and logs are judged by `tools/plain_check.py`; this adds graphs, mappings, the encoding's text and the statuses. A graph is a list of
+labels and a set of ordered pairs with an edge, both ways round, as in `agree.py`.
+"""
+import os
+import re
+import sys
+from dataclasses import dataclass
+
+from agree import is_embedding, occurs
+
+sys.path.insert(0, os.path.join(os.path.dirname(os.path.dirname(os.path.abspath(__file__))), "tools"))
+
+import plain_check  # noqa: E402
+
+MOST_BYTES = 67108864
+MOST_VERTICES = {"pattern": 1024, "target": 8192}
+
+
+@dataclass(frozen=True)
+class Answer:
+    """The status of a run, and what it wrote."""
+
+    status: int
+    out: bytes = b""
+    err: bytes = b""
+
+
+class Refused(Exception):
+    """A text is refused; the exception's text is the line that tells it."""
+
+    def answer(self):
+        return Answer(4, b"", f"{self}\n".encode())
+
+
+def number(word):
+    """The value of a word of a graph's text, None where it is no number."""
+    value = plain_check.value(word) if re.fullmatch(rb"[0-9]+", word) else 2**32
+    return value if value < 2**32 else None
+
+
+class Words:
+    """A graph's words, taken one by one."""
+
+    def __init__(self, who, text):
+        if len(text) > MOST_BYTES:
+            raise Refused(f"{who}: too long")
+        self.who = who
+        self.words = re.findall(rb"[^ \t\r\n]+", text)
+        self.taken = 0
+
+    def refuse_if(self, wrong, cause):
+        if wrong:
+            raise Refused(f"{self.who}: word {self.taken}: {cause}")
+
+    def next(self):
+        """The number in the next place."""
+        self.taken += 1
+        self.refuse_if(self.taken > len(self.words), "EndsEarly")
+        value = number(self.words[self.taken - 1])
+        self.refuse_if(value is None, "NotNumber")
+        return value
+
+    def end(self):
+        self.taken += 1
+        self.refuse_if(self.taken <= len(self.words), "WordsLeft")
+
+
+def read_graph(who, text, labelled):
+    words = Words(who, text)
+    size = words.next()
+    words.refuse_if(size > MOST_VERTICES[who], "TooMany")
+    labels, edges = [], set()
+    for a in range(size):
+        labels.append(words.next() if labelled else 0)
+        for _ in range(words.next()):
+            b = words.next()
+            words.refuse_if(b >= size, "NoSuchVertex")
+            edges |= {(a, b), (b, a)}
+    words.end()
+    return labels, edges
+
+
+def read_graphs(texts, labelled):
+    """The pattern and the target; the pattern is read first, and so refused first."""
+    return [read_graph(who, text, labelled) for who, text in zip(("pattern", "target"), texts)]
+
+
+def read_mapping(text):
+    if len(text) > MOST_BYTES:
+        raise Refused("mapping: too long")
+    *lines, rest = text.split(b"\n")
+    images = []
+    for place, line in enumerate(lines, 1):
+        found = re.fullmatch(rb"(0|[1-9][0-9]*) -> (0|[1-9][0-9]*)", line)
+        good = line == b"yes" if place == 1 else found and number(found[1]) == place - 2 and number(found[2]) is not None
+        if not good:
+            raise Refused(f"mapping: line {place}: Form")
+        if place > 1:
+            images.append(number(found[2]))
+    if rest or not lines:
+        raise Refused(f"mapping: line {len(lines) + 1}: Form")
+    return images
+
+
+def solve(texts, labelled, induced, found):
+    """The right answer; where several maps are right and `found` tells one of them, `found`."""
+    try:
+        pattern, target = read_graphs(texts, labelled)
+    except Refused as fault:
+        return fault.answer()
+    if not occurs(pattern, target, induced, []):
+        return Answer(1, b"none\n")
+    try:
+        images = read_mapping(found.out)
+    except Refused:
+        images = []
+    right = (found.status, found.err) == (0, b"") and is_embedding(pattern, target, induced, images)
+    return found if right and found.out.startswith(b"yes\n") else Answer(0, b"yes\n..")
+
+
+def verify(texts, mapping, labelled, induced):
+    try:
+        pattern, target = read_graphs(texts, labelled)
+        images = read_mapping(mapping)
+    except Refused as fault:
+        return fault.answer()
+    if is_embedding(pattern, target, induced, images):
+        return Answer(0, b"embedding\n")
+    return Answer(7, b"", b"mapping: not an embedding\n")
+
+
+def constraints(pattern, target, induced):
+    """Each constraint of the encoding: the terms, by their variables, and the bound."""
+    vertices, values = range(len(pattern[0])), range(len(target[0]))
+
+    def x(p, t):
+        return p * len(values) + t + 1
+
+    for p in vertices:
+        yield {x(p, t): 1 for t in values}, 1
+        yield {x(p, t): -1 for t in values}, -1
+    for t in values:
+        yield {x(p, t): -1 for p in vertices}, -1
+    for p in vertices:
+        for t in values:
+            loops = (p, p) in pattern[1], (t, t) in target[1]
+            if pattern[0][p] != target[0][t] or loops == (True, False) or induced and loops == (False, True):
+                yield {x(p, t): -1}, 0
+    for is_edge in (True, False) if induced else (True,):
+        for p in vertices:
+            for q in vertices:
+                if p != q and ((p, q) in pattern[1]) == is_edge:
+                    for t in values:
+                        near = {x(q, u): 1 for u in values if u != t and ((t, u) in target[1]) == is_edge}
+                        yield {x(p, t): -1, **near}, 0
+
+
+def encode(texts, labelled, induced):
+    try:
+        pattern, target = read_graphs(texts, labelled)
+    except Refused as fault:
+        return fault.answer()
+    lines = [
+        "".join(f"{a:+} x{v} " for v, a in sorted(terms.items())) + f">= {bound} ;"
+        for terms, bound in constraints(pattern, target, induced)
+    ]
+    head = f"* #variable= {len(pattern[0]) * len(target[0])} #constraint= {len(lines)}"
+    return Answer(0, "\n".join([head, *lines, ""]).encode())
+
+
+def check(encoding, log):
+    try:
+        model = plain_check.read_encoding(encoding)
+    except plain_check.Fault as fault:
+        return Answer(4, b"", f"encoding: line {fault.line}: {fault.cause}\n".encode())
+    try:
+        return Answer(0, f"accepted {plain_check.judge(model, log)}\n".encode())
+    except plain_check.Fault as fault:
+        return Answer(7, b"", f"log: line {fault.line}: {fault.cause}\n".encode())
