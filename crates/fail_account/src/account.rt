@@ -63,7 +63,8 @@ impl Account {
     /// The account of a search that has not begun. It reserves a level for each pattern vertex, each with a row.
     pub fn new(alloc: Global, q: &Problem, budget: u64) -> Result<Account, AllocError>
         requires { budget < 2 ^ 63 }
-        ensures fresh { IfOk result (λ a. a ≡ fresh (size q.now.pattern) (size q.now.target) budget) }
+        ensures fresh { IfOk result
+            (λ a. a ≡ fresh (size q.now.pattern) (size q.now.target) budget) }
         ensures honest { IfOk result (λ a. Honest q.now a) }
     {
         let pattern = q.pattern().size();
@@ -109,7 +110,8 @@ impl Account {
         requires { i < self.now.pattern }
         ensures vertex { result.0 ≡ (level_at self.now i).vertex }
         ensures long { length result.1.now ≡ words_for self.now.target }
-        ensures refuted { members (has result.1.now) self.now.target ≡ (level_at self.now i).refuted }
+        ensures refuted { members (has result.1.now) self.now.target
+            ≡ (level_at self.now i).refuted }
         ensures others { (t : ℕ) → self.now.target ≤ t → has result.1.now t ≡ false }
     {
         let place = usize::from(i);
@@ -131,7 +133,8 @@ impl Account {
     /// Whether the fails of all runs equal the budget, which then is not enough.
     pub fn spent(&self) -> bool
         ensures exactly { IsTrue result ↔ (self.now.all ≡ self.now.budget) }
-        ensures not_enough { IsTrue result → self.now.budget < enough self.now.pattern self.now.target }
+        ensures not_enough { IsTrue result
+            → self.now.budget < enough self.now.pattern self.now.target }
         ensures within { self.now.all ≤ self.now.budget }
     {
         self.all == self.budget
@@ -226,7 +229,8 @@ fn level_vertex(path: &[(u16, u16)], after: Option<u16>, i: usize) -> Option<u16
 
 /// The two counts after one more fail: where one of them stands at its bound both stay.
 fn counted(count: u64, all: u64, limit: u64, budget: u64) -> (u64, u64)
-    ensures run { result.0 ≡ (if nat_lt count limit && nat_lt all budget then count + 1 else count) }
+    ensures run { result.0
+        ≡ (if nat_lt count limit && nat_lt all budget then count + 1 else count) }
     ensures all { result.1 ≡ (if nat_lt count limit && nat_lt all budget then all + 1 else all) }
 {
     if count < limit && all < budget {

@@ -87,11 +87,14 @@ pub fn load_graph<F: Files>(
     requires name { length name.now ≤ NAME_LIMIT }
     requires limit { most ≤ 8192 }
 
-    ensures says { IsTrue (F.tells files.old) → GraphSays (F.content files.old name.now) kind most result }
+    ensures says { IsTrue (F.tells files.old)
+        → GraphSays (F.content files.old name.now) kind most result }
     ensures few { IfOk result (λ g. size g ≤ most) }
 
-    ensures rose { IsErrOf result GraphFault.Failed → Rose (F.faults files.old) (F.faults files.new) }
-    ensures fault_at { IsErrOf result GraphFault.Failed → F.fault_at files.new ≡ Some (name.now, Purpose.Reading) }
+    ensures rose { IsErrOf result GraphFault.Failed
+        → Rose (F.faults files.old) (F.faults files.new) }
+    ensures fault_at { IsErrOf result GraphFault.Failed
+        → F.fault_at files.new ≡ Some (name.now, Purpose.Reading) }
     ensures quiet { IsErrOf result GraphFault.Failed ⊎ (F.faults files.new ≡ F.faults files.old) }
     ensures later { F.faults files.old ≤ F.faults files.new }
 

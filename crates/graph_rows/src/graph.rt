@@ -136,7 +136,8 @@ impl Graph {
     /// The degrees of all vertices, in order.
     pub fn degrees(&self) -> &[u16]
         ensures long { length result.now ≡ size_of self.now }
-        ensures degrees { (a : ℕ) → a < size_of self.now → slice_index result.now a ≡ degree_of self.now a }
+        ensures degrees { (a : ℕ) → a < size_of self.now
+            → slice_index result.now a ≡ degree_of self.now a }
     {
         &self.degrees
     }
@@ -177,7 +178,8 @@ impl Graph {
 
 /// Whether labels are the same, and words are.
 fn same_lists(labels: &[u32], other_labels: &[u32], words: &[u64], other_words: &[u64]) -> bool
-    ensures same { IsTrue result ↔ ((labels.now ≡ other_labels.now) × (words.now ≡ other_words.now)) }
+    ensures same { IsTrue result
+        ↔ ((labels.now ≡ other_labels.now) × (words.now ≡ other_words.now)) }
     ensures fit { (k : ℕ) → slice_index words.now k < 2 ^ 64 }
     ensures others_fit { (k : ℕ) → slice_index other_words.now k < 2 ^ 64 }
 {
@@ -249,7 +251,8 @@ fn mark_all(words: &mut [u64], degrees: &mut [u16], width: usize, neighbours: &N
     requires all { length neighbours.now ≡ length degrees.old }
     requires to { AllBelow (length degrees.old) neighbours.now }
     ensures marks { AreMarks (length degrees.old) width words.new degrees.new }
-    ensures said { (x y : ℕ) → x < 64 * width → y < 64 * width → marked words.new width x y ≡ either_said neighbours.now x y }
+    ensures said { (x y : ℕ) → x < 64 * width → y < 64 * width
+        → marked words.new width x y ≡ either_said neighbours.now x y }
 {
     for a in 0..neighbours.len() {
         mark_listed(words, degrees, width, a, neighbours.of(a));

@@ -15,15 +15,18 @@ use std::alloc::Global;
 
 /// What follows the front of a text, where it has this front.
 fn after<'a>(bytes: &'a [u8], front: &[u8]) -> Option<&'a [u8]>
-    ensures { MatchOption result ((more : List ℕ) → bytes.now ≢ front.now ++ more) (λ rest. bytes.now ≡ front.now ++ rest.now) }
+    ensures { MatchOption result ((more : List ℕ) → bytes.now ≢ front.now ++ more)
+        (λ rest. bytes.now ≡ front.now ++ rest.now) }
 {
     bytes.strip_prefix(front)
 }
 
 /// The first line of a text and what follows its line feed.
 fn first_line(bytes: &[u8]) -> Option<(&[u8], &[u8])>
-    ensures split { MatchOption result (HasNoLineFeed bytes.now) (λ parts. bytes.now ≡ parts.0.now ++ 10 ∷ parts.1.now) }
-    ensures first { MatchOption result (HasNoLineFeed bytes.now) (λ parts. HasNoLineFeed parts.0.now) }
+    ensures split { MatchOption result (HasNoLineFeed bytes.now)
+        (λ parts. bytes.now ≡ parts.0.now ++ 10 ∷ parts.1.now) }
+    ensures first { MatchOption result (HasNoLineFeed bytes.now)
+        (λ parts. HasNoLineFeed parts.0.now) }
 {
     for (i, b) in bytes.iter().enumerate() {
         if *b == b'\n' {
@@ -35,7 +38,8 @@ fn first_line(bytes: &[u8]) -> Option<(&[u8], &[u8])>
 
 /// The number below 2^32 whose text this is.
 fn image_in(word: &[u8]) -> Option<u32>
-    ensures { MatchOption result ((t : ℕ) → t < 2 ^ 32 → word.now ≢ decimal t) (λ t. word.now ≡ decimal t) }
+    ensures { MatchOption result ((t : ℕ) → t < 2 ^ 32 → word.now ≢ decimal t)
+        (λ t. word.now ≡ decimal t) }
 {
     let Some(image) = number_in(word) else {
         return None;
@@ -50,7 +54,8 @@ fn image_in(word: &[u8]) -> Option<u32>
 
 /// What follows the number of a vertex, where a text begins with it.
 fn after_vertex(bytes: &[u8], vertex: u64) -> Option<&[u8]>
-    ensures { MatchOption result ((more : List ℕ) → bytes.now ≢ decimal vertex ++ more) (λ rest. bytes.now ≡ decimal vertex ++ rest.now) }
+    ensures { MatchOption result ((more : List ℕ) → bytes.now ≢ decimal vertex ++ more)
+        (λ rest. bytes.now ≡ decimal vertex ++ rest.now) }
 {
     let mut buffer = Buffer::new();
     after(bytes, buffer.format(vertex).as_bytes())
@@ -58,7 +63,8 @@ fn after_vertex(bytes: &[u8], vertex: u64) -> Option<&[u8]>
 
 /// The image in the line of a vertex with which a text begins, and what follows the line.
 fn line_in(bytes: &[u8], vertex: u64) -> Option<(u32, &[u8])>
-    ensures { MatchOption result (HasNoLine vertex bytes.now) (λ line. bytes.now ≡ mapping_line vertex line.0 ++ line.1.now) }
+    ensures { MatchOption result (HasNoLine vertex bytes.now)
+        (λ line. bytes.now ≡ mapping_line vertex line.0 ++ line.1.now) }
 {
     let Some(arrow) = after_vertex(bytes, vertex) else {
         return None;
@@ -101,8 +107,10 @@ fn images_in(alloc: Global, bytes: &[u8]) -> Result<Vec<u32>, MapFault>
 pub fn read_mapping(alloc: Global, bytes: &[u8]) -> Result<Vec<u32>, MapFault>
     ensures found { IfOk result (λ m. IsMapping bytes.now m.items) }
     ensures fault { IfErr result (λ e. OnLine e (FaultyLine bytes.now)) }
-    ensures only { (m : List ℕ) → IsMapping bytes.now m → MatchResult result (λ found. found.items ≡ m) (λ e. e ≡ MapFault.NoMemory) }
-    ensures fault_only { (n : ℕ) → FaultyLine bytes.now n → MatchResult result (λ _. ⊥) (λ e. OnLine e (λ k. k ≡ n)) }
+    ensures only { (m : List ℕ) → IsMapping bytes.now m
+        → MatchResult result (λ found. found.items ≡ m) (λ e. e ≡ MapFault.NoMemory) }
+    ensures fault_only { (n : ℕ) → FaultyLine bytes.now n
+        → MatchResult result (λ _. ⊥) (λ e. OnLine e (λ k. k ≡ n)) }
 {
     mapping_laws();
     images_in(alloc, bytes)
@@ -110,7 +118,8 @@ pub fn read_mapping(alloc: Global, bytes: &[u8]) -> Result<Vec<u32>, MapFault>
 
 /// Puts the text of the mapping: a call for each number and each text between them. It takes no memory.
 pub fn write_mapping<S: Sink>(map: &[u32], sink: &mut S) -> Result<(), Failed>
-    ensures text { Wrote (S.spot sink.old).steady (S.contents sink.old) (S.contents sink.new) result (yes_text map.now) }
+    ensures text { Wrote (S.spot sink.old).steady (S.contents sink.old) (S.contents sink.new) result
+        (yes_text map.now) }
     ensures cause { HasBlame S.spot S.rest S.faults S.blamed sink.old sink.new result }
 {
     sink.put(b"yes\n")?;
@@ -122,7 +131,8 @@ pub fn write_mapping<S: Sink>(map: &[u32], sink: &mut S) -> Result<(), Failed>
 
 /// Puts the line of vertex `p` at `t`.
 fn write_line<S: Sink>(p: usize, t: u32, sink: &mut S) -> Result<(), Failed>
-    ensures text { Wrote (S.spot sink.old).steady (S.contents sink.old) (S.contents sink.new) result (mapping_line p t) }
+    ensures text { Wrote (S.spot sink.old).steady (S.contents sink.old) (S.contents sink.new) result
+        (mapping_line p t) }
     ensures cause { HasBlame S.spot S.rest S.faults S.blamed sink.old sink.new result }
 {
     let mut vertex = Buffer::new();

@@ -74,7 +74,8 @@ impl<'a> NumbersLeft<'a> {
     /// Takes the number that is due.
     fn take(&mut self, due: Place) -> Result<u32, LadFault>
         requires { IsOpen due }
-        ensures ok { IfOk result (λ n. Went self.old self.new (n ∷ []) × (refused_at due (Some (Some n)) ≡ None)) }
+        ensures ok { IfOk result
+            (λ n. Went self.old self.new (n ∷ []) × (refused_at due (Some (Some n)) ≡ None)) }
         ensures err { IfErr result (λ e. OnWord e (StopsAt self.old [] due)) }
     {
         if self.taken == self.numbers.len() {
@@ -122,7 +123,8 @@ fn read_listed(
     size: u32,
     due: u32,
 ) -> Result<Vec<(u32, u32)>, LadFault>
-    ensures found { IfOk result (λ listed. WentListed kind size due left.old left.new listed.items) }
+    ensures found { IfOk result
+        (λ listed. WentListed kind size due left.old left.new listed.items) }
     ensures fault { IfErr result (λ e. OnWord e (StopsListed kind size due left.old)) }
 {
     let mut listed = Vec::new(alloc);
@@ -135,7 +137,8 @@ fn read_listed(
 
 /// Reads the label of a vertex, where the format has one.
 fn read_label(left: &mut NumbersLeft, kind: LadKind) -> Result<u32, LadFault>
-    ensures found { IfOk result (λ label. HasLabel kind label × Went left.old left.new (label_numbers kind label)) }
+    ensures found { IfOk result
+        (λ label. HasLabel kind label × Went left.old left.new (label_numbers kind label)) }
     ensures fault { IfErr result (λ e. OnWord e (StopsAt left.old [] Place.Number)) }
 {
     match kind {
@@ -184,8 +187,10 @@ fn read_text(
     kind: LadKind,
     limit: u32,
 ) -> Result<Vec<ListedVertex>, LadFault>
-    ensures found { (ws : List (List ℕ)) → numbers.now ≡ map number_of ws → IfOk result (λ vs. Reads ws kind limit vs.items) }
-    ensures fault { (ws : List (List ℕ)) → numbers.now ≡ map number_of ws → IfErr result (λ e. OnWord e (Fault ws kind limit)) }
+    ensures found { (ws : List (List ℕ)) → numbers.now ≡ map number_of ws
+        → IfOk result (λ vs. Reads ws kind limit vs.items) }
+    ensures fault { (ws : List (List ℕ)) → numbers.now ≡ map number_of ws
+        → IfErr result (λ e. OnWord e (Fault ws kind limit)) }
 {
     let mut left = NumbersLeft::new(numbers);
     let size = left.take(Place::Size(limit))?;

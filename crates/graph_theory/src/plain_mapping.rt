@@ -9,15 +9,18 @@ use std::alloc::{AllocError, Global};
 
 /// What follows the front of a text, where it has this front.
 fn after<'a>(bytes: &'a [u8], front: &[u8]) -> Option<&'a [u8]>
-    ensures { MatchOption result ((more : List ℕ) → bytes.now ≢ front.now ++ more) (λ rest. bytes.now ≡ front.now ++ rest.now) }
+    ensures { MatchOption result ((more : List ℕ) → bytes.now ≢ front.now ++ more)
+        (λ rest. bytes.now ≡ front.now ++ rest.now) }
 {
     bytes.strip_prefix(front)
 }
 
 /// The first line of a text and what follows its line feed.
 fn first_line(bytes: &[u8]) -> Option<(&[u8], &[u8])>
-    ensures split { MatchOption result (HasNoLineFeed bytes.now) (λ parts. bytes.now ≡ parts.0.now ++ 10 ∷ parts.1.now) }
-    ensures first { MatchOption result (HasNoLineFeed bytes.now) (λ parts. HasNoLineFeed parts.0.now) }
+    ensures split { MatchOption result (HasNoLineFeed bytes.now)
+        (λ parts. bytes.now ≡ parts.0.now ++ 10 ∷ parts.1.now) }
+    ensures first { MatchOption result (HasNoLineFeed bytes.now)
+        (λ parts. HasNoLineFeed parts.0.now) }
 {
     for (i, b) in bytes.iter().enumerate() {
         if *b == b'\n' {
@@ -29,7 +32,9 @@ fn first_line(bytes: &[u8]) -> Option<(&[u8], &[u8])>
 
 /// The number below 2^32 whose text this is.
 fn image_in(alloc: Global, word: &[u8]) -> Result<Option<u32>, AllocError>
-    ensures { IfOk result (λ found. MatchOption found ((t : ℕ) → t < 2 ^ 32 → word.now ≢ decimal t) (λ t. word.now ≡ decimal t)) }
+    ensures { IfOk result
+        (λ found. MatchOption found ((t : ℕ) → t < 2 ^ 32 → word.now ≢ decimal t)
+        (λ t. word.now ≡ decimal t)) }
 {
     let Some(image) = number_in(word) else {
         return Ok(None);
@@ -91,8 +96,10 @@ fn images_in(alloc: Global, bytes: &[u8]) -> Result<Vec<u32>, MapFault>
 pub fn mapping_in(alloc: Global, bytes: &[u8]) -> Result<Vec<u32>, MapFault>
     ensures found { IfOk result (λ m. IsMapping bytes.now m.items) }
     ensures fault { IfErr result (λ e. OnLine e (FaultyLine bytes.now)) }
-    ensures only { (m : List ℕ) → IsMapping bytes.now m → MatchResult result (λ found. found.items ≡ m) (λ e. e ≡ MapFault.NoMemory) }
-    ensures fault_only { (n : ℕ) → FaultyLine bytes.now n → MatchResult result (λ _. ⊥) (λ e. OnLine e (λ k. k ≡ n)) }
+    ensures only { (m : List ℕ) → IsMapping bytes.now m
+        → MatchResult result (λ found. found.items ≡ m) (λ e. e ≡ MapFault.NoMemory) }
+    ensures fault_only { (n : ℕ) → FaultyLine bytes.now n
+        → MatchResult result (λ _. ⊥) (λ e. OnLine e (λ k. k ≡ n)) }
 {
     mapping_laws();
     images_in(alloc, bytes)

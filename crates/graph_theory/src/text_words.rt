@@ -43,7 +43,8 @@ fn word_end(text: &[u8]) -> usize
 
 /// The first word of a text and what follows it, in time linear in the bytes up to the word's end.
 pub fn first_word(bytes: &[u8]) -> Option<(&[u8], &[u8])>
-    ensures words { MatchOption result (words bytes.now ≡ []) (λ parts. words bytes.now ≡ parts.0.now ∷ words parts.1.now) }
+    ensures words { MatchOption result (words bytes.now ≡ [])
+        (λ parts. words bytes.now ≡ parts.0.now ∷ words parts.1.now) }
     ensures shorter { IfSome result (λ parts. length parts.1.now < length bytes.now) }
 {
     let text = without_blanks(bytes);

@@ -124,7 +124,8 @@ impl ListedProblem {
         requires { length map.old.items ≤ size self.now.pattern }
         ensures same { OnOk result (map.new.items ≡ map.old.items) }
         ensures found { IfOk result (λ b. IsTrue b → Completes self.now path.now map.old.items) }
-        ensures none { IfOk result (λ b. b ≡ false → Completes self.now path.now map.old.items → ⊥) }
+        ensures none { IfOk result
+            (λ b. b ≡ false → Completes self.now path.now map.old.items → ⊥) }
     {
         if map.len() == self.pattern.size() {
             return Ok(has_each(map, path) && self.is_embedding(map));

@@ -69,8 +69,10 @@ impl Sink for TextBuffer {
     ghost blamed = { buffer_blamed };
 
     fn put(&mut self, piece: &[u8]) -> Result<(), Failed>
-        ensures text { Wrote (buffer_spot self.old).steady (buffer_contents self.old) (buffer_contents self.new) result piece.now }
-        ensures cause { HasBlame buffer_spot buffer_rest buffer_faults buffer_blamed self.old self.new result }
+        ensures text { Wrote (buffer_spot self.old).steady (buffer_contents self.old)
+            (buffer_contents self.new) result piece.now }
+        ensures cause { HasBlame buffer_spot buffer_rest buffer_faults buffer_blamed self.old
+            self.new result }
     {
         if self.bytes.extend_from_slice(piece).is_err() {
             self.refused = self.refused.saturating_add(1);

@@ -98,7 +98,8 @@ impl Journal {
 /// The line under another name.
 fn renamed(step: Step, name: Name) -> Step
     requires { IsLine step }
-    ensures { (place : ℕ) → name ≡ own_name name.owner place → result ≡ named name.owner place step }
+    ensures { (place : ℕ) → name ≡ own_name name.owner place
+        → result ≡ named name.owner place step }
 {
     match step {
         Step::P { name: _, ops } => Step::P { name, ops },

@@ -43,8 +43,10 @@ fn sum_of(alloc: Global, refs: &[Ref]) -> Result<Ops, AllocError>
 pub fn keep_sum<K: Keeper>(alloc: Global, keeper: &mut K, refs: &[Ref]) -> Result<Name, AllocError>
     requires some { 0 < length refs.now }
     requires fits { AreRefs refs.now }
-    ensures goes { (w : Frame) (f : Form) (gs : List Form) → w.owner ≡ K.owner keeper.old → IsAddable (f ∷ gs)
-        → Goes w (K.kept keeper.old) (K.kept keeper.new) (Named w refs.now (f ∷ gs)) (IsKept w result (sum_from f gs)) }
+    ensures goes { (w : Frame) (f : Form) (gs : List Form) → w.owner ≡ K.owner keeper.old
+        → IsAddable (f ∷ gs)
+        → Goes w (K.kept keeper.old) (K.kept keeper.new) (Named w refs.now (f ∷ gs))
+        (IsKept w result (sum_from f gs)) }
     ensures name { IfOk result IsName }
     ensures owner { K.owner keeper.new ≡ K.owner keeper.old }
     ensures notes { K.notes keeper.new ≡ K.notes keeper.old }

@@ -50,7 +50,8 @@ impl<'a> Words<'a> {
     /// Takes the number that is due.
     fn take(&mut self, due: Place) -> Result<u32, LadFault>
         requires { IsOpen due }
-        ensures ok { IfOk result (λ n. Went self.old self.new (n ∷ []) × (refused_at due (Some (Some n)) ≡ None)) }
+        ensures ok { IfOk result
+            (λ n. Went self.old self.new (n ∷ []) × (refused_at due (Some (Some n)) ≡ None)) }
         ensures err { IfErr result (λ e. OnWord e (StopsAt self.old [] due)) }
     {
         let Some((word, rest)) = first_word(self.rest) else {
@@ -83,7 +84,8 @@ impl<'a> Words<'a> {
 
 /// Reads the label of a vertex, where the format has one.
 fn read_label(words: &mut Words, kind: LadKind) -> Result<u32, LadFault>
-    ensures found { IfOk result (λ label. HasLabel kind label × Went words.old words.new (label_numbers kind label)) }
+    ensures found { IfOk result
+        (λ label. HasLabel kind label × Went words.old words.new (label_numbers kind label)) }
     ensures fault { IfErr result (λ e. OnWord e (StopsAt words.old [] Place.Number)) }
 {
     match kind {
@@ -99,8 +101,11 @@ fn read_neighbours(
     size: u32,
     due: u32,
 ) -> Result<Vec<u32>, LadFault>
-    ensures found { (kind : LadKind) → IfOk result (λ found. WentListed kind size due words.old words.new (map unlabelled found.items)) }
-    ensures fault { (kind : LadKind) → IfErr result (λ e. OnWord e (StopsListed kind size due words.old)) }
+    ensures found { (kind : LadKind)
+        → IfOk result (λ found. WentListed kind size due words.old words.new
+        (map unlabelled found.items)) }
+    ensures fault { (kind : LadKind)
+        → IfErr result (λ e. OnWord e (StopsListed kind size due words.old)) }
 {
     let mut neighbours = Vec::new(alloc);
     for _i in 0..due {
@@ -117,7 +122,9 @@ fn read_vertex(
     kind: LadKind,
     size: u32,
 ) -> Result<(u32, Vec<u32>), LadFault>
-    ensures found { IfOk result (λ v. WentVertex kind size words.old words.new (record { label = v.0; listed = map unlabelled v.1.items })) }
+    ensures found { IfOk result
+        (λ v. WentVertex kind size words.old words.new
+        (record { label = v.0; listed = map unlabelled v.1.items })) }
     ensures fault { IfErr result (λ e. OnWord e (StopsVertex kind size words.old)) }
 {
     let label = read_label(words, kind)?;
@@ -133,7 +140,8 @@ fn read_vertices(
     kind: LadKind,
     size: u32,
 ) -> Result<GraphParts, LadFault>
-    ensures found { IfOk result (λ p. WentVertices kind size size words.old words.new (vertices_of p)) }
+    ensures found { IfOk result
+        (λ p. WentVertices kind size size words.old words.new (vertices_of p)) }
     ensures lengths { IfOk result (λ p. length p.labels ≡ length p.neighbours) }
     ensures fault { IfErr result (λ e. OnWord e (StopsVertices kind size size words.old)) }
 {

@@ -20,9 +20,11 @@ use proof_log::write_step;
 /// no memory.
 pub fn write_undecided<S: Sink>(lines: u64, sink: &mut S) -> Result<(), Failed>
     requires { lines < 2 ^ 63 }
-    ensures text { Wrote (S.spot sink.old).steady (S.contents sink.old) (S.contents sink.new) result (log_text (undecided lines)) }
+    ensures text { Wrote (S.spot sink.old).steady (S.contents sink.old) (S.contents sink.new) result
+        (log_text (undecided lines)) }
     ensures cause { HasBlame S.spot S.rest S.faults S.blamed sink.old sink.new result }
-    ensures accepted { (n : ℕ) (model : List Form) → length model ≡ lines → Accepts n model (log_text (undecided lines)) Undecided }
+    ensures accepted { (n : ℕ) (model : List Form) → length model ≡ lines
+        → Accepts n model (log_text (undecided lines)) Undecided }
 {
     line_laws();
     write_head(lines, sink)?;
@@ -34,7 +36,8 @@ pub fn write_undecided<S: Sink>(lines: u64, sink: &mut S) -> Result<(), Failed>
 pub fn write_solution<S: Sink>(lines: u64, ones: Variables, sink: &mut S) -> Result<(), Failed>
     requires model { lines < 2 ^ 63 }
     requires ones { AreOnes ones }
-    ensures text { Wrote (S.spot sink.old).steady (S.contents sink.old) (S.contents sink.new) result (log_text (solution lines ones)) }
+    ensures text { Wrote (S.spot sink.old).steady (S.contents sink.old) (S.contents sink.new) result
+        (log_text (solution lines ones)) }
     ensures cause { HasBlame S.spot S.rest S.faults S.blamed sink.old sink.new result }
     ensures accepted { (n : ℕ) (model : List Form) → length model ≡ lines → Solves n model ones
         → Accepts n model (log_text (solution lines ones)) Satisfiable }

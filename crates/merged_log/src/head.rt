@@ -23,7 +23,8 @@ fn append(buffer: &mut [u8], at: usize, text: &[u8]) -> usize
 
 /// Puts the two lines, in one piece. It takes no memory.
 pub(crate) fn write_head<S: Sink>(lines: u64, sink: &mut S) -> Result<(), Failed>
-    ensures text { Wrote (S.spot sink.old).steady (S.contents sink.old) (S.contents sink.new) result (text_of (head_steps lines)) }
+    ensures text { Wrote (S.spot sink.old).steady (S.contents sink.old) (S.contents sink.new) result
+        (text_of (head_steps lines)) }
     ensures cause { HasBlame S.spot S.rest S.faults S.blamed sink.old sink.new result }
 {
     let mut digits = Buffer::new();

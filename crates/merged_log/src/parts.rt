@@ -18,7 +18,8 @@ use proof_log::write_step;
 /// Where in a text the first so many lines end.
 fn end_of(ends: &[usize], count: usize) -> usize
     requires { count ≤ length ends.now }
-    ensures { (steps : List Step) → ends.now ≡ ends_from 0 steps → result ≡ length (text_of (take count steps)) }
+    ensures { (steps : List Step) → ends.now ≡ ends_from 0 steps
+        → result ≡ length (text_of (take count steps)) }
 {
     if count == 0 {
         return 0;
@@ -34,7 +35,8 @@ pub(crate) fn put_part<S: Sink>(
     sink: &mut S,
 ) -> Result<(), Failed>
     requires { to ≤ length journal.now.steps }
-    ensures text { Wrote (S.spot sink.old).steady (S.contents sink.old) (S.contents sink.new) result (text_of (part_of journal.now from to)) }
+    ensures text { Wrote (S.spot sink.old).steady (S.contents sink.old) (S.contents sink.new) result
+        (text_of (part_of journal.now from to)) }
     ensures cause { HasBlame S.spot S.rest S.faults S.blamed sink.old sink.new result }
 {
     let text = journal.text();
@@ -58,7 +60,8 @@ fn put_shared<S: Sink>(
     requires some { 1 ≤ name.number }
     requires line { name.number ≤ length journal.now.steps }
     requires row { row < 4194304 }
-    ensures text { Wrote (S.spot sink.old).steady (S.contents sink.old) (S.contents sink.new) result (text_of (brought journal.now from row (Some name.number))) }
+    ensures text { Wrote (S.spot sink.old).steady (S.contents sink.old) (S.contents sink.new) result
+        (text_of (brought journal.now from row (Some name.number))) }
     ensures cause { HasBlame S.spot S.rest S.faults S.blamed sink.old sink.new result }
 {
     let _ends = journal.ends();
@@ -77,9 +80,11 @@ pub(crate) fn put_row<S: Sink>(
     requires owner { owner ≡ journal.now.owner }
     requires few { owner ≤ 64 }
     requires notes { NotesRise journal.now.notes }
-    requires line { (n : ℕ) → noted journal.now.notes row ≡ Some n → (1 ≤ n) × (n ≤ length journal.now.steps) }
+    requires line { (n : ℕ) → noted journal.now.notes row ≡ Some n → (1 ≤ n)
+        × (n ≤ length journal.now.steps) }
     requires row { row < 4194304 }
-    ensures text { Wrote (S.spot sink.old).steady (S.contents sink.old) (S.contents sink.new) result (text_of (brought journal.now from row (noted journal.now.notes row))) }
+    ensures text { Wrote (S.spot sink.old).steady (S.contents sink.old) (S.contents sink.new) result
+        (text_of (brought journal.now from row (noted journal.now.notes row))) }
     ensures cause { HasBlame S.spot S.rest S.faults S.blamed sink.old sink.new result }
     ensures count { IfOk result (λ n. n ≡ count_then from (noted journal.now.notes row)) }
 {

@@ -41,8 +41,10 @@ fn ask_all(journals: &[Journal])
 /// That a log may be written of journals that stand beside the same rows, and is accepted, where the finisher's last form is plainly
 /// false. Nothing is written. Cost: two looks at each journal.
 pub fn may_be_merged(journals: &[Journal])
-    ensures { (n finisher : ℕ) (model : List Form) (rows : List BookRow) (clause : ℕ → Form) (fs : List (List Form)) → length model < 2 ^ 63
-        → length journals.now ≤ 65 → length rows ≤ 4194304 → StandBeside n model rows clause journals.now fs → AreOfWorkers journals.now rows
+    ensures { (n finisher : ℕ) (model : List Form) (rows : List BookRow) (clause : ℕ → Form)
+        (fs : List (List Form)) → length model < 2 ^ 63
+        → length journals.now ≤ 65 → length rows ≤ 4194304
+        → StandBeside n model rows clause journals.now fs → AreOfWorkers journals.now rows
         → IsAloneOrBare rows journals.now fs → EndsFalse journals.now fs finisher
         → MayBeMerged n model journals.now rows finisher }
 {
@@ -139,7 +141,8 @@ fn put_body<S: Sink>(
     requires finisher { finisher < length journals.now }
     requires ends { 0 < length (journal_of (journals_in journals.now) finisher).lines }
     ensures text { Wrote (S.spot sink.old).steady (S.contents sink.old) (S.contents sink.new) result
-        (text_of (merged (journals_in journals.now) finisher (rows_in rows.now) ++ E (Made (last_name (journals_in journals.now) finisher)) ∷ [])) }
+        (text_of (merged (journals_in journals.now) finisher (rows_in rows.now)
+        ++ E (Made (last_name (journals_in journals.now) finisher)) ∷ [])) }
     ensures cause { HasBlame S.spot S.rest S.faults S.blamed sink.old sink.new result }
 {
     let mut counts = [0usize; OWNERS];
@@ -174,10 +177,14 @@ pub fn write_refutation<S: Sink>(
     ensures text { Wrote (S.spot sink.old).steady (S.contents sink.old) (S.contents sink.new) result
         (log_text (refutation lines journals.now rows.now finisher)) }
     ensures cause { HasBlame S.spot S.rest S.faults S.blamed sink.old sink.new result }
-    ensures accepted { (n : ℕ) (model : List Form) (clause : ℕ → Form) (forms : ℕ → List Form) (last : Form) → length model ≡ lines
-        → AreJournals model (rows_in rows.now) clause (journals_in journals.now) forms → AreInRange n (journals_in journals.now)
-        → from_one (forms finisher) (length (journal_of (journals_in journals.now) finisher).lines) ≡ Some last → is_contradiction last ≡ true
-        → Accepts n model (log_text (refutation lines journals.now rows.now finisher)) Unsatisfiable }
+    ensures accepted { (n : ℕ) (model : List Form) (clause : ℕ → Form) (forms : ℕ → List Form)
+        (last : Form) → length model ≡ lines
+        → AreJournals model (rows_in rows.now) clause (journals_in journals.now) forms
+        → AreInRange n (journals_in journals.now)
+        → from_one (forms finisher) (length (journal_of (journals_in journals.now) finisher).lines)
+        ≡ Some last → is_contradiction last ≡ true
+        → Accepts n model (log_text (refutation lines journals.now rows.now finisher))
+        Unsatisfiable }
 {
     merge_laws();
     line_laws();

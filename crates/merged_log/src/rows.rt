@@ -29,9 +29,12 @@ fn put_of_row<S: Sink>(
         → (1 ≤ n) × (n ≤ length (journal_of (journals_in journals.now) row.now.owner).lines) }
     requires place { place < 4194304 }
     ensures text { Wrote (S.spot sink.old).steady (S.contents sink.old) (S.contents sink.new) result
-        (text_of (row_lines (journals_in journals.now) done.old place row.now.owner (noted_at (journals_in journals.now) place (row_in row.now)))) }
+        (text_of (row_lines (journals_in journals.now) done.old place row.now.owner
+        (noted_at (journals_in journals.now) place (row_in row.now)))) }
     ensures cause { HasBlame S.spot S.rest S.faults S.blamed sink.old sink.new result }
-    ensures counts { OnOk result (done.new ≡ row_done done.old row.now.owner (noted_at (journals_in journals.now) place (row_in row.now))) }
+    ensures counts { OnOk result
+        (done.new ≡ row_done done.old row.now.owner
+        (noted_at (journals_in journals.now) place (row_in row.now))) }
     ensures len { length done.new ≡ length done.old }
 {
     match row.kind {
@@ -62,7 +65,8 @@ pub(crate) fn put_rows<S: Sink>(
     ensures text { Wrote (S.spot sink.old).steady (S.contents sink.old) (S.contents sink.new) result
         (text_of (rows_steps (journals_in journals.now) 0 (rows_in rows.now) done.old)) }
     ensures cause { HasBlame S.spot S.rest S.faults S.blamed sink.old sink.new result }
-    ensures counts { OnOk result (done.new ≡ rows_done (journals_in journals.now) 0 (rows_in rows.now) done.old) }
+    ensures counts { OnOk result
+        (done.new ≡ rows_done (journals_in journals.now) 0 (rows_in rows.now) done.old) }
     ensures len { length done.new ≡ length done.old }
 {
     for (place, row) in rows.iter().enumerate() {

@@ -10,7 +10,8 @@ pub(crate) const END: u32 = u32::MAX;
 pub(crate) fn link(heads: &mut [u32], next: &mut [u32], to: usize, x: u32)
     requires to_in { to < length heads.old }
     requires x_in { x < length next.old }
-    ensures chained { (home : ℕ → ℕ) → Chained home heads.old next.old → length heads.old ≤ home x → Chained (moved home x to) heads.new next.new }
+    ensures chained { (home : ℕ → ℕ) → Chained home heads.old next.old → length heads.old ≤ home x
+        → Chained (moved home x to) heads.new next.new }
     ensures heads_long { length heads.new ≡ length heads.old }
     ensures next_long { length next.new ≡ length next.old }
 {
@@ -24,7 +25,8 @@ pub(crate) fn relink(heads: &mut [u32], next: &mut [u32], from: usize, to: usize
     requires to_in { to < length heads.old }
     requires x_in { x < length next.old }
     requires first { slice_index heads.old from ≡ x }
-    ensures chained { (home : ℕ → ℕ) → Chained home heads.old next.old → home x ≡ from → Chained (moved home x to) heads.new next.new }
+    ensures chained { (home : ℕ → ℕ) → Chained home heads.old next.old → home x ≡ from
+        → Chained (moved home x to) heads.new next.new }
     ensures heads_long { length heads.new ≡ length heads.old }
     ensures next_long { length next.new ≡ length next.old }
 {
@@ -38,7 +40,8 @@ pub(crate) fn take_list(heads: &mut [u32], from: usize, to: usize)
     requires to_in { to < length heads.old }
     requires apart { from ≡ to → ⊥ }
     requires none { slice_index heads.old to ≡ no_watch }
-    ensures chained { (home : ℕ → ℕ) (next : List ℕ) → Chained home heads.old next → Chained (renamed home from to) heads.new next }
+    ensures chained { (home : ℕ → ℕ) (next : List ℕ) → Chained home heads.old next
+        → Chained (renamed home from to) heads.new next }
     ensures heads_long { length heads.new ≡ length heads.old }
 {
     heads[to] = heads[from];

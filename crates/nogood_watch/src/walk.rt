@@ -66,7 +66,8 @@ fn move_watch(
     requires long { length next.old ≡ length watches.old }
     requires first { slice_index heads.old from ≡ x }
     ensures watches { watches.new ≡ slice_set watches.old x literal }
-    ensures chained { (home : ℕ → ℕ) → Chained home heads.old next.old → home x ≡ from → Chained (moved home x (cell values literal)) heads.new next.new }
+    ensures chained { (home : ℕ → ℕ) → Chained home heads.old next.old → home x ≡ from
+        → Chained (moved home x (cell values literal)) heads.new next.new }
     ensures heads_long { length heads.new ≡ length heads.old }
     ensures next_long { length next.new ≡ length next.old }
 {
@@ -95,11 +96,15 @@ fn visit<T: Trail>(
     forced: &mut Vec<(u16, u16, u32)>,
     x: u32,
 )
-    requires ready { Ready d.now (nogoods_of literals.now entries.now) watches.old heads.old next.old x }
+    requires ready { Ready d.now (nogoods_of literals.now entries.now) watches.old heads.old
+        next.old x }
     requires within { (i : ℕ) → i < length entries.now → Within literals.now (entry entries.now i) }
     requires room { length forced.old.items < vec_capacity forced.old }
-    ensures visited { Visited d.now (nogoods_of literals.now entries.now) watches.old watches.new forced.old.items forced.new.items x }
-    ensures chained { (home : ℕ → ℕ) → Chained home heads.old next.old → home x ≡ d.now.vertices * d.now.values → Chained (moved home x (cell d.now.values (literal watches.new x))) heads.new next.new }
+    ensures visited { Visited d.now (nogoods_of literals.now entries.now) watches.old watches.new
+        forced.old.items forced.new.items x }
+    ensures chained { (home : ℕ → ℕ) → Chained home heads.old next.old
+        → home x ≡ d.now.vertices * d.now.values
+        → Chained (moved home x (cell d.now.values (literal watches.new x))) heads.new next.new }
     ensures heads_long { length heads.new ≡ length heads.old }
     ensures next_long { length next.new ≡ length next.old }
     ensures room { vec_capacity forced.new ≡ vec_capacity forced.old }
@@ -132,12 +137,15 @@ pub(crate) fn walk<T: Trail>(
     forced: &mut Vec<(u16, u16, u32)>,
     literal: (u16, u16),
 )
-    requires kept { Kept d.now.vertices d.now.values literals.now entries.now watches.old heads.old next.old (vec_capacity forced.old) }
+    requires kept { Kept d.now.vertices d.now.values literals.now entries.now watches.old heads.old
+        next.old (vec_capacity forced.old) }
     requires none { forced.old.items ≡ [] }
     requires vertex { literal.0 < d.now.vertices }
     requires assigned { IsAssigned d.now literal }
-    ensures kept { Kept d.now.vertices d.now.values literals.now entries.now watches.new heads.new next.new (vec_capacity forced.new) }
-    ensures walked { Walked d.now (nogoods_of literals.now entries.now) watches.old watches.new literal forced.new.items }
+    ensures kept { Kept d.now.vertices d.now.values literals.now entries.now watches.new heads.new
+        next.new (vec_capacity forced.new) }
+    ensures walked { Walked d.now (nogoods_of literals.now entries.now) watches.old watches.new
+        literal forced.new.items }
 {
     let hand = heads.len() - 1;
     take_list(heads, cell_of(d.values(), literal), hand);
@@ -149,10 +157,15 @@ pub(crate) fn walk<T: Trail>(
 
 /// The name at the first forced pair that is assigned itself. Cost: one step for each pair before it.
 fn first_whole<T: Trail>(d: &Domains<T>, forced: &[(u16, u16, u32)]) -> Option<u32>
-    requires vertices { (k : ℕ) → k < length forced.now → (forced_at forced.now k).0 < d.now.vertices }
+    requires vertices { (k : ℕ) → k < length forced.now
+        → (forced_at forced.now k).0 < d.now.vertices }
     requires values { (k : ℕ) → k < length forced.now → (forced_at forced.now k).1 < d.now.values }
-    ensures some { IfSome result (λ name. (k : ℕ) × (k < length forced.now) × ((forced_at forced.now k).2 ≡ name) × IsAssigned d.now ((forced_at forced.now k).0, (forced_at forced.now k).1)) }
-    ensures none { IfNone result ((k : ℕ) → k < length forced.now → IsAssigned d.now ((forced_at forced.now k).0, (forced_at forced.now k).1) → ⊥) }
+    ensures some { IfSome result
+        (λ name. (k : ℕ) × (k < length forced.now) × ((forced_at forced.now k).2 ≡ name)
+        × IsAssigned d.now ((forced_at forced.now k).0, (forced_at forced.now k).1)) }
+    ensures none { IfNone result
+        ((k : ℕ) → k < length forced.now
+        → IsAssigned d.now ((forced_at forced.now k).0, (forced_at forced.now k).1) → ⊥) }
 {
     for k in 0..forced.len() {
         let (q, u, name) = forced[k];
@@ -165,7 +178,8 @@ fn first_whole<T: Trail>(d: &Domains<T>, forced: &[(u16, u16, u32)]) -> Option<u
 
 /// What the forced pairs say. Cost: at most one step for each.
 pub(crate) fn answer_of<T: Trail>(d: &Domains<T>, forced: &[(u16, u16, u32)]) -> WatchAnswer
-    requires vertices { (k : ℕ) → k < length forced.now → (forced_at forced.now k).0 < d.now.vertices }
+    requires vertices { (k : ℕ) → k < length forced.now
+        → (forced_at forced.now k).0 < d.now.vertices }
     requires values { (k : ℕ) → k < length forced.now → (forced_at forced.now k).1 < d.now.values }
     ensures { Tells result d.now forced.now }
 {

@@ -216,7 +216,9 @@ fn put_watch(
     requires watches_room { length watches.old.items < vec_capacity watches.old }
     requires next_room { length next.old.items < vec_capacity next.old }
     ensures watches { watches.new.items ≡ watches.old.items ++ literal ∷ [] }
-    ensures chained { (home : ℕ → ℕ) → Chained home heads.old next.old.items → Chained (moved home (length next.old.items) (cell values literal)) heads.new next.new.items }
+    ensures chained { (home : ℕ → ℕ) → Chained home heads.old next.old.items
+        → Chained (moved home (length next.old.items) (cell values literal)) heads.new
+        next.new.items }
     ensures next_long { length next.new.items ≡ length next.old.items + 1 }
     ensures heads_long { length heads.new ≡ length heads.old }
     ensures watches_capacity { vec_capacity watches.new ≡ vec_capacity watches.old }

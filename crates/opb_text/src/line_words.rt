@@ -7,7 +7,8 @@ ghost use Rattle.opb_text.specs.Cutting.{HasNo, is_blank, begins_word};
 
 /// What stands before the first of these bytes and what follows it, where there is one.
 pub fn cut(bytes: &[u8], end: u8) -> Option<(&[u8], &[u8])>
-    ensures parts { MatchOption result (HasNo end bytes.now) (λ parts. bytes.now ≡ parts.0.now ++ end ∷ parts.1.now) }
+    ensures parts { MatchOption result (HasNo end bytes.now)
+        (λ parts. bytes.now ≡ parts.0.now ++ end ∷ parts.1.now) }
     ensures first { MatchOption result (HasNo end bytes.now) (λ parts. HasNo end parts.0.now) }
 {
     for (i, b) in bytes.iter().enumerate() {
@@ -22,7 +23,8 @@ pub fn cut(bytes: &[u8], end: u8) -> Option<(&[u8], &[u8])>
 fn without_return(line: &[u8]) -> &[u8]
     requires { HasNo 10 line.now }
     ensures none { HasNo 10 result.now }
-    ensures same { (rest : List ℕ) → without_returns (line.now ++ 10 ∷ rest) ≡ result.now ++ 10 ∷ without_returns rest }
+    ensures same { (rest : List ℕ)
+        → without_returns (line.now ++ 10 ∷ rest) ≡ result.now ++ 10 ∷ without_returns rest }
 {
     match line.strip_suffix(b"\r") {
         Some(front) => front,
@@ -32,7 +34,8 @@ fn without_return(line: &[u8]) -> &[u8]
 
 /// The first line of a text and what follows it.
 pub fn first_line(text: &[u8]) -> Option<(&[u8], &[u8])>
-    ensures lines { MatchOption result (opb_lines text.now ≡ []) (λ parts. opb_lines text.now ≡ parts.0.now ∷ opb_lines parts.1.now) }
+    ensures lines { MatchOption result (opb_lines text.now ≡ [])
+        (λ parts. opb_lines text.now ≡ parts.0.now ∷ opb_lines parts.1.now) }
     ensures shorter { IfSome result (λ parts. length parts.1.now < length text.now) }
 {
     if text.is_empty() {
@@ -82,7 +85,8 @@ fn word_end(line: &[u8]) -> usize
 
 /// The first word of a line and what follows it, in time linear in the bytes up to the word's end.
 pub fn first_word(line: &[u8]) -> Option<(&[u8], &[u8])>
-    ensures words { MatchOption result (opb_words line.now ≡ []) (λ parts. opb_words line.now ≡ parts.0.now ∷ opb_words parts.1.now) }
+    ensures words { MatchOption result (opb_words line.now ≡ [])
+        (λ parts. opb_words line.now ≡ parts.0.now ∷ opb_words parts.1.now) }
     ensures shorter { IfSome result (λ parts. length parts.1.now < length line.now) }
 {
     let words = without_blanks(line);

@@ -16,7 +16,8 @@ use std::alloc::AllocError;
 
 /// Puts the first line, for so many variables and constraints: five calls of `put`. It takes no memory.
 pub fn write_head<S: Sink>(variables: u32, count: u64, sink: &mut S) -> Result<(), Failed>
-    ensures text { Wrote (S.spot sink.old).steady (S.contents sink.old) (S.contents sink.new) result (line_text (head_words variables count)) }
+    ensures text { Wrote (S.spot sink.old).steady (S.contents sink.old) (S.contents sink.new) result
+        (line_text (head_words variables count)) }
     ensures cause { HasBlame S.spot S.rest S.faults S.blamed sink.old sink.new result }
 {
     let mut variable_digits = Buffer::new();
@@ -42,7 +43,8 @@ fn sign_of(coefficient: i128) -> &'static [u8]
 
 /// Puts a term and a blank.
 fn write_term<S: Sink>(variable: u32, coefficient: i128, sink: &mut S) -> Result<(), Failed>
-    ensures text { Wrote (S.spot sink.old).steady (S.contents sink.old) (S.contents sink.new) result (term_text (variable, coefficient)) }
+    ensures text { Wrote (S.spot sink.old).steady (S.contents sink.old) (S.contents sink.new) result
+        (term_text (variable, coefficient)) }
     ensures cause { HasBlame S.spot S.rest S.faults S.blamed sink.old sink.new result }
 {
     let mut digits = Buffer::new();
@@ -61,7 +63,8 @@ fn write_term<S: Sink>(variable: u32, coefficient: i128, sink: &mut S) -> Result
 
 /// Puts the terms, each with a blank behind it.
 fn write_terms<S: Sink>(terms: &[(u32, i128)], sink: &mut S) -> Result<(), Failed>
-    ensures text { Wrote (S.spot sink.old).steady (S.contents sink.old) (S.contents sink.new) result (flat_map term_text terms.now) }
+    ensures text { Wrote (S.spot sink.old).steady (S.contents sink.old) (S.contents sink.new) result
+        (flat_map term_text terms.now) }
     ensures cause { HasBlame S.spot S.rest S.faults S.blamed sink.old sink.new result }
 {
     for &(variable, coefficient) in terms {
@@ -72,7 +75,8 @@ fn write_terms<S: Sink>(terms: &[(u32, i128)], sink: &mut S) -> Result<(), Faile
 
 /// Puts what follows the terms.
 fn write_end<S: Sink>(bound: i128, sink: &mut S) -> Result<(), Failed>
-    ensures text { Wrote (S.spot sink.old).steady (S.contents sink.old) (S.contents sink.new) result (end_text bound) }
+    ensures text { Wrote (S.spot sink.old).steady (S.contents sink.old) (S.contents sink.new) result
+        (end_text bound) }
     ensures cause { HasBlame S.spot S.rest S.faults S.blamed sink.old sink.new result }
 {
     let mut digits = Buffer::new();
@@ -81,7 +85,8 @@ fn write_end<S: Sink>(bound: i128, sink: &mut S) -> Result<(), Failed>
 
 /// Puts the line of a constraint: five calls of `put` for each term and three for the bound. It takes no memory.
 pub fn write_line<S: Sink>(constraint: &Constraint, sink: &mut S) -> Result<(), Failed>
-    ensures text { Wrote (S.spot sink.old).steady (S.contents sink.old) (S.contents sink.new) result (line_text (form_words constraint.now)) }
+    ensures text { Wrote (S.spot sink.old).steady (S.contents sink.old) (S.contents sink.new) result
+        (line_text (form_words constraint.now)) }
     ensures cause { HasBlame S.spot S.rest S.faults S.blamed sink.old sink.new result }
 {
     write_terms(constraint.terms(), sink)?;
@@ -90,7 +95,8 @@ pub fn write_line<S: Sink>(constraint: &Constraint, sink: &mut S) -> Result<(), 
 
 /// Puts the lines of some constraints.
 fn write_lines<S: Sink>(constraints: &[Constraint], sink: &mut S) -> Result<(), Failed>
-    ensures text { Wrote (S.spot sink.old).steady (S.contents sink.old) (S.contents sink.new) result (flat_map (λ f. line_text (form_words f)) constraints.now) }
+    ensures text { Wrote (S.spot sink.old).steady (S.contents sink.old) (S.contents sink.new) result
+        (flat_map (λ f. line_text (form_words f)) constraints.now) }
     ensures cause { HasBlame S.spot S.rest S.faults S.blamed sink.old sink.new result }
 {
     for constraint in constraints {
@@ -135,7 +141,8 @@ fn append_end(bound: i128, text: &mut Vec<u8>) -> Result<(), AllocError>
 /// Appends the line of a constraint to a text, the line that `write_line` puts, for a caller that puts many lines at once.
 /// Cost: that of its bytes, and of the text's growth. Where memory is refused a part of the line may stand in the text.
 pub fn append_line(constraint: &Constraint, text: &mut Vec<u8>) -> Result<(), AllocError>
-    ensures { OnOk result (text.new.items ≡ text.old.items ++ line_text (form_words constraint.now)) }
+    ensures { OnOk result
+        (text.new.items ≡ text.old.items ++ line_text (form_words constraint.now)) }
 {
     append_terms(constraint.terms(), text)?;
     append_end(constraint.bound(), text)

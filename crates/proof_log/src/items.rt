@@ -98,7 +98,8 @@ fn name_from(owner: Option<u64>, number: Option<u64>) -> Option<Name>
 
 /// The two pieces round the only dot of a word.
 fn round_dot(word: &[u8]) -> Option<(&[u8], &[u8])>
-    ensures { MatchOption result (name_of word.now ≡ None) (λ parts. name_of word.now ≡ name_told (numeral_of parts.0.now) (numeral_of parts.1.now)) }
+    ensures { MatchOption result (name_of word.now ≡ None)
+        (λ parts. name_of word.now ≡ name_told (numeral_of parts.0.now) (numeral_of parts.1.now)) }
 {
     let mut parts = Pieces::new(word, b'.');
     let Some(owner) = parts.next() else {

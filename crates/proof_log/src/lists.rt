@@ -29,7 +29,8 @@ fn plain_op(word: &[u8]) -> Option<Op>
 /// The operation that begins with this word; it takes the word behind it where this one is an operand.
 fn operation<'a>(word: &[u8], words: &mut Pieces<'a>) -> Option<Op>
     requires { same_word word.now (59 ∷ []) ≡ false }
-    ensures told { MatchOption result (ops_told (word.now ∷ words.old) ≡ None) (λ op. ops_told (word.now ∷ words.old) ≡ one_more (Some op) (ops_told words.new)) }
+    ensures told { MatchOption result (ops_told (word.now ∷ words.old) ≡ None)
+        (λ op. ops_told (word.now ∷ words.old) ≡ one_more (Some op) (ops_told words.new)) }
     ensures shorter { length words.new ≤ length words.old }
 {
     if words.take_byte(b'*') {

@@ -36,7 +36,8 @@ fn starts_with_piece(text: &[u8], byte: u8, separator: u8) -> bool
 
 /// The first piece of a text, and what follows the byte that ends it, if one does.
 fn first_piece(text: &[u8], separator: u8) -> (&[u8], Option<&[u8]>)
-    ensures { pieces (λ b. b == separator) text.now ≡ result.0.now ∷ pieces_left separator result.1 }
+    ensures { pieces (λ b. b == separator) text.now
+        ≡ result.0.now ∷ pieces_left separator result.1 }
 {
     for (i, b) in text.iter().enumerate() {
         if *b == separator {
@@ -72,7 +73,8 @@ impl<'a> Pieces<'a> {
 
     /// Takes the first piece. It goes over the bytes of this piece alone.
     pub(crate) fn next(&mut self) -> Option<&'a [u8]>
-        ensures { MatchOption result ((self.old ≡ []) × (self.new ≡ [])) (λ piece. self.old ≡ piece.now ∷ self.new) }
+        ensures { MatchOption result ((self.old ≡ []) × (self.new ≡ []))
+            (λ piece. self.old ≡ piece.now ∷ self.new) }
     {
         match self.rest {
             None => None,
@@ -97,7 +99,8 @@ impl<'a> Pieces<'a> {
     /// Takes the first piece where it is this one byte, in constant time.
     pub(crate) fn take_byte(&mut self, byte: u8) -> bool
         ensures taken { result ≡ true → self.old ≡ (byte ∷ []) ∷ self.new }
-        ensures left { result ≡ false → (first_is (byte ∷ []) self.old ≡ false) × (self.new ≡ self.old) }
+        ensures left { result ≡ false → (first_is (byte ∷ []) self.old ≡ false)
+            × (self.new ≡ self.old) }
     {
         if self.next_is(byte) {
             let _piece = self.next();

@@ -23,7 +23,8 @@ fn last_word<'a>(words: &mut Pieces<'a>) -> Option<&'a [u8]>
 
 /// The only two words that are left.
 fn last_two<'a>(words: &mut Pieces<'a>) -> Option<(&'a [u8], &'a [u8])>
-    ensures { MatchOption result ((v w : List ℕ) → words.old ≢ v ∷ w ∷ []) (λ two. words.old ≡ two.0.now ∷ two.1.now ∷ []) }
+    ensures { MatchOption result ((v w : List ℕ) → words.old ≢ v ∷ w ∷ [])
+        (λ two. words.old ≡ two.0.now ∷ two.1.now ∷ []) }
 {
     let Some(first) = words.next() else {
         return None;
@@ -87,7 +88,8 @@ fn read_hints(
     lits: Clause,
     words: &mut Pieces,
 ) -> Result<Step, StepFault>
-    ensures { IsTold result (u_from (Some name) (Some lits) (closed_items (items_told ref_of words.old))) }
+    ensures { IsTold result
+        (u_from (Some name) (Some lits) (closed_items (items_told ref_of words.old))) }
 {
     match read_refs(alloc, words) {
         Ok(refs) if words.is_done() => Ok(Step::U { name, lits, refs }),

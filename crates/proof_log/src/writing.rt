@@ -15,7 +15,8 @@ use proof_theory::Literal;
 
 /// Puts a text and a name.
 fn write_name<S: Sink>(front: &[u8], name: Name, sink: &mut S) -> Result<(), Failed>
-    ensures text { Wrote (S.spot sink.old).steady (S.contents sink.old) (S.contents sink.new) result (front.now ++ name_text name) }
+    ensures text { Wrote (S.spot sink.old).steady (S.contents sink.old) (S.contents sink.new) result
+        (front.now ++ name_text name) }
     ensures cause { HasBlame S.spot S.rest S.faults S.blamed sink.old sink.new result }
 {
     let mut owner = Buffer::new();
@@ -33,7 +34,8 @@ fn write_name<S: Sink>(front: &[u8], name: Name, sink: &mut S) -> Result<(), Fai
 
 /// Puts a text and a reference.
 fn write_ref<S: Sink>(front: &[u8], reference: Ref, sink: &mut S) -> Result<(), Failed>
-    ensures text { Wrote (S.spot sink.old).steady (S.contents sink.old) (S.contents sink.new) result (front.now ++ ref_text reference) }
+    ensures text { Wrote (S.spot sink.old).steady (S.contents sink.old) (S.contents sink.new) result
+        (front.now ++ ref_text reference) }
     ensures cause { HasBlame S.spot S.rest S.faults S.blamed sink.old sink.new result }
 {
     let mut digits = Buffer::new();
@@ -46,7 +48,8 @@ fn write_ref<S: Sink>(front: &[u8], reference: Ref, sink: &mut S) -> Result<(), 
 
 /// Puts a blank and a literal.
 fn write_literal<S: Sink>(literal: Literal, sink: &mut S) -> Result<(), Failed>
-    ensures text { Wrote (S.spot sink.old).steady (S.contents sink.old) (S.contents sink.new) result (spaced_literal literal) }
+    ensures text { Wrote (S.spot sink.old).steady (S.contents sink.old) (S.contents sink.new) result
+        (spaced_literal literal) }
     ensures cause { HasBlame S.spot S.rest S.faults S.blamed sink.old sink.new result }
 {
     let mut digits = Buffer::new();
@@ -60,7 +63,8 @@ fn write_literal<S: Sink>(literal: Literal, sink: &mut S) -> Result<(), Failed>
 
 /// Puts a blank and a variable.
 fn write_one<S: Sink>(variable: u32, sink: &mut S) -> Result<(), Failed>
-    ensures text { Wrote (S.spot sink.old).steady (S.contents sink.old) (S.contents sink.new) result (spaced_one variable) }
+    ensures text { Wrote (S.spot sink.old).steady (S.contents sink.old) (S.contents sink.new) result
+        (spaced_one variable) }
     ensures cause { HasBlame S.spot S.rest S.faults S.blamed sink.old sink.new result }
 {
     let mut digits = Buffer::new();
@@ -69,7 +73,8 @@ fn write_one<S: Sink>(variable: u32, sink: &mut S) -> Result<(), Failed>
 
 /// Puts an operation, a blank in front of each of its words.
 fn write_op<S: Sink>(op: Op, sink: &mut S) -> Result<(), Failed>
-    ensures text { Wrote (S.spot sink.old).steady (S.contents sink.old) (S.contents sink.new) result (op_text op) }
+    ensures text { Wrote (S.spot sink.old).steady (S.contents sink.old) (S.contents sink.new) result
+        (op_text op) }
     ensures cause { HasBlame S.spot S.rest S.faults S.blamed sink.old sink.new result }
 {
     let mut digits = Buffer::new();
@@ -85,7 +90,8 @@ fn write_op<S: Sink>(op: Op, sink: &mut S) -> Result<(), Failed>
 
 /// Puts operations.
 fn write_ops<S: Sink>(ops: &[Op], sink: &mut S) -> Result<(), Failed>
-    ensures text { Wrote (S.spot sink.old).steady (S.contents sink.old) (S.contents sink.new) result (flat_map op_text ops.now) }
+    ensures text { Wrote (S.spot sink.old).steady (S.contents sink.old) (S.contents sink.new) result
+        (flat_map op_text ops.now) }
     ensures cause { HasBlame S.spot S.rest S.faults S.blamed sink.old sink.new result }
 {
     for op in ops {
@@ -96,7 +102,8 @@ fn write_ops<S: Sink>(ops: &[Op], sink: &mut S) -> Result<(), Failed>
 
 /// Puts literals.
 fn write_literals<S: Sink>(literals: &[Literal], sink: &mut S) -> Result<(), Failed>
-    ensures text { Wrote (S.spot sink.old).steady (S.contents sink.old) (S.contents sink.new) result (flat_map spaced_literal literals.now) }
+    ensures text { Wrote (S.spot sink.old).steady (S.contents sink.old) (S.contents sink.new) result
+        (flat_map spaced_literal literals.now) }
     ensures cause { HasBlame S.spot S.rest S.faults S.blamed sink.old sink.new result }
 {
     for literal in literals {
@@ -107,7 +114,8 @@ fn write_literals<S: Sink>(literals: &[Literal], sink: &mut S) -> Result<(), Fai
 
 /// Puts references.
 fn write_refs<S: Sink>(refs: &[Ref], sink: &mut S) -> Result<(), Failed>
-    ensures text { Wrote (S.spot sink.old).steady (S.contents sink.old) (S.contents sink.new) result (flat_map spaced_ref refs.now) }
+    ensures text { Wrote (S.spot sink.old).steady (S.contents sink.old) (S.contents sink.new) result
+        (flat_map spaced_ref refs.now) }
     ensures cause { HasBlame S.spot S.rest S.faults S.blamed sink.old sink.new result }
 {
     for reference in refs {
@@ -118,7 +126,8 @@ fn write_refs<S: Sink>(refs: &[Ref], sink: &mut S) -> Result<(), Failed>
 
 /// Puts variables.
 fn write_ones<S: Sink>(ones: &[u32], sink: &mut S) -> Result<(), Failed>
-    ensures text { Wrote (S.spot sink.old).steady (S.contents sink.old) (S.contents sink.new) result (flat_map spaced_one ones.now) }
+    ensures text { Wrote (S.spot sink.old).steady (S.contents sink.old) (S.contents sink.new) result
+        (flat_map spaced_one ones.now) }
     ensures cause { HasBlame S.spot S.rest S.faults S.blamed sink.old sink.new result }
 {
     for one in ones {
@@ -129,7 +138,8 @@ fn write_ones<S: Sink>(ones: &[u32], sink: &mut S) -> Result<(), Failed>
 
 /// Puts a text, a name and operations.
 fn write_ops_of<S: Sink>(front: &[u8], name: Name, ops: &[Op], sink: &mut S) -> Result<(), Failed>
-    ensures text { Wrote (S.spot sink.old).steady (S.contents sink.old) (S.contents sink.new) result ((front.now ++ name_text name) ++ flat_map op_text ops.now) }
+    ensures text { Wrote (S.spot sink.old).steady (S.contents sink.old) (S.contents sink.new) result
+        ((front.now ++ name_text name) ++ flat_map op_text ops.now) }
     ensures cause { HasBlame S.spot S.rest S.faults S.blamed sink.old sink.new result }
 {
     write_name(front, name, sink)?;
@@ -144,7 +154,8 @@ fn write_p<S: Sink>(
     end: &[u8],
     sink: &mut S,
 ) -> Result<(), Failed>
-    ensures text { Wrote (S.spot sink.old).steady (S.contents sink.old) (S.contents sink.new) result (((front.now ++ name_text name) ++ flat_map op_text ops.now) ++ end.now) }
+    ensures text { Wrote (S.spot sink.old).steady (S.contents sink.old) (S.contents sink.new) result
+        (((front.now ++ name_text name) ++ flat_map op_text ops.now) ++ end.now) }
     ensures cause { HasBlame S.spot S.rest S.faults S.blamed sink.old sink.new result }
 {
     write_ops_of(front, name, ops, sink)?;
@@ -158,7 +169,8 @@ fn write_literals_of<S: Sink>(
     lits: &[Literal],
     sink: &mut S,
 ) -> Result<(), Failed>
-    ensures text { Wrote (S.spot sink.old).steady (S.contents sink.old) (S.contents sink.new) result ((front.now ++ name_text name) ++ flat_map spaced_literal lits.now) }
+    ensures text { Wrote (S.spot sink.old).steady (S.contents sink.old) (S.contents sink.new) result
+        ((front.now ++ name_text name) ++ flat_map spaced_literal lits.now) }
     ensures cause { HasBlame S.spot S.rest S.faults S.blamed sink.old sink.new result }
 {
     write_name(front, name, sink)?;
@@ -173,7 +185,8 @@ fn write_clause<S: Sink>(
     end: &[u8],
     sink: &mut S,
 ) -> Result<(), Failed>
-    ensures text { Wrote (S.spot sink.old).steady (S.contents sink.old) (S.contents sink.new) result (((front.now ++ name_text name) ++ flat_map spaced_literal lits.now) ++ end.now) }
+    ensures text { Wrote (S.spot sink.old).steady (S.contents sink.old) (S.contents sink.new) result
+        (((front.now ++ name_text name) ++ flat_map spaced_literal lits.now) ++ end.now) }
     ensures cause { HasBlame S.spot S.rest S.faults S.blamed sink.old sink.new result }
 {
     write_literals_of(front, name, lits, sink)?;
@@ -182,7 +195,8 @@ fn write_clause<S: Sink>(
 
 /// Puts references and an end.
 fn write_hints<S: Sink>(refs: &[Ref], end: &[u8], sink: &mut S) -> Result<(), Failed>
-    ensures text { Wrote (S.spot sink.old).steady (S.contents sink.old) (S.contents sink.new) result (flat_map spaced_ref refs.now ++ end.now) }
+    ensures text { Wrote (S.spot sink.old).steady (S.contents sink.old) (S.contents sink.new) result
+        (flat_map spaced_ref refs.now ++ end.now) }
     ensures cause { HasBlame S.spot S.rest S.faults S.blamed sink.old sink.new result }
 {
     write_refs(refs, sink)?;
@@ -199,7 +213,9 @@ fn write_u<S: Sink>(
     end: &[u8],
     sink: &mut S,
 ) -> Result<(), Failed>
-    ensures text { Wrote (S.spot sink.old).steady (S.contents sink.old) (S.contents sink.new) result ((((front.now ++ name_text name) ++ flat_map spaced_literal lits.now) ++ middle.now) ++ (flat_map spaced_ref refs.now ++ end.now)) }
+    ensures text { Wrote (S.spot sink.old).steady (S.contents sink.old) (S.contents sink.new) result
+        ((((front.now ++ name_text name) ++ flat_map spaced_literal lits.now) ++ middle.now)
+        ++ (flat_map spaced_ref refs.now ++ end.now)) }
     ensures cause { HasBlame S.spot S.rest S.faults S.blamed sink.old sink.new result }
 {
     write_clause(front, name, lits, middle, sink)?;
@@ -208,7 +224,8 @@ fn write_u<S: Sink>(
 
 /// Puts a line that shares a constraint.
 fn write_n<S: Sink>(row: u32, name: Name, sink: &mut S) -> Result<(), Failed>
-    ensures text { Wrote (S.spot sink.old).steady (S.contents sink.old) (S.contents sink.new) result (line_text (step_words (N row name))) }
+    ensures text { Wrote (S.spot sink.old).steady (S.contents sink.old) (S.contents sink.new) result
+        (line_text (step_words (N row name))) }
     ensures cause { HasBlame S.spot S.rest S.faults S.blamed sink.old sink.new result }
 {
     let mut digits = Buffer::new();
@@ -230,7 +247,8 @@ fn write_n<S: Sink>(row: u32, name: Name, sink: &mut S) -> Result<(), Failed>
 
 /// Puts a last line, unsatisfiable, between its two ends.
 fn write_e<S: Sink>(front: &[u8], at: Ref, end: &[u8], sink: &mut S) -> Result<(), Failed>
-    ensures text { Wrote (S.spot sink.old).steady (S.contents sink.old) (S.contents sink.new) result ((front.now ++ ref_text at) ++ end.now) }
+    ensures text { Wrote (S.spot sink.old).steady (S.contents sink.old) (S.contents sink.new) result
+        ((front.now ++ ref_text at) ++ end.now) }
     ensures cause { HasBlame S.spot S.rest S.faults S.blamed sink.old sink.new result }
 {
     write_ref(front, at, sink)?;
@@ -239,7 +257,8 @@ fn write_e<S: Sink>(front: &[u8], at: Ref, end: &[u8], sink: &mut S) -> Result<(
 
 /// Puts a text and variables.
 fn write_ones_of<S: Sink>(front: &[u8], ones: &[u32], sink: &mut S) -> Result<(), Failed>
-    ensures text { Wrote (S.spot sink.old).steady (S.contents sink.old) (S.contents sink.new) result (front.now ++ flat_map spaced_one ones.now) }
+    ensures text { Wrote (S.spot sink.old).steady (S.contents sink.old) (S.contents sink.new) result
+        (front.now ++ flat_map spaced_one ones.now) }
     ensures cause { HasBlame S.spot S.rest S.faults S.blamed sink.old sink.new result }
 {
     sink.put(front)?;
@@ -248,7 +267,8 @@ fn write_ones_of<S: Sink>(front: &[u8], ones: &[u32], sink: &mut S) -> Result<()
 
 /// Puts a last line, satisfiable, between its two ends.
 fn write_y<S: Sink>(front: &[u8], ones: &[u32], end: &[u8], sink: &mut S) -> Result<(), Failed>
-    ensures text { Wrote (S.spot sink.old).steady (S.contents sink.old) (S.contents sink.new) result ((front.now ++ flat_map spaced_one ones.now) ++ end.now) }
+    ensures text { Wrote (S.spot sink.old).steady (S.contents sink.old) (S.contents sink.new) result
+        ((front.now ++ flat_map spaced_one ones.now) ++ end.now) }
     ensures cause { HasBlame S.spot S.rest S.faults S.blamed sink.old sink.new result }
 {
     write_ones_of(front, ones, sink)?;
@@ -257,7 +277,8 @@ fn write_y<S: Sink>(front: &[u8], ones: &[u32], end: &[u8], sink: &mut S) -> Res
 
 /// Puts the second line: how many constraints the model has.
 fn write_model<S: Sink>(constraints: u64, sink: &mut S) -> Result<(), Failed>
-    ensures text { Wrote (S.spot sink.old).steady (S.contents sink.old) (S.contents sink.new) result (line_text (step_words (TheModel constraints))) }
+    ensures text { Wrote (S.spot sink.old).steady (S.contents sink.old) (S.contents sink.new) result
+        (line_text (step_words (TheModel constraints))) }
     ensures cause { HasBlame S.spot S.rest S.faults S.blamed sink.old sink.new result }
 {
     let mut digits = Buffer::new();
@@ -270,7 +291,8 @@ fn write_model<S: Sink>(constraints: u64, sink: &mut S) -> Result<(), Failed>
 /// memory. The condition is that of `read_step`'s answers: numbers in the ranges that a line may write.
 pub fn write_step<S: Sink>(step: &Step, sink: &mut S) -> Result<(), Failed>
     requires { IsStep step.now }
-    ensures text { Wrote (S.spot sink.old).steady (S.contents sink.old) (S.contents sink.new) result (line_text (step_words step.now)) }
+    ensures text { Wrote (S.spot sink.old).steady (S.contents sink.old) (S.contents sink.new) result
+        (line_text (step_words step.now)) }
     ensures read { read_line (joined (step_words step.now)) ≡ Some step.now }
     ensures cause { HasBlame S.spot S.rest S.faults S.blamed sink.old sink.new result }
 {

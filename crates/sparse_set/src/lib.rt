@@ -66,9 +66,12 @@ impl SparseSet {
 
     /// The members, in an order of no meaning. Cost: one step.
     pub fn members(&self) -> &[u16]
-        ensures member { (k : ℕ) → k < length result.now → has self.now (slice_index result.now k) ≡ true }
-        ensures all { (p : ℕ) → has self.now p ≡ true → (k : ℕ) × (k < length result.now) × (slice_index result.now k ≡ p) }
-        ensures once { (j k : ℕ) → j < length result.now → k < length result.now → slice_index result.now j ≡ slice_index result.now k → j ≡ k }
+        ensures member { (k : ℕ) → k < length result.now
+            → has self.now (slice_index result.now k) ≡ true }
+        ensures all { (p : ℕ) → has self.now p ≡ true → (k : ℕ) × (k < length result.now)
+            × (slice_index result.now k ≡ p) }
+        ensures once { (j k : ℕ) → j < length result.now → k < length result.now
+            → slice_index result.now j ≡ slice_index result.now k → j ≡ k }
         ensures long { length result.now + length self.now.removed ≡ self.now.count }
     {
         &self.items[self.gone..]
