@@ -4,4 +4,5 @@ pub mod Propagation
 pub mod Claims
 pub mod Leading
 pub mod FedLines
+pub mod FileRead
 pub mod PieceFed

@@ -5,3 +5,4 @@ pub mod Ones
 pub mod Turns
 pub mod Stages
 pub mod Feeding
+pub mod Filed

@@ -2,8 +2,8 @@
 // definition: the claim of the last line, or the first faulty line with its first cause. It shares no code with a search, names no
 // graph, and takes a log of any origin. The lines are those of a pseudo-Boolean proof log (Gocht, McCreesh, Nordström 2020): cutting
 // planes in reverse Polish notation, clauses by unit propagation along the references that they name, and shared rows. What the
-// layers above use is `check`. It stands on `Checker`, which is fed a log cut anywhere and keeps of its text the unfinished line alone;
-// `LineChecker` below it takes one line at a time.
+// layers above use is `check`, over a log in memory, and `check_file`, which reads a file piece by piece. Both stand on `Checker`, which is
+// fed a log cut anywhere and keeps of its text the unfinished line alone; `LineChecker` below it takes one line at a time.
 #![tactic(auto)]
 
 mod checker;
@@ -12,6 +12,7 @@ mod cutting;
 mod fault;
 mod line_checker;
 mod lines;
+mod log_file;
 mod ones;
 mod propagate;
 mod ranges;
@@ -23,7 +24,5 @@ pub use checker::Checker;
 pub use fault::LineFault;
 pub use line_checker::LineChecker;
 pub use lines::Turn;
+pub use log_file::{Checked, check_file};
 pub use whole_log::check;
-
-#[cfg(test)]
-mod tests;

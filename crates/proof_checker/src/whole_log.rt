@@ -30,12 +30,7 @@ fn verdict_by(
 }
 
 /// What a log shows over constraints with so many variables.
-pub(crate) fn check_parts(
-    alloc: Global,
-    variables: u32,
-    constraints: &[Constraint],
-    log: &[u8],
-) -> Verdict
+fn check_parts(alloc: Global, variables: u32, constraints: &[Constraint], log: &[u8]) -> Verdict
     ensures { Answers result (verdict_of variables constraints.now log.now) }
 {
     match verdict_by(alloc, variables, constraints, log) {

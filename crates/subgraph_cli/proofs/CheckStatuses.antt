@@ -1,21 +1,26 @@
 -- What the status of a check says, by the cases of its end.
 
-use Rattle.std.specs.Prelude.{◌≡◌, ℕ, ◌⊎◌, List, length, Option, Some, Result, Ok, Err, IfErr, refl}
+use Rattle.std.specs.Prelude.{◌≡◌, ℕ, ◌^◌, ◌⊎◌, List, length, Option, Some, Result, Ok, Err, IfErr, refl}
 use Rattle.std.proofs.Common.{sym, subst, ap, ◌∙◌, inl, inr, arith}
 use Rattle.log_theory.specs.OpbText.{OpbModel}
 use Rattle.log_theory.specs.OpbReading.{opb_answer}
 use Rattle.log_theory.specs.declared.opb.OpbCause.{OpbCause}
 use Rattle.log_theory.specs.declared.step.Cause.{Cause}
+use Rattle.log_theory.specs.declared.step.Verdict.{Verdict}
 use Rattle.log_theory.specs.declared.step.Verdict.TheVariants as verdict
-use Rattle.log_theory.specs.Verdicts.{verdict_of}
+use Rattle.log_theory.specs.Verdicts.{verdict_of, IsClaim}
+use Rattle.log_theory.specs.Acceptance.{Accepts}
+use Rattle.log_theory.specs.TextLaws.{AnswerLaws, LogLaws}
+use Rattle.proof_checker.specs.Filed.{FileSays, IsJudged}
+use Rattle.proof_checker.specs.declared.log_file.Checked.TheVariants.{Verdict as Judged}
 use Rattle.search_theory.specs.Account.{Account}
 use Rattle.subgraph_cli.specs.Lines.{refusal_text, log_text}
 use Rattle.subgraph_cli.specs.Disk.{Disk}
 use Rattle.subgraph_cli.specs.Streams.{Stream, IsAsBefore, Got, GotFront, Tells}
 use Rattle.subgraph_cli.specs.Outcomes.{outcome}
-use Rattle.subgraph_cli.specs.Stops.{SparesOutput, IsOfFiles}
+use Rattle.subgraph_cli.specs.Stops.{SparesOutput, IsOfFiles, HasCause}
 use Rattle.subgraph_cli.specs.Solving.{IsOrStops}
-use Rattle.subgraph_cli.specs.Checking.{HoldsModel, HoldsNoModel, HoldsLog, HoldsNoLog, Holds, IsFirstOfCheck, IsAccepted, IsRefusedLog, CheckSays, TellsChecked, CheckStatus, check_status, verdict_of_claim, claim_text, ModelSays, LogSays, VerdictSays, ToldSays}
+use Rattle.subgraph_cli.specs.Checking.{HoldsModel, HoldsNoModel, HoldsLog, HoldsNoLog, Holds, IsFirstOfCheck, IsAccepted, IsRefusedLog, CheckSays, TellsChecked, CheckStatus, check_status, verdict_of_claim, claim_text, ModelSays, JudgedSays, VerdictSays, ClaimHolds, TellsVerdict, ToldSays}
 use Rattle.subgraph_cli.specs.declared.stop.Role.{Role}
 use Rattle.subgraph_cli.specs.declared.stop.Role.TheVariants.{Pattern, Target, Mapping, Encoding, Log}
 use Rattle.subgraph_cli.specs.declared.stop.TextFault.{TextFault}
@@ -173,8 +178,8 @@ model_stops (Refused Pattern fault) e l out of_files says = let x : Pattern ≡ 
 model_stops (Refused Target fault) e l out of_files says = let x : Target ≡ Encoding = says.0 in cc
 model_stops (Refused Mapping fault) e l out of_files says = let x : Mapping ≡ Encoding = says.0 in cc
 
--- A log that is not loaded stops a check of a model that is held.
-pub log_stops : (s : Stop) (m : OpbModel) (e l : Option (List ℕ)) (out : Stream) → IsOfFiles s → LogSays (Err s) l → HoldsModel e m → CheckSays (Err s) e l out
+-- A log that is not read to its end stops a check of a model that is held.
+pub log_stops : (s : Stop) (m : OpbModel) (e l : Option (List ℕ)) (out : Stream) → IsOfFiles s → JudgedSays (Err s) m l → HoldsModel e m → CheckSays (Err s) e l out
 log_stops FilesFault m e l out of_files says held = tt
 log_stops OutputFault m e l out of_files says held = absurd of_files
 log_stops NoMemory m e l out of_files says held = tt
@@ -184,23 +189,16 @@ log_stops (Refused Pattern fault) m e l out of_files says held = let x : Pattern
 log_stops (Refused Target fault) m e l out of_files says held = let x : Target ≡ Log = says.0 in cc
 log_stops (Refused Mapping fault) m e l out of_files says held = let x : Mapping ≡ Log = says.0 in cc
 
--- A verdict that memory kept from being reached stops a check.
-pub verdict_stops : (s : Stop) (m : OpbModel) (text : List ℕ) (e l : Option (List ℕ)) (out : Stream) → VerdictSays (Err s) m text → CheckSays (Err s) e l out
-verdict_stops NoMemory m text e l out says = tt
-verdict_stops FilesFault m text e l out says = absurd says
-verdict_stops OutputFault m text e l out says = absurd says
-verdict_stops (Refused role fault) m text e l out says = absurd says
-
 -- The verdict that was told is what a check says.
 pub told_says : (checked : Checked) (m : OpbModel) (text : List ℕ) (e l : Option (List ℕ)) (out : Stream)
-    → VerdictSays (Ok checked) m text → Holds e l m text → ToldSays (Ok tt) checked out → CheckSays (Ok checked) e l out
+    → VerdictSays checked m text → Holds e l m text → ToldSays (Ok tt) checked out → CheckSays (Ok checked) e l out
 told_says (Accepted claim) m text e l out says held told =
     (record { model = m; text = text; holds = held; verdict = says.0; accepts = says.1; claim_holds = says.2 }, told)
 told_says (NotAccepted line cause) m text e l out says held told = record { model = m; text = text; holds = held; verdict = says.0; refuses = says.1 }
 
 -- The output's fault while the claim is told.
 pub untold_says : (s : Stop) (checked : Checked) (m : OpbModel) (text : List ℕ) (e l : Option (List ℕ)) (out : Stream)
-    → VerdictSays (Ok checked) m text → Holds e l m text → ToldSays (Err s) checked out → CheckSays (Err s) e l out
+    → VerdictSays checked m text → Holds e l m text → ToldSays (Err s) checked out → CheckSays (Err s) e l out
 untold_says OutputFault (Accepted claim) m text e l out says held told =
     (claim, record { model = m; text = text; holds = held; verdict = says.0; accepts = says.1; claim_holds = says.2 }, told)
 untold_says OutputFault (NotAccepted line cause) m text e l out says held told = absurd told
@@ -210,3 +208,56 @@ untold_says NoMemory (Accepted claim) m text e l out says held told = absurd tol
 untold_says NoMemory (NotAccepted line cause) m text e l out says held told = absurd told
 untold_says (Refused role fault) (Accepted claim) m text e l out says held told = absurd told
 untold_says (Refused role fault) (NotAccepted line cause) m text e l out says held told = absurd told
+
+-- ---- the verdict of a log
+
+is_claim : (claim : Claim) → IsClaim (verdict_of_claim claim)
+is_claim Unsatisfiable = tt
+is_claim Satisfiable = tt
+is_claim Undecided = tt
+
+claim_holds : (claim : Claim) (m : OpbModel) (text : List ℕ) → LogLaws → verdict_of m.variables m.constraints text ≡ verdict_of_claim claim → ClaimHolds claim m
+claim_holds Unsatisfiable m text laws e = laws.unsatisfiable m.variables m.constraints text e
+claim_holds Satisfiable m text laws e = laws.satisfiable m.variables m.constraints text e
+claim_holds Undecided m text laws e = tt
+
+claim_says : (claim : Claim) (m : OpbModel) (text : List ℕ) → LogLaws → AnswerLaws → verdict_of m.variables m.constraints text ≡ verdict_of_claim claim → VerdictSays (Accepted claim) m text
+claim_says claim m text laws answers e = (
+      e,
+      subst (λ (v : Verdict). Accepts m.variables m.constraints text v) e (answers.accepted m.variables m.constraints text (subst IsClaim (sym e) (is_claim claim))),
+      claim_holds claim m text laws e,
+    )
+
+judged_claim : (claim : Claim) (f : List ℕ → Verdict) (most : ℕ) (content : Option (List ℕ)) → FileSays (Judged (verdict_of_claim claim)) f most content → IsJudged f most content (verdict_of_claim claim)
+judged_claim Unsatisfiable f most content s = s
+judged_claim Satisfiable f most content s = s
+judged_claim Undecided f most content s = s
+
+-- The answer for a log that was read to its end is its verdict's.
+pub judged_says : (r : Result Checked Stop) (v : Verdict) (m : OpbModel) (content : Option (List ℕ)) → LogLaws → AnswerLaws
+    → TellsVerdict r v → FileSays (Judged v) (verdict_of m.variables m.constraints) (2 ^ 40) content → JudgedSays r m content
+judged_says (Ok (Accepted claim)) v m content laws answers tells says =
+    let j = judged_claim claim (verdict_of m.variables m.constraints) (2 ^ 40) content (subst (λ (x : Verdict). FileSays (Judged x) (verdict_of m.variables m.constraints) (2 ^ 40) content) tells says) in
+    record { text = j.bytes; log_is = record { there = j.there; short = j.short }; says = claim_says claim m j.bytes laws answers j.is }
+judged_says (Ok (NotAccepted line cause)) v m content laws answers tells says =
+    let j : IsJudged (verdict_of m.variables m.constraints) (2 ^ 40) content (verdict.Refused line cause) = subst (λ (x : Verdict). FileSays (Judged x) (verdict_of m.variables m.constraints) (2 ^ 40) content) tells says in
+    record { text = j.bytes; log_is = record { there = j.there; short = j.short }; says = (j.is, answers.refused m.variables m.constraints j.bytes line cause j.is) }
+judged_says (Err NoMemory) v m content laws answers tells says = tt
+judged_says (Err FilesFault) v m content laws answers tells says = absurd tells
+judged_says (Err OutputFault) v m content laws answers tells says = absurd tells
+judged_says (Err (Refused role fault)) v m content laws answers tells says = absurd tells
+
+-- A verdict stops a check for memory alone.
+pub verdict_loads : (r : Result Checked Stop) (v : Verdict) → TellsVerdict r v → IfErr r IsOfFiles
+verdict_loads (Ok checked) v tells = tt
+verdict_loads (Err NoMemory) v tells = tt
+verdict_loads (Err FilesFault) v tells = absurd tells
+verdict_loads (Err OutputFault) v tells = absurd tells
+verdict_loads (Err (Refused role fault)) v tells = absurd tells
+
+pub verdict_causes : (r : Result Checked Stop) (v : Verdict) (blame : Disk → Type 0) (d : Disk) → TellsVerdict r v → IfErr r (λ (s : Stop). HasCause s blame d)
+verdict_causes (Ok checked) v blame d tells = tt
+verdict_causes (Err NoMemory) v blame d tells = tt
+verdict_causes (Err FilesFault) v blame d tells = absurd tells
+verdict_causes (Err OutputFault) v blame d tells = absurd tells
+verdict_causes (Err (Refused role fault)) v blame d tells = absurd tells

@@ -1,7 +1,6 @@
 -- What a `check` answers.
 
-use Rattle.std.specs.Prelude.{◌≡◌, ℕ, ◌<◌, ◌≤◌, ◌^◌, ◌⊎◌, IsTrue, List, length, Bool, Option, Some, Result, Ok, Err, codes, Vec}
-use Rattle.std.specs.Global.{Global}
+use Rattle.std.specs.Prelude.{◌≡◌, ℕ, ◌<◌, ◌≤◌, ◌^◌, ◌⊎◌, IsTrue, List, length, Bool, Option, Some, Result, Ok, Err, codes}
 use Rattle.proof_theory.specs.Forms.{IsSolution, HasNoSolution}
 use Rattle.log_theory.specs.OpbText.{OpbModel}
 use Rattle.log_theory.specs.OpbReading.{opb_answer}
@@ -178,26 +177,37 @@ ModelSays (Err FilesFault) content = Unit {0}
 ModelSays (Err OutputFault) content = ⊥
 ModelSays (Err NoMemory) content = Unit {0}
 
--- What loading a log answers.
-abbrev pub LogSays : Result (Vec ℕ Global) Stop → Option (List ℕ) → Type 0
-LogSays (Ok bytes) content = HoldsLog content bytes.items
-LogSays (Err (Refused role fault)) content = (role ≡ Log) × HoldsNoLog content fault
-LogSays (Err FilesFault) content = Unit {0}
-LogSays (Err OutputFault) content = ⊥
-LogSays (Err NoMemory) content = Unit {0}
-
 -- What the verdict of a log says, as the program tells it.
-abbrev pub VerdictSays : Result Checked Stop → OpbModel → List ℕ → Type 0
-VerdictSays (Ok (Accepted claim)) m log =
+abbrev pub VerdictSays : Checked → OpbModel → List ℕ → Type 0
+VerdictSays (Accepted claim) m log =
     (verdict_of m.variables m.constraints log ≡ verdict_of_claim claim)
     × Accepts m.variables m.constraints log (verdict_of_claim claim) × ClaimHolds claim m
-VerdictSays (Ok (NotAccepted line cause)) m log =
+VerdictSays (NotAccepted line cause) m log =
     (verdict_of m.variables m.constraints log ≡ verdict.Refused line cause)
     × Refuses m.variables m.constraints log line cause
-VerdictSays (Err NoMemory) m log = Unit {0}
-VerdictSays (Err FilesFault) m log = ⊥
-VerdictSays (Err OutputFault) m log = ⊥
-VerdictSays (Err (Refused role fault)) m log = ⊥
+
+-- The content of a file is a log, within the limit of 2^40 bytes, and this is what its verdict says.
+pub record IsJudgedLog (checked : Checked) (m : OpbModel) (content : Option (List ℕ)) : Type 0 where
+  pub text : List ℕ
+  pub log_is : HoldsLog content text
+  pub says : VerdictSays checked m text
+
+-- What checking a log as it is read answers.
+abbrev pub JudgedSays : Result Checked Stop → OpbModel → Option (List ℕ) → Type 0
+JudgedSays (Ok checked) m content = IsJudgedLog checked m content
+JudgedSays (Err (Refused role fault)) m content = (role ≡ Log) × HoldsNoLog content fault
+JudgedSays (Err FilesFault) m content = Unit {0}
+JudgedSays (Err OutputFault) m content = ⊥
+JudgedSays (Err NoMemory) m content = Unit {0}
+
+-- What is told of a verdict: its claim, its line and cause, or that memory was refused.
+abbrev pub TellsVerdict : Result Checked Stop → Verdict → Type 0
+TellsVerdict (Ok (Accepted claim)) v = v ≡ verdict_of_claim claim
+TellsVerdict (Ok (NotAccepted line cause)) v = v ≡ verdict.Refused line cause
+TellsVerdict (Err NoMemory) v = v ≡ verdict.NoMemory
+TellsVerdict (Err FilesFault) v = ⊥
+TellsVerdict (Err OutputFault) v = ⊥
+TellsVerdict (Err (Refused role fault)) v = ⊥
 
 -- What telling of an answer says: the claim's line was written, or the output failed within it; nothing is written of a log that is not accepted.
 abbrev pub ToldSays : Result Unit Stop → Checked → Stream → Type 0

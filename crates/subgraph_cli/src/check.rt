@@ -3,19 +3,20 @@
 ghost use Rattle.std.specs.Prelude.{◌≡◌, ◌⊎◌, IsTrue, IfErr, IsErrOf};
 ghost use Rattle.subgraph_cli.specs.Accepted.{ProofsAreAccepted};
 ghost use Rattle.subgraph_cli.specs.Disk.{disk, IsReadingOf, KeepsFiles};
-ghost use Rattle.subgraph_cli.specs.Checking.{CheckSays, ModelSays, LogSays, VerdictSays, ToldSays, KeepsWhenRefused, IsFaultOfCheck, claim_text};
+ghost use Rattle.subgraph_cli.specs.Checking.{CheckSays, ModelSays, JudgedSays, TellsVerdict, ToldSays, KeepsWhenRefused, IsFaultOfCheck, claim_text};
 ghost use Rattle.subgraph_cli.specs.Stops.{HasCause, IsOfFiles, SparesOutput};
 ghost use Rattle.subgraph_cli.specs.Streams.{stream, IsSameSink};
 
 use crate::stop::{Role, Stop, TextFault};
 use command_line::{CheckWords, FileName};
-use log_theory::{Cause, Verdict, answer_laws, opb_law};
+use log_theory::{Cause, Verdict, answer_laws, log_laws, opb_law};
 use opb_text::{Model, OpbFault, read_opb};
 use outer_io::fault::LoadFault;
 use outer_io::files::Files;
 use outer_io::reading::load;
 use outer_io::sink::Sink;
 use pb_encoding::model::encodings_are_models;
+use proof_checker::{Checked as CheckedFile, check_file};
 use std::alloc::Global;
 
 /// How many bytes an encoding and a log have at most.
@@ -72,28 +73,11 @@ fn load_model<F: Files>(alloc: Global, files: &mut F, name: &FileName) -> Result
     }
 }
 
-/// The bytes of a log.
-fn load_log<F: Files>(alloc: Global, files: &mut F, name: &FileName) -> Result<Vec<u8>, Stop>
-    ensures says { IsTrue (F.tells files.old) → LogSays result (F.content files.old name.now) }
-    ensures loading { IfErr result IsOfFiles }
-    ensures cause { IfErr result (λ stop. HasCause stop (IsReadingOf name.now)
-        (disk F.tells F.content F.faults F.fault_at files.old files.new)) }
-    ensures quiet { IsErrOf result Stop.FilesFault ⊎ (F.faults files.new ≡ F.faults files.old) }
-    ensures files { KeepsFiles F.tells F.content F.faults files.old files.new }
+/// What a verdict tells.
+fn told(verdict: Verdict) -> Result<Checked, Stop>
+    ensures { TellsVerdict result verdict }
 {
-    match load(alloc, files, name.as_str(), PROOF_LIMIT) {
-        Ok(bytes) => Ok(bytes),
-        Err(LoadFault::Failed) => Err(Stop::FilesFault),
-        Err(LoadFault::TooLong) => Err(refused(Role::Log, TextFault::TooLong)),
-        Err(LoadFault::NoMemory) => Err(Stop::NoMemory),
-    }
-}
-
-/// What a log shows over a model.
-fn judge(alloc: Global, model: &Model, log: &[u8]) -> Result<Checked, Stop>
-    ensures { VerdictSays result model.now log.now }
-{
-    match proof_checker::check(alloc, model, log) {
+    match verdict {
         Verdict::Unsatisfiable => Ok(Checked::Accepted {
             claim: Claim::Unsatisfiable,
         }),
@@ -105,6 +89,30 @@ fn judge(alloc: Global, model: &Model, log: &[u8]) -> Result<Checked, Stop>
         }),
         Verdict::Refused { line, cause } => Ok(Checked::NotAccepted { line, cause }),
         Verdict::NoMemory => Err(Stop::NoMemory),
+    }
+}
+
+/// What the log in a file shows over a model. It is checked as it is read.
+fn judge<F: Files>(
+    alloc: Global,
+    model: &Model,
+    files: &mut F,
+    name: &FileName,
+) -> Result<Checked, Stop>
+    ensures says { IsTrue (F.tells files.old)
+        → JudgedSays result model.now (F.content files.old name.now) }
+    ensures loading { IfErr result IsOfFiles }
+    ensures cause { IfErr result (λ stop. HasCause stop (IsReadingOf name.now)
+        (disk F.tells F.content F.faults F.fault_at files.old files.new)) }
+    ensures quiet { IsErrOf result Stop.FilesFault ⊎ (F.faults files.new ≡ F.faults files.old) }
+    ensures files { KeepsFiles F.tells F.content F.faults files.old files.new }
+{
+    log_laws();
+    answer_laws();
+    match check_file(alloc, model, files, name.as_str(), PROOF_LIMIT) {
+        CheckedFile::Verdict(verdict) => told(verdict),
+        CheckedFile::Failed => Err(Stop::FilesFault),
+        CheckedFile::TooLong => Err(refused(Role::Log, TextFault::TooLong)),
     }
 }
 
@@ -137,8 +145,8 @@ fn tell_claim<O: Sink>(checked: Checked, out: &mut O) -> Result<(), Stop>
 }
 
 /// Checks the log in a file over the model in another, and writes what it claims where it is accepted: the encoding is
-/// loaded and read before the log is looked at. The memory taken is that of both files, of the model and of what the
-/// log's lines make.
+/// loaded and read before the log is looked at, and the log is checked as it is read. The memory taken is that of the
+/// encoding's file, of the model, of what the log's lines make and of the longest line.
 pub fn check<F: Files, O: Sink>(
     alloc: Global,
     words: &CheckWords,
@@ -159,8 +167,7 @@ pub fn check<F: Files, O: Sink>(
     ensures sink { IsSameSink O.spot O.rest O.faults out.old out.new }
 {
     let model = load_model(alloc, files, &words.encoding)?;
-    let log = load_log(alloc, files, &words.log)?;
-    let checked = judge(alloc, &model, &log)?;
+    let checked = judge(alloc, &model, files, &words.log)?;
     tell_claim(checked, out)?;
     Ok(checked)
 }
