@@ -1,5 +1,5 @@
 -- What an end comes to, and the line of a dead path.
-use Rattle.std.proofs.Common.{◌≡◌, ℕ, zero, suc, ◌*◌, ◌^◌, ◌<◌, ◌≤◌, Bool, false, List, [], ◌∷◌, ◌++◌, length, take, drop, get_or, Option, Some, None, Result, Ok, Err, OnOk, is_some, refl, sym, ap, subst, ◌∙◌, append_assoc, append-nil, length-append, arith}
+use Rattle.std.proofs.Common.{◌≡◌, ℕ, zero, suc, ◌*◌, ◌^◌, ◌<◌, ◌≤◌, Bool, false, List, [], ◌∷◌, ◌++◌, length, drop, get_or, Option, Some, None, Result, Ok, Err, OnOk, is_some, refl, sym, ap, subst, ◌∙◌, append_assoc, length-append, arith}
 use Rattle.std.specs.Prelude.{map}
 use Rattle.std.proofs.Math.Nat.{mul-le-mul}
 use Rattle.std.specs.declared.alloc.AllocError.{AllocError}
@@ -29,7 +29,6 @@ use Rattle.dead_theory.specs.Walks.{IsChoice, nothing, keeps, passes}
 use Rattle.dead_theory.specs.Laws.{Dies}
 use Rattle.dead_theory.proofs.Dying.{dead_laws_hold, told_laws_hold}
 use Rattle.journal_theory.specs.Journals.{named}
-use Rattle.journal_theory.proofs.Placing.{take_all}
 use Rattle.journals.specs.Keeping.{Keeps}
 use Rattle.kept_lines.specs.Frames.{Frame, IsFrameOf, AreNamed, MayFollow, Goes, Lasts, IsKept}
 use Rattle.kept_lines.proofs.Going.{goes_stay, goes_as, goes_then, goes_beside}
@@ -247,11 +246,6 @@ pub choice_is : (q : Problem) (rows : List Row) (path : List (ℕ × ℕ)) (cs c
     → OnOk result (IsChoice q rows path cs chosen needed) → OnOk result (IsChosenFor q rows path cs chosen e)
 choice_is q rows path cs chosen e needed (Ok u) needs choice = record { needed = needed; needs = needs; choice = choice }
 choice_is q rows path cs chosen e needed (Err x) needs choice = tt
-
--- Marks that were written back are those that were written.
-pub written_back : (xs ys : List Bool) (n : ℕ) → length xs ≡ length ys → n ≡ length ys → take n (xs ++ drop (length xs) ys) ≡ xs
-written_back xs ys n same is =
-    ap (λ (zs : List Bool). take n (xs ++ zs)) (drop_past ys (length xs) (omega (arith, same))) ∙ ap (λ (zs : List Bool). take n zs) (append-nil xs) ∙ take_all xs n (omega (arith, same, is))
 
 -- What propagation tells is in range where its end is.
 pub failed_in : (q : Problem) (rows : List Row) (f : Failure) (short : Option CountedSet) → ends.IsEndIn q rows (end_of f short) → IsEndIn q rows (end_by (path_end.Failed f) short [])

@@ -14,31 +14,16 @@ use Rattle.nogood_book.specs.Rows.{path_at, Sound, AreInRange}
 use Rattle.dead_theory.proofs.Dying.{told_laws_hold}
 use Rattle.dead_theory.specs.Changes.{IsOneOf, IsLeftOut, IsBorne, AreBorne, IsUpheld}
 use Rattle.dead_paths.specs.Lines.{at_least_ref, at_least_refs}
-use Rattle.dead_paths.specs.Choosing.{is_needed, whole, MarksMore, AreAt, no_value}
+use Rattle.dead_paths.specs.Choosing.{AreAt, no_value}
+use Rattle.dead_theory.specs.Walks.{IsWithin}
 use Rattle.dead_paths.specs.Explaining.{AddsBorne, AddsNogood}
-
--- ---- marks
-
-pub marks_set : (needed : List Bool) (v : ℕ) → v < length needed → MarksMore (is_needed needed) (is_needed (set needed v true))
-marks_set needed v inside r is = by (cases_eq r v)
-  where
-    by : (r ≡ v) ⊎ (r ≡ v → ⊥) → is_needed (set needed v true) r ≡ true
-    by (inl same) = ap (λ (k : ℕ). get_or (set needed v true) k false) same ∙ get_or-set_same needed v true false inside
-    by (inr other) = get_or-set_other needed v r true false other ∙ is
-
-pub marked_set : (needed : List Bool) (v : ℕ) → v < length needed → is_needed (set needed v true) v ≡ true
-marked_set needed v inside = get_or-set_same needed v true false inside
-
--- A vertex that is not marked any more, and all others as they were.
-pub unmarked_other : (needed : List Bool) (v r : ℕ) → (r ≡ v → ⊥) → is_needed (set needed v false) r ≡ is_needed needed r
-unmarked_other needed v r other = get_or-set_other needed v r false false other
 
 -- ---- pairs that are upheld
 
-pub upheld_more : (path : List (ℕ × ℕ)) (but : Option ℕ) (a b : List Bool) (x : ℕ × ℕ) → MarksMore (is_needed a) (is_needed b) → IsUpheld path but (whole a) x → IsUpheld path but (whole b) x
-upheld_more path but a b x more (inl out) = inl out
-upheld_more path but a b x more (inr (inl here)) = inr (inl here)
-upheld_more path but a b x more (inr (inr up)) = inr (inr (λ u other. more x.0 (up u other)))
+pub upheld_more : (path : List (ℕ × ℕ)) (but : Option ℕ) (f g : ℕ → ℕ → Bool) (x : ℕ × ℕ) → IsWithin f g → IsUpheld path but f x → IsUpheld path but g x
+upheld_more path but f g x more (inl out) = inl out
+upheld_more path but f g x more (inr (inl here)) = inr (inl here)
+upheld_more path but f g x more (inr (inr up)) = inr (inr (λ u other. more x.0 u (up u other)))
 
 -- In range the default does not matter.
 pub literal_at : (xs : List (ℕ × ℕ)) (k : ℕ) (d : ℕ × ℕ) → k < length xs → literal xs k ≡ get_or xs k d
@@ -188,6 +173,14 @@ vertex_of q (x ∷ path) (suc k) range below = vertex_of q path k range.2 (omega
 
 pub row_vertex_of : (q : Problem) (rows : List Row) (name : ℕ) (pairs : List (ℕ × ℕ)) (k : ℕ) → Sound q rows → pairs ≡ path_at rows name → k < length pairs → (literal pairs k).0 < size q.pattern
 row_vertex_of q rows name pairs k sound is below = vertex_of q pairs k (subst (AreInRange q) (sym is) (told_laws_hold.row_path q rows name sound).1) below
+
+pub value_of : (q : Problem) (path : List (ℕ × ℕ)) (k : ℕ) → AreInRange q path → k < length path → (literal path k).1 < size q.target
+value_of q [] k range below = absurd (omega (arith, below))
+value_of q (x ∷ path) zero range below = range.1
+value_of q (x ∷ path) (suc k) range below = value_of q path k range.2 (omega (arith, below))
+
+pub row_value_of : (q : Problem) (rows : List Row) (name : ℕ) (pairs : List (ℕ × ℕ)) (k : ℕ) → Sound q rows → pairs ≡ path_at rows name → k < length pairs → (literal pairs k).1 < size q.target
+row_value_of q rows name pairs k sound is below = value_of q pairs k (subst (AreInRange q) (sym is) (told_laws_hold.row_path q rows name sound).1) below
 
 -- What is pushed for a nogood row.
 pub nogood_pushed : (q : Problem) (rows : List Row) (names : ℕ → Ref) (known : List (ℕ × ℕ)) (but : Option ℕ) (name : ℕ) (pairs : List (ℕ × ℕ)) (old mid new : List Ref) (ref : Ref) → pairs ≡ path_at rows name

@@ -1,11 +1,8 @@
--- Vertices in lists, and marks.
-use Rattle.std.proofs.Common.{◌⊎◌, inl, inr, ◌≡◌, ℕ, zero, suc, ◌+◌, ◌<◌, ◌≤◌, ◌==◌, Bool, true, false, ◌||◌, List, [], ◌∷◌, length, take, get_or, slice_index, refl, sym, ap, subst, ◌∙◌, arith}
-use Rattle.std.specs.Prelude.{set}
-use Rattle.std.proofs.lemmas.Bool.{eqb-true, eq-eqb, ne_eqb, or_cases, cases_lt}
-use Rattle.std.proofs.lemmas.List.{get_or-set_same, get_or-set_other}
+-- Vertices and values in lists.
+use Rattle.std.proofs.Common.{◌⊎◌, inl, inr, ◌≡◌, ℕ, zero, suc, ◌+◌, ◌<◌, ◌==◌, Bool, true, false, ◌||◌, ◌&&◌, not, List, [], ◌∷◌, length, take, slice_index, refl, sym, ap, ◌∙◌, arith}
+use Rattle.std.proofs.lemmas.Bool.{eqb-true, eq-eqb, ne_eqb, or_cases}
 use Rattle.log_theory.specs.Lookups.{is_among}
-use Rattle.forcing_theory.specs.Chains.{either}
-use Rattle.dead_paths.specs.Choosing.{is_needed, among_these, MarksMore}
+use Rattle.domain_bits.specs.BitRows.{has}
 
 or_left : (a b : Bool) → a ≡ true → (a || b) ≡ true
 or_left true b e = refl
@@ -43,47 +40,41 @@ among_next (x ∷ xs) (suc i) v below is = elim (or_cases (x == v) (is_among v (
   | inr h ↦ elim (among_next xs i v (omega (arith, below)) h) [ inl k ↦ inl (or_right (x == v) (is_among v (take i xs)) k) | inr k ↦ inr k ]
 ]
 
--- One more is marked.
-pub mark_next : (old new : List Bool) (vs : List ℕ) (i v : ℕ) → i < length vs → slice_index vs i ≡ v → v < length new → MarksMore (either (is_needed old) (among_these (take i vs))) (is_needed new)
-    → MarksMore (either (is_needed old) (among_these (take (i + 1) vs))) (is_needed (set new v true))
-mark_next old new vs i v below is inside within = λ r wanted. let e : i + 1 ≡ suc i = omega arith in
-    by r (or_cases (is_needed old r) (is_among r (take (suc i) vs)) (sym (ap (λ (n : ℕ). is_needed old r || is_among r (take n vs)) e) ∙ wanted)) (r == v) refl
+-- What is none of one more is none of the first ones, and not the next.
+pub off_parts : (xs : List ℕ) (i v : ℕ) → i < length xs → is_among v (take (i + 1) xs) ≡ false → (is_among v (take i xs) ≡ false) × (slice_index xs i ≡ v → ⊥)
+off_parts xs i v below off = let e : i + 1 ≡ suc i = omega arith in by xs i below (sym (ap (λ (n : ℕ). is_among v (take n xs)) e) ∙ off)
   where
-    before : (r : ℕ) → (r ≡ v → ⊥) → either (is_needed old) (among_these (take i vs)) r ≡ true → is_needed (set new v true) r ≡ true
-    before r other h = get_or-set_other new v r true false other ∙ within r h
+    parts : (a b : Bool) → (a || b) ≡ false → (a ≡ false) × (b ≡ false)
+    parts true b h = absurd cc
+    parts false b h = (refl, h)
 
-    at : (r : ℕ) → r ≡ v → is_needed (set new v true) r ≡ true
-    at r same = ap (λ (k : ℕ). get_or (set new v true) k false) same ∙ get_or-set_same new v true false inside
+    by : (xs : List ℕ) (i : ℕ) → i < length xs → is_among v (take (suc i) xs) ≡ false → (is_among v (take i xs) ≡ false) × (slice_index xs i ≡ v → ⊥)
+    by [] i below h = absurd (omega (arith, below))
+    by (x ∷ xs) zero below h = let p = parts (x == v) false h in (refl, λ same. let t : (x == v) ≡ true = eq-eqb x v same in let bad : true ≡ false = sym t ∙ p.0 in absurd cc)
+    by (x ∷ xs) (suc i) below h =
+        let p = parts (x == v) (is_among v (take (suc i) xs)) h in
+        let o = by xs i (omega (arith, below)) p.1 in
+        (ap (λ (b : Bool). b || is_among v (take i xs)) p.0 ∙ o.0, o.1)
 
-    by : (r : ℕ) → (is_needed old r ≡ true) ⊎ (is_among r (take (suc i) vs) ≡ true) → (b : Bool) → (r == v) ≡ b → is_needed (set new v true) r ≡ true
-    by r h true test = at r (eqb-true r v test)
-    by r (inl h) false test = before r (apart r test) (or_left (is_needed old r) (is_among r (take i vs)) h)
-      where
-        apart : (r : ℕ) → (r == v) ≡ false → r ≡ v → ⊥
-        apart r test same = let t : (r == v) ≡ true = eq-eqb r v same in let bad : true ≡ false = sym t ∙ test in absurd cc
-    by r (inr h) false test = elim (among_next vs i r below h) [
-      | inl k ↦ before r (apart r test) (or_right (is_needed old r) (is_among r (take i vs)) k)
-      | inr k ↦ at r (sym k ∙ is)
+-- What leaves a row by one more value.
+pub out_next : (xs : List ℕ) (i v : ℕ) (old now next : List ℕ) → i < length xs → slice_index xs i ≡ v → ((u : ℕ) → has next u ≡ (has now u && not (v == u))) → ((u : ℕ) → is_among u (take i xs) ≡ true → has now u ≡ false)
+    → (u : ℕ) → is_among u (take (i + 1) xs) ≡ true → has next u ≡ false
+out_next xs i v old now next below is step out u among = let e : i + 1 ≡ suc i = omega arith in
+    elim (among_next xs i u below (sym (ap (λ (n : ℕ). is_among u (take n xs)) e) ∙ among)) [
+      | inl h ↦ step u ∙ ap (λ (b : Bool). b && not (v == u)) (out u h)
+      | inr h ↦ step u ∙ ap (λ (b : Bool). has now u && not b) (eq-eqb v u (sym is ∙ h)) ∙ last (has now u)
     ]
-      where
-        apart : (r : ℕ) → (r == v) ≡ false → r ≡ v → ⊥
-        apart r test same = let t : (r == v) ≡ true = eq-eqb r v same in let bad : true ≡ false = sym t ∙ test in absurd cc
+  where
+    last : (b : Bool) → (b && false) ≡ false
+    last true = refl
+    last false = refl
 
--- Past the end nothing is marked.
-pub none_past : (needed : List Bool) (r : ℕ) → length needed ≤ r → is_needed needed r ≡ false
-none_past [] zero h = refl
-none_past [] (suc r) h = refl
-none_past (n ∷ needed) zero h = absurd (omega (arith, h))
-none_past (n ∷ needed) (suc r) h = none_past needed r (omega (arith, h))
-
--- A vertex that is not marked, or is one of the list, joins those of which this is so.
-pub other_next : (needed : List Bool) (vertices : List ℕ) (k : ℕ) → ((r : ℕ) → r < k → is_among r vertices ≡ false → is_needed needed r ≡ false) → (is_among k vertices ≡ false → is_needed needed k ≡ false)
-    → (r : ℕ) → r < k + 1 → is_among r vertices ≡ false → is_needed needed r ≡ false
-other_next needed vertices k before here r below other = elim (cases_lt r k) [
-  | inl h ↦ before r h other
-  | inr h ↦ (let same : r ≡ k = omega (arith, h, below) in subst (λ (n : ℕ). is_needed needed n ≡ false) (sym same) (here (subst (λ (n : ℕ). is_among n vertices ≡ false) same other)))
-]
-
-pub others_unmarked : (needed : List Bool) (vertices : List ℕ) (k : ℕ) → length needed ≤ k → ((r : ℕ) → r < k → is_among r vertices ≡ false → is_needed needed r ≡ false)
-    → (r : ℕ) → is_among r vertices ≡ false → is_needed needed r ≡ false
-others_unmarked needed vertices k past before r other = elim (cases_lt r k) [ inl h ↦ before r h other | inr h ↦ none_past needed r (omega (arith, h, past)) ]
+pub rest_next : (xs : List ℕ) (i v : ℕ) (old now next : List ℕ) → i < length xs → slice_index xs i ≡ v → ((u : ℕ) → has next u ≡ (has now u && not (v == u))) → ((u : ℕ) → is_among u (take i xs) ≡ false → has now u ≡ has old u)
+    → (u : ℕ) → is_among u (take (i + 1) xs) ≡ false → has next u ≡ has old u
+rest_next xs i v old now next below is step rest u off =
+    let o = off_parts xs i u below off in
+    step u ∙ ap (λ (b : Bool). has now u && not b) (ne_eqb v u (λ e. o.1 (is ∙ e))) ∙ last (has now u) ∙ rest u o.0
+  where
+    last : (b : Bool) → (b && true) ≡ b
+    last true = refl
+    last false = refl

@@ -1,102 +1,255 @@
--- What a change rests on is marked, and one that took nothing of a marked vertex may be passed.
-use Rattle.std.proofs.Common.{◌≡◌, ℕ, ◌||◌, Bool, true, false, List, [], ◌∷◌, Some, None, Result, Ok, Err, OnOk, refl, sym, ap, subst, ◌∙◌, inl, inr}
-use Rattle.std.proofs.lemmas.Bool.{cases_eq, eq-eqb, true≢false}
-use Rattle.std.specs.List.{slice_range}
+-- Needed values, and what one step back from a change leaves of them.
+use Rattle.std.proofs.Common.{◌≡◌, ℕ, zero, suc, ◌+◌, ◌*◌, ◌<◌, ◌≤◌, ◌||◌, ◌&&◌, not, nat_lt, Bool, true, false, List, [], ◌∷◌, length, take, drop, get_or, slice_index, Some, None, Result, Ok, Err, refl, sym, ap, subst, ◌∙◌, arith, inl, inr, ◌⊎◌}
+use Rattle.std.specs.Prelude.{IfOk}
+use Rattle.std.proofs.lemmas.Bool.{cases_eq, cases_lt, lt-ltb, ltb-true, true≢false}
 use Rattle.std.specs.declared.alloc.AllocError.{AllocError}
+use Rattle.graph_theory.specs.Graph.{size}
 use Rattle.graph_theory.specs.Embedding.{Problem}
+use Rattle.search_theory.specs.Consistency.{AreConsistent}
 use Rattle.log_theory.specs.Lookups.{is_among}
-use Rattle.forcing_theory.specs.Chains.{either}
+use Rattle.domain_bits.specs.BitRows.{has, words_for}
 use Rattle.nogood_book.specs.declared.row.Row.{Row}
 use Rattle.nogood_book.specs.Rows.{path_at}
 use Rattle.nogood_book.specs.Places.{IsNogoodRow}
 use Rattle.propagation.specs.declared.change.Cause.{Cause}
 use Rattle.propagation.specs.declared.change.Cause.TheVariants as cause
 use Rattle.propagation.specs.declared.change.What.{What}
-use Rattle.propagation.specs.declared.change.What.TheVariants.{One, Others}
-use Rattle.propagation.specs.declared.change.Place.{Place}
-use Rattle.propagation.specs.Recording.{LeftOne, change_by}
-use Rattle.dead_theory.specs.Changes.{IsUpheld, AreUpheld, AreKeptIn}
-use Rattle.dead_theory.specs.Walks.{RestsOn}
-use Rattle.dead_paths.specs.Choosing.{is_needed, whole, among_these, MarksMore, IsWanted}
+use Rattle.propagation.specs.declared.change.What.TheVariants.{One}
+use Rattle.propagation.specs.Recording.{LeftOne, LeftOthers, change_by}
+use Rattle.needed_values.specs.Needed.{needs, AreRows, StaysNeeded, AreOthers}
+use Rattle.needed_values.specs.Consistent.{Leaves, AllConsistent}
+use Rattle.dead_theory.specs.Changes.{IsUpheld, AreUpheld}
+use Rattle.dead_theory.specs.Walks.{IsWithin}
+use Rattle.dead_paths.specs.Choosing.{values_of, IsStep, AreLeft, AreInside}
+use Rattle.dead_paths.proofs.Marking.{among_next}
 
-or_left : (a b : Bool) → a ≡ true → (a || b) ≡ true
-or_left true b e = refl
-or_left false b e = absurd cc
+-- ---- needed values
 
-or_right : (a b : Bool) → b ≡ true → (a || b) ≡ true
-or_right true b e = refl
-or_right false b e = e
+pub neither : (a b : Bool) → (a || b) ≡ false → (a ≡ false) × (b ≡ false)
+neither true b h = absurd cc
+neither false b h = (refl, h)
 
--- ---- marks of vertices
+-- A value is needed that is if there is one.
+pub need_up : (n : ℕ) (m : List Bool) (d : List ℕ) (r u : ℕ) → (u < n → needs n m d r u ≡ true) → values_of n m d r u ≡ true
+need_up n m d r u h = by (nat_lt u n) refl
+  where
+    by : (b : Bool) → nat_lt u n ≡ b → (not b || needs n m d r u) ≡ true
+    by true is = h (ltb-true u n is)
+    by false is = refl
 
-pub marks_one : (a : ℕ → Bool) (b : List Bool) (p : ℕ) → MarksMore (either a (among_these (p ∷ []))) (is_needed b) → is_needed b p ≡ true
-marks_one a b p more = more p (or_right (a p) (is_among p (p ∷ [])) (ap (λ (c : Bool). c || false) (eq-eqb p p refl)))
+pub need_of : (n : ℕ) (m : List Bool) (d : List ℕ) (r u : ℕ) → u < n → values_of n m d r u ≡ true → needs n m d r u ≡ true
+need_of n m d r u u_in h = sym (ap (λ (b : Bool). not b || needs n m d r u) (lt-ltb u n u_in)) ∙ h
 
-pub marks_these : (a : ℕ → Bool) (b : List Bool) (vs us : List ℕ) → MarksMore (either a (among_these vs)) (is_needed b) → AreKeptIn vs us (whole b)
-marks_these a b vs us more r u among off = more r (or_right (a r) (is_among r vs) among)
+pub rows_again : (n : ℕ) (m m' : List Bool) (d d' : List ℕ) → length m' ≡ length m → length d' ≡ length d → AreRows n m d → AreRows n m' d'
+rows_again n m m' d d' ms ds h = record { few = h.few; vertices = omega (arith, h.vertices, ms); long = ds ∙ h.long ∙ ap (λ (k : ℕ). k * words_for n) (sym ms) }
 
--- ---- what a change rests on
+pub within_of : (n k : ℕ) (m m' : List Bool) (d d' : List ℕ) → k ≡ n → StaysNeeded k (needs k m d) (needs k m' d') → IsWithin (values_of n m d) (values_of n m' d')
+within_of n k m m' d d' is stays r u was =
+    need_up n m' d' r u (λ u_in. subst (λ (w : ℕ). StaysNeeded w (needs w m d) (needs w m' d')) is stays r u u_in (need_of n m d r u u_in was))
 
-module _ (q : Problem) (rows : List Row) (path : List (ℕ × ℕ)) (numbers : List ℕ) (what : What) (from : ℕ) where
-  pub rests_first : (r : ℕ) (why : Cause) (needed : ℕ → ℕ → Bool) → what ≡ One r why → why ≡ cause.First → RestsOn q rows path (change_by numbers what from) needed needed
-  rests_first r why needed is by_first =
-      let at : what ≡ One r cause.First = is ∙ ap (λ (c : Cause). let x : What = One r c in x) by_first in
-      subst (λ (x : What). RestsOn q rows path (change_by numbers x from) needed needed) (sym at) (record { carried = λ v u h. inl h; needs = tt })
+pub upheld_of : (n k : ℕ) (m : List Bool) (d : List ℕ) (r t : ℕ) → k ≡ n → ((u : ℕ) → u < k → (u ≡ t → ⊥) → needs k m d r u ≡ true) → (u : ℕ) → (u ≡ t → ⊥) → values_of n m d r u ≡ true
+upheld_of n k m d r t is h u other = need_up n m d r u (λ u_in. subst (λ (w : ℕ). (v : ℕ) → v < w → (v ≡ t → ⊥) → needs w m d r v ≡ true) is h u u_in other)
 
-  pub rests_guess : (r t : ℕ) (why : Cause) (old new : List Bool) → what ≡ One r why → why ≡ cause.Guess t → ((v : ℕ) → (v ≡ r → ⊥) → is_needed new v ≡ is_needed old v)
-      → RestsOn q rows path (change_by numbers what from) (whole old) (whole new)
-  rests_guess r t why old new is by_guess same =
-      let at : what ≡ One r (cause.Guess t) = is ∙ ap (λ (c : Cause). let x : What = One r c in x) by_guess in
-      subst (λ (x : What). RestsOn q rows path (change_by numbers x from) (whole old) (whole new)) (sym at)
-      (record { carried = λ v u h. elim (cases_eq v r) [ inl e ↦ inr (e, tt) | inr other ↦ inl (same v other ∙ h) ]; needs = tt })
+pub all_of : (n k : ℕ) (m : List Bool) (d : List ℕ) (r : ℕ) → k ≡ n → ((u : ℕ) → u < k → needs k m d r u ≡ true) → (u : ℕ) → values_of n m d r u ≡ true
+all_of n k m d r is h u = need_up n m d r u (λ u_in. subst (λ (w : ℕ). (v : ℕ) → v < w → needs w m d r v ≡ true) is h u u_in)
 
-  pub rests_vertex : (r p t : ℕ) (why : Cause) (old new : List Bool) → what ≡ One r why → why ≡ cause.Vertex p t → MarksMore (is_needed old) (is_needed new) → IsUpheld path None (whole new) (p, t)
-      → RestsOn q rows path (change_by numbers what from) (whole old) (whole new)
-  rests_vertex r p t why old new is by_vertex more upheld =
-      let at : what ≡ One r (cause.Vertex p t) = is ∙ ap (λ (c : Cause). let x : What = One r c in x) by_vertex in
-      subst (λ (x : What). RestsOn q rows path (change_by numbers x from) (whole old) (whole new)) (sym at) (record { carried = λ v u h. inl (more v h); needs = upheld })
+-- A vertex of a needed value has a mark.
+pub marked_in : (n : ℕ) (m : List Bool) (d : List ℕ) (r u : ℕ) → needs n m d r u ≡ true → r < length m
+marked_in n m d r u h = by (cases_lt r (length m))
+  where
+    none : (m : List Bool) (r : ℕ) → length m ≤ r → get_or m r false ≡ false
+    none [] zero h = refl
+    none [] (suc r) h = refl
+    none (b ∷ m) zero h = absurd (omega (arith, h))
+    none (b ∷ m) (suc r) h = none m r (omega (arith, h))
 
-  pub rests_nogood : (r name : ℕ) (why : Cause) (old new : List Bool) (result : Result (Unit {0}) AllocError) → what ≡ One r why → why ≡ cause.Nogood name → OnOk result (MarksMore (is_needed old) (is_needed new))
-      → OnOk result (AreUpheld path (Some r) (whole new) (path_at rows name)) → OnOk result (RestsOn q rows path (change_by numbers what from) (whole old) (whole new))
-  rests_nogood r name why old new (Ok u) is by_nogood more upheld =
-      let at : what ≡ One r (cause.Nogood name) = is ∙ ap (λ (c : Cause). let x : What = One r c in x) by_nogood in
-      subst (λ (x : What). RestsOn q rows path (change_by numbers x from) (whole old) (whole new)) (sym at) (record { carried = λ v w h. inl (more v h); needs = upheld })
-  rests_nogood r name why old new (Err e) is by_nogood more upheld = tt
+    by : (r < length m) ⊎ (length m ≤ r) → r < length m
+    by (inl inside) = inside
+    by (inr past) = absurd (true≢false (sym h ∙ ap (λ (b : Bool). b && has (drop (r * words_for n) d) u) (none m r past)))
 
-  pub rests_set : (k : Place) (old new : List Bool) → what ≡ Others k → MarksMore (either (is_needed old) (among_these (slice_range numbers k.start k.middle))) (is_needed new)
-      → RestsOn q rows path (change_by numbers what from) (whole old) (whole new)
-  rests_set k old new is more =
-      subst (λ (x : What). RestsOn q rows path (change_by numbers x from) (whole old) (whole new)) (sym is) (record {
-        carried = λ v u h. inl (more v (or_left (is_needed old v) (is_among v (slice_range numbers k.start k.middle)) h));
-        needs = marks_these (is_needed old) new (slice_range numbers k.start k.middle) (slice_range numbers k.middle k.end) more;
-      })
+-- The values of a row are needed of one more vertex.
+pub each_more : (n k : ℕ) (m m1 m2 : List Bool) (d d1 d2 : List ℕ) (vertices set : List ℕ) (i v : ℕ) → k ≡ n → i < length vertices → slice_index vertices i ≡ v
+    → ((r u : ℕ) → is_among r (take i vertices) ≡ true → u < n → has set u ≡ true → needs n m1 d1 r u ≡ true) → StaysNeeded n (needs n m d) (needs n m1 d1)
+    → ((u : ℕ) → u < k → has set u ≡ true → needs k m2 d2 v u ≡ true) → StaysNeeded k (needs k m1 d1) (needs k m2 d2)
+    → ((r u : ℕ) → is_among r (take (i + 1) vertices) ≡ true → u < n → has set u ≡ true → needs n m2 d2 r u ≡ true) × StaysNeeded n (needs n m d) (needs n m2 d2)
+each_more n k m m1 m2 d d1 d2 vertices set i v is below v_is each stays more stays2 = (
+  (λ r u among u_in h. let e : i + 1 ≡ suc i = omega arith in
+      elim (among_next vertices i r below (sym (ap (λ (j : ℕ). is_among r (take j vertices)) e) ∙ among)) [
+        | inl a ↦ on r u u_in (each r u a u_in h)
+        | inr same ↦ ap (λ (x : ℕ). needs n m2 d2 x u) (sym same ∙ v_is) ∙ subst (λ (w : ℕ). (y : ℕ) → y < w → has set y ≡ true → needs w m2 d2 v y ≡ true) is more u u_in h
+      ]),
+  (λ r u u_in h. on r u u_in (stays r u u_in h)),
+)
+  where
+    on : StaysNeeded n (needs n m1 d1) (needs n m2 d2)
+    on = subst (λ (w : ℕ). StaysNeeded w (needs w m1 d1) (needs w m2 d2)) is stays2
 
--- ---- what may be passed
+-- ---- steps of a set
 
-module _ (q : Problem) (rows : List Row) (numbers : List ℕ) (what : What) (from : ℕ) (needed : List Bool) where
-  -- A change of one vertex, by no nogood.
-  pub wanted_one : (r : ℕ) (why last : Cause) (b : Bool) → what ≡ One r why → why ≡ last → b ≡ is_needed needed r → ((name : ℕ) → last ≡ cause.Nogood name → ⊥)
-      → IsWanted b q rows (change_by numbers what from) needed
-  wanted_one r why last b is by_last marked plain =
-      subst (λ (x : What). IsWanted b q rows (change_by numbers x from) needed) (sym (is ∙ ap (λ (c : Cause). let x : What = One r c in x) by_last)) (by last plain b marked)
+-- A row that lost no needed value has them all.
+pub row_inside : (n k : ℕ) (m : List Bool) (d : List ℕ) (r : ℕ) (other spare left set : List ℕ) → k ≡ n → ((u : ℕ) → u < k → has other u ≡ needs k m d r u) → spare ≡ other → ((u : ℕ) → has left u ≡ (has spare u && has set u)) → other ≡ left
+    → (u : ℕ) → u < n → needs n m d r u ≡ true → has set u ≡ true
+row_inside n k m d r other spare left set is bits same cut kept u u_in h =
+    let there : has other u ≡ true = subst (λ (w : ℕ). (v : ℕ) → v < w → has other v ≡ needs w m d r v) is bits u u_in ∙ h in
+    second (has spare u) (has set u) (sym (cut u) ∙ sym (ap (λ (xs : List ℕ). has xs u) kept) ∙ there)
+  where
+    second : (a b : Bool) → (a && b) ≡ true → b ≡ true
+    second true b e = e
+    second false b e = absurd cc
+
+pub none_inside : (n k : ℕ) (m : List Bool) (d : List ℕ) (r : ℕ) (set : List ℕ) → k ≡ n → ((u : ℕ) → u < k → needs k m d r u ≡ false) → (u : ℕ) → u < n → needs n m d r u ≡ true → has set u ≡ true
+none_inside n k m d r set is none u u_in h = absurd (true≢false (sym h ∙ subst (λ (w : ℕ). (v : ℕ) → v < w → needs w m d r v ≡ false) is none u u_in))
+
+pub row_left : (n k : ℕ) (m m1 : List Bool) (d d1 : List ℕ) (r : ℕ) (other spare left set : List ℕ) → k ≡ n → ((u : ℕ) → u < k → has other u ≡ needs k m d r u) → spare ≡ other → ((u : ℕ) → has left u ≡ (has spare u && has set u))
+    → ((u : ℕ) → u < k → needs k m1 d1 r u ≡ has left u) → AreOthers k r (needs k m d) (needs k m1 d1)
+    → (s u : ℕ) → u < n → needs n m d s u ≡ true → (needs n m1 d1 s u ≡ true) ⊎ ((s ≡ r) × (has set u ≡ false))
+row_left n k m m1 d d1 r other spare left set is bits same cut put others s u u_in h = by (cases_eq s r)
+  where
+    by : (s ≡ r) ⊎ (s ≡ r → ⊥) → (needs n m1 d1 s u ≡ true) ⊎ ((s ≡ r) × (has set u ≡ false))
+    by (inr apart) = inl (subst (λ (w : ℕ). AreOthers w r (needs w m d) (needs w m1 d1)) is others s u apart u_in ∙ h)
+    by (inl e) = on (has set u) refl
+      where
+        there : has spare u ≡ true
+        there = ap (λ (xs : List ℕ). has xs u) same ∙ subst (λ (w : ℕ). (v : ℕ) → v < w → has other v ≡ needs w m d r v) is bits u u_in ∙ sym (ap (λ (x : ℕ). needs n m d x u) e) ∙ h
+
+        on : (b : Bool) → has set u ≡ b → (needs n m1 d1 s u ≡ true) ⊎ ((s ≡ r) × (has set u ≡ false))
+        on true in_set =
+            inl (ap (λ (x : ℕ). needs n m1 d1 x u) e ∙ subst (λ (w : ℕ). (v : ℕ) → v < w → needs w m1 d1 r v ≡ has left v) is put u u_in ∙ cut u ∙ ap (λ (b : Bool). b && has set u) there ∙ in_set)
+        on false out = inr (e, out)
+
+-- The same for one vertex more, of those that are none of the set.
+pub others_inside : (n : ℕ) (m m1 : List Bool) (d d1 : List ℕ) (vertices set : List ℕ) (k : ℕ) → ((r u : ℕ) → r < k → is_among r vertices ≡ false → u < n → needs n m d r u ≡ true → has set u ≡ true)
+    → StaysNeeded n (needs n m d) (needs n m1 d1) → (is_among k vertices ≡ false → (u : ℕ) → u < n → needs n m1 d1 k u ≡ true → has set u ≡ true)
+    → (r u : ℕ) → r < k + 1 → is_among r vertices ≡ false → u < n → needs n m d r u ≡ true → has set u ≡ true
+others_inside n m m1 d d1 vertices set k before stays here r u below off u_in h = elim (cases_lt r k) [
+  | inl less ↦ before r u less off u_in h
+  | inr more ↦ (let same : r ≡ k = omega (arith, more, below) in
+      here (subst (λ (x : ℕ). is_among x vertices ≡ false) same off) u u_in (stays k u u_in (subst (λ (x : ℕ). needs n m d x u ≡ true) same h)))
+]
+
+pub left_then : (n : ℕ) (vertices set : List ℕ) (f g h : ℕ → ℕ → Bool) → AreLeft n vertices set f g → AreLeft n vertices set g h → AreLeft n vertices set f h
+left_then n vertices set f g h first second r u u_in is = elim (first r u u_in is) [ inl now ↦ second r u u_in now | inr out ↦ inr out ]
+
+pub all_inside : (n : ℕ) (m : List Bool) (d : List ℕ) (vertices set : List ℕ) (k : ℕ) → length m ≤ k → ((r u : ℕ) → r < k → is_among r vertices ≡ false → u < n → needs n m d r u ≡ true → has set u ≡ true)
+    → AreInside n vertices set (needs n m d)
+all_inside n m d vertices set k past before r u off u_in h = before r u (omega (arith, past, marked_in n m d r u h)) off u_in h
+
+-- ---- steps back
+
+module _ (q : Problem) (rows : List Row) (path : List (ℕ × ℕ)) where
+  pub within_same : (f : ℕ → ℕ → Bool) → IsWithin f f
+  within_same f r u h = h
+
+  -- Of a vertex of which nothing is needed nothing is taken.
+  pub pass_one : (n k : ℕ) (m : List Bool) (d : List ℕ) (r : ℕ) (why : Cause) (from : ℕ) → n ≡ size q.target → k ≡ n → ((u : ℕ) → u < k → needs k m d r u ≡ false)
+      → IsStep false q rows path (LeftOne r why from) (values_of n m d) (values_of n m d)
+  pass_one n k m d r why from n_is is none = (
+    (λ v u u_in h takes. let u_n = subst (λ (w : ℕ). u < w) (sym n_is) u_in in
+        true≢false (sym (need_of n m d v u u_n h) ∙ ap (λ (p : ℕ). needs n m d p u) takes.0 ∙ subst (λ (w : ℕ). (v : ℕ) → v < w → needs w m d r v ≡ false) is none u u_n)),
+    within_same (values_of n m d),
+  )
+
+  pub step_first : (n k : ℕ) (m : List Bool) (d : List ℕ) (b : Bool) (numbers : List ℕ) (what : What) (r : ℕ) (why : Cause) (from : ℕ) → n ≡ size q.target → k ≡ n → what ≡ One r why → why ≡ cause.First
+      → (b ≡ false → (u : ℕ) → u < k → needs k m d r u ≡ false) → IsStep b q rows path (change_by numbers what from) (values_of n m d) (values_of n m d)
+  step_first n k m d b numbers what r why from n_is is w_is by_first none =
+      let at : what ≡ One r cause.First = w_is ∙ ap (λ (c : Cause). let x : What = One r c in x) by_first in
+      subst (λ (x : What). IsStep b q rows path (change_by numbers x from) (values_of n m d) (values_of n m d)) (sym at) (by b none)
     where
-      by : (last : Cause) → ((name : ℕ) → last ≡ cause.Nogood name → ⊥) → (b : Bool) → b ≡ is_needed needed r → IsWanted b q rows (LeftOne r last from) needed
-      by cause.First plain true m = tt
-      by (cause.Guess t) plain true m = tt
-      by (cause.Vertex p t) plain true m = tt
-      by (cause.Nogood name) plain true m = absurd (plain name refl)
-      by last plain false m = λ v u h takes. true≢false (sym h ∙ ap (λ (k : ℕ). is_needed needed k) takes.0 ∙ sym m)
+      by : (b : Bool) → (b ≡ false → (u : ℕ) → u < k → needs k m d r u ≡ false) → IsStep b q rows path (LeftOne r cause.First from) (values_of n m d) (values_of n m d)
+      by true none = (record { carried = λ v u h. inl h; needs = tt }, tt)
+      by false none = pass_one n k m d r cause.First from n_is is (none refl)
 
-  pub wanted_nogood : (r name : ℕ) (why : Cause) (b : Bool) → what ≡ One r why → why ≡ cause.Nogood name → (b ≡ true → IsNogoodRow rows name) → (b ≡ false → IsNogoodRow rows name → is_needed needed r ≡ false)
-      → IsWanted b q rows (change_by numbers what from) needed
-  wanted_nogood r name why b is by_nogood if_wanted if_not =
-      subst (λ (x : What). IsWanted b q rows (change_by numbers x from) needed) (sym (is ∙ ap (λ (c : Cause). let x : What = One r c in x) by_nogood)) (by b if_wanted if_not)
+  pub step_guess : (n k : ℕ) (m m' : List Bool) (d : List ℕ) (r t from : ℕ) → k ≡ n → AreOthers k r (needs k m d) (needs k m' d)
+      → IsStep true q rows path (LeftOne r (cause.Guess t) from) (values_of n m d) (values_of n m' d)
+  step_guess n k m m' d r t from is others = (record { carried = carried; needs = tt }, tt)
     where
-      by : (b : Bool) → (b ≡ true → IsNogoodRow rows name) → (b ≡ false → IsNogoodRow rows name → is_needed needed r ≡ false) → IsWanted b q rows (LeftOne r (cause.Nogood name) from) needed
-      by true if_wanted if_not = if_wanted refl
-      by false if_wanted if_not = λ v u h takes. true≢false (sym h ∙ ap (λ (k : ℕ). is_needed needed k) takes.0 ∙ if_not refl takes.1.0)
+      carried : (s u : ℕ) → values_of n m d s u ≡ true → (values_of n m' d s u ≡ true) ⊎ ((s ≡ r) × Unit {0})
+      carried s u h = elim (cases_eq s r) [
+        | inl e ↦ inr (e, tt)
+        | inr other ↦ inl (need_up n m' d s u (λ u_in. subst (λ (w : ℕ). AreOthers w r (needs w m d) (needs w m' d)) is others s u other u_in ∙ need_of n m d s u u_in h))
+      ]
 
-  pub wanted_set : (k : Place) (b : Bool) → what ≡ Others k → (b ≡ false → (r : ℕ) → is_among r (slice_range numbers k.start k.middle) ≡ false → is_needed needed r ≡ false)
-      → IsWanted b q rows (change_by numbers what from) needed
-  wanted_set k true is none = subst (λ (x : What). IsWanted true q rows (change_by numbers x from) needed) (sym is) tt
-  wanted_set k false is none = subst (λ (x : What). IsWanted false q rows (change_by numbers x from) needed) (sym is) (λ v u h takes. true≢false (sym h ∙ none refl v takes.0))
+  -- The rows before and after a vertex has taken what it does from r, and then what it needs itself.
+  pub pass_vertex : (n k : ℕ) (m : List Bool) (d : List ℕ) (p t r from : ℕ) (other spare left : List ℕ) → n ≡ size q.target → k ≡ n → ((u : ℕ) → u < k → has other u ≡ needs k m d r u)
+      → AllConsistent true q p t r left → other ≡ left → IsStep false q rows path (LeftOne r (cause.Vertex p t) from) (values_of n m d) (values_of n m d)
+  pass_vertex n k m d p t r from other spare left n_is is bits all same = (
+    (λ v u u_in h takes. let u_n = subst (λ (w : ℕ). u < w) (sym n_is) u_in in
+        let here : needs n m d r u ≡ true = sym (ap (λ (x : ℕ). needs n m d x u) takes.0) ∙ need_of n m d v u u_n h in
+        takes.1 (subst (λ (x : ℕ). AreConsistent q p t x u) (sym takes.0) (all u (sym (ap (λ (xs : List ℕ). has xs u) same) ∙ subst (λ (w : ℕ). (v : ℕ) → v < w → has other v ≡ needs w m d r v) is bits u u_n ∙ here)))),
+    within_same (values_of n m d),
+  )
+
+  pub step_vertex : (n k : ℕ) (m m1 m2 : List Bool) (d d1 d2 : List ℕ) (p t r from : ℕ) (other spare left : List ℕ) → k ≡ n → ((u : ℕ) → u < k → has other u ≡ needs k m d r u) → spare ≡ other → Leaves q p t r spare left
+      → ((u : ℕ) → u < k → needs k m1 d1 r u ≡ has left u) → AreOthers k r (needs k m d) (needs k m1 d1) → IsWithin (values_of n m1 d1) (values_of n m2 d2) → IsUpheld path None (values_of n m2 d2) (p, t)
+      → IsStep true q rows path (LeftOne r (cause.Vertex p t) from) (values_of n m d) (values_of n m2 d2)
+  step_vertex n k m m1 m2 d d1 d2 p t r from other spare left is bits same leaves put others more upheld = (record { carried = carried; needs = upheld }, tt)
+    where
+      carried : (s u : ℕ) → values_of n m d s u ≡ true → (values_of n m2 d2 s u ≡ true) ⊎ ((s ≡ r) × (AreConsistent q p t s u → ⊥))
+      carried s u h = by (cases_lt u n) (cases_eq s r)
+        where
+          first : (w : ℕ) → u < w → k ≡ w → has other u ≡ needs w m d r u
+          first w u_in k_is = subst (λ (x : ℕ). (v : ℕ) → v < x → has other v ≡ needs x m d r v) k_is bits u u_in
+
+          second : (w : ℕ) → u < w → k ≡ w → needs w m1 d1 r u ≡ has left u
+          second w u_in k_is = subst (λ (x : ℕ). (v : ℕ) → v < x → needs x m1 d1 r v ≡ has left v) k_is put u u_in
+
+          by : (u < n) ⊎ (n ≤ u) → (s ≡ r) ⊎ (s ≡ r → ⊥) → (values_of n m2 d2 s u ≡ true) ⊎ ((s ≡ r) × (AreConsistent q p t s u → ⊥))
+          by (inr past) e = inl (need_up n m2 d2 s u (λ u_in. absurd (omega (arith, past, u_in))))
+          by (inl u_in) (inr apart) =
+              inl (more s u (need_up n m1 d1 s u (λ v_in. subst (λ (w : ℕ). AreOthers w r (needs w m d) (needs w m1 d1)) is others s u apart u_in ∙ need_of n m d s u u_in h)))
+          by (inl u_in) (inl e) = on (has left u) refl
+            where
+              there : has spare u ≡ true
+              there = ap (λ (xs : List ℕ). has xs u) same ∙ first n u_in is ∙ sym (ap (λ (x : ℕ). needs n m d x u) e) ∙ need_of n m d s u u_in h
+
+              on : (b : Bool) → has left u ≡ b → (values_of n m2 d2 s u ≡ true) ⊎ ((s ≡ r) × (AreConsistent q p t s u → ⊥))
+              on true stays = inl (more s u (need_up n m1 d1 s u (λ v_in. ap (λ (x : ℕ). needs n m1 d1 x u) e ∙ second n u_in is ∙ stays)))
+              on false gone = inr (e, λ c. leaves.right u there gone (subst (λ (x : ℕ). AreConsistent q p t x u) e c))
+
+  pub pass_nogood : (f : ℕ → ℕ → Bool) (r name from : ℕ) → (IsNogoodRow rows name → ⊥) → IsStep false q rows path (LeftOne r (cause.Nogood name) from) f f
+  pass_nogood f r name from none = ((λ v u u_in h takes. none takes.1.0), within_same f)
+
+  pub step_nogood : (f g : ℕ → ℕ → Bool) (r name from : ℕ) → IsNogoodRow rows name → IsWithin f g → AreUpheld path (Some r) g (path_at rows name) → IsStep true q rows path (LeftOne r (cause.Nogood name) from) f g
+  step_nogood f g r name from is more upheld = (record { carried = λ v u h. inl (more v u h); needs = upheld }, is)
+
+  -- A set whose values no other vertex needs.
+  pub pass_set : (n : ℕ) (m m' : List Bool) (d d' : List ℕ) (vertices values set : List ℕ) (from : ℕ) → n ≡ size q.target → ((u : ℕ) → is_among u values ≡ true → has set u ≡ false)
+      → AreInside n vertices set (needs n m d) → StaysNeeded n (needs n m d) (needs n m' d') → IsStep false q rows path (LeftOthers vertices values from) (values_of n m d) (values_of n m' d')
+  pass_set n m m' d d' vertices values set from n_is out inside stays = (
+    (λ v u u_in h takes. let u_n = subst (λ (w : ℕ). u < w) (sym n_is) u_in in true≢false (sym (inside v u takes.0 u_n (need_of n m d v u u_n h)) ∙ out u takes.1)),
+    within_of n n m m' d d' refl stays,
+  )
+
+  pub step_set : (n : ℕ) (m m1 m2 : List Bool) (d d1 d2 : List ℕ) (vertices values set : List ℕ) (from : ℕ) → length m ≡ size q.pattern → ((u : ℕ) → u < n → is_among u values ≡ false → has set u ≡ true)
+      → AreLeft n vertices set (needs n m d) (needs n m1 d1) → StaysNeeded n (needs n m1 d1) (needs n m2 d2) → ((r u : ℕ) → is_among r vertices ≡ true → u < n → has set u ≡ true → needs n m2 d2 r u ≡ true)
+      → IsStep true q rows path (LeftOthers vertices values from) (values_of n m d) (values_of n m2 d2)
+  step_set n m m1 m2 d d1 d2 vertices values set from long rest left stays each = (
+    record {
+      carried = λ r u h. carried r u h (cases_lt u n);
+      needs = λ r u among off. need_up n m2 d2 r u (λ u_in. each r u among u_in (rest u u_in off));
+    },
+    tt,
+  )
+    where
+      carried : (r u : ℕ) → values_of n m d r u ≡ true → (u < n) ⊎ (n ≤ u) → (values_of n m2 d2 r u ≡ true) ⊎ ((r < size q.pattern) × (is_among r vertices ≡ false) × (is_among u values ≡ true))
+      carried r u h (inr past) = inl (need_up n m2 d2 r u (λ u_in. absurd (omega (arith, past, u_in))))
+      carried r u h (inl u_in) = by (left r u u_in (need_of n m d r u u_in h))
+        where
+          by : (needs n m1 d1 r u ≡ true) ⊎ ((is_among r vertices ≡ false) × (has set u ≡ false)) → (values_of n m2 d2 r u ≡ true) ⊎ ((r < size q.pattern) × (is_among r vertices ≡ false) × (is_among u values ≡ true))
+          by (inl is) = inl (need_up n m2 d2 r u (λ v_in. stays r u u_in is))
+          by (inr out) = on (is_among u values) refl
+            where
+              on : (b : Bool) → is_among u values ≡ b → (values_of n m2 d2 r u ≡ true) ⊎ ((r < size q.pattern) × (is_among r vertices ≡ false) × (is_among u values ≡ true))
+              on true is = inr (subst (λ (w : ℕ). r < w) long (marked_in n m d r u (need_of n m d r u u_in h)), out.0, is)
+              on false is = absurd (true≢false (sym (rest u u_in is) ∙ out.1))
+
+-- The same for a change by its kind.
+module _ (q : Problem) (rows : List Row) (path : List (ℕ × ℕ)) (numbers : List ℕ) (what : What) (from : ℕ) (f g : ℕ → ℕ → Bool) where
+  pub step_one : (b : Bool) (r : ℕ) (why last : Cause) → what ≡ One r why → why ≡ last → IsStep b q rows path (LeftOne r last from) f g → IsStep b q rows path (change_by numbers what from) f g
+  step_one b r why last is by_last step =
+      subst (λ (x : What). IsStep b q rows path (change_by numbers x from) f g) (sym (is ∙ ap (λ (c : Cause). let x : What = One r c in x) by_last)) step
+
+  pub step_one_ok : (result : Result Bool AllocError) (r : ℕ) (why last : Cause) → what ≡ One r why → why ≡ last → IfOk result (λ b. IsStep b q rows path (LeftOne r last from) f g)
+      → IfOk result (λ b. IsStep b q rows path (change_by numbers what from) f g)
+  step_one_ok (Ok b) r why last is by_last step = step_one b r why last is by_last step
+  step_one_ok (Err e) r why last is by_last step = tt

@@ -1,5 +1,5 @@
 -- How far a walk back has come.
-use Rattle.std.proofs.Common.{◌≡◌, ℕ, suc, ◌<◌, ◌≤◌, Bool, List, [], ◌∷◌, ◌++◌, length, take, get_or, reverse, sym, ap, subst, ◌∙◌, append_assoc, append-nil, arith}
+use Rattle.std.proofs.Common.{◌≡◌, ℕ, suc, ◌<◌, ◌≤◌, Bool, true, false, List, [], ◌∷◌, ◌++◌, length, take, get_or, reverse, sym, ap, subst, ◌∙◌, append_assoc, append-nil, arith}
 use Rattle.std.specs.Prelude.{map}
 use Rattle.std.proofs.lemmas.List.{reverse-append, map-append}
 use Rattle.std.proofs.Math.Seq.{take-suc}
@@ -9,9 +9,9 @@ use Rattle.nogood_book.specs.declared.row.Row.{Row}
 use Rattle.propagation.specs.declared.change.Entry.{Entry}
 use Rattle.propagation.specs.Recording.{Change, change_of, changes_of}
 use Rattle.dead_theory.specs.Changes.{IsInProblem, AreInProblem}
-use Rattle.dead_theory.specs.Walks.{MayPass, RestsOn, IsChoice}
+use Rattle.dead_theory.specs.Walks.{MayPass, RestsOn, IsWithin, IsChoice}
 use Rattle.dead_theory.proofs.Choosing.{walk_laws_hold}
-use Rattle.dead_paths.specs.Choosing.{AreAt, changes_in, IsOfRow, AreNameable, HasCome}
+use Rattle.dead_paths.specs.Choosing.{AreAt, changes_in, IsOfRow, IsStep, AreNameable, HasCome}
 
 nameable_more : (q : Problem) (rows : List Row) (cs : List Change) (c : Change) → AreNameable q rows cs → IsInProblem q c → IsOfRow rows c → AreNameable q rows (cs ++ c ∷ [])
 nameable_more q rows [] c h i o = ((i, o), tt)
@@ -22,6 +22,11 @@ pub come_pass : (q : Problem) (rows : List Row) (path : List (ℕ × ℕ)) (seen
     → HasCome q rows path (seen ++ c ∷ []) chosen first now
 come_pass q rows path seen chosen first now c h may = record { walked = walk_laws_hold.passes q rows path seen chosen first now c h.walked may; nameable = h.nameable }
 
+-- And what was needed still is.
+come_within : (q : Problem) (rows : List Row) (path : List (ℕ × ℕ)) (seen chosen : List Change) (first now next : ℕ → ℕ → Bool) → IsWithin now next → HasCome q rows path seen chosen first now → HasCome q rows path seen chosen first next
+come_within q rows path seen chosen first now next within h =
+    record { walked = λ rest more choice. h.walked rest more (walk_laws_hold.fewer q rows path rest more next now within choice); nameable = h.nameable }
+
 -- One that is chosen.
 pub come_keep : (q : Problem) (rows : List Row) (path : List (ℕ × ℕ)) (numbers : List ℕ) (seen : List Change) (chosen next : List Entry) (first old new : ℕ → ℕ → Bool) (e : Entry)
     → HasCome q rows path seen (changes_in numbers chosen) first old → RestsOn q rows path (change_of numbers e) old new → IsInProblem q (change_of numbers e) → IsOfRow rows (change_of numbers e)
@@ -31,6 +36,17 @@ come_keep q rows path numbers seen chosen next first old new e h rests in_proble
       walked = walk_laws_hold.keeps q rows path seen (changes_in numbers chosen) first old new (change_of numbers e) h.walked rests;
       nameable = nameable_more q rows (changes_in numbers chosen) (change_of numbers e) h.nameable in_problem of_row;
     })
+
+-- One step back, and what was chosen with it.
+pub come_on : (q : Problem) (rows : List Row) (path : List (ℕ × ℕ)) (numbers : List ℕ) (seen : List Change) (chosen : List Entry) (first old new : ℕ → ℕ → Bool) (e : Entry)
+    → HasCome q rows path seen (changes_in numbers chosen) first old → IsInProblem q (change_of numbers e) → IsStep true q rows path (change_of numbers e) old new
+    → (next : List Entry) → next ≡ chosen ++ e ∷ [] → HasCome q rows path (seen ++ change_of numbers e ∷ []) (changes_in numbers next) first new
+come_on q rows path numbers seen chosen first old new e h in_problem step next is = come_keep q rows path numbers seen chosen next first old new e h step.0 in_problem step.1 is
+
+pub come_past : (q : Problem) (rows : List Row) (path : List (ℕ × ℕ)) (numbers : List ℕ) (seen : List Change) (chosen : List Entry) (first old new : ℕ → ℕ → Bool) (e : Entry)
+    → HasCome q rows path seen (changes_in numbers chosen) first old → IsStep false q rows path (change_of numbers e) old new → HasCome q rows path (seen ++ change_of numbers e ∷ []) (changes_in numbers chosen) first new
+come_past q rows path numbers seen chosen first old new e h step =
+    come_within q rows path (seen ++ change_of numbers e ∷ []) (changes_in numbers chosen) first old new step.1 (come_pass q rows path seen (changes_in numbers chosen) first old (change_of numbers e) h step.0)
 
 -- The last of the first entries is the first of their changes.
 pub last_first : (numbers : List ℕ) (entries : List Entry) (k left : ℕ) (e : Entry) → k < length entries → left ≡ suc k → e ≡ get_or entries k e

@@ -1,33 +1,23 @@
 -- Walking back over changes that are kept as entries.
 
-use Rattle.std.specs.Prelude.{◌≡◌, ℕ, ◌<◌, Bool, true, false, List, [], ◌∷◌, map, length, slice_index, get_or}
+use Rattle.std.specs.Prelude.{◌≡◌, ℕ, ◌<◌, ◌⊎◌, ◌||◌, not, nat_lt, Bool, true, false, List, [], ◌∷◌, map, length, slice_index}
 use Rattle.graph_theory.specs.Embedding.{Problem}
 use Rattle.log_theory.specs.Lookups.{is_among}
+use Rattle.domain_bits.specs.BitRows.{has}
+use Rattle.needed_values.specs.Needed.{needs}
 use Rattle.nogood_book.specs.declared.row.Row.{Row}
 use Rattle.nogood_book.specs.Places.{IsNogoodRow}
 use Rattle.propagation.specs.declared.change.Cause.TheVariants as cause
 use Rattle.propagation.specs.declared.change.Entry.{Entry}
 use Rattle.propagation.specs.Recording.{Change, LeftOne, LeftOthers, change_of}
 use Rattle.dead_theory.specs.Changes.{IsOneOf, IsInProblem}
-use Rattle.dead_theory.specs.Walks.{MayPass, Walked}
+use Rattle.dead_theory.specs.Walks.{MayPass, RestsOn, IsWithin, Walked}
 
--- ---- marks
+-- ---- needed values
 
--- Whether a vertex is marked.
-abbrev pub is_needed : List Bool → ℕ → Bool
-is_needed needed r = get_or needed r false
-
--- All values of a marked vertex are needed.
-abbrev pub whole : List Bool → ℕ → ℕ → Bool
-whole needed r u = get_or needed r false
-
--- Whether the number stands in the list.
-abbrev pub among_these : List ℕ → ℕ → Bool
-among_these vertices r = is_among r vertices
-
--- All of the one test passes the other.
-abbrev pub MarksMore : (ℕ → Bool) → (ℕ → Bool) → Type 0
-MarksMore fewer more = (r : ℕ) → fewer r ≡ true → more r ≡ true
+-- Of a target of n vertices a value is needed that is kept as one. What is no vertex of the target is needed everywhere: nothing is asked of it.
+abbrev pub values_of : ℕ → List Bool → List ℕ → ℕ → ℕ → Bool
+values_of n marked needed r u = not (nat_lt u n) || needs n marked needed r u
 
 -- ---- pairs by their vertices
 
@@ -58,10 +48,20 @@ abbrev pub AreNameable : Problem → List Row → List Change → Type 0
 AreNameable q rows [] = Unit {0}
 AreNameable q rows (c ∷ cs) = (IsInProblem q c × IsOfRow rows c) × AreNameable q rows cs
 
--- A true answer: a line can be named for the change. A false one: it took nothing of a marked vertex.
-abbrev pub IsWanted : Bool → Problem → List Row → Change → List Bool → Type 0
-IsWanted true q rows c needed = IsOfRow rows c
-IsWanted false q rows c needed = MayPass q rows c (whole needed)
+-- One step back from a change. A true answer: it is chosen, and a line can be named for it. A false one: it may be passed, and all that was
+-- needed still is.
+abbrev pub IsStep : Bool → Problem → List Row → List (ℕ × ℕ) → Change → (ℕ → ℕ → Bool) → (ℕ → ℕ → Bool) → Type 0
+IsStep true q rows path c old now = RestsOn q rows path c old now × IsOfRow rows c
+IsStep false q rows path c old now = MayPass q rows c old × IsWithin old now
+
+-- Of what was needed the rest is what a set takes from a vertex that is none of these: a value that its row has not.
+abbrev pub AreLeft : ℕ → List ℕ → List ℕ → (ℕ → ℕ → Bool) → (ℕ → ℕ → Bool) → Type 0
+AreLeft n vertices set old new =
+    (r u : ℕ) → u < n → old r u ≡ true → (new r u ≡ true) ⊎ ((is_among r vertices ≡ false) × (has set u ≡ false))
+
+-- Each needed value of a vertex that is none of these is in the row.
+abbrev pub AreInside : ℕ → List ℕ → List ℕ → (ℕ → ℕ → Bool) → Type 0
+AreInside n vertices set needed = (r u : ℕ) → is_among r vertices ≡ false → u < n → needed r u ≡ true → has set u ≡ true
 
 -- The walk has come so far, and lines can be named for what it chose.
 pub record HasCome (q : Problem) (rows : List Row) (path : List (ℕ × ℕ)) (seen chosen : List Change) (needed now : ℕ → ℕ → Bool) : Type 0 where

@@ -6,22 +6,25 @@ ghost use Rattle.log_theory.specs.LogText.{IsName, AreRefs, AreLiterals};
 ghost use Rattle.reason_theory.specs.Reasons.{not_there};
 ghost use Rattle.nogood_book.specs.Rows.{Sound, AreInRange};
 ghost use Rattle.propagation.specs.Recording.{changes_of, set_at};
+ghost use Rattle.needed_values.specs.Needed.{AreRows};
 ghost use Rattle.dead_theory.specs.Changes.{known_after, AreGuessed, AreInProblem};
 ghost use Rattle.dead_theory.specs.Ends.{EndNeeds};
 ghost use Rattle.dead_theory.specs.Laws.{Dies};
 ghost use Rattle.kept_lines.specs.Frames.{Frame, IsFrameOf, Goes};
 ghost use Rattle.dead_paths.specs.Making.{AreRowsNamed};
-ghost use Rattle.dead_paths.specs.Choosing.{whole, AreAt, changes_in, AreNameable};
+ghost use Rattle.dead_paths.specs.Choosing.{values_of, AreAt, changes_in, AreNameable};
 ghost use Rattle.dead_paths.specs.Explaining.{IsLimited, Knowing, AreChangesPushed, IsEndPushed, AreRefuted, end_by, IsEndIn, IsChosenFor, IsBegun, AreGathered, IsDeadName, IsLastOf};
 
 use crate::known::fill_at;
 use crate::lines::push_at_least;
 use crate::maker::{LineMaker, RowNames};
+use crate::needs::{Walk, count_values, need_out, uphold_row};
 use crate::pushes::{push_change, push_nogood, push_set};
-use crate::walk::{Scratch, choose, mark, part, uphold_row};
+use crate::walk::{Room, Scratch, choose, fit_rows, part};
 use graph_rows::Problem;
 use journals::Keeper;
 use log_theory::{Clause, Name, Ref, Refs, Step};
+use needed_values::{need_all, unmark_all};
 use nogood_book::Row;
 use pb_encoding::Encoding;
 use proof_theory::Literal;
@@ -43,51 +46,59 @@ const NO_NAME: Name = Name {
     number: 0,
 };
 
-/// So many marks, all taken away.
-fn clear_marks(needed: &mut Vec<bool>, size: usize) -> Result<(), AllocError>
-    ensures { OnOk result (length needed.new.items ≡ size) }
-{
-    needed.clear();
-    for _ in 0..size {
-        needed.push(false)?;
-    }
-    Ok(())
-}
-
-/// Marks the vertices whose domains the end rests on.
+/// The values that the end rests on are needed.
 fn mark_end(
-    q: &Problem,
-    rows: &[Row],
-    numbers: &[u16],
+    walk: &Walk<'_>,
     short: Option<Place>,
     end: PathEnd,
-    at: &[u16],
-    needed: &mut [bool],
-    pairs: &mut Vec<(u16, u16)>,
+    marked: &mut [bool],
+    needed: &mut [u64],
+    room: &mut Room,
 ) -> Result<(), AllocError>
-    requires sound { Sound q.now rows.now }
-    requires end { IsEndIn q.now rows.now (end_by end (set_at numbers.now short) []) }
-    requires size { size q.now.pattern ≤ length needed.old }
-    ensures { (path : List (ℕ × ℕ)) → AreAt at.now path
-        → OnOk result (EndNeeds rows.now path (end_by end (set_at numbers.now short) [])
-        (whole needed.new)) }
+    requires sound { Sound walk.now.q.now walk.now.rows.now }
+    requires end { IsEndIn walk.now.q.now walk.now.rows.now
+        (end_by end (set_at walk.now.numbers.now short) []) }
+    requires held { AreRows (size walk.now.q.now.target) marked.old needed.old }
+    requires size { length marked.old ≡ size walk.now.q.now.pattern }
+    ensures { (path : List (ℕ × ℕ)) → AreAt walk.now.at.now path
+        → OnOk result (EndNeeds walk.now.rows.now path (end_by end
+        (set_at walk.now.numbers.now short) [])
+        (values_of (size walk.now.q.now.target) marked.new needed.new)) }
 {
+    let values = count_values(walk.q);
+    room.fit(values)?;
     match end {
         PathEnd::Failed(failure) => match failure {
             Failure::Empty(p) => {
-                mark(needed, &[p]);
+                need_all(marked, needed, values, p, &mut room.spare);
                 Ok(())
             }
-            Failure::Whole(name) => uphold_row(q, rows, name, None, at, needed, pairs),
+            Failure::Whole(name) => uphold_row(
+                walk,
+                name,
+                None,
+                marked,
+                needed,
+                &mut room.spare,
+                &mut room.pairs,
+            ),
             Failure::Short(_) => {
                 if let Some(place) = short {
-                    mark(needed, part(numbers, place.start, place.middle));
+                    need_out(
+                        walk.q,
+                        part(walk.numbers, place.start, place.middle),
+                        part(walk.numbers, place.middle, place.end),
+                        marked,
+                        needed,
+                        &mut room.set,
+                        &mut room.spare,
+                    );
                 }
                 Ok(())
             }
         },
         PathEnd::Exhausted(p) => {
-            mark(needed, &[p]);
+            need_all(marked, needed, values, p, &mut room.spare);
             Ok(())
         }
     }
@@ -239,32 +250,64 @@ fn size_of(q: &Problem) -> usize
     usize::from(q.pattern().size())
 }
 
-/// Chooses the changes that the end rests on, under a path.
-fn choose_for(
-    q: &Problem,
-    rows: &[Row],
+/// Chooses the changes that the end rests on.
+fn choose_in(
+    walk: &Walk<'_>,
     entries: &[Entry],
-    numbers: &[u16],
-    short: Option<Place>,
-    end: PathEnd,
-    at: &[u16],
-    needed: &mut Vec<bool>,
+    end: (PathEnd, Option<Place>),
+    marked: &mut [bool],
+    needed: &mut [u64],
+    room: &mut Room,
     chosen: &mut Vec<Entry>,
-    pairs: &mut Vec<(u16, u16)>,
 ) -> Result<(), AllocError>
-    requires sound { Sound q.now rows.now }
-    requires in_problem { AreInProblem q.now (changes_of numbers.now entries.now) }
-    requires end { IsEndIn q.now rows.now (end_by end (set_at numbers.now short) []) }
-    ensures choice { (path : List (ℕ × ℕ)) → AreAt at.now path
-        → OnOk result (IsChosenFor q.now rows.now path (changes_of numbers.now entries.now)
-        (changes_in numbers.now chosen.new.items) (end_by end (set_at numbers.now short) [])) }
-    ensures nameable { (path : List (ℕ × ℕ)) → AreAt at.now path
-        → OnOk result (AreNameable q.now rows.now (changes_in numbers.now chosen.new.items)) }
+    requires sound { Sound walk.now.q.now walk.now.rows.now }
+    requires in_problem { AreInProblem walk.now.q.now (changes_of walk.now.numbers.now
+        entries.now) }
+    requires end { IsEndIn walk.now.q.now walk.now.rows.now
+        (end_by end.0 (set_at walk.now.numbers.now end.1) []) }
+    requires held { AreRows (size walk.now.q.now.target) marked.old needed.old }
+    requires size { length marked.old ≡ size walk.now.q.now.pattern }
+    ensures choice { (path : List (ℕ × ℕ)) → AreAt walk.now.at.now path
+        → OnOk result (IsChosenFor walk.now.q.now walk.now.rows.now path
+        (changes_of walk.now.numbers.now entries.now) (changes_in walk.now.numbers.now
+        chosen.new.items)
+        (end_by end.0 (set_at walk.now.numbers.now end.1) [])) }
+    ensures nameable { (path : List (ℕ × ℕ)) → AreAt walk.now.at.now path
+        → OnOk result (AreNameable walk.now.q.now walk.now.rows.now
+        (changes_in walk.now.numbers.now chosen.new.items)) }
 {
-    let size = size_of(q);
-    clear_marks(needed, size)?;
-    mark_end(q, rows, numbers, short, end, at, needed, pairs)?;
-    choose(q, rows, numbers, entries, at, needed, chosen, pairs)
+    unmark_all(marked);
+    mark_end(walk, end.1, end.0, marked, needed, room)?;
+    choose(walk, entries, marked, needed, room, chosen)
+}
+
+/// The same under a path, by what stands in the scratch.
+fn choose_for(
+    walk: &Walk<'_>,
+    entries: &[Entry],
+    end: (PathEnd, Option<Place>),
+    marked: &mut Vec<bool>,
+    needed: &mut Vec<u64>,
+    room: &mut Room,
+    chosen: &mut Vec<Entry>,
+) -> Result<(), AllocError>
+    requires sound { Sound walk.now.q.now walk.now.rows.now }
+    requires in_problem { AreInProblem walk.now.q.now (changes_of walk.now.numbers.now
+        entries.now) }
+    requires end { IsEndIn walk.now.q.now walk.now.rows.now
+        (end_by end.0 (set_at walk.now.numbers.now end.1) []) }
+    ensures choice { (path : List (ℕ × ℕ)) → AreAt walk.now.at.now path
+        → OnOk result (IsChosenFor walk.now.q.now walk.now.rows.now path
+        (changes_of walk.now.numbers.now entries.now) (changes_in walk.now.numbers.now
+        chosen.new.items)
+        (end_by end.0 (set_at walk.now.numbers.now end.1) [])) }
+    ensures nameable { (path : List (ℕ × ℕ)) → AreAt walk.now.at.now path
+        → OnOk result (AreNameable walk.now.q.now walk.now.rows.now
+        (changes_in walk.now.numbers.now chosen.new.items)) }
+{
+    let size = size_of(walk.q);
+    fit_rows(marked, needed, size, count_values(walk.q))?;
+    choose_in(walk, entries, end, marked, needed, room, chosen)
 }
 
 /// Puts references to the forms that explain the chosen changes, and then to those that the end comes to.
@@ -365,17 +408,21 @@ pub fn explain<M: LineMaker, N: RowNames, K: Keeper>(
     }
     let size = size_of(q);
     fill_at(&mut scratch.at, size, path)?;
-    choose_for(
+    let walk = Walk {
+        alloc,
         q,
         rows,
-        entries,
         numbers,
-        short,
-        end,
-        &scratch.at,
+        at: &scratch.at,
+    };
+    choose_for(
+        &walk,
+        entries,
+        (end, short),
+        &mut scratch.marked,
         &mut scratch.needed,
+        &mut scratch.room,
         &mut scratch.chosen,
-        &mut scratch.pairs,
     )?;
     let mut refs = Vec::new(alloc);
     gather(
@@ -393,7 +440,7 @@ pub fn explain<M: LineMaker, N: RowNames, K: Keeper>(
         &mut scratch.at,
         maker,
         keeper,
-        &mut scratch.pairs,
+        &mut scratch.room.pairs,
         &mut refs,
     )?;
     let lits = literals_of(alloc, q, path)?;

@@ -12,9 +12,9 @@ mod dead_line;
 mod known;
 mod lines;
 mod maker;
+mod needs;
 mod pushes;
-#[cfg(test)]
-mod tests;
+mod takes;
 mod walk;
 
 pub use dead_line::{PathEnd, explain};

@@ -1,5 +1,5 @@
 -- How a walk back chooses: it begins, keeps or passes, and ends.
-use Rattle.std.proofs.Common.{◌≡◌, ℕ, Bool, true, false, List, [], ◌∷◌, ◌++◌, refl, sym, subst, ◌∙◌, append_assoc, append-nil}
+use Rattle.std.proofs.Common.{◌≡◌, ℕ, Bool, false, List, [], ◌∷◌, ◌++◌, sym, subst, ◌∙◌, append_assoc, append-nil}
 use Rattle.std.proofs.lemmas.Bool.{true≢false}
 use Rattle.graph_theory.specs.Embedding.{Problem}
 use Rattle.nogood_book.specs.declared.row.Row.{Row}
@@ -18,7 +18,7 @@ pub choice_fewer : (q : Problem) (rows : List Row) (path : List (ℕ × ℕ)) (c
 choice_fewer q rows path _ _ _ fewer within (nothing more) = nothing fewer
 choice_fewer q rows path _ _ _ fewer within (keeps c cs chosen more now rests rest) = keeps c cs chosen fewer now (rests_fewer q rows path c more fewer now within rests) rest
 choice_fewer q rows path _ _ _ fewer within (passes c cs chosen more may rest) =
-    passes c cs chosen fewer (λ r u is. may r u (within r u is)) (choice_fewer q rows path cs chosen more fewer within rest)
+    passes c cs chosen fewer (λ r u u_in is. may r u u_in (within r u is)) (choice_fewer q rows path cs chosen more fewer within rest)
 
 -- ---- the walk
 
@@ -45,7 +45,7 @@ module _ (q : Problem) (rows : List Row) (path : List (ℕ × ℕ)) where
 
   all_passed : (cs : List Change) (needed : ℕ → ℕ → Bool) → ((r u : ℕ) → needed r u ≡ false) → IsChoice q rows path cs [] needed
   all_passed [] needed none = nothing needed
-  all_passed (c ∷ cs) needed none = passes c cs [] needed (λ r u is takes. true≢false (sym is ∙ none r u)) (all_passed cs needed none)
+  all_passed (c ∷ cs) needed none = passes c cs [] needed (λ r u u_in is takes. true≢false (sym is ∙ none r u)) (all_passed cs needed none)
 
   walk_stops : (seen rest chosen : List Change) (needed now : ℕ → ℕ → Bool) → Walked q rows path seen chosen needed now → ((r u : ℕ) → now r u ≡ false)
       → IsChoice q rows path (seen ++ rest) chosen needed

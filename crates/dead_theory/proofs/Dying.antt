@@ -14,7 +14,7 @@ use Rattle.log_theory.specs.declared.step.Cause.TheVariants.{Twice, NoConflict}
 use Rattle.log_theory.specs.Steps.{◌>>=◌, unless}
 use Rattle.log_theory.specs.Lookups.{Lookup, find_all, makes}
 use Rattle.encoding_theory.specs.Variables.{variable}
-use Rattle.forcing_theory.specs.Chains.{run, Within}
+use Rattle.forcing_theory.specs.Chains.{run}
 use Rattle.forcing_theory.proofs.Chaining.{run_keeps, refutes_more, refutes_behind}
 use Rattle.reason_theory.specs.Reasons.{not_there, pairs_clause, AreTrue}
 use Rattle.reason_theory.proofs.Giving.{Gives, run_on}
@@ -33,7 +33,7 @@ use Rattle.dead_theory.specs.Walks.{MayPass, RestsOn, IsChoice, nothing, keeps, 
 use Rattle.dead_theory.specs.Laws.{Dies, DeadLaws, ToldLaws}
 use Rattle.dead_theory.proofs.Naming.{rows_named, named_more, names_kept, range_of, path_of_row, row_vertex_in}
 use Rattle.dead_theory.proofs.Literals.{distinct_literals, literals_in_range, path_true, true_at, empty_false}
-use Rattle.dead_theory.proofs.Explaining.{same_among, was_there, NeededOut, AreOn, refused_may, vertex_shown, change_gives}
+use Rattle.dead_theory.proofs.Explaining.{same_among, NeededOut, AreOn, refused_may, vertex_shown, change_gives}
 use Rattle.dead_theory.proofs.Ending.{failure_ends, exhausted_ends, end_in, end_refutes}
 
 -- ---- what was told, taken apart
@@ -72,11 +72,11 @@ module _ (q : Problem) (rows : List Row) (sound : Sound q rows) (s : Option watc
   passed : (d old : State) (c : Change) (needed : ℕ → ℕ → Bool) (known : List (ℕ × ℕ)) (forms : List Form) → Leaves q s old d c → MayPass q rows c needed → Reaches q base old needed known forms
       → Reaches q base d needed known forms
   passed d old c needed known forms l may (inl refuted) = inl refuted
-  passed d old c needed known forms l may (inr h) = inr ((λ r u u_in is gone. h.0 r u u_in is (by r u is gone (in_domain old r u) refl)), h.1)
+  passed d old c needed known forms l may (inr h) = inr ((λ r u u_in is gone. h.0 r u u_in is (by r u u_in is gone (in_domain old r u) refl)), h.1)
     where
-      by : (r u : ℕ) → needed r u ≡ true → in_domain d r u ≡ false → (b : Bool) → in_domain old r u ≡ b → in_domain old r u ≡ false
-      by r u is gone true was = absurd (may r u is (refused_may q rows sound s names c old d l r u was gone))
-      by r u is gone false was = was
+      by : (r u : ℕ) → u < size q.target → needed r u ≡ true → in_domain d r u ≡ false → (b : Bool) → in_domain old r u ≡ b → in_domain old r u ≡ false
+      by r u u_in is gone true was = absurd (may r u u_in is (refused_may q rows sound s names c old d l r u was gone))
+      by r u u_in is gone false was = was
 
   -- What it shows holds after its forms.
   shown_gives : (c : Change) (d old : State) (now : ℕ → ℕ → Bool) (known : List (ℕ × ℕ)) (at : Setting) (own : List Form) → old.values ≡ size q.target → Leaves q s old d c → NeededOut q at old now → AreOn q at path

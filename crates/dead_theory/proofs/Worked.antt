@@ -1,9 +1,9 @@
 -- A worked example: three vertices, of which 0 and 1 are joined, into the target of the edge 0 to 1 and a vertex 2. With 0 at 2 there is no value
 -- for 1. What left the domains of 2 and 0 meanwhile is passed.
-use Rattle.std.proofs.Common.{◌≡◌, ◌==◌, ℕ, Bool, true, false, List, [], ◌∷◌, map, refl, sym, ◌∙◌, inl, inr}
+use Rattle.std.proofs.Common.{◌≡◌, ◌<◌, ◌==◌, ℕ, Bool, true, false, List, [], ◌∷◌, map, refl, sym, ◌∙◌, inl, inr}
 use Rattle.std.proofs.lemmas.Bool.{eqb-true}
 use Rattle.graph_theory.specs.Lad.{Vertex}
-use Rattle.graph_theory.specs.Graph.{graph_of}
+use Rattle.graph_theory.specs.Graph.{graph_of, size}
 use Rattle.graph_theory.specs.Embedding.{Problem}
 use Rattle.proof_theory.specs.Forms.{put, sorted}
 use Rattle.proof_theory.specs.Slack.{refutes, negations}
@@ -45,11 +45,11 @@ one_not_two e = cc
 one_not_none : ◌≡◌ {A = ℕ} 1 0 → ⊥
 one_not_none e = cc
 
-taken_apart : (r u : ℕ) → of_one r u ≡ true → MayTake example [] taken_from_two r u → ⊥
-taken_apart r u is takes = one_not_two (sym (eqb-true r 1 is) ∙ takes.0)
+taken_apart : (r u : ℕ) → u < size example.target → of_one r u ≡ true → MayTake example [] taken_from_two r u → ⊥
+taken_apart r u u_in is takes = one_not_two (sym (eqb-true r 1 is) ∙ takes.0)
 
-taken_at_all : (r u : ℕ) → of_one r u ≡ true → MayTake example [] guessed r u → ⊥
-taken_at_all r u is takes = one_not_none (sym (eqb-true r 1 is) ∙ takes.0)
+taken_at_all : (r u : ℕ) → u < size example.target → of_one r u ≡ true → MayTake example [] guessed r u → ⊥
+taken_at_all r u u_in is takes = one_not_none (sym (eqb-true r 1 is) ∙ takes.0)
 
 -- Vertex 1 is needed. Before its change no more is, since the path has 0 at 2; so what left 2 is passed, and the guess too.
 chosen : IsChoice example [] ((0, 2) ∷ []) (taken_from_one ∷ taken_from_two ∷ guessed ∷ []) (taken_from_one ∷ []) of_one

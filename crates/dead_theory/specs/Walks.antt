@@ -1,14 +1,15 @@
 -- Walking back over changes, from the last one to the first, and choosing those that an end rests on.
 
-use Rattle.std.specs.Prelude.{◌≡◌, ℕ, Bool, true, ◌⊎◌, List, [], ◌∷◌, ◌++◌}
+use Rattle.std.specs.Prelude.{◌≡◌, ℕ, ◌<◌, Bool, true, ◌⊎◌, List, [], ◌∷◌, ◌++◌}
+use Rattle.graph_theory.specs.Graph.{size}
 use Rattle.graph_theory.specs.Embedding.{Problem}
 use Rattle.nogood_book.specs.declared.row.Row.{Row}
 use Rattle.propagation.specs.Recording.{Change}
 use Rattle.dead_theory.specs.Changes.{MayTake, Covers, Needs}
 
--- The change takes none of the needed values.
+-- The change takes none of the needed values that there are.
 abbrev pub MayPass : Problem → List Row → Change → (ℕ → ℕ → Bool) → Type 0
-MayPass q rows c needed = (r u : ℕ) → needed r u ≡ true → MayTake q rows c r u → ⊥
+MayPass q rows c needed = (r u : ℕ) → u < size q.target → needed r u ≡ true → MayTake q rows c r u → ⊥
 
 -- Of the needed values those that the change does not take by itself are needed before it too, and so is what it rests on.
 pub record RestsOn (q : Problem) (rows : List Row) (path : List (ℕ × ℕ)) (c : Change) (needed now : ℕ → ℕ → Bool) : Type 0 where

@@ -1,21 +1,18 @@
-use Rattle.std.proofs.Common.{◌≡◌, false, true, rules}
-use Rattle.propagation.specs.Recording.{change_of}
-use Rattle.dead_paths.specs.Choosing.{whole, changes_in}
-use Rattle.dead_paths.proofs.Walking.{come_pass, come_keep}
+use Rattle.std.proofs.Common.{◌≡◌, true, false, rules}
+use Rattle.graph_theory.specs.Graph.{size}
+use Rattle.dead_paths.specs.Choosing.{values_of}
+use Rattle.dead_paths.proofs.Walking.{come_on, come_past}
 use Rattle.dead_paths.proofs.walk.step_back.Goals as goal
 
-pub rest_on-requires-clause-of_row : goal.rest_on-requires-clause-of_row
-rest_on-requires-clause-of_row c = let wanted = c.is_wanted.ensures in let yes : c.is_wanted.result ≡ true = search rules in rw yes at wanted
-
-pub returns-then-not-is_wanted : goal.returns-then-not-is_wanted
-returns-then-not-is_wanted c = λ path seen first here h.
-    let wanted = c.is_wanted.ensures in
-    let no : c.is_wanted.result ≡ false = search rules in
-    come_pass c.args.q.now c.args.rows.now path seen (changes_in c.args.numbers.now c.args.chosen.now.items) first (whole c.args.needed.now) (change_of c.args.numbers.now c.args.entry.now) h (rw no at wanted)
+pub returns-then-not-chooses : goal.returns-then-not-chooses
+returns-then-not-chooses c = λ path seen first here h.
+    let step = c.in_ok-chooses.ensures path here in
+    let no : c.in_ok-chooses.chooses ≡ false = search rules in
+    come_past c.args.walk.now.q.now c.args.walk.now.rows.now path c.args.walk.now.numbers.now seen c.args.chosen.now.items first (values_of (size c.args.walk.now.q.now.target) c.args.marked.now c.args.needed.now) (values_of (size c.args.walk.now.q.now.target) c.go_back.new.marked c.go_back.new.needed) c.args.entry.now h (rw no at step)
 
 pub returns : goal.returns
 returns c = λ path seen first here h.
-    let wanted = c.is_wanted.ensures in
-    let yes : c.is_wanted.result ≡ true = search rules in
-    come_keep c.args.q.now c.args.rows.now path c.args.numbers.now seen c.args.chosen.now.items c.push.new.self.items first (whole c.args.needed.now) (whole c.rest_on.new.needed) c.args.entry.now h
-    (c.in_ok-rest_on.ensures path here) c.requires.in_problem (rw yes at wanted) c.in_ok-push.ensures.items
+    let step = c.in_ok-chooses.ensures path here in
+    let yes : c.in_ok-chooses.chooses ≡ true = search rules in
+    come_on c.args.walk.now.q.now c.args.walk.now.rows.now path c.args.walk.now.numbers.now seen c.args.chosen.now.items first (values_of (size c.args.walk.now.q.now.target) c.args.marked.now c.args.needed.now) (values_of (size c.args.walk.now.q.now.target) c.go_back.new.marked c.go_back.new.needed) c.args.entry.now h
+    c.requires.in_problem (rw yes at step) c.push.new.self.items c.in_ok-push.ensures.items

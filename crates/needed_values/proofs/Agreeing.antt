@@ -1,0 +1,85 @@
+-- Edges that agree, and values that are consistent.
+use Rattle.std.proofs.Common.{◌≡◌, ℕ, ◌<◌, ◌≤◌, ◌==◌, ◌&&◌, not, Bool, true, false, is_some, List, Option, Some, None, Result, Ok, Err, OnOk, IfOk, refl, sym, ap, subst, ◌∙◌}
+use Rattle.std.proofs.lemmas.Bool.{true≢false, eq-eqb, ne_eqb}
+use Rattle.std.specs.declared.alloc.AllocError.{AllocError}
+use Rattle.graph_theory.specs.Graph.{Graph, edge}
+use Rattle.graph_theory.specs.Embedding.{Problem, Matches}
+use Rattle.graph_theory.specs.Neighbours.{common}
+use Rattle.search_theory.specs.Consistency.{AreConsistent}
+use Rattle.domain_bits.specs.BitRows.{has}
+use Rattle.needed_values.specs.Consistent.{agree, edges_agree, Leaves, AllConsistent, Shares, AllShare}
+
+-- Edges stand both ways, with label 0.
+pub record ArePlain (g : Graph) : Type 0 where
+  pub both : (a b : ℕ) → edge g a b ≡ edge g b a
+  pub zeros : (a b l : ℕ) → edge g a b ≡ Some l → l ≡ 0
+
+matched : (induced : Bool) (e f : Option ℕ) → ((l : ℕ) → e ≡ Some l → l ≡ 0) → ((l : ℕ) → f ≡ Some l → l ≡ 0) → agree (is_some e) induced (is_some f) ≡ true → Matches induced e f
+matched false None f e0 f0 h = tt
+matched false (Some l) None e0 f0 h = absurd cc
+matched false (Some l) (Some k) e0 f0 h = ap (λ (n : ℕ). let o : Option ℕ = Some n in o) (f0 k refl ∙ sym (e0 l refl))
+matched true None None e0 f0 h = (tt, tt)
+matched true None (Some k) e0 f0 h = absurd cc
+matched true (Some l) None e0 f0 h = absurd cc
+matched true (Some l) (Some k) e0 f0 h =
+    (ap (λ (n : ℕ). let o : Option ℕ = Some n in o) (f0 k refl ∙ sym (e0 l refl)), ap (λ (n : ℕ). let o : Option ℕ = Some n in o) (e0 l refl ∙ sym (f0 k refl)))
+
+agreed : (induced : Bool) (e f : Option ℕ) → Matches induced e f → agree (is_some e) induced (is_some f) ≡ true
+agreed false None f m = refl
+agreed false (Some l) f m = ap is_some m
+agreed true None None m = refl
+agreed true None (Some k) m = absurd cc
+agreed true (Some l) f m = ap is_some m.0
+
+module _ (q : Problem) (pattern : ArePlain q.pattern) (target : ArePlain q.target) (p t r u : ℕ) where
+  pub consistent : (t ≡ u → ⊥) → edges_agree q p t r u ≡ true → common q.pattern p r ≤ common q.target t u → AreConsistent q p t r u
+  consistent apart agrees shared =
+      let out = matched q.induced (edge q.pattern p r) (edge q.target t u) (pattern.zeros p r) (target.zeros t u) agrees in
+      record {
+        pair = record {
+          apart = apart;
+          out = out;
+          back = subst (λ (e : Option ℕ). Matches q.induced e (edge q.target u t)) (pattern.both p r) (subst (λ (f : Option ℕ). Matches q.induced (edge q.pattern p r) f) (target.both t u) out);
+        };
+        shared = shared;
+      }
+
+  pub edges_of : AreConsistent q p t r u → edges_agree q p t r u ≡ true
+  edges_of h = agreed q.induced (edge q.pattern p r) (edge q.target t u) h.pair.out
+
+and_true : (a b : Bool) → (a && b) ≡ true → (a ≡ true) × (b ≡ true)
+and_true true b h = (refl, h)
+and_true false b h = absurd cc
+
+not_true : (b : Bool) → not b ≡ true → b ≡ false
+not_true false h = refl
+not_true true h = absurd cc
+
+-- What is left after edges, then without t, then by shared neighbours.
+module _ (q : Problem) (pattern : ArePlain q.pattern) (target : ArePlain q.target) (p t r : ℕ) (old near mid new : List ℕ) (near_is : (u : ℕ) → has near u ≡ (has old u && edges_agree q p t r u))
+    (mid_is : (u : ℕ) → has mid u ≡ (has near u && not (t == u))) where
+  mid_parts : (u : ℕ) → has mid u ≡ true → (has old u ≡ true) × (edges_agree q p t r u ≡ true) × (t ≡ u → ⊥)
+  mid_parts u h =
+      let a = and_true (has near u) (not (t == u)) (sym (mid_is u) ∙ h) in
+      let b = and_true (has old u) (edges_agree q p t r u) (sym (near_is u) ∙ a.0) in
+      (b.0, b.1, λ e. true≢false (sym (eq-eqb t u e) ∙ not_true (t == u) a.1))
+
+  pub left_of : Shares q p t r mid new → Leaves q p t r old new
+  left_of s = record {
+    kept = λ u h. (mid_parts u (s.kept u h)).0;
+    right = λ u was gone c.
+        let in_near : has near u ≡ true = near_is u ∙ ap (λ (b : Bool). b && edges_agree q p t r u) was ∙ edges_of q pattern target p t r u c in
+        let in_mid : has mid u ≡ true = mid_is u ∙ ap (λ (b : Bool). b && not (t == u)) in_near ∙ ap not (ne_eqb t u c.pair.apart) in
+        s.right u in_mid gone c.shared;
+  }
+
+  pub all_of : (b : Bool) → Shares q p t r mid new → AllShare b q p t r new → AllConsistent b q p t r new
+  all_of false s all = tt
+  all_of true s all = λ u h. let m = mid_parts u (s.kept u h) in consistent q pattern target p t r u m.2 m.1 (all u h)
+
+  pub mid_within : (n : ℕ) → ((u : ℕ) → has old u ≡ true → u < n) → (u : ℕ) → has mid u ≡ true → u < n
+  mid_within n within u h = within u (mid_parts u h).0
+
+  pub all_on : (result : Result Bool AllocError) → OnOk result (Shares q p t r mid new) → IfOk result (λ b. AllShare b q p t r new) → IfOk result (λ b. AllConsistent b q p t r new)
+  all_on (Ok b) s all = all_of b s all
+  all_on (Err e) s all = tt
