@@ -17,7 +17,7 @@ use nogood_book::{BookSeat, RowBook};
 use pair_rows::{MOST_WORDS, PairKinds};
 use proof_logger::ProofLogger;
 use propagation::{Filters, Recorder};
-use restart_search::{Equipment, Outcome, Worker};
+use restart_search::{Equipment, Outcome, Worker, WorkerSettings};
 use search_proof::ProofMaker;
 use std::alloc::{AllocError, Global};
 use std::thread::Threads;
@@ -91,16 +91,12 @@ fn make_job<'a, L: ProofLogger, M: ProofMaker<L>>(
 {
     let copy = domains.copy(alloc)?;
     let filters = Filters::new(alloc, q, kinds, MOST_WORDS / s.threads as usize)?;
-    let equipment = Equipment::new(
-        alloc,
-        q,
-        copy,
-        told.copy(alloc),
-        filters,
+    let settings = WorkerSettings {
         number,
-        s.seed,
-        s.budget,
-    )?;
+        seed: s.seed,
+        budget: s.budget,
+    };
+    let equipment = Equipment::new(alloc, q, copy, told.copy(alloc), filters, settings)?;
     let log = maker.logger(alloc, number)?;
     let seat = book.split(alloc, first, number)?;
     Ok(Worker::new(equipment, seat, log))

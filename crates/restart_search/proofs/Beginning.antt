@@ -16,7 +16,7 @@ use Rattle.sparse_set.specs.Removals as sparse
 use Rattle.all_different.specs.Prefixes.{Balanced}
 use Rattle.propagation.specs.Propagation.{IsOf, Narrows, waits_at, HasValue, HasTwo, NotesSize, Rests, Ready, LeavesPast, Propagates}
 use Rattle.restart_search.specs.Searching.{Beginning}
-use Rattle.restart_search.specs.declared.search.Moment.{Moment}
+use Rattle.restart_search.specs.declared.position.Moment.{Moment}
 use Rattle.restart_search.specs.Searching.{AtRest, Roots, IsNow, Levels, Sound}
 use Rattle.restart_search.proofs.Levels.{been_now, rested_now}
 use Rattle.propagation.proofs.Narrowing.{narrows_none, narrows_more, narrows_keeps, none_narrowed, none_in_empty, is_of_narrowed}

@@ -12,7 +12,7 @@ use Rattle.search_theory.proofs.Refuted.{path_of_push}
 use Rattle.domain_bits.specs.Removals.{State, in_domain, undone}
 use Rattle.sparse_set.specs.Removals as sparse
 use Rattle.all_different.specs.Prefixes.{Balanced}
-use Rattle.restart_search.specs.declared.search.Moment.{Moment}
+use Rattle.restart_search.specs.declared.position.Moment.{Moment}
 use Rattle.propagation.specs.Propagation.{Narrows, Fewer}
 use Rattle.restart_search.specs.Searching.{AtRest, IsEarlier, HasBeen, Levels, Based, Sound}
 use Rattle.restart_search.proofs.Levels.{Later, low_within, been_undone, been_later, earlier_undone, rested_further, rested_later, levels_pop, levels_pop_rest}

@@ -15,7 +15,7 @@ use Rattle.domain_bits.specs.Changes.{Keeps}
 use Rattle.sparse_set.specs.Removals as sparse
 use Rattle.all_different.specs.Prefixes.{Balanced}
 use Rattle.propagation.specs.Propagation.{Narrows, waits_at, HasValue, Rests, Ready}
-use Rattle.restart_search.specs.declared.search.Moment.{Moment}
+use Rattle.restart_search.specs.declared.position.Moment.{Moment}
 use Rattle.restart_search.specs.Searching.{AtRest, IsNow, Levels, Based, Sound}
 use Rattle.propagation.proofs.Waiting.{rests_on, flag_here}
 use Rattle.restart_search.proofs.Levels.{Later, low_within, rested_now, rested_later, levels_push, levels_more}

@@ -1,12 +1,14 @@
 -- Levels of a search: one more, one less, and what stands at their moments.
 
-use Rattle.std.proofs.Common.{◌≡◌, ℕ, zero, suc, ◌≤◌, List, [], ◌∷◌, ◌++◌, length, take, refl, sym, ap, ◌∙◌, subst, arith, append_assoc, length-append}
-use Rattle.std.proofs.lemmas.List.{append-nil, take-append-le, length-take-le}
+use Rattle.std.proofs.Common.{◌≡◌, ℕ, ◌≤◌, List, [], ◌∷◌, ◌++◌, length, take, refl, sym, ap, ◌∙◌, subst, arith, append_assoc, length-append}
+use Rattle.std.proofs.lemmas.List.{append-nil, take-append-le, take-take, length-take-le}
+use Rattle.std.proofs.Math.Seq.{take-length}
 use Rattle.graph_theory.specs.Embedding.{Problem}
 use Rattle.domain_bits.specs.Removals.{State, undone}
 use Rattle.sparse_set.specs.Removals as sparse
-use Rattle.restart_search.specs.declared.search.Moment.{Moment}
+use Rattle.restart_search.specs.declared.position.Moment.{Moment}
 use Rattle.propagation.specs.Propagation.{Fewer, LeavesPast}
+use Rattle.propagation.proofs.Sweeping.{same_trail}
 use Rattle.restart_search.specs.Searching.{AtRest, IsNow, IsEarlier, HasBeen, RestedAt, Levels}
 
 -- ---- domains and their trail
@@ -16,43 +18,19 @@ pub undone-more : (d : State) (rest : List (ℕ × ℕ)) (removed : List (ℕ ×
     → take k removed ≡ take k d.removed
 undone-more d rest removed k front le = ap (take k) front ∙ take-append-le k d.removed rest le
 
--- a state is known by its sizes and its trail
-pub same_state : (d e : State) → d.vertices ≡ e.vertices → d.values ≡ e.values → d.removed ≡ e.removed → d ≡ e
-same_state d e v w r = ap with_vertices v ∙ (ap with_values w ∙ ap with_removed r)
-  where
-    with_vertices : ℕ → State
-    with_vertices n = record { vertices = n; values = d.values; removed = d.removed }
-
-    with_values : ℕ → State
-    with_values n = record { vertices = e.vertices; values = n; removed = d.removed }
-
-    with_removed : List (ℕ × ℕ) → State
-    with_removed xs = record { vertices = e.vertices; values = e.values; removed = xs }
-
 -- undoing to the end changes nothing
 pub undone_all : (d e : State) (rest : List (ℕ × ℕ)) → e.vertices ≡ d.vertices → e.values ≡ d.values → e.removed ≡ d.removed ++ rest → undone e (length d.removed) ≡ d
-undone_all d e rest v w front = same_state (undone e (length d.removed)) d v w
-    (ap (take (length d.removed)) front ∙ take-append-le (length d.removed) d.removed rest (omega arith) ∙ take_whole d.removed)
-  where
-    take_whole : (xs : List (ℕ × ℕ)) → take (length xs) xs ≡ xs
-    take_whole [] = refl
-    take_whole (x ∷ xs) = ap (λ (ys : List (ℕ × ℕ)). x ∷ ys) (take_whole xs)
-
--- a front of a longer front
-pub take_front : (j k : ℕ) (xs : List (ℕ × ℕ)) → j ≤ k → take j (take k xs) ≡ take j xs
-take_front zero k xs le = refl
-take_front (suc j) zero xs le = absurd (omega arith)
-take_front (suc j) (suc k) [] le = refl
-take_front (suc j) (suc k) (x ∷ xs) le = ap (λ (ys : List (ℕ × ℕ)). x ∷ ys) (take_front j k xs (omega arith))
+undone_all d e rest v w front = same_trail d (undone e (length d.removed)) v w
+    (ap (take (length d.removed)) front ∙ take-append-le (length d.removed) d.removed rest (omega arith) ∙ take-length d.removed)
 
 -- undoing further
 pub undone_further : (d : State) (j k : ℕ) → j ≤ k → undone (undone d k) j ≡ undone d j
-undone_further d j k le = same_state (undone (undone d k) j) (undone d j) refl refl (take_front j k d.removed le)
+undone_further d j k le = same_trail (undone d j) (undone (undone d k) j) refl refl (take-take j k d.removed le)
 
 -- undoing what was removed later, too
 pub undone_later : (d e : State) (rest : List (ℕ × ℕ)) (k : ℕ) → e.vertices ≡ d.vertices → e.values ≡ d.values → e.removed ≡ d.removed ++ rest
     → k ≤ length d.removed → undone e k ≡ undone d k
-undone_later d e rest k v w front le = same_state (undone e k) (undone d k) v w (undone-more d rest e.removed k front le)
+undone_later d e rest k v w front le = same_trail (undone d k) (undone e k) v w (undone-more d rest e.removed k front le)
 
 -- ---- the set of the vertices that are not past
 
@@ -66,16 +44,9 @@ same_set r s c x = ap with_count c ∙ ap with_removed x
     with_removed : List ℕ → sparse.State
     with_removed xs = record { count = s.count; removed = xs }
 
--- a front of a longer front
-take_number_front : (j k : ℕ) (xs : List ℕ) → j ≤ k → take j (take k xs) ≡ take j xs
-take_number_front zero k xs le = refl
-take_number_front (suc j) zero xs le = absurd (omega arith)
-take_number_front (suc j) (suc k) [] le = refl
-take_number_front (suc j) (suc k) (x ∷ xs) le = ap (λ (ys : List ℕ). x ∷ ys) (take_number_front j k xs (omega arith))
-
 -- undoing further
 set_further : (s : sparse.State) (j k : ℕ) → j ≤ k → sparse.undone (sparse.undone s k) j ≡ sparse.undone s j
-set_further s j k le = same_set (sparse.undone (sparse.undone s k) j) (sparse.undone s j) refl (take_number_front j k s.removed le)
+set_further s j k le = same_set (sparse.undone (sparse.undone s k) j) (sparse.undone s j) refl (take-take j k s.removed le)
 
 -- undoing what left later, too
 set_later : (s r : sparse.State) (k : ℕ) → Fewer s r → k ≤ length s.removed → sparse.undone r k ≡ sparse.undone s k
@@ -83,11 +54,7 @@ set_later s r k f le = same_set (sparse.undone r k) (sparse.undone s k) f.count_
 
 -- undoing to the end changes nothing
 set_all : (s : sparse.State) → sparse.undone s (length s.removed) ≡ s
-set_all s = same_set (sparse.undone s (length s.removed)) s refl (take_whole s.removed)
-  where
-    take_whole : (xs : List ℕ) → take (length xs) xs ≡ xs
-    take_whole [] = refl
-    take_whole (x ∷ xs) = ap (λ (ys : List ℕ). x ∷ ys) (take_whole xs)
+set_all s = same_set (sparse.undone s (length s.removed)) s refl (take-length s.removed)
 
 -- ---- moments
 

@@ -9,6 +9,7 @@ pub mod Positions
 pub mod Publishing
 pub mod Learning
 pub mod KeepingUp
-pub mod Restarting
+pub mod BetweenRuns
 pub mod Logging
 pub mod Noting
+pub mod Written

@@ -1,6 +1,6 @@
 -- What was told of a search stays true at each of its steps, and its guesses are those of the path.
 
-use Rattle.std.proofs.Common.{◌≡◌, ℕ, zero, suc, ◌<◌, ◌≤◌, Bool, true, false, ltb, cond, List, [], ◌∷◌, ◌++◌, length, take, drop, slice_index_or, Contains, Option, Some, None, refl, sym, ap, ◌∙◌, subst, arith, length-append, append_assoc, ◌⊎◌, inl, inr}
+use Rattle.std.proofs.Common.{◌≡◌, ℕ, suc, ◌<◌, ◌≤◌, Bool, true, false, ltb, cond, List, [], ◌∷◌, ◌++◌, length, take, drop, Contains, Option, Some, None, refl, sym, ap, ◌∙◌, subst, arith, length-append, append_assoc, ◌⊎◌, inl, inr}
 use Rattle.std.proofs.lemmas.Bool.{ltb-true}
 use Rattle.std.proofs.lemmas.List.{get_or_append_left, take-append-drop}
 use Rattle.graph_theory.specs.Embedding.{Problem}
@@ -8,19 +8,18 @@ use Rattle.search_theory.specs.Account.{Account, path, deepened, FailsTo}
 use Rattle.domain_bits.specs.Removals.{State, full, undone}
 use Rattle.sparse_set.specs.Removals as sparse
 use Rattle.nogood_watch.specs.Nogoods as watched
-use Rattle.nogood_watch.specs.Watching.{forced_at}
 use Rattle.nogood_book.specs.declared.row.Row.{Row}
 use Rattle.nogood_book.specs.declared.row.RowKind.{RowKind}
 use Rattle.nogood_book.specs.Rows.{Pairs, path_of, paths_after}
 use Rattle.propagation.specs.declared.change.Cause.TheVariants as cause
 use Rattle.propagation.specs.Propagation.{IsOf}
 use Rattle.propagation.specs.Holding.{listed, single, made_from, lists_in, singles_in, HoldsRows}
-use Rattle.propagation.specs.Recording.{Change, LeftOne, CountedSet, from_of, with_change, Took, MayTake, IsAmong, HasGuess, NoNewGuess, cut, cut_at}
-use Rattle.propagation.specs.Telling.{NamesList, NamesUnit, IsNamed, KeepsNames, Changed, Told, begins, goes_on, Tells}
+use Rattle.propagation.specs.Recording.{Change, LeftOne, CountedSet, from_of, MayTake, IsAmong, HasGuess, NoNewGuess, cut, cut_at}
+use Rattle.propagation.specs.Telling.{NamesList, NamesUnit, KeepsNames, Told, begins, goes_on, Tells}
 use Rattle.propagation.proofs.Telling.{tells_undone, tells_named}
 use Rattle.proof_logger.specs.declared.logger.DeadEnd.{DeadEnd}
-use Rattle.proof_logger.specs.Logging.{AreGuessed, EndsBy, EndsPath}
-use Rattle.restart_search.specs.declared.search.Moment.{Moment}
+use Rattle.proof_logger.specs.Logging.{EndsBy, EndsPath}
+use Rattle.restart_search.specs.declared.position.Moment.{Moment}
 use Rattle.restart_search.specs.Searching.{Levels, Based}
 use Rattle.restart_search.specs.Logging.{IsGuessAt, IsTold, IsLogged, LogsOn}
 use Rattle.restart_search.proofs.Closing.{path_failed}

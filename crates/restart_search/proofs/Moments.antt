@@ -10,13 +10,14 @@ use Rattle.sparse_set.specs.Removals as sparse
 use Rattle.domain_bits.specs.Changes.{Keeps}
 use Rattle.nogood_watch.specs.Nogoods as watched
 use Rattle.nogood_watch.specs.InForce.{InForce}
-use Rattle.restart_search.specs.declared.search.Moment.{Moment}
+use Rattle.restart_search.specs.declared.position.Moment.{Moment}
 use Rattle.restart_search.specs.Searching.{Levels}
 use Rattle.propagation.specs.Learning.{Filtering, unlearned}
 use Rattle.propagation.specs.Acting.{IsPart, HaveMoved, AreActedOn}
 use Rattle.restart_search.specs.Acting.{AtMoments, WereActedOn, Acting}
 use Rattle.propagation.specs.Propagation.{Narrows}
-use Rattle.restart_search.proofs.Levels.{same_state, undone_all, undone_further, undone_later, low_within}
+use Rattle.propagation.proofs.Sweeping.{same_trail}
+use Rattle.restart_search.proofs.Levels.{undone_all, undone_further, undone_later, low_within}
 use Rattle.propagation.proofs.Acting.{acted_wider, acted_after, units_on}
 
 -- ---- undoing
@@ -39,7 +40,7 @@ acted_further : (d : State) (j k : ℕ) (n : Option watched.State) → AreActedO
 acted_further d j k n at_j at_k = by (cases_lt k j)
   where
     by : (suc k ≤ j) ⊎ (j ≤ k) → AreActedOn (undone (undone d k) j) n
-    by (inl past) = subst (λ (e : State). AreActedOn e n) (sym (same_state (undone (undone d k) j) (undone d k) refl refl (take_past j k d.removed (omega (arith, past))))) at_k
+    by (inl past) = subst (λ (e : State). AreActedOn e n) (sym (same_trail (undone d k) (undone (undone d k) j) refl refl (take_past j k d.removed (omega (arith, past))))) at_k
     by (inr le) = subst (λ (e : State). AreActedOn e n) (sym (undone_further d j k le)) at_j
 
 -- ---- one moment more, and one less

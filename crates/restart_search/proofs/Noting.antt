@@ -1,6 +1,6 @@
 -- Rows that come into the book, as a logger is told of them.
 
-use Rattle.std.proofs.Common.{◌≡◌, ℕ, zero, suc, ◌+◌, ◌<◌, ◌≤◌, Bool, true, false, List, [], ◌∷◌, ◌++◌, length, take, slice_index_or, Contains, Some, refl, sym, ap, ◌∙◌, subst, arith, length-append, append_assoc, ◌⊎◌, inl, inr, eq-eqb}
+use Rattle.std.proofs.Common.{◌≡◌, ℕ, zero, suc, ◌+◌, ◌<◌, ◌≤◌, Bool, true, false, List, [], ◌∷◌, ◌++◌, length, take, Contains, Some, refl, sym, ap, ◌∙◌, subst, arith, ◌⊎◌, inl, inr, eq-eqb}
 use Rattle.std.specs.Prelude.{slice_get, ◌==◌}
 use Rattle.std.proofs.lemmas.Bool.{cases_lt, cases_eq, true≢false}
 use Rattle.std.proofs.lemmas.List.{append_cancel_left, append-nil}
@@ -8,9 +8,8 @@ use Rattle.graph_theory.specs.Neighbours.{members}
 use Rattle.search_theory.specs.Account.{Account, path, level_at, NotAmong}
 use Rattle.fail_account.proofs.Members.{members_off}
 use Rattle.nogood_book.specs.declared.row.Row.{Row}
-use Rattle.nogood_book.specs.declared.row.RowKind.{RowKind}
 use Rattle.nogood_book.specs.declared.row.RowKind.TheVariants.{Step, Nogood}
-use Rattle.nogood_book.specs.Rows.{Pairs, path_at}
+use Rattle.nogood_book.specs.Rows.{Pairs}
 use Rattle.nogood_book.specs.Places.{StartsWith, place_or, places, places_from}
 use Rattle.nogood_book.specs.Facts.{Facts, CaughtUp, StandsAt, IsFull}
 use Rattle.nogood_book.specs.Reaching.{Reaches}

@@ -4,7 +4,7 @@ use Rattle.std.specs.Prelude.{List, [], ◌∷◌, Option}
 use Rattle.domain_bits.specs.Removals.{State, undone}
 use Rattle.nogood_watch.specs.Nogoods as watched
 use Rattle.propagation.specs.Acting.{AreActedOn}
-use Rattle.restart_search.specs.declared.search.Moment.{Moment}
+use Rattle.restart_search.specs.declared.position.Moment.{Moment}
 
 -- What is kept was acted on at each of these moments.
 abbrev pub AtMoments : State → Option watched.State → List Moment → Type 0

@@ -2,3 +2,5 @@ pub mod Searching
 pub mod Acting
 pub mod Sharing
 pub mod Logging
+pub mod Positions
+pub mod Working

@@ -8,7 +8,7 @@ use Rattle.nogood_watch.specs.Nogoods as watched
 use Rattle.nogood_book.specs.declared.row.Row.{Row}
 use Rattle.propagation.specs.Recording.{Change, HasGuess}
 use Rattle.propagation.specs.Telling.{Tells}
-use Rattle.restart_search.specs.declared.search.Moment.{Moment}
+use Rattle.restart_search.specs.declared.position.Moment.{Moment}
 use Rattle.restart_search.specs.declared.outcome.Outcome.{Outcome}
 use Rattle.restart_search.specs.declared.outcome.Outcome.TheVariants.{Found, Refuted, Spent, Stopped, NoMemory}
 use Rattle.restart_search.specs.declared.outcome.Stage.{Stage}

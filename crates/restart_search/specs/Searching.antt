@@ -13,7 +13,6 @@ use Rattle.sparse_set.specs.Removals as sparse
 use Rattle.all_different.specs.Prefixes.{Balanced}
 use Rattle.nogood_watch.specs.Nogoods as watched
 use Rattle.propagation.specs.Propagation.{IsOf, LeavesPast, Narrows, waits_at, HasTwo, HasValue}
-use Rattle.propagation.specs.Learning.{Filtering}
 use Rattle.propagation.specs.declared.change.Failure.{Failure}
 use Rattle.propagation.specs.Recording.{Change, CountedSet}
 use Rattle.propagation.specs.Telling.{Fails}
@@ -26,10 +25,9 @@ use Rattle.propagation.specs.Acting.{AreActedOn}
 use Rattle.restart_search.specs.Acting.{Acting}
 use Rattle.restart_search.specs.Sharing.{RowsInForce, KeepsUp}
 use Rattle.restart_search.specs.Logging.{IsTold}
-use Rattle.domain_bits.specs.BitRows.{words_for}
 use Rattle.restart_search.specs.declared.root.Rooted.{Rooted}
 use Rattle.restart_search.specs.declared.root.Rooted.TheVariants as rooted
-use Rattle.restart_search.specs.declared.search.Moment.{Moment}
+use Rattle.restart_search.specs.declared.position.Moment.{Moment}
 use Rattle.restart_search.specs.declared.outcome.Outcome.{Outcome}
 use Rattle.restart_search.specs.declared.outcome.Outcome.TheVariants.{Found, Refuted, Spent, Stopped, NoMemory}
 use Rattle.restart_search.specs.declared.outcome.Stage.{Stage}
@@ -200,13 +198,6 @@ pub record Search (S L : Type 0) : Type 0 where
   pub account : Account
   pub stage : Stage
 
--- What a worker begins with, as its callers see it.
-pub record Outfit : Type 0 where
-  pub problem : Problem
-  pub number : ℕ
-  pub domains : State
-  pub account : Account
-
 -- The search stands at the root: its domains are at rest for the empty path, and the root's moment is the present one.
 pub record IsAtRoot (q : Problem) (d : State) (s : sparse.State) (a : Account) (marks : List Moment) (root : Moment) : Type 0 where
   pub is_of : IsOf q d
@@ -246,16 +237,6 @@ abbrev pub AtStage : Stage → Problem → Option watched.State → State → sp
 AtStage Fresh q nogoods d s a marks root f = NotBegun q nogoods d s a marks root
 AtStage Halfway q nogoods d s a marks root f = Begun q nogoods d s a marks root f
 AtStage Over q nogoods d s a marks root f = Unit {0}
-
--- What a worker has made is of its problem, and it has a number.
-pub record Equipped (q : Problem) (number : ℕ) (filters : Filtering) (waiting : List Bool) (untried : List ℕ) (choice : ℕ) (capacity : ℕ) : Type 0 where
-  pub some : 1 ≤ number
-  pub few : number ≤ 64
-  pub problem : filters.problem ≡ q
-  pub long : length waiting ≡ size q.pattern
-  pub words : length untried ≡ words_for (size q.target)
-  pub degrees : choice ≡ size q.target
-  pub room : size q.pattern ≤ capacity
 
 -- After a stop a worker may go on; after every other outcome it may not.
 abbrev pub stage_after : Outcome → Stage

@@ -11,12 +11,15 @@
 #![tactic(auto)]
 
 pub mod outcome;
+pub mod position;
+mod restarting;
 pub mod root;
-pub mod search;
+mod search;
 mod shared;
 mod sharing;
 mod value_choice;
+mod vertex_choice;
 pub mod worker;
 
 pub use outcome::{Outcome, Stage};
-pub use worker::{Equipment, Worker};
+pub use worker::{Equipment, Worker, WorkerSettings};

@@ -32,6 +32,15 @@ pub enum Rooted<T: Trail, R: Recorder> {
     NoMemory,
 }
 
+/// What first domains are made with.
+#[derive(Drop)]
+struct FirstRoom<'a> {
+    /// What is kept of the problem's vertices for `fill_first`.
+    kept: KeptRows<'a>,
+    /// The row that a first domain is written to.
+    row: Vec<u64>,
+}
+
 /// Leaves each vertex its first domain; fails where one is empty. Cost: for each vertex that of `fill_first`, and the values that leave.
 fn begin<T: Trail, R: Recorder>(
     q: &Problem,
@@ -63,20 +72,19 @@ fn begin<T: Trail, R: Recorder>(
 /// Leaves each vertex its first domain, and takes the consequences; fails where no embedding is left.
 fn settle_root<T: Trail, R: Recorder>(
     q: &Problem,
-    kept: &KeptRows,
+    first: &mut FirstRoom,
     filters: &mut Filters,
     d: &mut Domains<T>,
     waiting: &mut [bool],
     undecided: &mut SparseSet,
     told: &mut R,
-    row: &mut [u64],
 ) -> Result<(), Failure>
-    requires rows { kept.now ≡ q.now }
+    requires rows { first.old.kept ≡ q.now }
     requires filters { filters.old ≡ unlearned q.now }
     requires is_full { d.old ≡ full (size q.now.pattern) (size q.now.target) }
     requires whole { undecided.old ≡ whole (size q.now.pattern) }
     requires long { length waiting.old ≡ size q.now.pattern }
-    requires words { length row.old ≡ words_for (size q.now.target) }
+    requires words { length first.old.row.items ≡ words_for (size q.now.target) }
     ensures roots { Roots (is_ok result) q.now d.new }
     ensures filters { filters.new ≡ unlearned q.now }
     ensures is_of { IsOf q.now d.new }
@@ -85,7 +93,7 @@ fn settle_root<T: Trail, R: Recorder>(
         → Tells q.now None d.new (R.changes told.new) }
     ensures guesses { NoNewGuess (R.changes told.old) (R.changes told.new) }
 {
-    begin(q, kept, d, waiting, told, row)?;
+    begin(q, &first.kept, d, waiting, told, &mut first.row)?;
     propagate(q, filters, d, waiting, undecided, told)
 }
 
@@ -128,18 +136,18 @@ fn take_root<T: Trail, R: Recorder>(
     let mut domains = Domains::<T>::with_trail(alloc, vertices, values)?;
     let mut waiting = vec![in alloc; false; usize::from(vertices)]?;
     let mut undecided = SparseSet::new(alloc, vertices)?;
-    let mut row = vec![in alloc; 0u64; (usize::from(values) + 63) / 64]?;
+    let row = vec![in alloc; 0u64; (usize::from(values) + 63) / 64]?;
     let kept = KeptRows::new(alloc, q)?;
+    let mut first = FirstRoom { kept, row };
     let mut filters = Filters::new(alloc, q, kinds, most)?;
     match settle_root(
         q,
-        &kept,
+        &mut first,
         &mut filters,
         &mut domains,
         &mut waiting,
         &mut undecided,
         &mut told,
-        &mut row,
     ) {
         Ok(()) => Ok(Rooted::Quiet(domains, told)),
         Err(failure) => Ok(Rooted::Failed(failure, told)),

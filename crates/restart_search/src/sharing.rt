@@ -20,37 +20,47 @@ use nogood_book::{Book, Published, Row, RowKind, RowSeat};
 use proof_logger::ProofLogger;
 use std::alloc::AllocError;
 
-/// Whose rows are written, and which problem they are about.
-#[derive(Clone, Copy)]
-pub(crate) struct Author<'q> {
+/// Whose rows are written, which problem they are about, and the book that they go to.
+#[derive(Drop)]
+pub(crate) struct Author<'q, B: Book> {
     /// The problem.
     pub problem: &'q Problem,
     /// The worker's number.
     pub owner: u8,
+    /// The book.
+    pub book: &'q B,
+}
+
+/// Where the rows of one level stand.
+#[derive(Drop)]
+struct Level<'p> {
+    /// The level's number, from 0.
+    number: u16,
+    /// The row of the last guess above it, if there is one.
+    parent: Option<u32>,
+    /// The guesses above it.
+    above: &'p [(u16, u16)],
 }
 
 /// Publishes one nogood: that no embedding has the pairs above and this one, which the account has refuted at the level; and notes it.
 /// False where the book is full.
 fn publish_nogood<B: Book, L: ProofLogger>(
-    book: &B,
+    author: &Author<B>,
     seat: &mut B::Seat,
-    author: &Author,
     account: &Account,
-    level: u16,
-    log: &mut L,
-    parent: Option<u32>,
-    above: &[(u16, u16)],
+    level: &Level,
     pair: (u16, u16),
+    log: &mut L,
 ) -> bool
-    requires fits { B.fits book.now seat.old }
+    requires fits { B.fits author.now.book.now seat.old }
     requires seat { IsSeatFor author.now.problem.now author.now.owner (B.Seat.shows seat.old) }
     requires narrow { author.now.owner < 128 }
-    requires parent { Reaches (B.Seat.shows seat.old).seen parent above.now }
-    requires stands { MayStand author.now.problem.now above.now pair }
-    requires dead { Dead author.now.problem.now (above.now ++ pair ∷ []) }
-    requires level { (level_at account.now level).vertex ≡ Some pair.0 }
-    requires refuted { Contains (level_at account.now level).refuted pair.1 }
-    requires above { above.now ≡ take level (path account.now) }
+    requires parent { Reaches (B.Seat.shows seat.old).seen level.now.parent level.now.above.now }
+    requires stands { MayStand author.now.problem.now level.now.above.now pair }
+    requires dead { Dead author.now.problem.now (level.now.above.now ++ pair ∷ []) }
+    requires level { (level_at account.now level.now.number).vertex ≡ Some pair.0 }
+    requires refuted { Contains (level_at account.now level.now.number).refuted pair.1 }
+    requires above { level.now.above.now ≡ take level.now.number (path account.now) }
     requires spare { 1 ≤ L.spare log.old }
     requires owner { L.owner log.old ≡ author.now.owner }
     requires writes { L.writes log.old author.now.problem.now (B.Seat.shows seat.old).seen
@@ -58,15 +68,15 @@ fn publish_nogood<B: Book, L: ProofLogger>(
     ensures owner { L.owner log.new ≡ L.owner log.old }
     ensures writes { L.writes log.new author.now.problem.now (B.Seat.shows seat.new).seen
         account.now }
-    ensures fits { B.fits book.now seat.new }
+    ensures fits { B.fits author.now.book.now seat.new }
     ensures went { Went (B.Seat.shows seat.old) (B.Seat.shows seat.new) }
     ensures row { result ≡ true
         → IsRowOf author.now.owner (length (B.Seat.shows seat.old).seen)
-        (B.Seat.shows seat.new).seen (above.now ++ pair ∷ []) }
+        (B.Seat.shows seat.new).seen (level.now.above.now ++ pair ∷ []) }
     ensures learned { result ≡ true
         → learned_by author.now.owner (B.Seat.shows seat.new).seen
         ≡ learned_by author.now.owner (B.Seat.shows seat.old).seen
-        ++ (above.now ++ pair ∷ []) ∷ [] }
+        ++ (level.now.above.now ++ pair ∷ []) ∷ [] }
     ensures full { result ≡ false
         → length (B.Seat.shows seat.new).seen ≡ (B.Seat.shows seat.new).size }
 {
@@ -75,14 +85,14 @@ fn publish_nogood<B: Book, L: ProofLogger>(
     let row = Row {
         kind: RowKind::Nogood,
         owner: author.owner,
-        parent,
+        parent: level.parent,
         vertex: pair.0,
         value: pair.1,
     };
     log.stays();
-    match book.publish(seat, row) {
+    match author.book.publish(seat, row) {
         Published::At(place) => {
-            log.note(account, level, pair.1, place);
+            log.note(account, level.number, pair.1, place);
             true
         }
         Published::Full => false,
@@ -91,19 +101,18 @@ fn publish_nogood<B: Book, L: ProofLogger>(
 
 /// Publishes one guess, and answers its place, below which the next level's rows stand; none where the book is full.
 fn publish_step<B: Book>(
-    book: &B,
+    author: &Author<B>,
     seat: &mut B::Seat,
-    author: &Author,
     parent: Option<u32>,
     above: &[(u16, u16)],
     pair: (u16, u16),
 ) -> Option<u32>
-    requires fits { B.fits book.now seat.old }
+    requires fits { B.fits author.now.book.now seat.old }
     requires seat { IsSeatFor author.now.problem.now author.now.owner (B.Seat.shows seat.old) }
     requires narrow { author.now.owner < 128 }
     requires parent { Reaches (B.Seat.shows seat.old).seen parent above.now }
     requires stands { MayStand author.now.problem.now above.now pair }
-    ensures fits { B.fits book.now seat.new }
+    ensures fits { B.fits author.now.book.now seat.new }
     ensures went { Went (B.Seat.shows seat.old) (B.Seat.shows seat.new) }
     ensures beside { GrowsBeside author.now.owner (B.Seat.shows seat.old).seen
         (B.Seat.shows seat.new).seen }
@@ -123,56 +132,53 @@ fn publish_step<B: Book>(
         vertex: pair.0,
         value: pair.1,
     };
-    match book.publish(seat, row) {
+    match author.book.publish(seat, row) {
         Published::At(place) => Some(place),
         Published::Full => None,
     }
 }
 
-/// Publishes a nogood for each value of the row, which the account has refuted at the level, with the pairs above. False where the book is full. Cost: a row of the book for each
-/// value, and one step for each word.
+/// Publishes a nogood for each value of the row, which the account has refuted at the level, with the pairs above. False where the book
+/// is full. Cost: a row of the book for each value, and one step for each word.
 fn publish_level<B: Book, L: ProofLogger>(
-    book: &B,
+    author: &Author<B>,
     seat: &mut B::Seat,
-    author: &Author,
     account: &Account,
-    level: u16,
-    log: &mut L,
-    parent: Option<u32>,
-    above: &[(u16, u16)],
+    level: &Level,
     p: u16,
     refuted: &[u64],
+    log: &mut L,
 ) -> Result<bool, AllocError>
-    requires fits { B.fits book.now seat.old }
+    requires fits { B.fits author.now.book.now seat.old }
     requires seat { IsSeatFor author.now.problem.now author.now.owner (B.Seat.shows seat.old) }
     requires narrow { author.now.owner < 128 }
-    requires parent { Reaches (B.Seat.shows seat.old).seen parent above.now }
-    requires fresh { NotOn above.now p }
+    requires parent { Reaches (B.Seat.shows seat.old).seen level.now.parent level.now.above.now }
+    requires fresh { NotOn level.now.above.now p }
     requires vertex { p < size author.now.problem.now.pattern }
     requires long { length refuted.now ≡ words_for (size author.now.problem.now.target) }
     requires refuted { (t : ℕ) → has refuted.now t ≡ true → (t < size author.now.problem.now.target)
-        × Dead author.now.problem.now (above.now ++ (p, t) ∷ []) }
-    requires level { (level_at account.now level).vertex ≡ Some p }
+        × Dead author.now.problem.now (level.now.above.now ++ (p, t) ∷ []) }
+    requires level { (level_at account.now level.now.number).vertex ≡ Some p }
     requires row { members (has refuted.now) account.now.target
-        ≡ (level_at account.now level).refuted }
+        ≡ (level_at account.now level.now.number).refuted }
     requires target { account.now.target ≡ size author.now.problem.now.target }
-    requires above { above.now ≡ take level (path account.now) }
+    requires above { level.now.above.now ≡ take level.now.number (path account.now) }
     requires owner { L.owner log.old ≡ author.now.owner }
     requires writes { L.writes log.old author.now.problem.now (B.Seat.shows seat.old).seen
         account.now }
     ensures owner { L.owner log.new ≡ L.owner log.old }
     ensures writes { L.writes log.new author.now.problem.now (B.Seat.shows seat.new).seen
         account.now }
-    ensures fits { B.fits book.now seat.new }
+    ensures fits { B.fits author.now.book.now seat.new }
     ensures went { Went (B.Seat.shows seat.old) (B.Seat.shows seat.new) }
     ensures all { IfOk result
         (λ whole. whole ≡ true → (t : ℕ) → has refuted.now t ≡ true
         → IsRowOf author.now.owner (length (B.Seat.shows seat.old).seen)
-        (B.Seat.shows seat.new).seen (above.now ++ (p, t) ∷ [])) }
+        (B.Seat.shows seat.new).seen (level.now.above.now ++ (p, t) ∷ [])) }
     ensures learned { IfOk result (λ whole. whole ≡ true
         → learned_by author.now.owner (B.Seat.shows seat.new).seen
         ≡ learned_by author.now.owner (B.Seat.shows seat.old).seen
-        ++ refuted_at above.now (Some p) (members (has refuted.now) account.now.target)) }
+        ++ refuted_at level.now.above.now (Some p) (members (has refuted.now) account.now.target)) }
     ensures full { IfOk result
         (λ whole. whole ≡ false
         → length (B.Seat.shows seat.new).seen ≡ (B.Seat.shows seat.new).size) }
@@ -183,7 +189,7 @@ fn publish_level<B: Book, L: ProofLogger>(
     while t < 64 * refuted.len() {
         log.room()?;
         let pair = (p, t as u16);
-        if !publish_nogood(book, seat, author, account, level, log, parent, above, pair) {
+        if !publish_nogood(author, seat, account, level, pair, log) {
             return Ok(false);
         }
         t = next_member(refuted, t + 1);
@@ -193,21 +199,20 @@ fn publish_level<B: Book, L: ProofLogger>(
 
 /// Publishes the guess of level `at`, where the path has one, and makes it the parent of what follows. False where the book is full.
 fn publish_guess<B: Book>(
-    book: &B,
+    author: &Author<B>,
     seat: &mut B::Seat,
-    author: &Author,
     parent: &mut Option<u32>,
     path: &[(u16, u16)],
     at: usize,
 ) -> bool
-    requires fits { B.fits book.now seat.old }
+    requires fits { B.fits author.now.book.now seat.old }
     requires seat { IsSeatFor author.now.problem.now author.now.owner (B.Seat.shows seat.old) }
     requires narrow { author.now.owner < 128 }
     requires parent { Reaches (B.Seat.shows seat.old).seen parent.old (take at path.now) }
     requires path { IsPath path.now }
     requires range { InRange (size author.now.problem.now.pattern)
         (size author.now.problem.now.target) path.now }
-    ensures fits { B.fits book.now seat.new }
+    ensures fits { B.fits author.now.book.now seat.new }
     ensures went { Went (B.Seat.shows seat.old) (B.Seat.shows seat.new) }
     ensures beside { GrowsBeside author.now.owner (B.Seat.shows seat.old).seen
         (B.Seat.shows seat.new).seen }
@@ -223,7 +228,7 @@ fn publish_guess<B: Book>(
     if at >= path.len() {
         return true;
     }
-    match publish_step(book, seat, author, *parent, &path[..at], path[at]) {
+    match publish_step(author, seat, *parent, &path[..at], path[at]) {
         None => false,
         Some(place) => {
             *parent = Some(place);
@@ -236,13 +241,12 @@ fn publish_guess<B: Book>(
 /// then the level's guess. False where the book is full, which ends it. Cost: a row of the book for each of these, and the words of the
 /// levels' rows.
 pub(crate) fn publish_position<B: Book, L: ProofLogger>(
-    book: &B,
+    author: &Author<B>,
     seat: &mut B::Seat,
-    author: &Author,
     account: &Account,
     log: &mut L,
 ) -> Result<bool, AllocError>
-    requires fits { B.fits book.now seat.old }
+    requires fits { B.fits author.now.book.now seat.old }
     requires seat { IsSeatFor author.now.problem.now author.now.owner (B.Seat.shows seat.old) }
     requires narrow { author.now.owner < 128 }
     requires honest { Honest author.now.problem.now account.now }
@@ -252,7 +256,7 @@ pub(crate) fn publish_position<B: Book, L: ProofLogger>(
     ensures owner { L.owner log.new ≡ L.owner log.old }
     ensures writes { L.writes log.new author.now.problem.now (B.Seat.shows seat.new).seen
         account.now }
-    ensures fits { B.fits book.now seat.new }
+    ensures fits { B.fits author.now.book.now seat.new }
     ensures went { Went (B.Seat.shows seat.old) (B.Seat.shows seat.new) }
     ensures all { IfOk result
         (λ whole. whole ≡ true
@@ -276,14 +280,17 @@ pub(crate) fn publish_position<B: Book, L: ProofLogger>(
         };
         let at = usize::from(i);
         let above = &path[..at];
-        let whole = publish_level(
-            book, seat, author, account, i, log, parent, above, p, refuted,
-        )?;
+        let level = Level {
+            number: i,
+            parent,
+            above,
+        };
+        let whole = publish_level(author, seat, account, &level, p, refuted, log)?;
         if !whole {
             return Ok(false);
         }
         log.stays();
-        if !publish_guess(book, seat, author, &mut parent, path, at) {
+        if !publish_guess(author, seat, &mut parent, path, at) {
             return Ok(false);
         }
     }

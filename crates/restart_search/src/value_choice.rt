@@ -5,11 +5,16 @@
 //! Worker 1 is biased, so that one thread searches as by itself. (Workers that differ in how they choose, and not in where they look:
 //! the portfolios of Hamadi, Jabbour and Sais 2009.)
 
-ghost use Rattle.std.specs.Prelude.{◌≡◌, ℕ, ◌<◌, ◌≤◌, ◌%◌, true, length, IfOk};
+ghost use Rattle.std.specs.Prelude.{◌≡◌, ℕ, ◌<◌, ◌≤◌, ◌%◌, true, false, length, IfOk};
 ghost use Rattle.graph_theory.specs.Graph.{size};
-ghost use Rattle.domain_bits.specs.BitRows.{has};
+ghost use Rattle.graph_theory.specs.Path.{NotOn};
+ghost use Rattle.domain_bits.specs.BitRows.{has, words_for};
+ghost use Rattle.domain_bits.specs.Removals.{in_domain};
+ghost use Rattle.search_theory.specs.Account.{path, NotAmong};
 
 use biased_choice::Chooser;
+use domain_bits::{Domains, Trail, and_not_into};
+use fail_account::Account;
 use graph_rows::Problem;
 use std::alloc::{AllocError, Global};
 use std::marker::Model;
@@ -66,4 +71,40 @@ impl ValueChoice {
     {
         self.chooser.choose(row, &self.degrees)
     }
+}
+
+/// Fills the row with the values of the domain of `p` that are not refuted at the level after the path. Cost: the words
+/// of a row.
+pub(crate) fn fill_untried<T: Trail>(d: &Domains<T>, account: &Account, p: u16, row: &mut [u64])
+    requires p_in { p < d.now.vertices }
+    requires off_path { NotOn (path account.now) p }
+    requires some { (t : ℕ) × (in_domain d.now p t ≡ true) }
+    requires vertices { account.now.pattern ≡ d.now.vertices }
+    requires values { account.now.target ≡ d.now.values }
+    requires long { length row.old ≡ words_for d.now.values }
+    ensures untried { (t : ℕ) → has row.new t ≡ true → (in_domain d.now p t ≡ true)
+        × NotAmong account.now.refuted t }
+    ensures all { (t : ℕ) → in_domain d.now p t ≡ true → NotAmong account.now.refuted t
+        → has row.new t ≡ true }
+    ensures long { length row.new ≡ words_for d.now.values }
+    ensures short { length row.new ≤ 1024 }
+{
+    row.copy_from_slice(d.row(p));
+    let _vertices = d.vertices();
+    let depth = account.path().len();
+    let (_, refuted) = account.level(depth as u16);
+    and_not_into(row, refuted);
+}
+
+/// Whether a row has a value. Cost: the words up to the first one that has.
+pub(crate) fn has_value(row: &[u64]) -> bool
+    ensures some { result ≡ true → (t : ℕ) × (has row.now t ≡ true) }
+    ensures none { result ≡ false → (t : ℕ) → has row.now t ≡ false }
+{
+    for place in 0..row.len() {
+        if row[place] != 0 {
+            return true;
+        }
+    }
+    false
 }

@@ -1,20 +1,20 @@
 //! A worker: one search beside others over the same problem, which share a book of nogoods and a cell for the first answer.
 
-ghost use Rattle.std.specs.Prelude.{◌≡◌, ℕ, [], ◌^◌, ◌<◌, ◌≤◌, ◌≢◌, length, vec_capacity, None, IfOk};
+ghost use Rattle.std.specs.Prelude.{◌≡◌, ℕ, [], ◌^◌, ◌<◌, ◌≤◌, ◌≢◌, None, IfOk};
 ghost use Rattle.graph_theory.specs.Graph.{size};
 ghost use Rattle.graph_theory.specs.Embedding.{Embeds};
-ghost use Rattle.domain_bits.specs.BitRows.{words_for};
 ghost use Rattle.domain_bits.specs.Removals.{in_domain};
-ghost use Rattle.search_theory.specs.Account.{fresh, path};
+ghost use Rattle.search_theory.specs.Account.{fresh};
 ghost use Rattle.search_theory.specs.Claims.{Quiet};
 ghost use Rattle.propagation.specs.Learning.{unlearned};
 ghost use Rattle.propagation.specs.Propagation.{IsOf, LeavesPast};
 ghost use Rattle.restart_search.specs.Sharing.{IsSeatFor};
-ghost use Rattle.restart_search.specs.Logging.{IsTold, IsLogged, IfRefuted};
-ghost use Rattle.restart_search.specs.Searching.{AtRest, AtStage, Begun, Ends, IsNotStopped, IsPaused, IsTrueFor, Leaves, NotBegun, stage_after};
+ghost use Rattle.restart_search.specs.Logging.{IsTold, IfRefuted};
+ghost use Rattle.restart_search.specs.Searching.{AtRest, Ends, IsNotStopped, IsPaused, IsTrueFor, Leaves, stage_after};
 
 use crate::outcome::{Outcome, Stage, stage_of};
-use crate::search::{Moment, present, run, take_up_book};
+use crate::position::{Position, Propagator, present};
+use crate::search::{Signals, Walk, run};
 use crate::sharing::Author;
 use crate::value_choice::ValueChoice;
 use domain_bits::{Domains, Trail};
@@ -28,34 +28,35 @@ use std::alloc::{AllocError, Global};
 use std::marker::Model;
 use worker_gate::{Answer, AnswerCell, Gate, Point};
 
+/// What tells one worker from another, and what it may spend.
+#[derive(Clone, Copy, Debug)]
+pub struct WorkerSettings {
+    /// The worker's number, from 1.
+    pub number: u8,
+    /// Where all streams of words begin: a worker takes that of its number.
+    pub seed: u64,
+    /// How many fails it may count.
+    pub budget: u64,
+}
+
 /// What a worker searches with, before it has a seat: all of its memory. So a seat is asked for only where a worker will have it.
 #[derive(Drop)]
 pub struct Equipment<'a, T: Trail, R: Recorder> {
     problem: &'a Problem,
     number: u8,
-    filters: Filters<'a>,
-    domains: Domains<T>,
-    undecided: SparseSet,
-    account: Account,
-    marks: Vec<Moment>,
-    waiting: Vec<bool>,
-    untried: Vec<u64>,
-    choice: ValueChoice,
-    told: R,
-    root: Moment,
+    walk: Walk<'a, T, R>,
 }
 
 impl<'a, T: Trail, R: Recorder> Model for Equipment<'a, T, R> {
-    ghost use Rattle.std.specs.Prelude.{◌≡◌, vec_capacity};
-    ghost use Rattle.search_theory.specs.Account.{path};
-    ghost use Rattle.restart_search.specs.Searching.{Outfit, Equipped, NotBegun};
-    ghost use Rattle.restart_search.specs.Logging.{IsTold};
+    ghost use Rattle.std.specs.Prelude.{◌≡◌};
+    ghost use Rattle.restart_search.specs.Positions.{IsFresh, ToldAt};
+    ghost use Rattle.restart_search.specs.Working.{Equipped, Outfit};
 
     ghost Value = { Outfit };
 
-    ghost view = { λ e. record { problem = e.problem.now; number = e.number; domains = e.domains; account = e.account } };
+    ghost view = { λ e. record { problem = e.problem.now; number = e.number; domains = e.walk.position.domains; account = e.walk.position.account } };
 
-    ghost invariant = { λ e. Equipped e.problem.now e.number e.filters e.waiting.items e.untried.items e.choice (vec_capacity e.marks) × NotBegun e.problem.now e.filters.nogoods e.domains e.undecided e.account e.marks.items e.root × IsTold e.problem.now e.filters.nogoods e.domains (path e.account) e.marks.items (R.changes e.told) };
+    ghost invariant = { λ e. Equipped e.problem.now e.number e.walk × IsFresh e.problem.now e.walk.propagator.filters.nogoods e.walk.position × ToldAt e.problem.now e.walk.propagator.filters.nogoods e.walk.position (R.changes e.walk.position.told) };
 }
 
 /// The set of the vertices that have more than one value in domains at rest. Cost: one step for each vertex.
@@ -79,52 +80,57 @@ fn undecided_of<T: Trail>(
 }
 
 impl<'a, T: Trail, R: Recorder> Equipment<'a, T, R> {
-    /// The equipment of the worker of this number, with what was told of the domains. It reserves a mark for each pattern vertex; the worker's choices of values are those
-    /// of its own stream, which begins at the seed.
+    /// The equipment of one worker, with what was told of the domains. It reserves a mark for each pattern vertex; the worker's choices of
+    /// values are those of its own stream.
     pub fn new(
         alloc: Global,
         q: &'a Problem,
         domains: Domains<T>,
         told: R,
         filters: Filters<'a>,
-        number: u8,
-        seed: u64,
-        budget: u64,
+        settings: WorkerSettings,
     ) -> Result<Equipment<'a, T, R>, AllocError>
         requires is_of { IsOf q.now domains }
         requires rest { AtRest q.now [] domains }
         requires told { IsTold q.now None domains [] [] (R.changes told) }
         requires filters { filters ≡ unlearned q.now }
-        requires some { 1 ≤ number }
-        requires few { number ≤ 64 }
-        requires budget { budget < 2 ^ 63 }
+        requires some { 1 ≤ settings.number }
+        requires few { settings.number ≤ 64 }
+        requires budget { settings.budget < 2 ^ 63 }
         ensures problem { IfOk result (λ e. e.problem ≡ q.entry.now) }
-        ensures number { IfOk result (λ e. e.number ≡ number) }
+        ensures number { IfOk result (λ e. e.number ≡ settings.number) }
         ensures account { IfOk result
-            (λ e. e.account ≡ fresh (size q.entry.now.pattern) (size q.entry.now.target) budget) }
+            (λ e. e.account
+            ≡ fresh (size q.entry.now.pattern) (size q.entry.now.target) settings.budget) }
     {
-        let account = Account::new(alloc, q, budget)?;
+        let number = settings.number;
+        let account = Account::new(alloc, q, settings.budget)?;
         let vertices = usize::from(q.pattern().size());
         let marks = Vec::with_capacity(alloc, vertices)?;
         let waiting = vec![in alloc; false; vertices]?;
         let words = (usize::from(q.target().size()) + 63) / 64;
         let untried = vec![in alloc; 0u64; words]?;
-        let choice = ValueChoice::new(alloc, q, seed, number)?;
+        let choice = ValueChoice::new(alloc, q, settings.seed, number)?;
         let undecided = undecided_of(alloc, q, &domains)?;
         let root = present(&domains, &undecided);
-        Ok(Equipment {
-            problem: q,
-            number,
-            filters,
+        let position = Position {
             domains,
             undecided,
             account,
             marks,
-            waiting,
+            root,
+            told,
+        };
+        let walk = Walk {
+            position,
+            propagator: Propagator { filters, waiting },
             untried,
             choice,
-            told,
-            root,
+        };
+        Ok(Equipment {
+            problem: q,
+            number,
+            walk,
         })
     }
 }
@@ -136,31 +142,23 @@ pub struct Worker<'a, S: RowSeat + Drop, T: Trail, L: ProofLogger> {
     number: u8,
     seat: S,
     log: L,
-    filters: Filters<'a>,
-    domains: Domains<T>,
-    undecided: SparseSet,
-    account: Account,
-    marks: Vec<Moment>,
-    waiting: Vec<bool>,
-    untried: Vec<u64>,
-    choice: ValueChoice,
-    told: L::Told,
-    root: Moment,
+    walk: Walk<'a, T, L::Told>,
     stage: Stage,
 }
 
 impl<'a, S: RowSeat + Drop, T: Trail, L: ProofLogger> Model for Worker<'a, S, T, L> {
-    ghost use Rattle.std.specs.Prelude.{vec_capacity};
-    ghost use Rattle.restart_search.specs.Searching.{Search, Equipped, AtStage};
     ghost use Rattle.std.specs.Prelude.{◌≡◌};
+    ghost use Rattle.restart_search.specs.Searching.{Search};
     ghost use Rattle.restart_search.specs.Sharing.{IsSeatFor};
-    ghost use Rattle.restart_search.specs.Logging.{IsLogged, LoggedAt};
+    ghost use Rattle.restart_search.specs.Logging.{LoggedAt};
+    ghost use Rattle.restart_search.specs.Positions.{IsAtStage, LogsAt};
+    ghost use Rattle.restart_search.specs.Working.{Equipped};
 
     ghost Value = { Search S L };
 
-    ghost view = { λ w. record { problem = w.problem.now; number = w.number; seat = w.seat; facts = S.shows w.seat; log = w.log; domains = w.domains; account = w.account; stage = w.stage } };
+    ghost view = { λ w. record { problem = w.problem.now; number = w.number; seat = w.seat; facts = S.shows w.seat; log = w.log; domains = w.walk.position.domains; account = w.walk.position.account; stage = w.stage } };
 
-    ghost invariant = { λ w. Equipped w.problem.now w.number w.filters w.waiting.items w.untried.items w.choice (vec_capacity w.marks) × IsSeatFor w.problem.now w.number (S.shows w.seat) × AtStage w.stage w.problem.now w.filters.nogoods w.domains w.undecided w.account w.marks.items w.root (S.shows w.seat) × (L.owner w.log ≡ w.number) × LoggedAt w.stage (IsLogged w.problem.now (S.shows w.seat).seen w.filters.nogoods w.domains w.account w.marks.items (L.Told.changes w.told) (L.writes w.log)) (L.steps w.log w.problem.now (S.shows w.seat).seen) };
+    ghost invariant = { λ w. Equipped w.problem.now w.number w.walk × IsSeatFor w.problem.now w.number (S.shows w.seat) × IsAtStage w.stage w.problem.now w.walk.propagator.filters.nogoods w.walk.position (S.shows w.seat) × (L.owner w.log ≡ w.number) × LoggedAt w.stage (LogsAt w.problem.now (S.shows w.seat).seen w.walk.propagator.filters.nogoods w.walk.position (L.Told.changes w.walk.position.told) (L.writes w.log)) (L.steps w.log w.problem.now (S.shows w.seat).seen) };
 }
 
 impl<'a, S: RowSeat + Drop, T: Trail, L: ProofLogger> Worker<'a, S, T, L> {
@@ -180,32 +178,14 @@ impl<'a, S: RowSeat + Drop, T: Trail, L: ProofLogger> Worker<'a, S, T, L> {
         let Equipment {
             problem,
             number,
-            filters,
-            domains,
-            undecided,
-            account,
-            marks,
-            waiting,
-            untried,
-            choice,
-            told,
-            root,
+            walk,
         } = equipment;
         Worker {
             problem,
             number,
             seat,
             log,
-            filters,
-            domains,
-            undecided,
-            account,
-            marks,
-            waiting,
-            untried,
-            choice,
-            told,
-            root,
+            walk,
             stage: Stage::Fresh,
         }
     }
@@ -248,27 +228,18 @@ impl<'a, S: RowSeat + Drop, T: Trail, L: ProofLogger> Worker<'a, S, T, L> {
         let author = Author {
             problem: self.problem,
             owner: self.number,
+            book,
         };
+        let signals = Signals { cell, gate };
         gate.at(u32::from(self.number), Point::Start);
-        let outcome = run_from(
-            self.stage,
+        let outcome = run(
             alloc,
             &author,
-            book,
+            &signals,
+            self.stage,
             &mut self.seat,
-            cell,
-            gate,
-            &mut self.filters,
-            &mut self.domains,
-            &mut self.undecided,
-            &mut self.account,
-            &mut self.marks,
-            &mut self.waiting,
-            &mut self.untried,
-            &mut self.choice,
-            &mut self.told,
+            &mut self.walk,
             &mut self.log,
-            &mut self.root,
         );
         self.stage = stage_of(&outcome);
         offer(alloc, self.problem, cell, &outcome);
@@ -286,169 +257,24 @@ impl<'a, S: RowSeat + Drop, T: Trail, L: ProofLogger> Worker<'a, S, T, L> {
             number: _,
             seat,
             log,
-            filters: _,
+            walk,
+            stage: _,
+        } = self;
+        let Walk {
+            position,
+            propagator: _,
+            untried: _,
+            choice: _,
+        } = walk;
+        let Position {
             domains: _,
             undecided: _,
             account,
             marks: _,
-            waiting: _,
-            untried: _,
-            choice: _,
-            told: _,
             root: _,
-            stage: _,
-        } = self;
+            told: _,
+        } = position;
         (account, seat, log)
-    }
-}
-
-/// Takes up what the book has, as at a restart, and searches from the root.
-fn run_fresh<'a, T: Trail, B: Book, L: ProofLogger, G: Gate>(
-    alloc: Global,
-    author: &Author,
-    book: &B,
-    seat: &mut B::Seat,
-    cell: Option<&AnswerCell<'a>>,
-    gate: &G,
-    filters: &mut Filters,
-    d: &mut Domains<T>,
-    undecided: &mut SparseSet,
-    account: &mut Account,
-    marks: &mut Vec<Moment>,
-    waiting: &mut [bool],
-    untried: &mut [u64],
-    choice: &mut ValueChoice,
-    told: &mut L::Told,
-    log: &mut L,
-    root: &mut Moment,
-) -> Outcome<'a>
-    requires fits { B.fits book.now seat.old }
-    requires seat { IsSeatFor author.now.problem.now author.now.owner (B.Seat.shows seat.old) }
-    requires narrow { author.now.owner < 128 }
-    requires problem { filters.old.problem ≡ author.now.problem.now }
-    requires stands { NotBegun author.now.problem.now filters.old.nogoods d.old undecided.old
-        account.old marks.old.items root.old }
-    requires owner { L.owner log.old ≡ author.now.owner }
-    requires logged { IsLogged author.now.problem.now (B.Seat.shows seat.old).seen
-        filters.old.nogoods d.old account.old marks.old.items (L.Told.changes told.old)
-        (L.writes log.old) }
-    requires long { length waiting.old ≡ size author.now.problem.now.pattern }
-    requires words { length untried.old ≡ words_for (size author.now.problem.now.target) }
-    requires choice { choice.old ≡ size author.now.problem.now.target }
-    requires room { size author.now.problem.now.pattern ≤ vec_capacity marks.old }
-    ensures fits { B.fits book.now seat.new }
-    ensures seat { IsSeatFor author.now.problem.now author.now.owner (B.Seat.shows seat.new) }
-    ensures ends { Ends result author.now.problem.now account.new }
-    ensures alone { cell.entry ≡ None → IsNotStopped result }
-    ensures budget { account.new.budget ≡ account.old.budget }
-    ensures begun { Leaves result
-        (Begun author.now.problem.now filters.new.nogoods d.new undecided.new account.new
-        marks.new.items root.new (B.Seat.shows seat.new)) }
-    ensures owner { L.owner log.new ≡ L.owner log.old }
-    ensures logged { Leaves result
-        (IsLogged author.now.problem.now (B.Seat.shows seat.new).seen filters.new.nogoods d.new
-        account.new marks.new.items (L.Told.changes told.new) (L.writes log.new)) }
-    ensures steps { L.steps log.new author.now.problem.now (B.Seat.shows seat.new).seen }
-    ensures refutes { IfRefuted result
-        (L.refutes log.new author.now.problem.now (B.Seat.shows seat.new).seen) }
-    ensures problem { filters.new.problem ≡ author.now.problem.now }
-    ensures long { length waiting.new ≡ size author.now.problem.now.pattern }
-    ensures words { length untried.new ≡ words_for (size author.now.problem.now.target) }
-    ensures choice { choice.new ≡ size author.now.problem.now.target }
-    ensures room { size author.now.problem.now.pattern ≤ vec_capacity marks.new }
-{
-    match take_up_book(
-        alloc,
-        author.problem,
-        book,
-        seat,
-        0,
-        filters,
-        d,
-        undecided,
-        account,
-        marks,
-        waiting,
-        told,
-        log,
-        root,
-    ) {
-        Err(_) => Outcome::NoMemory,
-        Ok(false) => Outcome::Refuted,
-        Ok(true) => run(
-            alloc, author, book, seat, cell, gate, filters, d, undecided, account, marks, waiting,
-            untried, choice, told, log, root,
-        ),
-    }
-}
-
-/// Searches from where the worker stands: one that has not begun takes up what the book has, as at a restart.
-fn run_from<'a, T: Trail, B: Book, L: ProofLogger, G: Gate>(
-    stage: Stage,
-    alloc: Global,
-    author: &Author,
-    book: &B,
-    seat: &mut B::Seat,
-    cell: Option<&AnswerCell<'a>>,
-    gate: &G,
-    filters: &mut Filters,
-    d: &mut Domains<T>,
-    undecided: &mut SparseSet,
-    account: &mut Account,
-    marks: &mut Vec<Moment>,
-    waiting: &mut [bool],
-    untried: &mut [u64],
-    choice: &mut ValueChoice,
-    told: &mut L::Told,
-    log: &mut L,
-    root: &mut Moment,
-) -> Outcome<'a>
-    requires fits { B.fits book.now seat.old }
-    requires open { stage ≢ Stage.Over }
-    requires seat { IsSeatFor author.now.problem.now author.now.owner (B.Seat.shows seat.old) }
-    requires narrow { author.now.owner < 128 }
-    requires problem { filters.old.problem ≡ author.now.problem.now }
-    requires stands { AtStage stage author.now.problem.now filters.old.nogoods d.old undecided.old
-        account.old marks.old.items root.old (B.Seat.shows seat.old) }
-    requires owner { L.owner log.old ≡ author.now.owner }
-    requires logged { IsLogged author.now.problem.now (B.Seat.shows seat.old).seen
-        filters.old.nogoods d.old account.old marks.old.items (L.Told.changes told.old)
-        (L.writes log.old) }
-    requires long { length waiting.old ≡ size author.now.problem.now.pattern }
-    requires words { length untried.old ≡ words_for (size author.now.problem.now.target) }
-    requires choice { choice.old ≡ size author.now.problem.now.target }
-    requires room { size author.now.problem.now.pattern ≤ vec_capacity marks.old }
-    ensures fits { B.fits book.now seat.new }
-    ensures seat { IsSeatFor author.now.problem.now author.now.owner (B.Seat.shows seat.new) }
-    ensures ends { Ends result author.now.problem.now account.new }
-    ensures alone { cell.entry ≡ None → IsNotStopped result }
-    ensures budget { account.new.budget ≡ account.old.budget }
-    ensures begun { Leaves result
-        (Begun author.now.problem.now filters.new.nogoods d.new undecided.new account.new
-        marks.new.items root.new (B.Seat.shows seat.new)) }
-    ensures owner { L.owner log.new ≡ L.owner log.old }
-    ensures logged { Leaves result
-        (IsLogged author.now.problem.now (B.Seat.shows seat.new).seen filters.new.nogoods d.new
-        account.new marks.new.items (L.Told.changes told.new) (L.writes log.new)) }
-    ensures steps { L.steps log.new author.now.problem.now (B.Seat.shows seat.new).seen }
-    ensures refutes { IfRefuted result
-        (L.refutes log.new author.now.problem.now (B.Seat.shows seat.new).seen) }
-    ensures problem { filters.new.problem ≡ author.now.problem.now }
-    ensures long { length waiting.new ≡ size author.now.problem.now.pattern }
-    ensures words { length untried.new ≡ words_for (size author.now.problem.now.target) }
-    ensures choice { choice.new ≡ size author.now.problem.now.target }
-    ensures room { size author.now.problem.now.pattern ≤ vec_capacity marks.new }
-{
-    match stage {
-        Stage::Over => unreachable!(),
-        Stage::Halfway => run(
-            alloc, author, book, seat, cell, gate, filters, d, undecided, account, marks, waiting,
-            untried, choice, told, log, root,
-        ),
-        Stage::Fresh => run_fresh(
-            alloc, author, book, seat, cell, gate, filters, d, undecided, account, marks, waiting,
-            untried, choice, told, log, root,
-        ),
     }
 }
 

@@ -1,13 +1,16 @@
-use Rattle.std.proofs.Common.{List, ℕ, ◌<◌, length, sym, ap, ◌∙◌, refl, subst, arith}
+use Rattle.std.proofs.Common.{◌≡◌, true, false, List, vec_capacity, ℕ, ◌<◌, length, sym, ap, ◌∙◌, refl, subst, arith}
 use Rattle.std.proofs.lemmas.Bool.{eqb-true}
+use Rattle.domain_bits.specs.BitRows.{has, words_for}
+use Rattle.search_theory.specs.Account.{Account}
 use Rattle.restart_search.specs.Sharing.{KeepsUp}
 use Rattle.propagation.proofs.Holding.{holds_same}
 use Rattle.restart_search.proofs.Closing.{dead_where_all_refuted, none_where_dead, may_guess, spends_where_due}
 use Rattle.restart_search.proofs.Steps.{none_left, enough_for}
-use Rattle.restart_search.proofs.Restarting.{found_ends, found_alone, found_refutes, empty_of, leaves_of}
+use Rattle.restart_search.proofs.BetweenRuns.{goes_on, found_ends, found_alone, found_refutes, leaves_of}
 use Rattle.nogood_book.specs.declared.row.Row.{Row}
 use Rattle.restart_search.specs.Logging.{IsLogged}
-use Rattle.restart_search.proofs.Logging.{ends_path}
+use Rattle.restart_search.proofs.Logging.{ends_path, logs_true}
+use Rattle.restart_search.proofs.Written.{written}
 use Rattle.restart_search.proofs.search.run.Goals as goal
 
 pub returns-in_default-clause-ends : goal.returns-in_default-clause-ends
@@ -21,51 +24,64 @@ returns-in_default-clause-begun g c = leaves_of c.found.result _ c.loop-p.invari
 
 pub returns-then-is_empty-clause-ends : goal.returns-then-is_empty-clause-ends
 returns-then-is_empty-clause-ends g c =
-    none_where_dead _ c.loop-p.account
-    (dead_where_all_refuted _ c.loop-p.d c.loop-p.undecided c.loop-p.account _ _ c.in-Some.p c.loop-p.invariant.begun.sound c.in-Some.ensures.some.0 c.in-Some.ensures.some.2
-    (none_left c.loop-p.d c.loop-p.account.refuted c.fill_untried.new.row c.in-Some.p c.fill_untried.ensures.all (c.if-not-has_value.ensures.none refl)))
+    let len = c.fill_untried.ensures.long ∙ ap words_for c.loop-p.invariant.begun.sound.based.is_of.values_is ∙ sym c.loop-p.invariant.words ∙ sym c.loop-p.walk.untried.ok.0 in
+    let row : c.deref.result.now ≡ c.fill_untried.new.row = c.deref.ensures.value ∙ written _ _ _ len in
+    none_where_dead _ c.loop-p.walk.position.account
+    (dead_where_all_refuted _ c.loop-p.walk.position.domains c.loop-p.walk.position.undecided c.loop-p.walk.position.account _ _ c.in-Some.p c.loop-p.invariant.begun.sound c.in-Some.ensures.some.0 c.in-Some.ensures.some.2
+    (none_left c.loop-p.walk.position.domains c.loop-p.walk.position.account.refuted c.fill_untried.new.row c.in-Some.p c.fill_untried.ensures.all (subst (λ (ws : List ℕ). (t : ℕ) → has ws t ≡ false) row (c.if-not-has_value.ensures.none refl))))
     (ap length (sym c.path.ensures.is) ∙ eqb-true (length c.path.result.now) 0 (sym (c.if-is_empty.ensures)))
 
 pub take_back-requires-clause-dead : goal.take_back-requires-clause-dead
 take_back-requires-clause-dead g c =
-    dead_where_all_refuted _ c.loop-p.d c.loop-p.undecided c.loop-p.account _ _ c.in-Some.p c.loop-p.invariant.begun.sound c.in-Some.ensures.some.0 c.in-Some.ensures.some.2
-    (none_left c.loop-p.d c.loop-p.account.refuted c.fill_untried.new.row c.in-Some.p c.fill_untried.ensures.all (c.if-not-has_value.ensures.none refl))
+    let len = c.fill_untried.ensures.long ∙ ap words_for c.loop-p.invariant.begun.sound.based.is_of.values_is ∙ sym c.loop-p.invariant.words ∙ sym c.loop-p.walk.untried.ok.0 in
+    let row : c.deref.result.now ≡ c.fill_untried.new.row = c.deref.ensures.value ∙ written _ _ _ len in
+    dead_where_all_refuted _ c.loop-p.walk.position.domains c.loop-p.walk.position.undecided c.loop-p.walk.position.account _ _ c.in-Some.p c.loop-p.invariant.begun.sound c.in-Some.ensures.some.0 c.in-Some.ensures.some.2
+    (none_left c.loop-p.walk.position.domains c.loop-p.walk.position.account.refuted c.fill_untried.new.row c.in-Some.p c.fill_untried.ensures.all (subst (λ (ws : List ℕ). (t : ℕ) → has ws t ≡ false) row (c.if-not-has_value.ensures.none refl)))
 
 pub returns-then-spent-clause-ends : goal.returns-then-spent-clause-ends
 returns-then-spent-clause-ends g c =
+    let len = c.fill_untried.ensures.long ∙ ap words_for c.loop-p.invariant.begun.sound.based.is_of.values_is ∙ sym c.loop-p.invariant.words ∙ sym c.loop-p.walk.untried.ok.0 in
+    let row : c.deref.result.now ≡ c.fill_untried.new.row = c.deref.ensures.value ∙ written _ _ _ len in
     let some = c.if-not-has_value.ensures.some refl in
-    let untried = c.fill_untried.ensures.untried some.0 some.1 in (
-      spends_where_due _ c.loop-p.account c.in-Some.p some.0 c.loop-p.invariant.begun.sound.based.honest (c.if-spent.ensures.exactly.0 refl)
-          (may_guess _ c.loop-p.d c.loop-p.undecided c.loop-p.account _ _ c.in-Some.p some.0 c.loop-p.invariant.begun.sound c.in-Some.ensures.some.0 c.in-Some.ensures.some.2 c.in-Some.ensures.some.1 untried.0 untried.1),
-      enough_for _ c.loop-p.account c.loop-p.invariant.begun.sound.based.honest (c.if-spent.ensures.not_enough refl),
+    let untried = c.fill_untried.ensures.untried some.0 (subst (λ (ws : List ℕ). has ws some.0 ≡ true) row some.1) in (
+      spends_where_due _ c.loop-p.walk.position.account c.in-Some.p some.0 c.loop-p.invariant.begun.sound.based.honest (c.if-spent.ensures.exactly.0 refl)
+          (may_guess _ c.loop-p.walk.position.domains c.loop-p.walk.position.undecided c.loop-p.walk.position.account _ _ c.in-Some.p some.0 c.loop-p.invariant.begun.sound c.in-Some.ensures.some.0 c.in-Some.ensures.some.2 c.in-Some.ensures.some.1 untried.0 untried.1),
+      enough_for _ c.loop-p.walk.position.account c.loop-p.invariant.begun.sound.based.honest (c.if-spent.ensures.not_enough refl),
     )
 
 pub choose-t-requires-clause-within : goal.choose-t-requires-clause-within
 choose-t-requires-clause-within g c t h =
+    let len = c.fill_untried.ensures.long ∙ ap words_for c.loop-p.invariant.begun.sound.based.is_of.values_is ∙ sym c.loop-p.invariant.words ∙ sym c.loop-p.walk.untried.ok.0 in
+    let row : c.deref-in-loop-p.result.now ≡ c.fill_untried.new.row = c.deref-in-loop-p.ensures.value ∙ written _ _ _ len in
     subst (λ (n : ℕ). t < n) (sym c.loop-p.invariant.choice)
-    (c.loop-p.invariant.begun.sound.here.quiet.first.values c.in-Some.p t c.in-Some.ensures.some.0 (c.fill_untried.ensures.untried t h).0)
+    (c.loop-p.invariant.begun.sound.here.quiet.first.values c.in-Some.p t c.in-Some.ensures.some.0 (c.fill_untried.ensures.untried t (subst (λ (ws : List ℕ). has ws t ≡ true) row h)).0)
 
 pub guess-requires-clause-may : goal.guess-requires-clause-may
 guess-requires-clause-may g c =
+    let len = c.fill_untried.ensures.long ∙ ap words_for c.loop-p.invariant.begun.sound.based.is_of.values_is ∙ sym c.loop-p.invariant.words ∙ sym c.loop-p.walk.untried.ok.0 in
+    let row : c.deref-in-loop-p.result.now ≡ c.fill_untried.new.row = c.deref-in-loop-p.ensures.value ∙ written _ _ _ len in
     let t = c.choose-t.result in
-    let untried = c.fill_untried.ensures.untried t c.choose-t.ensures.member in
-    may_guess _ c.loop-p.d c.loop-p.undecided c.loop-p.account _ _ c.in-Some.p t c.loop-p.invariant.begun.sound c.in-Some.ensures.some.0 c.in-Some.ensures.some.2 c.in-Some.ensures.some.1 untried.0 untried.1
+    let untried = c.fill_untried.ensures.untried t (subst (λ (ws : List ℕ). has ws t ≡ true) row c.choose-t.ensures.member) in
+    may_guess _ c.loop-p.walk.position.domains c.loop-p.walk.position.undecided c.loop-p.walk.position.account _ _ c.in-Some.p t c.loop-p.invariant.begun.sound c.in-Some.ensures.some.0 c.in-Some.ensures.some.2 c.in-Some.ensures.some.1 untried.0 untried.1
 
 pub loop-p-init : goal.loop-p-init
 loop-p-init g c = record {
-  fits = c.requires.fits;
-  seat = c.requires.seat;
-  problem = c.requires.problem;
-  begun = c.requires.begun;
-  budget = refl;
+  fits = c.begin.ensures.fits;
+  seat = c.begin.ensures.seat;
+  problem = c.begin.ensures.problem;
+  begun = goes_on c.in-Ok-true.field-0 _ _ _ _ _ _ _ _ c.in-Ok-true.field-0-test c.in-Ok-true.ensures.begun;
+  budget = ap (λ (a : Account). a.budget) c.begin.ensures.account;
+  long = c.begin.ensures.long;
+  words = c.requires.words;
   choice = c.requires.choice;
-  owner = c.requires.owner;
-  logged = c.requires.logged;
-  room = c.requires.room;
+  owner = c.begin.ensures.owner ∙ c.requires.owner;
+  logged = logs_true c.in-Ok-true.field-0 _ _ _ _ _ _ _ _ _ c.in-Ok-true.field-0-test c.in-Ok-true.ensures.logged;
+  room = omega (arith, c.requires.room, ap vec_capacity c.begin.ensures.marks);
 }
 
 pub loop-p-preserved-then-not-has_value : goal.loop-p-preserved-then-not-has_value
 loop-p-preserved-then-not-has_value g c =
+    let len = c.fill_untried.ensures.long ∙ ap words_for c.loop-p.invariant.begun.sound.based.is_of.values_is ∙ sym c.loop-p.invariant.words ∙ sym c.loop-p.walk.untried.ok.0 in
     let begun = c.loop-p.invariant.begun in
     record {
       fits = c.loop-p.invariant.fits;
@@ -73,23 +89,26 @@ loop-p-preserved-then-not-has_value g c =
       problem = c.loop-p.invariant.problem;
       begun = record {
         sound = c.take_back.ensures.sound;
-        acting = c.take_back.ensures.acting c.loop-p.filters.nogoods begun.acting.past;
+        acting = c.take_back.ensures.acting c.loop-p.walk.propagator.filters.nogoods begun.acting.past;
         rows = begun.rows;
         holds = begun.holds;
         keeps = subst (λ (n : ℕ). KeepsUp (g.B.Seat.RowSeat.shows c.loop-p.seat) n) (sym c.take_back.ensures.run) begun.keeps;
       };
       budget = c.take_back.ensures.budget ∙ c.loop-p.invariant.budget;
+      long = c.loop-p.invariant.long;
+      words = ap length (written _ _ _ len) ∙ c.fill_untried.ensures.long ∙ ap words_for begun.sound.based.is_of.values_is;
       choice = c.loop-p.invariant.choice;
       owner = c.in-Ok.ensures.owner ∙ c.loop-p.invariant.owner;
       logged = record {
-        told = c.take_back.ensures.told c.loop-p.filters.nogoods c.loop-p.invariant.logged.told;
-        writes = subst (λ (rows : List Row). g.L.ProofLogger.writes c.close.new.self c.args.author.now.problem.now rows c.take_back.new.account) c.rows-rows.ensures.seen (c.in-Ok.ensures.closed.failed _ c.take_back.ensures.failed);
+        told = c.take_back.ensures.told c.loop-p.walk.propagator.filters.nogoods c.loop-p.invariant.logged.told;
+        writes = subst (λ (rows : List Row). g.L.ProofLogger.writes c.close.new.self c.args.author.now.problem.now rows c.take_back.new.self.account) c.rows-rows.ensures.seen (c.in-Ok.ensures.closed.failed _ c.take_back.ensures.failed);
       };
       room = omega (arith, c.loop-p.invariant.room, c.take_back.ensures.room);
     }
 
 pub loop-p-preserved : goal.loop-p-preserved
 loop-p-preserved g c =
+    let len = c.fill_untried.ensures.long ∙ ap words_for c.loop-p.invariant.begun.sound.based.is_of.values_is ∙ sym c.loop-p.invariant.words ∙ sym c.loop-p.walk.untried.ok.0 in
     let begun = c.loop-p.invariant.begun in
     record {
       fits = c.loop-p.invariant.fits;
@@ -99,14 +118,16 @@ loop-p-preserved g c =
         sound = c.in-Ok-guess.ensures.sound;
         acting = c.in-Ok-guess.ensures.acting;
         rows = begun.rows;
-        holds = holds_same (g.B.Seat.RowSeat.shows c.loop-p.seat).seen c.loop-p.filters.nogoods c.guess.new.filters.nogoods c.guess.ensures.kept begun.holds;
+        holds = holds_same (g.B.Seat.RowSeat.shows c.loop-p.seat).seen c.loop-p.walk.propagator.filters.nogoods c.guess.new.propagator.filters.nogoods c.guess.ensures.kept begun.holds;
         keeps = subst (λ (n : ℕ). KeepsUp (g.B.Seat.RowSeat.shows c.loop-p.seat) n) (sym c.guess.ensures.run) begun.keeps;
       };
       budget = c.guess.ensures.budget ∙ c.loop-p.invariant.budget;
+      long = c.guess.ensures.long;
+      words = ap length (written _ _ _ len) ∙ c.fill_untried.ensures.long ∙ ap words_for begun.sound.based.is_of.values_is;
       choice = c.choose-t.ensures.same ∙ c.loop-p.invariant.choice;
       owner = c.guess.ensures.owner ∙ c.loop-p.invariant.owner;
-      logged = subst (λ (rows : List Row). IsLogged c.args.author.now.problem.now rows c.guess.new.filters.nogoods c.guess.new.d c.guess.new.account c.guess.new.marks.items
-          (g.L.Told.Recorder.changes c.guess.new.told) (g.L.ProofLogger.writes c.guess.new.log)) c.rows.ensures.seen c.in-Ok-guess.ensures.logged;
+      logged = subst (λ (rows : List Row). IsLogged c.args.author.now.problem.now rows c.guess.new.propagator.filters.nogoods c.guess.new.position.domains c.guess.new.position.account c.guess.new.position.marks.items
+          (g.L.Told.Recorder.changes c.guess.new.position.told) (g.L.ProofLogger.writes c.guess.new.log)) c.rows.ensures.seen c.in-Ok-guess.ensures.logged;
       room = omega (arith, c.loop-p.invariant.room, c.guess.ensures.room);
     }
 
@@ -121,11 +142,13 @@ returns-in_default-clause-steps g c = c.stays.ensures.steps _ _ _ c.loop-p.invar
 
 pub close-requires-clause-ends : goal.close-requires-clause-ends
 close-requires-clause-ends g c =
-    ends_path _ c.rows-rows.result.now c.loop-p.filters.nogoods c.loop-p.d _ _ _ _ _ c.loop-p.invariant.begun.sound.based.is_of (rw c.rows-rows.ensures.seen c.loop-p.invariant.begun.holds) c.loop-p.invariant.logged.told
+    let len = c.fill_untried.ensures.long ∙ ap words_for c.loop-p.invariant.begun.sound.based.is_of.values_is ∙ sym c.loop-p.invariant.words ∙ sym c.loop-p.walk.untried.ok.0 in
+    let row : c.deref.result.now ≡ c.fill_untried.new.row = c.deref.ensures.value ∙ written _ _ _ len in
+    ends_path _ c.rows-rows.result.now c.loop-p.walk.propagator.filters.nogoods c.loop-p.walk.position.domains _ _ _ _ _ c.loop-p.invariant.begun.sound.based.is_of (rw c.rows-rows.ensures.seen c.loop-p.invariant.begun.holds) c.loop-p.invariant.logged.told
     (record {
       vertex_in = c.in-Some.ensures.some.0;
       level = c.in-Some.ensures.some.2;
-      none = none_left c.loop-p.d c.loop-p.account.refuted c.fill_untried.new.row c.in-Some.p c.fill_untried.ensures.all (c.if-not-has_value.ensures.none refl);
+      none = none_left c.loop-p.walk.position.domains c.loop-p.walk.position.account.refuted c.fill_untried.new.row c.in-Some.p c.fill_untried.ensures.all (subst (λ (ws : List ℕ). (t : ℕ) → has ws t ≡ false) row (c.if-not-has_value.ensures.none refl));
     })
 
 pub close-requires-clause-writes : goal.close-requires-clause-writes

@@ -9,7 +9,7 @@ use Rattle.restart_search.proofs.Noting.{passes_member}
 use Rattle.restart_search.proofs.sharing.publish_level.Goals as goal
 
 pub publish_nogood-requires-clause-parent : goal.publish_nogood-requires-clause-parent
-publish_nogood-requires-clause-parent g c = reaches_more _ _ c.args.parent c.args.above.now c.requires.parent c.loop-t.invariant.went.grew.seen
+publish_nogood-requires-clause-parent g c = reaches_more _ _ c.args.level.now.parent c.args.level.now.above.now c.requires.parent c.loop-t.invariant.went.grew.seen
 
 pub loop-t-preserved : goal.loop-t-preserved
 loop-t-preserved g c =
@@ -20,12 +20,12 @@ loop-t-preserved g c =
     record {
       fits = c.publish_nogood.ensures.fits;
       went = went_more first mid last c.loop-t.invariant.went c.publish_nogood.ensures.went;
-      below = level_more (IsRowOf o (length first.seen) mid.seen) (IsRowOf o (length first.seen) last.seen) c.args.refuted.now c.args.above.now c.args.p c.loop-t.t c.next_member-t-in-loop-t.result
+      below = level_more (IsRowOf o (length first.seen) mid.seen) (IsRowOf o (length first.seen) last.seen) c.args.refuted.now c.args.level.now.above.now c.args.p c.loop-t.t c.next_member-t-in-loop-t.result
           (λ xs. row_on o (length first.seen) (length first.seen) mid.seen last.seen xs c.publish_nogood.ensures.went.grew.seen (omega arith))
           c.loop-t.invariant.below
           (row_later o first mid last _ c.loop-t.invariant.went (c.if-not-publish_nogood.ensures.row refl))
           c.next_member-t-in-loop-t.ensures.none;
-      learned = level_next (learned_by o first.seen) (learned_by o mid.seen) (learned_by o last.seen) c.args.above.now c.args.p (has c.args.refuted.now) c.loop-t.t c.next_member-t-in-loop-t.result
+      learned = level_next (learned_by o first.seen) (learned_by o mid.seen) (learned_by o last.seen) c.args.level.now.above.now c.args.p (has c.args.refuted.now) c.loop-t.t c.next_member-t-in-loop-t.result
           c.loop-t.invariant.learned (c.if-not-publish_nogood.ensures.learned refl) (c.loop-t.invariant.member c.loop-t-test.true) c.next_member-t-in-loop-t.ensures.low c.next_member-t-in-loop-t.ensures.none;
       within = c.next_member-t-in-loop-t.ensures.high;
       member = c.next_member-t-in-loop-t.ensures.member;
@@ -50,7 +50,7 @@ returns-in_err-room-clause-writes g c = c.in_err-room.ensures.writes _ _ _ c.loo
 pub returns-clause-learned : goal.returns-clause-learned
 returns-clause-learned g c = λ yes.
     let o = c.args.author.now.owner in
-    level_end (learned_by o (g.B.Seat.RowSeat.shows c.args.seat.now).seen) (learned_by o (g.B.Seat.RowSeat.shows c.loop-t.seat).seen) c.args.above.now c.args.p (has c.args.refuted.now) c.loop-t.t c.args.account.now.target
+    level_end (learned_by o (g.B.Seat.RowSeat.shows c.args.seat.now).seen) (learned_by o (g.B.Seat.RowSeat.shows c.loop-t.seat).seen) c.args.level.now.above.now c.args.p (has c.args.refuted.now) c.loop-t.t c.args.account.now.target
     c.loop-t.invariant.learned
     (λ i past. has_past c.args.refuted.now i (omega (arith, past, c.loop-t-test.false)))
     (λ i past. has_none c.args.refuted.now i (λ here. omega (arith, past, (c.requires.refuted i here).0, c.requires.target)))
@@ -62,8 +62,8 @@ loop-t-init g c =
     record {
       fits = c.requires.fits;
       went = went_none first c.rows-rows.ensures.sound;
-      below = level_before (IsRowOf o (length first.seen) first.seen) c.args.refuted.now c.args.above.now c.args.p c.next_member-t.result c.next_member-t.ensures.none;
-      learned = level_first (learned_by o first.seen) c.args.above.now c.args.p (has c.args.refuted.now) c.next_member-t.result c.next_member-t.ensures.none;
+      below = level_before (IsRowOf o (length first.seen) first.seen) c.args.refuted.now c.args.level.now.above.now c.args.p c.next_member-t.result c.next_member-t.ensures.none;
+      learned = level_first (learned_by o first.seen) c.args.level.now.above.now c.args.p (has c.args.refuted.now) c.next_member-t.result c.next_member-t.ensures.none;
       within = c.next_member-t.ensures.high;
       member = c.next_member-t.ensures.member;
       owner = refl;

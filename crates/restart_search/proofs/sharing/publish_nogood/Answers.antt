@@ -10,7 +10,7 @@ publish-requires-clause-owner g c = sym c.requires.seat.owner_is
 
 pub publish-requires-clause-row : goal.publish-requires-clause-row
 publish-requires-clause-row g c =
-    may_publish c.args.author.now.problem.now c.args.author.now.owner (g.B.Seat.RowSeat.shows c.args.seat.now) _ c.args.above.now c.requires.seat c.requires.parent c.requires.stands c.requires.dead c.requires.narrow
+    may_publish c.args.author.now.problem.now c.args.author.now.owner (g.B.Seat.RowSeat.shows c.args.seat.now) _ c.args.level.now.above.now c.requires.seat c.requires.parent c.requires.stands c.requires.dead c.requires.narrow
     (subst (λ (h : Graph). size h ≤ 1024) c.pattern-pattern.ensures.pattern c.pattern-pattern.ensures.few)
     (subst (λ (h : Graph). size h ≤ 8192) c.target-target.ensures.target c.target-target.ensures.few)
 
@@ -21,7 +21,7 @@ pub returns-in-Full-clause-went : goal.returns-in-Full-clause-went
 returns-in-Full-clause-went g c = went_full _ _ c.in-Full.ensures.placed
 
 pub returns-in-At-clause-row : goal.returns-in-At-clause-row
-returns-in-At-clause-row g c = λ yes. row_published _ _ c.args.author.now.owner _ _ c.args.above.now c.in-At.ensures.placed c.requires.parent refl refl
+returns-in-At-clause-row g c = λ yes. row_published _ _ c.args.author.now.owner _ _ c.args.level.now.above.now c.in-At.ensures.placed c.requires.parent refl refl
 
 pub returns-in-Full-clause-full : goal.returns-in-Full-clause-full
 returns-in-Full-clause-full g c = λ no. full_after _ _ c.in-Full.ensures.placed
@@ -29,7 +29,7 @@ returns-in-Full-clause-full g c = λ no. full_after _ _ c.in-Full.ensures.placed
 pub returns-in-At-clause-writes : goal.returns-in-At-clause-writes
 returns-in-At-clause-writes g c =
     c.note.ensures.noted c.args.author.now.problem.now (g.B.Seat.RowSeat.shows c.args.seat.now).seen (g.B.Seat.RowSeat.shows c.publish.new.seat).seen c.requires.writes
-    (publishes_at c.args.account.now _ _ (g.L.ProofLogger.owner c.args.log.now) c.args.level _ _ c.args.above.now (c.requires.seat.owner_is ∙ sym c.requires.owner) refl (sym c.requires.owner)
+    (publishes_at c.args.account.now _ _ (g.L.ProofLogger.owner c.args.log.now) c.args.level.now.number _ _ c.args.level.now.above.now (c.requires.seat.owner_is ∙ sym c.requires.owner) refl (sym c.requires.owner)
     c.in-At.ensures.placed c.requires.parent c.requires.above c.requires.level c.requires.refuted)
 
 pub returns-in-Full-clause-writes : goal.returns-in-Full-clause-writes
@@ -38,4 +38,4 @@ returns-in-Full-clause-writes g c =
     (beside_full (g.L.ProofLogger.owner c.args.log.now) _ _ (c.requires.seat.owner_is ∙ sym c.requires.owner) c.in-Full.ensures.placed) c.requires.writes
 
 pub returns-in-At-clause-learned : goal.returns-in-At-clause-learned
-returns-in-At-clause-learned g c = λ yes. learned_nogood _ _ c.args.author.now.owner _ _ c.args.above.now c.in-At.ensures.placed c.requires.parent refl c.requires.seat.owner_is
+returns-in-At-clause-learned g c = λ yes. learned_nogood _ _ c.args.author.now.owner _ _ c.args.level.now.above.now c.in-At.ensures.placed c.requires.parent refl c.requires.seat.owner_is

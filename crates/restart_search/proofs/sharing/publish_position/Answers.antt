@@ -5,7 +5,7 @@ use Rattle.graph_theory.specs.Path.{NotOn}
 use Rattle.search_theory.specs.Account.{path}
 use Rattle.nogood_book.specs.Rows.{Pairs}
 use Rattle.nogood_book.proofs.Reaching.{reaches_more}
-use Rattle.restart_search.specs.Sharing.{IsRowOf, learned_by, refuted_in, refuted_below}
+use Rattle.restart_search.specs.Sharing.{IsRowOf, learned_by}
 use Rattle.restart_search.proofs.Positions.{level_is, refuted_dead}
 use Rattle.restart_search.proofs.Publishing.{went_more, row_on, row_later, published_on, published_more, published_ended, published_all, level_few}
 use Rattle.restart_search.proofs.Learning.{below_more, below_all, none_after, no_vertex}

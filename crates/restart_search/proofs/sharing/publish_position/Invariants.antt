@@ -6,7 +6,7 @@ use Rattle.restart_search.proofs.sharing.publish_position.Given as goal
 
 abbrev pub invariant-loop-i : goal.invariant-loop-i
 invariant-loop-i g l = record {
-  fits : g.B.Book.fits l.book l.seat;
+  fits : g.B.Book.fits l.author.book.now l.seat;
   went : Went (g.B.Seat.RowSeat.shows l.fn.seat) (g.B.Seat.RowSeat.shows l.seat);
   parent : Reaches (g.B.Seat.RowSeat.shows l.seat).seen l.parent (take l.i l.path);
   published : PublishedBelow l.account (IsRowOf l.author.owner (length (g.B.Seat.RowSeat.shows l.fn.seat).seen) (g.B.Seat.RowSeat.shows l.seat).seen) l.i;

@@ -5,7 +5,7 @@ use Rattle.domain_bits.specs.Removals.{in_domain}
 use Rattle.fail_account.proofs.Distinct.{path_fewer}
 use Rattle.restart_search.proofs.Steps.{level_after, untried_of, all_untried}
 use Rattle.restart_search.proofs.Beginning.{value_within}
-use Rattle.restart_search.proofs.search.fill_untried.Goals as goal
+use Rattle.restart_search.proofs.value_choice.fill_untried.Goals as goal
 
 pub overflow_cast-depth : goal.overflow_cast-depth
 overflow_cast-depth g c =

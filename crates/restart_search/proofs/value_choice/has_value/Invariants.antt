@@ -1,6 +1,6 @@
 use Rattle.std.proofs.Common.{◌≡◌, ℕ, ◌*◌, ◌<◌, false}
 use Rattle.domain_bits.specs.BitRows.{has}
-use Rattle.restart_search.proofs.search.has_value.Given as goal
+use Rattle.restart_search.proofs.value_choice.has_value.Given as goal
 
 abbrev pub invariant-loop-place : goal.invariant-loop-place
 invariant-loop-place l = (t : ℕ) → t < 64 * l.place → has l.row t ≡ false

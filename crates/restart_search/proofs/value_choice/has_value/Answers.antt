@@ -3,7 +3,7 @@ use Rattle.std.specs.Int.{trailing_zeros}
 use Rattle.std.proofs.Math.Facts.{Fits-lt-pow}
 use Rattle.domain_bits.proofs.Rows.{has_at}
 use Rattle.domain_bits.proofs.WordBits.{low_bit, low_is_set}
-use Rattle.restart_search.proofs.search.has_value.Goals as goal
+use Rattle.restart_search.proofs.value_choice.has_value.Goals as goal
 
 pub returns-then-row-place-ne0-clause-some : goal.returns-then-row-place-ne0-clause-some
 returns-then-row-place-ne0-clause-some c is =

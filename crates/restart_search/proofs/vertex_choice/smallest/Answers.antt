@@ -1,5 +1,5 @@
 use Rattle.restart_search.proofs.Choosing.{looked_more, looked_all}
-use Rattle.restart_search.proofs.search.smallest.Goals as goal
+use Rattle.restart_search.proofs.vertex_choice.smallest.Goals as goal
 
 pub returns : goal.returns
 returns g c =

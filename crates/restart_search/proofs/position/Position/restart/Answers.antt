@@ -1,9 +1,9 @@
 use Rattle.std.proofs.Common.{subst}
 use Rattle.search_theory.specs.Account.{Account, Honest}
 use Rattle.restart_search.proofs.Closing.{sound_restarted}
-use Rattle.restart_search.proofs.Restarting.{at_root_restarted}
+use Rattle.restart_search.proofs.BetweenRuns.{at_root_restarted}
 use Rattle.restart_search.proofs.Logging.{told_restarted}
-use Rattle.restart_search.proofs.search.restart.Goals as goal
+use Rattle.restart_search.proofs.position.Position.restart.Goals as goal
 
 pub undo_to-requires : goal.undo_to-requires
 undo_to-requires g c =
@@ -20,4 +20,4 @@ returns-clause-at_root g c =
 
 pub returns-clause-told : goal.returns-clause-told
 returns-clause-told g c = λ n t.
-    told_restarted c.args.q.now n c.args.d.now _ c.args.undecided.now c.args.account.now c.args.marks.now.items _ _ c.args.root _ _ c.requires.sound.based c.undo_to.ensures.after c.forget_to.ensures t
+    told_restarted c.args.q.now n c.args.self.now.domains _ c.args.self.now.undecided c.args.self.now.account c.args.self.now.marks.items _ _ c.args.self.now.root _ _ c.requires.sound.based c.undo_to.ensures.after c.forget_to.ensures t

@@ -1,6 +1,6 @@
 use Rattle.std.proofs.Common.{sym, ◌∙◌}
 use Rattle.restart_search.proofs.Steps.{best_may_stand, best_is_first}
-use Rattle.restart_search.proofs.search.level_vertex.Goals as goal
+use Rattle.restart_search.proofs.vertex_choice.level_vertex.Goals as goal
 
 pub returns-in-None-clause-some : goal.returns-in-None-clause-some
 returns-in-None-clause-some g c =

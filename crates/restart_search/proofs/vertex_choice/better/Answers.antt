@@ -1,7 +1,7 @@
 use Rattle.std.proofs.Common.{arith, sym, ◌∙◌}
 use Rattle.propagation.proofs.Pruning.{one_by_size, not_one_by_size}
 use Rattle.restart_search.proofs.Choosing.{none_still, next_decided}
-use Rattle.restart_search.proofs.search.better.Goals as goal
+use Rattle.restart_search.proofs.vertex_choice.better.Goals as goal
 
 pub first_of-requires-clause-undecided : goal.first_of-requires-clause-undecided
 first_of-requires-clause-undecided g c =

@@ -18,7 +18,7 @@ use Rattle.propagation.specs.Propagation.{Narrows, LeavesPast}
 use Rattle.propagation.specs.Holding.{HoldsRows}
 use Rattle.propagation.specs.Acting.{AreActedOn}
 use Rattle.propagation.proofs.Narrowing.{is_of_narrowed}
-use Rattle.restart_search.specs.declared.search.Moment.{Moment}
+use Rattle.restart_search.specs.declared.position.Moment.{Moment}
 use Rattle.restart_search.specs.declared.outcome.Outcome.{Outcome}
 use Rattle.restart_search.specs.declared.outcome.Outcome.TheVariants.{Found, Refuted, Spent, Stopped, NoMemory}
 use Rattle.restart_search.specs.Acting.{Acting}
@@ -26,7 +26,7 @@ use Rattle.restart_search.specs.Sharing.{KeepsUp}
 use Rattle.restart_search.specs.declared.outcome.Stage.{Stage}
 use Rattle.restart_search.specs.declared.outcome.Stage.TheVariants.{Fresh, Halfway, Over}
 use Rattle.restart_search.specs.Logging.{IfRefuted, LoggedAt}
-use Rattle.restart_search.specs.Searching.{stage_after, Sound, IsNow, IsAtRoot, Begun, TookUp, BeganAgain, Ends, IsTrueFor, IsNotStopped, FoundOf, Leaves, Search, IsPaused}
+use Rattle.restart_search.specs.Searching.{stage_after, Sound, IsNow, IsAtRoot, NotBegun, Begun, AtStage, TookUp, BeganAgain, Ends, IsTrueFor, IsNotStopped, FoundOf, Leaves, Search, IsPaused}
 use Rattle.restart_search.proofs.Beginning.{sound_fresh}
 use Rattle.restart_search.proofs.Closing.{sound_restarted, rest_again}
 use Rattle.restart_search.proofs.Moments.{acting_fresh}
@@ -84,11 +84,24 @@ began_again (Ok true) q n d s a marks root f h keeps = begun_at_root q n d s a m
 began_again (Ok false) q n d s a marks root f h keeps = h
 began_again (Err e) q n d s a marks root f h keeps = tt
 
--- the same, where embeddings are left
-pub began : (b : Bool) (q : Problem) (n : Option watched.State) (d : State) (s : sparse.State) (a : Account) (marks : List Moment) (root : Moment) (f : Facts)
-    → b ≡ true → TookUp b q n d s a marks root f.seen → KeepsUp f a.run → Begun q n d s a marks root f
-began true q n d s a marks root f is h keeps = begun_at_root q n d s a marks root f h.0 h.1 h.2 h.3 keeps
-began false q n d s a marks root f is h keeps = cc
+-- a run that has begun, where embeddings are left
+pub goes_on : (b : Bool) (q : Problem) (n : Option watched.State) (d : State) (s : sparse.State) (a : Account) (marks : List Moment) (root : Moment) (f : Facts)
+    → b ≡ true → BeganAgain b q n d s a marks root f → Begun q n d s a marks root f
+goes_on true q n d s a marks root f is h = h
+goes_on false q n d s a marks root f is h = cc
+
+-- a worker that has not begun, and one that was stopped
+pub fresh_of : (stage : Stage) (q : Problem) (n : Option watched.State) (d : State) (s : sparse.State) (a : Account) (marks : List Moment) (root : Moment) (f : Facts)
+    → stage ≡ Fresh → AtStage stage q n d s a marks root f → NotBegun q n d s a marks root
+fresh_of Fresh q n d s a marks root f is h = h
+fresh_of Halfway q n d s a marks root f is h = cc
+fresh_of Over q n d s a marks root f is h = cc
+
+pub halfway_of : (stage : Stage) (q : Problem) (n : Option watched.State) (d : State) (s : sparse.State) (a : Account) (marks : List Moment) (root : Moment) (f : Facts)
+    → stage ≡ Halfway → AtStage stage q n d s a marks root f → Begun q n d s a marks root f
+halfway_of Fresh q n d s a marks root f is h = cc
+halfway_of Halfway q n d s a marks root f is h = h
+halfway_of Over q n d s a marks root f is h = cc
 
 -- ---- rows that were seen, among more
 

@@ -6,11 +6,11 @@ use Rattle.nogood_book.proofs.Lists.{starts_length}
 use Rattle.propagation.specs.Holding.{HoldsRows}
 use Rattle.propagation.proofs.Holding.{holds_same, same_moved}
 use Rattle.restart_search.proofs.Closing.{none_again}
-use Rattle.restart_search.proofs.Restarting.{at_root_again, take_seen}
+use Rattle.restart_search.proofs.BetweenRuns.{at_root_again, take_seen}
 use Rattle.propagation.proofs.Narrowing.{is_of_narrowed}
 use Rattle.restart_search.proofs.Logging.{told_on, told_named, ends_path}
 use Rattle.restart_search.proofs.Noting.{beside_caught}
-use Rattle.restart_search.proofs.search.take_up_book.Goals as goal
+use Rattle.restart_search.proofs.restarting.take_up_book.Goals as goal
 
 pub take_rows-requires-clause-sound : goal.take_rows-requires-clause-sound
 take_rows-requires-clause-sound g c =
@@ -25,21 +25,21 @@ take_rows-requires-clause-begun g c =
 pub take_rows-requires-clause-holds : goal.take_rows-requires-clause-holds
 take_rows-requires-clause-holds g c =
     rw (c.rows-rows.ensures.seen)
-    (subst (λ (rows : List Row). HoldsRows rows c.args.filters.now.nogoods)
+    (subst (λ (rows : List Row). HoldsRows rows c.args.propagator.now.filters.nogoods)
     (sym (take_seen (g.B.Seat.RowSeat.shows c.catch_up.new.seat).seen (g.B.Seat.RowSeat.shows c.args.seat.now).seen c.args.taken c.catch_up.ensures.caught.grew.seen c.requires.begun)) c.requires.holds)
 
 pub returns-in_ok-close-in-Err-clause-took : goal.returns-in_ok-close-in-Err-clause-took
-returns-in_ok-close-in-Err-clause-took g c = none_again c.args.q.now c.args.d.now c.requires.at_root.rest c.in-Err.ensures.propagated.1
+returns-in_ok-close-in-Err-clause-took g c = none_again c.args.author.now.problem.now c.args.position.now.domains c.requires.at_root.rest c.in-Err.ensures.propagated.1
 
 pub returns-in-Ok-clause-took : goal.returns-in-Ok-clause-took
 returns-in-Ok-clause-took g c =
     let told = c.in-Ok.ensures.propagated in (
-      at_root_again c.args.q.now c.args.d.now c.propagate_again.new.d c.args.undecided.now c.propagate_again.new.undecided c.args.account.now c.args.marks.now c.args.root.now c.present.result
-          c.requires.at_root told.0 told.1 told.2 c.in-Ok.ensures.left c.present.ensures,
+      at_root_again c.args.author.now.problem.now c.args.position.now.domains c.propagate_again.new.d c.args.position.now.undecided c.propagate_again.new.undecided c.args.position.now.account c.args.position.now.marks.items c.args.position.now.root c.present-position.result
+          c.requires.at_root told.0 told.1 told.2 c.in-Ok.ensures.left c.present-position.ensures,
       c.in-Ok.ensures.acted,
       subst (λ (p : Problem). Sound p (g.B.Seat.RowSeat.shows c.catch_up.new.seat).seen) (c.catch_up.ensures.caught.grew.problem ∙ c.requires.seat) c.rows-rows.ensures.sound,
       holds_same (g.B.Seat.RowSeat.shows c.catch_up.new.seat).seen c.take_rows.new.self.nogoods c.propagate_again.new.filters.nogoods
-          (same_moved c.args.d.now c.take_rows.new.self.nogoods c.propagate_again.new.filters.nogoods c.propagate_again.ensures.moved)
+          (same_moved c.args.position.now.domains c.take_rows.new.self.nogoods c.propagate_again.new.filters.nogoods c.propagate_again.ensures.moved)
           (subst (λ (rows : List Row). HoldsRows rows c.take_rows.new.self.nogoods) c.rows-rows.ensures.seen c.in_ok-take_rows.ensures.holds),
     )
 
@@ -51,55 +51,55 @@ close-requires-clause-sound g c =
 pub close-requires-clause-writes : goal.close-requires-clause-writes
 close-requires-clause-writes g c =
     rw (c.rows-rows.ensures.seen)
-    (c.stays.ensures.grown c.args.q.now (g.B.Seat.RowSeat.shows c.args.seat.now).seen (g.B.Seat.RowSeat.shows c.catch_up.new.seat).seen c.args.account.now
+    (c.stays.ensures.grown c.args.author.now.problem.now (g.B.Seat.RowSeat.shows c.args.seat.now).seen (g.B.Seat.RowSeat.shows c.catch_up.new.seat).seen c.args.position.now.account
     (beside_caught (g.L.ProofLogger.owner c.args.log.now) _ _ (sym c.requires.owner) c.catch_up.ensures.caught) c.requires.logged.writes)
 
 pub close-requires-clause-ends : goal.close-requires-clause-ends
 close-requires-clause-ends g c =
-    ends_path c.args.q.now c.rows-rows.result.now c.propagate_again.new.filters.nogoods c.propagate_again.new.d _ _ _ _ _
-    (is_of_narrowed c.args.q.now c.args.d.now c.propagate_again.new.d c.in-Err.ensures.propagated.0 c.requires.at_root.is_of)
+    ends_path c.args.author.now.problem.now c.rows-rows.result.now c.propagate_again.new.filters.nogoods c.propagate_again.new.d _ _ _ _ _
+    (is_of_narrowed c.args.author.now.problem.now c.args.position.now.domains c.propagate_again.new.d c.in-Err.ensures.propagated.0 c.requires.at_root.is_of)
     (holds_same c.rows-rows.result.now c.take_rows.new.self.nogoods c.propagate_again.new.filters.nogoods
-    (same_moved c.args.d.now c.take_rows.new.self.nogoods c.propagate_again.new.filters.nogoods c.propagate_again.ensures.moved) c.in_ok-take_rows.ensures.holds)
-    (told_on c.args.q.now c.args.filters.now.nogoods c.propagate_again.new.filters.nogoods c.args.d.now c.propagate_again.new.d _ _ _ _
+    (same_moved c.args.position.now.domains c.take_rows.new.self.nogoods c.propagate_again.new.filters.nogoods c.propagate_again.ensures.moved) c.in_ok-take_rows.ensures.holds)
+    (told_on c.args.author.now.problem.now c.args.propagator.now.filters.nogoods c.propagate_again.new.filters.nogoods c.args.position.now.domains c.propagate_again.new.d _ _ _ _
     (λ t. c.propagate_again.ensures.told
-    (told_named c.args.q.now c.rows-rows.result.now c.args.taken c.args.filters.now.nogoods c.take_rows.new.self.nogoods c.args.d.now _ (rw (c.rows-rows.ensures.seen)
-    (subst (λ (rows : List Row). HoldsRows rows c.args.filters.now.nogoods)
+    (told_named c.args.author.now.problem.now c.rows-rows.result.now c.args.taken c.args.propagator.now.filters.nogoods c.take_rows.new.self.nogoods c.args.position.now.domains _ (rw (c.rows-rows.ensures.seen)
+    (subst (λ (rows : List Row). HoldsRows rows c.args.propagator.now.filters.nogoods)
     (sym (take_seen (g.B.Seat.RowSeat.shows c.catch_up.new.seat).seen (g.B.Seat.RowSeat.shows c.args.seat.now).seen c.args.taken c.catch_up.ensures.caught.grew.seen c.requires.begun)) c.requires.holds)) c.in_ok-take_rows.ensures.holds t))
     c.propagate_again.ensures.guesses c.requires.logged.told)
     c.in-Err.ensures.fails
 
 pub returns-in-Ok-clause-logged : goal.returns-in-Ok-clause-logged
 returns-in-Ok-clause-logged g c = record {
-  told = (told_on c.args.q.now c.args.filters.now.nogoods c.propagate_again.new.filters.nogoods c.args.d.now c.propagate_again.new.d _ _ _ _
+  told = (told_on c.args.author.now.problem.now c.args.propagator.now.filters.nogoods c.propagate_again.new.filters.nogoods c.args.position.now.domains c.propagate_again.new.d _ _ _ _
       (λ t. c.propagate_again.ensures.told
-      (told_named c.args.q.now c.rows-rows.result.now c.args.taken c.args.filters.now.nogoods c.take_rows.new.self.nogoods c.args.d.now _ (rw (c.rows-rows.ensures.seen)
-      (subst (λ (rows : List Row). HoldsRows rows c.args.filters.now.nogoods)
+      (told_named c.args.author.now.problem.now c.rows-rows.result.now c.args.taken c.args.propagator.now.filters.nogoods c.take_rows.new.self.nogoods c.args.position.now.domains _ (rw (c.rows-rows.ensures.seen)
+      (subst (λ (rows : List Row). HoldsRows rows c.args.propagator.now.filters.nogoods)
       (sym (take_seen (g.B.Seat.RowSeat.shows c.catch_up.new.seat).seen (g.B.Seat.RowSeat.shows c.args.seat.now).seen c.args.taken c.catch_up.ensures.caught.grew.seen c.requires.begun)) c.requires.holds)) c.in_ok-take_rows.ensures.holds t))
       c.propagate_again.ensures.guesses c.requires.logged.told);
-  writes = (c.stays.ensures.grown c.args.q.now (g.B.Seat.RowSeat.shows c.args.seat.now).seen (g.B.Seat.RowSeat.shows c.catch_up.new.seat).seen c.args.account.now
+  writes = (c.stays.ensures.grown c.args.author.now.problem.now (g.B.Seat.RowSeat.shows c.args.seat.now).seen (g.B.Seat.RowSeat.shows c.catch_up.new.seat).seen c.args.position.now.account
       (beside_caught (g.L.ProofLogger.owner c.args.log.now) _ _ (sym c.requires.owner) c.catch_up.ensures.caught) c.requires.logged.writes);
 }
 
 pub returns-in_ok-close-in-Err-clause-logged : goal.returns-in_ok-close-in-Err-clause-logged
 returns-in_ok-close-in-Err-clause-logged g c =
-    subst (λ (rows : List Row). g.L.ProofLogger.refutes c.close.new.self c.args.q.now rows) c.rows-rows.ensures.seen (c.in_ok-close-in-Err.ensures.closed.refuted c.requires.at_root.no_path)
+    subst (λ (rows : List Row). g.L.ProofLogger.refutes c.close.new.self c.args.author.now.problem.now rows) c.rows-rows.ensures.seen (c.in_ok-close-in-Err.ensures.closed.refuted c.requires.at_root.no_path)
 
 pub returns-in-Ok-clause-steps : goal.returns-in-Ok-clause-steps
 returns-in-Ok-clause-steps g c =
     c.stays.ensures.steps _ _ _
-    (c.stays.ensures.grown c.args.q.now (g.B.Seat.RowSeat.shows c.args.seat.now).seen (g.B.Seat.RowSeat.shows c.catch_up.new.seat).seen c.args.account.now
+    (c.stays.ensures.grown c.args.author.now.problem.now (g.B.Seat.RowSeat.shows c.args.seat.now).seen (g.B.Seat.RowSeat.shows c.catch_up.new.seat).seen c.args.position.now.account
     (beside_caught (g.L.ProofLogger.owner c.args.log.now) _ _ (sym c.requires.owner) c.catch_up.ensures.caught) c.requires.logged.writes)
 
 pub returns-in_err-take_rows-clause-steps : goal.returns-in_err-take_rows-clause-steps
 returns-in_err-take_rows-clause-steps g c =
     c.stays.ensures.steps _ _ _
-    (c.stays.ensures.grown c.args.q.now (g.B.Seat.RowSeat.shows c.args.seat.now).seen (g.B.Seat.RowSeat.shows c.catch_up.new.seat).seen c.args.account.now
+    (c.stays.ensures.grown c.args.author.now.problem.now (g.B.Seat.RowSeat.shows c.args.seat.now).seen (g.B.Seat.RowSeat.shows c.catch_up.new.seat).seen c.args.position.now.account
     (beside_caught (g.L.ProofLogger.owner c.args.log.now) _ _ (sym c.requires.owner) c.catch_up.ensures.caught) c.requires.logged.writes)
 
 pub returns-in_ok-close-in-Err-clause-steps : goal.returns-in_ok-close-in-Err-clause-steps
 returns-in_ok-close-in-Err-clause-steps g c =
-    subst (λ (rows : List Row). g.L.ProofLogger.steps c.close.new.self c.args.q.now rows) c.rows-rows.ensures.seen c.in_ok-close-in-Err.ensures.steps
+    subst (λ (rows : List Row). g.L.ProofLogger.steps c.close.new.self c.args.author.now.problem.now rows) c.rows-rows.ensures.seen c.in_ok-close-in-Err.ensures.steps
 
 pub returns-in_err-close-in-Err-clause-steps : goal.returns-in_err-close-in-Err-clause-steps
 returns-in_err-close-in-Err-clause-steps g c =
-    subst (λ (rows : List Row). g.L.ProofLogger.steps c.close.new.self c.args.q.now rows) c.rows-rows.ensures.seen c.in_err-close-in-Err.ensures.steps
+    subst (λ (rows : List Row). g.L.ProofLogger.steps c.close.new.self c.args.author.now.problem.now rows) c.rows-rows.ensures.seen c.in_err-close-in-Err.ensures.steps

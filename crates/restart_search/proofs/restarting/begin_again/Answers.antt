@@ -1,17 +1,15 @@
-use Rattle.std.proofs.Common.{List, length, IfOk, sym, ap, subst, ◌∙◌, arith}
+use Rattle.std.proofs.Common.{List, ◌<◌, length, sym, ap, subst, ◌∙◌, arith}
 use Rattle.search_theory.specs.Account.{Account}
+use Rattle.search_theory.specs.Remaining.{remaining}
 use Rattle.nogood_book.specs.declared.row.Row.{Row}
 use Rattle.nogood_book.proofs.Lists.{starts_length}
 use Rattle.propagation.specs.Holding.{HoldsRows}
 use Rattle.restart_search.specs.Sharing.{KeepsUp}
-use Rattle.restart_search.specs.declared.search.Moment.{Moment}
-use Rattle.restart_search.specs.Searching.{TookUp}
 use Rattle.restart_search.proofs.KeepingUp.{keeps_again}
 use Rattle.restart_search.proofs.Learning.{has_learned, on_ok}
-use Rattle.restart_search.proofs.Restarting.{began_again, take_all_seen}
+use Rattle.restart_search.proofs.BetweenRuns.{began_again, take_all_seen}
 use Rattle.restart_search.proofs.Publishing.{seat_went}
-use Rattle.restart_search.specs.Logging.{LogsOn}
-use Rattle.restart_search.proofs.search.begin_again.Goals as goal
+use Rattle.restart_search.proofs.restarting.begin_again.Goals as goal
 
 pub take_up_book-requires-clause-seat : goal.take_up_book-requires-clause-seat
 take_up_book-requires-clause-seat g c = c.publish_position-published.ensures.went.grew.problem ∙ c.requires.seat.problem
@@ -22,7 +20,7 @@ take_up_book-requires-clause-begun g c =
 
 pub take_up_book-requires-clause-holds : goal.take_up_book-requires-clause-holds
 take_up_book-requires-clause-holds g c =
-    subst (λ (rows : List Row). HoldsRows rows c.args.filters.now.nogoods)
+    subst (λ (rows : List Row). HoldsRows rows c.args.propagator.now.filters.nogoods)
     (sym (take_all_seen (g.B.Seat.RowSeat.shows c.publish_position-published.new.seat).seen (g.B.Seat.RowSeat.shows c.args.seat.now).seen (length c.rows-taken.result.now) c.publish_position-published.ensures.went.grew.seen (ap length c.rows-taken.ensures.seen)))
     c.requires.begun.holds
 
@@ -35,16 +33,14 @@ returns-clause-seat g c = record {
 pub returns-clause-begun : goal.returns-clause-begun
 returns-clause-begun g c =
     let keeps = keeps_again c.args.author.now.problem.now c.args.author.now.owner (g.B.Seat.RowSeat.shows c.args.seat.now) (g.B.Seat.RowSeat.shows c.publish_position-published.new.seat) (g.B.Seat.RowSeat.shows c.take_up_book.new.seat)
-    c.args.account.now c.in_ok-_whole._whole c.requires.seat c.requires.begun.sound.based.honest c.requires.due c.requires.begun.keeps c.publish_position-published.ensures.went c.in_ok-_whole.ensures.all
+    c.args.position.now.account c.in_ok-_whole._whole c.requires.seat c.requires.begun.sound.based.honest c.requires.due c.requires.begun.keeps c.publish_position-published.ensures.went c.in_ok-_whole.ensures.all
     c.in_ok-_whole.ensures.full c.take_up_book.ensures.caught in
-    began_again c.take_up_book.result c.args.author.now.problem.now c.take_up_book.new.filters.nogoods c.take_up_book.new.d c.take_up_book.new.undecided c.restart.new.account c.restart.new.marks.items c.take_up_book.new.root
-    (g.B.Seat.RowSeat.shows c.take_up_book.new.seat)
-    (subst (λ (ks : List Moment). IfOk c.take_up_book.result (λ some. TookUp some c.args.author.now.problem.now c.take_up_book.new.filters.nogoods c.take_up_book.new.d c.take_up_book.new.undecided c.restart.new.account ks c.take_up_book.new.root (g.B.Seat.RowSeat.shows c.take_up_book.new.seat).seen))
-    c.deref.ensures.value c.take_up_book.ensures.took)
-    (subst (λ (a : Account). KeepsUp (g.B.Seat.RowSeat.shows c.take_up_book.new.seat) a.run) (sym c.restart.ensures.restarted) keeps)
+    began_again c.take_up_book.result c.args.author.now.problem.now c.take_up_book.new.propagator.filters.nogoods c.take_up_book.new.position.domains c.take_up_book.new.position.undecided
+    c.take_up_book.new.position.account c.take_up_book.new.position.marks.items c.take_up_book.new.position.root (g.B.Seat.RowSeat.shows c.take_up_book.new.seat) c.take_up_book.ensures.took
+    (subst (λ (a : Account). KeepsUp (g.B.Seat.RowSeat.shows c.take_up_book.new.seat) a.run) (sym (c.take_up_book.ensures.account ∙ c.restart.ensures.restarted)) keeps)
 
 pub returns-clause-budget : goal.returns-clause-budget
-returns-clause-budget g c = ap (λ (a : Account). a.budget) c.restart.ensures.restarted
+returns-clause-budget g c = ap (λ (a : Account). a.budget) (c.take_up_book.ensures.account ∙ c.restart.ensures.restarted)
 
 pub take_up_book-requires-clause-owner : goal.take_up_book-requires-clause-owner
 take_up_book-requires-clause-owner g c =
@@ -52,9 +48,9 @@ take_up_book-requires-clause-owner g c =
 
 pub take_up_book-requires-clause-logged : goal.take_up_book-requires-clause-logged
 take_up_book-requires-clause-logged g c = record {
-  told = rw (c.deref.ensures.value) (c.restart.ensures.told c.args.filters.now.nogoods c.requires.logged.told);
+  told = c.restart.ensures.told c.args.propagator.now.filters.nogoods c.requires.logged.told;
   writes = rw (c.restart.ensures.restarted)
-      (c.restart-2.ensures.restarted c.args.author.now.problem.now (g.B.Seat.RowSeat.shows c.publish_position-published.new.seat).seen c.args.account.now c.publish_position-published.ensures.writes);
+      (c.restart-2.ensures.restarted c.args.author.now.problem.now (g.B.Seat.RowSeat.shows c.publish_position-published.new.seat).seen c.args.position.now.account c.publish_position-published.ensures.writes);
 }
 
 pub returns-in_err-_whole-clause-steps : goal.returns-in_err-_whole-clause-steps
@@ -63,11 +59,9 @@ returns-in_err-_whole-clause-steps g c = c.stays.ensures.steps _ _ _ c.publish_p
 pub returns-in_err-_whole-clause-seat : goal.returns-in_err-_whole-clause-seat
 returns-in_err-_whole-clause-seat g c = seat_went _ _ _ _ c.publish_position-published.ensures.went c.requires.seat
 
-pub returns-clause-logged : goal.returns-clause-logged
-returns-clause-logged g c =
-    subst (λ (ks : List Moment). IfOk c.take_up_book.result (λ some. LogsOn some c.args.author.now.problem.now (g.B.Seat.RowSeat.shows c.take_up_book.new.seat).seen c.take_up_book.new.filters.nogoods c.take_up_book.new.d
-    c.restart.new.account ks (g.L.Told.Recorder.changes c.take_up_book.new.told) (g.L.ProofLogger.writes c.take_up_book.new.log) (g.L.ProofLogger.refutes c.take_up_book.new.log)))
-    c.deref.ensures.value c.take_up_book.ensures.logged
+pub returns-clause-nearer : goal.returns-clause-nearer
+returns-clause-nearer g c =
+    on_ok c.take_up_book.result _ (subst (λ (a : Account). remaining a < remaining c.args.position.now.account) (sym c.take_up_book.ensures.account) c.restart.ensures.nearer)
 
 pub returns-clause-owner : goal.returns-clause-owner
 returns-clause-owner g c = c.take_up_book.ensures.owner ∙ (c.restart-2.ensures.owner ∙ c.publish_position-published.ensures.owner)
@@ -75,5 +69,5 @@ returns-clause-owner g c = c.take_up_book.ensures.owner ∙ (c.restart-2.ensures
 pub returns-clause-learned : goal.returns-clause-learned
 returns-clause-learned g c =
     on_ok c.take_up_book.result _
-    (has_learned c.args.account.now c.args.author.now.owner c.in_ok-_whole._whole (g.B.Seat.RowSeat.shows c.args.seat.now) (g.B.Seat.RowSeat.shows c.publish_position-published.new.seat) (g.B.Seat.RowSeat.shows c.take_up_book.new.seat)
+    (has_learned c.args.position.now.account c.args.author.now.owner c.in_ok-_whole._whole (g.B.Seat.RowSeat.shows c.args.seat.now) (g.B.Seat.RowSeat.shows c.publish_position-published.new.seat) (g.B.Seat.RowSeat.shows c.take_up_book.new.seat)
     c.requires.seat.owner_is c.publish_position-published.ensures.went c.take_up_book.ensures.caught c.in_ok-_whole.ensures.learned c.in_ok-_whole.ensures.full)
