@@ -17,6 +17,3 @@ mod watched;
 
 pub use in_force::watch_laws;
 pub use watched::{WatchAnswer, Watched};
-
-#[cfg(test)]
-mod tests;

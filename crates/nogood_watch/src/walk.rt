@@ -110,7 +110,7 @@ fn visit<T: Trail>(
     ensures room { vec_capacity forced.new ≡ vec_capacity forced.old }
 {
     let entry = &entries[x as usize / 2];
-    let nogood = &literals[entry.start..entry.end];
+    let nogood = &literals[entry.start as usize..entry.end as usize];
     let hand = heads.len() - 1;
     let own = watches[x as usize];
     let other = watches[partner_of(x) as usize];

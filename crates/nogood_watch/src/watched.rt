@@ -24,11 +24,12 @@ pub enum WatchAnswer {
     Fail(u32),
 }
 
-/// Where the literals of a nogood stand, and its name.
+/// Where the literals of a nogood stand, and its name. Twelve bytes, since a walk reads one for each watch that it meets, and on long
+/// refutations from memory far away.
 #[derive(Drop)]
 pub(crate) struct Entry {
-    pub(crate) start: usize,
-    pub(crate) end: usize,
+    pub(crate) start: u32,
+    pub(crate) end: u32,
     pub(crate) name: u32,
 }
 
@@ -81,8 +82,9 @@ impl Watched {
         })
     }
 
-    /// Keeps a nogood more. One literal is a unit; of more the first two are watched. Cost: one step for each literal, and on average for
-    /// each nogood, since all parts grow by doubling.
+    /// Keeps a nogood more. One literal is a unit; of more the first two are watched. Past 2^31 - 1 nogoods, or 2^32 - 1 literals of all
+    /// together, the answer is want of memory. Cost: one step for each literal, and on average for each nogood, since all parts grow by
+    /// doubling.
     pub fn add(&mut self, literals: &[(u16, u16)], name: u32) -> Result<(), AllocError>
         requires some { 0 < length literals.now }
         requires are { AreLiterals self.old.vertices self.old.values literals.now }
@@ -94,19 +96,15 @@ impl Watched {
             self.units.push((literals[0].0, literals[0].1, name))?;
             return Ok(());
         }
+        let (start, end) = span(self.literals.len(), literals.len())?;
         make_room(
             &mut self.entries,
             &mut self.watches,
             &mut self.next,
             &mut self.forced,
         )?;
-        let start = self.literals.len();
         self.literals.extend_from_slice(literals)?;
-        self.entries.push_reserved(Entry {
-            start,
-            end: start + literals.len(),
-            name,
-        });
+        self.entries.push_reserved(Entry { start, end, name });
         put_watch(
             self.values,
             &mut self.watches,
@@ -173,6 +171,19 @@ impl Watched {
     {
         &self.units
     }
+}
+
+/// Where so many literals more start and end, or want of memory where the numbers of places are used up.
+fn span(start: usize, more: usize) -> Result<(u32, u32), AllocError>
+    ensures start { IfOk result (λ r. r.0 ≡ start) }
+    ensures end { IfOk result (λ r. r.1 ≡ start + more) }
+    ensures used_up { OnErr result (4294967295 < start + more) }
+{
+    let most = u32::MAX as usize;
+    if start > most || more > most - start {
+        return Err(AllocError);
+    }
+    Ok((start as u32, (start + more) as u32))
 }
 
 /// Makes the room for a nogood more, or answers want of memory, also where the numbers of watches are used up.
