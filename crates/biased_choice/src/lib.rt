@@ -127,6 +127,3 @@ fn all_weights(row: &[u64], degrees: &[u16], top: u16) -> u64
     }
     sum
 }
-
-#[cfg(test)]
-mod tests;

@@ -106,6 +106,3 @@ fn count_words(xs: &[u64], ys: &[u64], words: usize) -> usize
     }
     total
 }
-
-#[cfg(test)]
-mod tests;

@@ -212,6 +212,3 @@ fn in_both(xs: &[u64], ys: &[u64], value: usize) -> bool
 {
     has_bit(xs, value) && has_bit(ys, value)
 }
-
-#[cfg(test)]
-mod tests;

@@ -41,6 +41,3 @@ pub fn keep_degrees(q: &Problem, p: u16, row: &mut [u64])
 pub fn lesser_degrees_are_dead()
     ensures { LesserDegreesAreDead }
 {}
-
-#[cfg(test)]
-mod tests;

@@ -17,6 +17,3 @@ pub use domains::{Domains, Mark};
 pub use kernels::{and_into, and_not_into, count_ones, or_into};
 pub use trail::{PairTrail, Run, Trail};
 pub use word_trail::WordTrail;
-
-#[cfg(test)]
-mod tests;

@@ -10,8 +10,6 @@ pub mod account;
 pub mod cutoffs;
 mod rows;
 mod shared;
-#[cfg(test)]
-mod tests;
 
 pub use account::Account;
 pub use cutoffs::luby;

@@ -10,8 +10,6 @@
 mod choosing;
 mod first_lines;
 mod operands;
-#[cfg(test)]
-mod tests;
 mod units;
 
 pub use first_lines::FirstLines;

@@ -97,6 +97,3 @@ fn keeps_sequence(q: &Problem, ps: &Sequences, ts: &Sequences, p: u16, t: u16) -
         SequenceAnswer::FailsAt(_) => false,
     }
 }
-
-#[cfg(test)]
-mod tests;

@@ -8,8 +8,6 @@
 #![tactic(auto)]
 
 pub mod graph;
-#[cfg(test)]
-mod graph_tests;
 pub mod mapping;
 pub mod problem;
 mod shared;

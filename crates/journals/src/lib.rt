@@ -9,8 +9,6 @@
 mod buffer;
 mod journal;
 mod keeper;
-#[cfg(test)]
-mod tests;
 
 pub use journal::Journal;
 pub use keeper::{Keeper, NoLog};

@@ -12,9 +12,6 @@ ghost use Rattle.log_theory.specs.LogText.{IsName, AreRefs};
 ghost use Rattle.forcing_theory.specs.Sums.{sum_from};
 ghost use Rattle.kept_lines.specs.Frames.{Frame, Goes, Named, IsKept, IsAddable, AreSumOf};
 
-#[cfg(test)]
-mod tests;
-
 use journals::Keeper;
 use log_theory::{Name, Op, Ops, Ref, Step};
 use std::alloc::{AllocError, Global};

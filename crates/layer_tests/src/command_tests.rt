@@ -3,6 +3,7 @@
 use command_line::{Command, ProveWords, Refusal, SolveWords, command_of};
 use std::alloc::{AllocError, Global};
 use std::test::Fail;
+use worked_examples::{Example, first_wrong};
 
 /// The words of a line, one blank between two; two blanks in a row stand round an empty word.
 fn words_of(alloc: Global, line: &str) -> Result<Vec<String>, AllocError> {
@@ -78,176 +79,158 @@ fn come_to(alloc: Global, words: &[String], expected: &str) -> Result<bool, Allo
 }
 
 /// A line, and what it comes to.
-struct Row {
+struct Says {
     line: &'static str,
     told: &'static str,
 }
 
-/// Whether the words of the line come to what it tells.
-fn is_told(alloc: Global, row: &Row) -> Result<bool, AllocError> {
-    let words = words_of(alloc, row.line)?;
-    come_to(alloc, &words, row.told)
-}
-
-/// The first line that comes to something else.
-fn first_wrong(alloc: Global, rows: &[Row]) -> Result<Option<&'static str>, AllocError> {
-    for row in rows {
-        if !is_told(alloc, row)? {
-            return Ok(Some(row.line));
-        }
+impl<R> Example<R> for Says {
+    fn holds(&self, _rt: &R, alloc: Global) -> Result<bool, AllocError> {
+        let words = words_of(alloc, self.line)?;
+        come_to(alloc, &words, self.told)
     }
-    Ok(None)
 }
 
-static ROWS: [Row; 18] = [
-    Row {
+static SAYS: [Says; 18] = [
+    Says {
         line: "subgraph solve p t",
         told: "solve p t false Lad 1 0 9223372036854775807 65536 unproved",
     },
-    Row {
+    Says {
         line: "subgraph solve p p --induced",
         told: "solve p p true Lad 1 0 9223372036854775807 65536 unproved",
     },
-    Row {
+    Says {
         line: "subgraph solve --budget 4 p --format vertexlabelledlad t",
         told: "solve p t false VertexLabelledLad 1 0 4 65536 unproved",
     },
-    Row {
+    Says {
         line: "subgraph solve p t --budget=09223372036854775807",
         told: "solve p t false Lad 1 0 9223372036854775807 65536 unproved",
     },
-    Row {
+    Says {
         line: "subgraph solve -- --induced t",
         told: "solve --induced t false Lad 1 0 9223372036854775807 65536 unproved",
     },
-    Row {
+    Says {
         line: "subgraph solve  t",
         told: "solve  t false Lad 1 0 9223372036854775807 65536 unproved",
     },
-    Row {
+    Says {
         line: "subgraph solve p t --seed 18446744073709551615 --budget 4",
         told: "solve p t false Lad 1 18446744073709551615 4 65536 unproved",
     },
-    Row {
+    Says {
         line: "subgraph solve p t --threads 64 --book 4194304",
         told: "solve p t false Lad 64 0 9223372036854775807 4194304 unproved",
     },
-    Row {
+    Says {
         line: "subgraph solve --book 0 --threads 008 p t",
         told: "solve p t false Lad 8 0 9223372036854775807 0 unproved",
     },
-    Row {
+    Says {
         line: "subgraph solve p t --prove e --log l",
         told: "solve p t false Lad 1 0 9223372036854775807 65536 e l",
     },
-    Row {
+    Says {
         line: "subgraph solve --log=p. --prove . p t",
         told: "solve p t false Lad 1 0 9223372036854775807 65536 . p.",
     },
-    Row {
+    Says {
         line: "subgraph verify p t m",
         told: "verify p t m false Lad",
     },
-    Row {
+    Says {
         line: "subgraph verify --format lad p --induced t m",
         told: "verify p t m true Lad",
     },
-    Row {
+    Says {
         line: "subgraph encode p t",
         told: "encode p t false Lad",
     },
-    Row {
+    Says {
         line: "subgraph encode --format vertexlabelledlad p t --induced",
         told: "encode p t true VertexLabelledLad",
     },
-    Row {
+    Says {
         line: "subgraph check e l",
         told: "check e l",
     },
-    Row {
+    Says {
         line: "subgraph demo 7",
         told: "demo 7 1 9223372036854775807",
     },
-    Row {
+    Says {
         line: "subgraph demo 7 --budget 4 --threads 2",
         told: "demo 7 2 4",
     },
 ];
 
 /// Lines that are no command.
-static REFUSED: [&str; 39] = [
-    "",
-    "subgraph solve p",
-    "subgraph solve p t m",
-    "subgraph verify p t",
-    "subgraph check e",
-    "subgraph demo",
-    "subgraph demo +7",
-    "subgraph solve p t --threads 0",
-    "subgraph solve p t --threads 65",
-    "subgraph solve p t --threads +4",
-    "subgraph solve p t --threads 4294967297",
-    "subgraph solve p t --book 4194305",
-    "subgraph demo 7 --threads 65",
-    "subgraph demo 7 --book 4",
-    "subgraph verify p t m --threads 2",
-    "subgraph solve p t --budget 0",
-    "subgraph solve p t --budget 9223372036854775808",
-    "subgraph solve p t --budget 99999999999999999999",
-    "subgraph solve p t --seed 18446744073709551616",
-    "subgraph encode p t --budget 4",
-    "subgraph check e l --induced",
-    "subgraph verify p t m --seed 4",
-    "subgraph solve p t --format foo",
-    "subgraph solve p t --seed 1 --seed 1",
-    "subgraph solve p t --induced --induced",
-    "subgraph solve p t --induced=true",
-    "subgraph solve p t --prove e",
-    "subgraph solve p t --log l",
-    "subgraph solve p t --prove a --log a",
-    "subgraph solve p t --prove p --log l",
-    "subgraph solve p t --prove e --log t",
-    "subgraph solve p t --bud 4",
-    "subgraph sol p t",
-    "subgraph --help",
-    "subgraph help",
-    "subgraph -V",
-    "subgraph --version",
-    "subgraph solve --help",
-    "subgraph solve p t -h",
+/// A line that is no command.
+struct Refused(&'static str);
+
+impl<R> Example<R> for Refused {
+    fn holds(&self, _rt: &R, alloc: Global) -> Result<bool, AllocError> {
+        let words = words_of(alloc, self.0)?;
+        match command_of(alloc, &words) {
+            Ok(_) => Ok(false),
+            Err(refusal) => Ok(refusal == Refusal::NotACommand),
+        }
+    }
+}
+
+static REFUSED: [Refused; 39] = [
+    Refused(""),
+    Refused("subgraph solve p"),
+    Refused("subgraph solve p t m"),
+    Refused("subgraph verify p t"),
+    Refused("subgraph check e"),
+    Refused("subgraph demo"),
+    Refused("subgraph demo +7"),
+    Refused("subgraph solve p t --threads 0"),
+    Refused("subgraph solve p t --threads 65"),
+    Refused("subgraph solve p t --threads +4"),
+    Refused("subgraph solve p t --threads 4294967297"),
+    Refused("subgraph solve p t --book 4194305"),
+    Refused("subgraph demo 7 --threads 65"),
+    Refused("subgraph demo 7 --book 4"),
+    Refused("subgraph verify p t m --threads 2"),
+    Refused("subgraph solve p t --budget 0"),
+    Refused("subgraph solve p t --budget 9223372036854775808"),
+    Refused("subgraph solve p t --budget 99999999999999999999"),
+    Refused("subgraph solve p t --seed 18446744073709551616"),
+    Refused("subgraph encode p t --budget 4"),
+    Refused("subgraph check e l --induced"),
+    Refused("subgraph verify p t m --seed 4"),
+    Refused("subgraph solve p t --format foo"),
+    Refused("subgraph solve p t --seed 1 --seed 1"),
+    Refused("subgraph solve p t --induced --induced"),
+    Refused("subgraph solve p t --induced=true"),
+    Refused("subgraph solve p t --prove e"),
+    Refused("subgraph solve p t --log l"),
+    Refused("subgraph solve p t --prove a --log a"),
+    Refused("subgraph solve p t --prove p --log l"),
+    Refused("subgraph solve p t --prove e --log t"),
+    Refused("subgraph solve p t --bud 4"),
+    Refused("subgraph sol p t"),
+    Refused("subgraph --help"),
+    Refused("subgraph help"),
+    Refused("subgraph -V"),
+    Refused("subgraph --version"),
+    Refused("subgraph solve --help"),
+    Refused("subgraph solve p t -h"),
 ];
 
 #[test]
 fn lines_come_to_their_commands(rt: HostRuntime) -> Result<(), Fail> {
-    assert_eq!(rt; first_wrong(rt.alloc(), &ROWS)?, None);
+    assert_eq!(rt; first_wrong(&rt, rt.alloc(), &SAYS)?, None);
     Ok(())
-}
-
-/// Whether the words of the line are no command.
-fn is_refused(alloc: Global, line: &str) -> Result<bool, AllocError> {
-    let words = words_of(alloc, line)?;
-    match command_of(alloc, &words) {
-        Ok(_) => Ok(false),
-        Err(refusal) => Ok(refusal == Refusal::NotACommand),
-    }
-}
-
-/// The first line that is a command.
-fn first_command(
-    alloc: Global,
-    lines: &[&'static str],
-) -> Result<Option<&'static str>, AllocError> {
-    for line in lines {
-        if !is_refused(alloc, line)? {
-            return Ok(Some(line));
-        }
-    }
-    Ok(None)
 }
 
 #[test]
 fn other_lines_are_no_command(rt: HostRuntime) -> Result<(), Fail> {
-    assert_eq!(rt; first_command(rt.alloc(), &REFUSED)?, None);
+    assert_eq!(rt; first_wrong(&rt, rt.alloc(), &REFUSED)?, None);
     Ok(())
 }
 

@@ -1,8 +1,8 @@
-//! Tests of single layers, over what they offer to the layers above.
+//! Tests of single layers above the search, over what they offer to the layers above.
 //!
-//! They stand here because a crate with tests is proved twice, once with them and once without: here only the tests are proved
-//! again. What they show is what no clause says, with ample memory: what words come to, rows of pairs as worked words, that a
-//! fresh note finds an answer, what a recorder keeps of a few changes, whole searches by one worker, and whole solves by one to 64.
+//! What they show is what no clause says, with ample memory: what words come to, rows of pairs as worked words, that a fresh note
+//! finds an answer, what a recorder keeps of a few changes, whole searches by one worker, whole solves by one to 64, the lines of a
+//! log to the letter, and the files of a proof with each call failing in turn.
 #![tactic(auto)]
 
 #[cfg(test)]
@@ -12,10 +12,22 @@ mod cause_tests;
 #[cfg(test)]
 mod command_tests;
 #[cfg(test)]
+mod dead_path_tests;
+#[cfg(test)]
+mod first_line_tests;
+#[cfg(test)]
+mod logger_tests;
+#[cfg(test)]
 mod problems;
+#[cfg(test)]
+mod proof_file_tests;
+#[cfg(test)]
+mod row_line_tests;
 #[cfg(test)]
 mod row_tests;
 #[cfg(test)]
 mod search_tests;
+#[cfg(test)]
+mod set_line_tests;
 #[cfg(test)]
 mod worker_tests;

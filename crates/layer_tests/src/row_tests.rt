@@ -7,8 +7,9 @@ use crate::problems::problem;
 use graph_rows::Problem;
 use pair_rows::{MOST_WORDS, PairKinds, PairRows};
 use sample_graphs::{APART, EDGE, FOUR_CYCLE, PATH, TRIANGLE};
-use std::alloc::Global;
+use std::alloc::{AllocError, Global};
 use std::test::Fail;
+use worked_examples::{Example, first_wrong};
 
 /// Two neighbours, of which the first has a loop, and a vertex apart.
 const LOOP: &[u8] = b"3 2 0 1 1 0 0";
@@ -44,12 +45,13 @@ fn row(alloc: Global, q: &Problem, p: u16, r: u16, t: u16) -> Option<u64> {
     rows.row(p, r, t).first().copied()
 }
 
-/// Whether the row is the word.
-fn is_right(alloc: Global, worked: &Worked) -> bool {
-    let (p, r) = worked.vertices;
-    match problem(alloc, worked.pattern, worked.target, worked.induced) {
-        Some(q) => row(alloc, &q, p, r, worked.value) == Some(worked.word),
-        None => false,
+impl<R> Example<R> for Worked {
+    fn holds(&self, _rt: &R, alloc: Global) -> Result<bool, AllocError> {
+        let (p, r) = self.vertices;
+        match problem(alloc, self.pattern, self.target, self.induced) {
+            Some(q) => Ok(row(alloc, &q, p, r, self.value) == Some(self.word)),
+            None => Ok(false),
+        }
     }
 }
 
@@ -112,19 +114,9 @@ static WORKED: [Worked; 7] = [
     },
 ];
 
-/// The first row, from 0, that is not its word.
-fn first_wrong(alloc: Global, rows: &[Worked]) -> Option<usize> {
-    for (at, worked) in rows.iter().enumerate() {
-        if !is_right(alloc, worked) {
-            return Some(at);
-        }
-    }
-    None
-}
-
 #[test]
 fn rows_hold_what_goes_together(rt: HostRuntime) -> Result<(), Fail> {
-    assert_eq!(rt; first_wrong(rt.alloc(), &WORKED), None);
+    assert_eq!(rt; first_wrong(&rt, rt.alloc(), &WORKED)?, None);
     Ok(())
 }
 
@@ -199,6 +191,15 @@ fn is_near(alloc: Global, q: &Problem, near: &Near) -> Option<bool> {
     Some(is_word && is_first && rows.is_bare(p, r) == near.is_bare)
 }
 
+impl<R> Example<R> for Near {
+    fn holds(&self, _rt: &R, alloc: Global) -> Result<bool, AllocError> {
+        match problem(alloc, self.pattern, self.target, true) {
+            Some(q) => Ok(is_near(alloc, &q, self) == Some(true)),
+            None => Ok(false),
+        }
+    }
+}
+
 static NEAR: [Near; 5] = [
     Near {
         pattern: APART,
@@ -247,21 +248,8 @@ static NEAR: [Near; 5] = [
     },
 ];
 
-/// Whether each is so.
-fn are_near(alloc: Global, rows: &[Near]) -> bool {
-    for near in rows {
-        let Some(q) = problem(alloc, near.pattern, near.target, true) else {
-            return false;
-        };
-        if is_near(alloc, &q, near) != Some(true) {
-            return false;
-        }
-    }
-    true
-}
-
 #[test]
 fn few_neighbours_are_listed(rt: HostRuntime) -> Result<(), Fail> {
-    assert!(rt; are_near(rt.alloc(), &NEAR));
+    assert_eq!(rt; first_wrong(&rt, rt.alloc(), &NEAR)?, None);
     Ok(())
 }

@@ -13,9 +13,11 @@ use pair_rows::PairKinds;
 use proof_logger::Unlogged;
 use propagation::{Filters, Silent};
 use restart_search::root::{Rooted, root};
-use restart_search::{Equipment, Outcome, Stage, Worker};
+use restart_search::{Equipment, Outcome, Stage, Worker, WorkerSettings};
 use sample_graphs::{APART, EDGE, FOUR_CYCLE, PATH, TRIANGLE};
 use std::alloc::{AllocError, Global};
+use std::test::Fail;
+use worked_examples::{Example, first_wrong};
 use worker_gate::{AnswerCell, OpenGate};
 
 const TRIANGLE_AND_TAIL: &[u8] = b"4 1 1 3 0 2 3 2 1 3 2 1 2";
@@ -47,26 +49,41 @@ enum End {
 /// The most words of rows of pairs in these tests.
 const WORDS: usize = 65536;
 
-/// Searches that are decided, or not begun for want of a budget: pattern, target, whether induced, the budget, how many rows the book has
-/// room for, and how the run ends.
-static SMALL: [(&[u8], &[u8], bool, u32, u16, End); 10] = [
-    (TRIANGLE, TRIANGLE_AND_TAIL, false, 100, 16, End::Yes),
-    (PATH, TRIANGLE, false, 100, 16, End::Yes),
-    (PATH, TRIANGLE, true, 100, 16, End::None),
-    (APART, TRIANGLE, true, 100, 16, End::None),
-    (APART, EDGE, true, 100, 16, End::None),
-    (APART, PATH, true, 100, 16, End::Yes),
-    (TRIANGLE, TRIANGLE, true, 0, 16, End::Spent(0, false)),
-    (FOUR_CYCLE, PATH, false, 0, 0, End::None),
-    (THREE_POINTS, APART, false, 0, 0, End::None),
-    (b"0", TRIANGLE, false, 0, 0, End::Yes),
+/// A search: its pattern and target, whether it is an induced one, the budget, how many rows the book has room for, and how the run ends.
+struct Searched(&'static [u8], &'static [u8], bool, u32, u16, End);
+
+impl<R> Example<R> for Searched {
+    fn holds(&self, _rt: &R, alloc: Global) -> Result<bool, AllocError> {
+        Ok(ends(alloc, self.0, self.1, self.2, self.3, self.4, self.5))
+    }
+}
+
+/// Searches that are decided, or not begun for want of a budget.
+static SMALL: [Searched; 10] = [
+    Searched(TRIANGLE, TRIANGLE_AND_TAIL, false, 100, 16, End::Yes),
+    Searched(PATH, TRIANGLE, false, 100, 16, End::Yes),
+    Searched(PATH, TRIANGLE, true, 100, 16, End::None),
+    Searched(APART, TRIANGLE, true, 100, 16, End::None),
+    Searched(APART, EDGE, true, 100, 16, End::None),
+    Searched(APART, PATH, true, 100, 16, End::Yes),
+    Searched(TRIANGLE, TRIANGLE, true, 0, 16, End::Spent(0, false)),
+    Searched(FOUR_CYCLE, PATH, false, 0, 0, End::None),
+    Searched(THREE_POINTS, APART, false, 0, 0, End::None),
+    Searched(b"0", TRIANGLE, false, 0, 0, End::Yes),
 ];
 
-/// Budgets and room for rows of the search for five vertices that are beside each other, and how the run ends.
-static LONG: [(u32, u16, End); 3] = [
-    (200, 4096, End::Spent(200, true)),
-    (100000, 4096, End::None),
-    (100000, 0, End::None),
+/// Searches for five vertices that are beside each other.
+static LONG: [Searched; 3] = [
+    Searched(
+        FIVE_CLIQUE,
+        FOUR_PAIRS,
+        false,
+        200,
+        4096,
+        End::Spent(200, true),
+    ),
+    Searched(FIVE_CLIQUE, FOUR_PAIRS, false, 100000, 4096, End::None),
+    Searched(FIVE_CLIQUE, FOUR_PAIRS, false, 100000, 0, End::None),
 ];
 
 /// A worker of number 1 over a new book of so many rows.
@@ -87,7 +104,12 @@ fn worker_over<'a>(
 {
     let filters = Filters::new(alloc, q, kinds, WORDS)?;
     let budget = u64::from(budget);
-    let equipment = Equipment::new(alloc, q, domains, Silent, filters, 1, 1, budget)?;
+    let settings = WorkerSettings {
+        number: 1,
+        seed: 1,
+        budget,
+    };
+    let equipment = Equipment::new(alloc, q, domains, Silent, filters, settings)?;
     let (book, mut first) = RowBook::new(alloc, q, u32::from(rows))?;
     let seat = book.split(alloc, &mut first, 1)?;
     Ok((book, Worker::new(equipment, seat, Unlogged::new(1))))
@@ -177,10 +199,9 @@ fn ends(
 }
 
 #[test]
-fn small_problems_are_decided(rt: HostRuntime) {
-    for (pattern, target, induced, budget, rows, end) in SMALL {
-        assert!(rt; ends(rt.alloc(), pattern, target, induced, budget, rows, end));
-    }
+fn small_problems_are_decided(rt: HostRuntime) -> Result<(), Fail> {
+    assert_eq!(rt; first_wrong(&rt, rt.alloc(), &SMALL)?, None);
+    Ok(())
 }
 
 #[test]
@@ -197,20 +218,9 @@ fn a_budget_that_suffices_is_not_spent(rt: HostRuntime) {
 }
 
 #[test]
-fn a_search_leaves_rows_and_goes_on_over_restarts(rt: HostRuntime) {
-    for (budget, rows, end) in LONG {
-        assert!(rt;
-            ends(
-                rt.alloc(),
-                FIVE_CLIQUE,
-                FOUR_PAIRS,
-                false,
-                budget,
-                rows,
-                end
-            )
-        );
-    }
+fn a_search_leaves_rows_and_goes_on_over_restarts(rt: HostRuntime) -> Result<(), Fail> {
+    assert_eq!(rt; first_wrong(&rt, rt.alloc(), &LONG)?, None);
+    Ok(())
 }
 
 /// How a worker ends that looks at the cell, and how it ends when it is run again without one, if it was stopped.

@@ -9,7 +9,5 @@
 mod maker;
 mod set_lines;
 mod set_names;
-#[cfg(test)]
-mod tests;
 
 pub use maker::MadeLines;

@@ -15,8 +15,6 @@ mod ones;
 mod parts;
 mod refutation;
 mod rows;
-#[cfg(test)]
-mod tests;
 
 pub use answers::{write_solution, write_undecided};
 pub use laws::premise_laws;

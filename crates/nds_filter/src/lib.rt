@@ -13,6 +13,3 @@ mod shared;
 
 pub use kept::KeptRows;
 pub use sequences::{SequenceAnswer, Sequences, keeps, lesser_sequences_are_dead};
-
-#[cfg(test)]
-mod tests;

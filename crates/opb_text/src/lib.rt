@@ -16,8 +16,6 @@ mod model;
 mod numbers;
 mod reader;
 mod terms;
-#[cfg(test)]
-mod tests;
 mod word_kinds;
 mod writer;
 

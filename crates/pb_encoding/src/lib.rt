@@ -8,8 +8,6 @@
 #![tactic(auto)]
 
 pub mod encoding;
-#[cfg(test)]
-mod encoding_tests;
 mod line;
 pub mod model;
 mod numbers;

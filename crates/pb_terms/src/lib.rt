@@ -18,6 +18,3 @@ pub use fault::PbFault;
 pub use literals::Literals;
 pub use proof_theory::Literal;
 pub use slack::forcing_law;
-
-#[cfg(test)]
-mod tests;

@@ -1,4 +1,4 @@
-//! Tests of the whole program, over files and sinks in memory.
+//! Tests of whole runs without a proof, over files and sinks in memory.
 //!
 //! This layer stands above all others and offers nothing. It runs `subgraph_cli::run` on tables of worked examples, with
 //! each file missing and each call failing in turn. What an answer means is proved with the program itself; what only
@@ -6,22 +6,14 @@
 #![tactic(auto)]
 
 #[cfg(test)]
-mod check_tests;
-#[cfg(test)]
 mod demo_tests;
 #[cfg(test)]
 mod encode_tests;
 #[cfg(test)]
 mod fault_tests;
 #[cfg(test)]
-mod proof_tests;
-#[cfg(test)]
-mod running;
-#[cfg(test)]
 mod solve_tests;
 #[cfg(test)]
 mod verify_tests;
-#[cfg(test)]
-mod whole_tests;
 #[cfg(test)]
 mod word_tests;

@@ -9,8 +9,6 @@
 mod files;
 mod finding;
 mod log;
-#[cfg(test)]
-mod tests;
 
 pub use files::write_proof;
 pub use finding::Finding;

@@ -12,8 +12,6 @@ pub(crate) mod items;
 pub(crate) mod lists;
 pub(crate) mod pieces;
 pub mod reading;
-#[cfg(test)]
-mod tests;
 pub mod writing;
 
 pub use fault::StepFault;

@@ -12,8 +12,6 @@ mod pair_names;
 mod row;
 mod row_lines;
 mod sharing;
-#[cfg(test)]
-mod tests;
 
 pub use pair_names::PairNames;
 pub use row::{row_line, row_line_with};

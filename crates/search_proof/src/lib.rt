@@ -11,8 +11,6 @@ mod maker;
 mod owner_log;
 mod proof;
 mod shared;
-#[cfg(test)]
-mod tests;
 
 pub use lines::KeepsLines;
 pub use maker::{KeepsNothing, ProofMaker};

@@ -15,9 +15,6 @@ ghost use Rattle.sparse_set.specs.Removals.{State, has, undone, whole, without};
 use std::alloc::{AllocError, Global};
 use std::marker::Model;
 
-#[cfg(test)]
-mod tests;
-
 /// A set of numbers below a count. All of them are members at first.
 ///
 /// `items` has each number once, the `gone` removed ones first; `places[p]` is where `p` stands in it.

@@ -1,0 +1,131 @@
+//! A vertex with a loop into two vertices of which the second has one: the files to the letter, with each call failing in turn.
+
+use graph_rows::Problem;
+use outer_io::{MemoryFiles, MemoryPart};
+use proof_files::{Finding, write_proof};
+use sample_graphs::graph;
+use std::alloc::{AllocError, Global};
+use std::test::Fail;
+use worked_examples::{Example, first_wrong};
+
+/// The problem.
+fn problem(alloc: Global) -> Option<Problem> {
+    let pattern = graph(alloc, b"1 1 0")?;
+    let target = graph(alloc, b"2 0 1 1")?;
+    Some(Problem::new(pattern, target, false))
+}
+
+/// A file with room for some bytes.
+fn part(alloc: Global, name: &str, bytes: Option<&[u8]>) -> Result<MemoryPart, AllocError> {
+    let bytes = match bytes {
+        Some(bytes) => Some(Vec::from_slice(alloc, bytes)?),
+        None => None,
+    };
+    let name = String::from_str(alloc, name)?;
+    Ok(MemoryPart {
+        name,
+        bytes,
+        room: 256,
+    })
+}
+
+/// A file `e` that holds something else, and a file `l` that is not there; one call fails.
+fn files(alloc: Global, failing: u64) -> Result<MemoryFiles, AllocError> {
+    let mut parts = Vec::new(alloc);
+    parts.push(part(alloc, "e", Some(b"other"))?)?;
+    parts.push(part(alloc, "l", None)?)?;
+    MemoryFiles::new(alloc, parts, Vec::from_slice(alloc, &[failing])?)
+}
+
+/// What the two files hold.
+type Contents = (Option<&'static [u8]>, Option<&'static [u8]>);
+
+/// Whether writing succeeds or fails as it should, and leaves these contents.
+fn leaves(
+    alloc: Global,
+    map: &[u32],
+    failing: u64,
+    ok: bool,
+    contents: Contents,
+) -> Result<bool, AllocError> {
+    let Some(q) = problem(alloc) else {
+        return Ok(false);
+    };
+    let mut files = files(alloc, failing)?;
+    let finding = if q.is_embedding(map) {
+        Finding::Embedding(map)
+    } else {
+        Finding::Nothing
+    };
+    let written = write_proof(alloc, &q, &finding, "e", "l", &mut files);
+    Ok(written.is_ok() == ok && (files.content("e"), files.content("l")) == contents)
+}
+
+const ENCODING: &[u8] = b"* #variable= 2 #constraint= 5
++1 x1 +1 x2 >= 1 ;
+-1 x1 -1 x2 >= -1 ;
+-1 x1 >= -1 ;
+-1 x2 >= -1 ;
+-1 x1 >= 0 ;
+";
+
+/// A map, the call that fails (0: none), whether writing succeeds, and what the two files then hold.
+struct Left(&'static [u32], u64, bool, Contents);
+
+impl<R> Example<R> for Left {
+    fn holds(&self, _rt: &R, alloc: Global) -> Result<bool, AllocError> {
+        leaves(alloc, self.0, self.1, self.2, self.3)
+    }
+}
+
+static WHOLE: [Left; 3] = [
+    Left(
+        &[1],
+        0,
+        true,
+        (Some(ENCODING), Some(b"embedding proof 1\nm 5\ny x2\n")),
+    ),
+    Left(
+        &[0],
+        0,
+        true,
+        (Some(ENCODING), Some(b"embedding proof 1\nm 5\nq\n")),
+    ),
+    Left(
+        &[],
+        0,
+        true,
+        (Some(ENCODING), Some(b"embedding proof 1\nm 5\nq\n")),
+    ),
+];
+
+#[test]
+fn files_hold_the_encoding_and_a_log(rt: HostRuntime) -> Result<(), Fail> {
+    assert_eq!(rt; first_wrong(&rt, rt.alloc(), &WHOLE)?, None);
+    Ok(())
+}
+
+static FAULTY: [Left; 6] = [
+    Left(&[], 1, false, (Some(b"other"), None)),
+    Left(&[], 2, false, (Some(b""), None)),
+    Left(&[], 3, false, (Some(ENCODING), None)),
+    Left(&[], 4, false, (Some(ENCODING), Some(b""))),
+    Left(
+        &[],
+        5,
+        false,
+        (Some(ENCODING), Some(b"embedding proof 1\nm 5\n")),
+    ),
+    Left(
+        &[],
+        6,
+        true,
+        (Some(ENCODING), Some(b"embedding proof 1\nm 5\nq\n")),
+    ),
+];
+
+#[test]
+fn each_call_fails_in_turn(rt: HostRuntime) -> Result<(), Fail> {
+    assert_eq!(rt; first_wrong(&rt, rt.alloc(), &FAULTY)?, None);
+    Ok(())
+}

@@ -1,0 +1,381 @@
+//! Worked logs: what each shows over small models, line and cause of each refusal.
+
+ghost use Rattle.std.specs.Prelude.{◌<◌};
+
+use crate::worked_models::{THREE_INTO_TWO, TRIANGLE_INTO_CYCLE, TWO_LINES};
+use Expected::{Is, Stops};
+use log_theory::{Cause, Verdict};
+use opb_text::{Model, read_opb};
+use outer_io::{MemoryFiles, MemoryPart};
+use proof_checker::{Checked, Checker, check, check_file};
+use std::alloc::{AllocError, Global};
+use std::test::Fail;
+use worked_examples::{Example, first_wrong};
+
+/// What is expected of a log.
+#[derive(Clone, Copy)]
+enum Expected {
+    /// This verdict.
+    Is(Verdict),
+    /// That it is refused at this line for this cause.
+    Stops(u64, Cause),
+}
+
+/// Whether a verdict is the one expected.
+fn is_expected(verdict: Verdict, expected: Expected) -> bool {
+    match expected {
+        Is(other) => verdict == other,
+        Stops(line, cause) => verdict == Verdict::Refused { line, cause },
+    }
+}
+
+/// What is behind the first two lines of a log over `TWO_LINES`, and what is expected.
+struct Shows(&'static str, Expected);
+
+impl<R> Example<R> for Shows {
+    fn holds(&self, _rt: &R, alloc: Global) -> Result<bool, AllocError> {
+        let Ok(model) = read_opb(alloc, TWO_LINES) else {
+            return Ok(false);
+        };
+        let mut log = String::from_str(alloc, "embedding proof 1\nm 2\n")?;
+        log.push_str(self.0)?;
+        Ok(is_expected(check(alloc, &model, log.as_bytes()), self.1))
+    }
+}
+
+static OVER_TWO_LINES: [Shows; 36] = [
+    Shows("u 0.1 ; 1 2 ;\ne 0.1\n", Is(Verdict::Unsatisfiable)),
+    Shows("u 0.1 ; 2 1 ;\ne 0.1\n", Is(Verdict::Unsatisfiable)),
+    Shows("p 0.1 1 2 + ;\ne 0.1\n", Is(Verdict::Unsatisfiable)),
+    Shows(
+        "p 3.1 1 ;\nn 7 3.1\np 0.1 #7 2 + ;\ne 0.1\n",
+        Is(Verdict::Unsatisfiable),
+    ),
+    Shows("q\n", Is(Verdict::Undecided)),
+    Shows("u 0.1 ; 2 ;\n", Stops(3, Cause::NoConflict)),
+    Shows(
+        "u 0.1 ~x1 ; 2 ;\nu 0.2 ; 1 0.1 ;\nq\n",
+        Is(Verdict::Undecided),
+    ),
+    Shows(
+        "p 0.1 1 9223372036854775807 * 9223372036854775807 * ;\n",
+        Stops(3, Cause::Wide),
+    ),
+    Shows("p 0.1 0.2 ;\n", Stops(3, Cause::NoSuchName)),
+    Shows("p 0.1 1 ;\np 0.1 2 ;\n", Stops(4, Cause::NameUsed)),
+    Shows("", Stops(3, Cause::EndsEarly)),
+    Shows("p 65.1 1 ;\n", Stops(3, Cause::Form)),
+    Shows("p 0.1 01 ;\n", Stops(3, Cause::Form)),
+    Shows("p 0.1 1 9223372036854775808 * ;\n", Stops(3, Cause::Form)),
+    Shows("n 0 1\n", Stops(3, Cause::Form)),
+    Shows("p 0.2 1 ;\n", Stops(3, Cause::Order)),
+    Shows("p 0.3 x2 ;\n", Stops(3, Cause::Form)),
+    Shows("u 0.1 x1 ~x1 ; 1 ;\n", Stops(3, Cause::Twice)),
+    Shows("u 0.1 x1 x1 ; 9 ;\n", Stops(3, Cause::Twice)),
+    Shows("u 0.1 ; 1 3 ;\n", Stops(3, Cause::NoSuchName)),
+    Shows("p 0.1 3 ;\n", Stops(3, Cause::NoSuchName)),
+    Shows("p 0.1 0 ;\n", Stops(3, Cause::NoSuchName)),
+    Shows("p 0.1 + ;\n", Stops(3, Cause::Stack)),
+    Shows("p 0.1 1 2 ;\n", Stops(3, Cause::Stack)),
+    Shows("p 0.1 0 * ;\n", Stops(3, Cause::Zero)),
+    Shows("e 1\n", Stops(3, Cause::NotFalse)),
+    Shows("y x1\n", Stops(3, Cause::NotSolution)),
+    Shows("y\n", Stops(3, Cause::NotSolution)),
+    Shows("y x1 x1\n", Stops(3, Cause::Twice)),
+    Shows("q\nq\n", Stops(4, Cause::Form)),
+    Shows("q\nq", Stops(4, Cause::Form)),
+    Shows("q", Stops(3, Cause::EndsEarly)),
+    Shows("p 0.1 1 ;\nn 7 0.1\nn 7 0.1\n", Stops(5, Cause::NameUsed)),
+    Shows("p 0.1 1 ;\nn 7 0.1\nn 3 0.1\n", Stops(5, Cause::Order)),
+    Shows("n 7 0.1\n", Stops(3, Cause::NoSuchName)),
+    Shows("p 0.1 #7 ;\n", Stops(3, Cause::NoSuchName)),
+];
+
+#[test]
+fn logs_over_two_lines(rt: HostRuntime) -> Result<(), Fail> {
+    assert_eq!(rt; first_wrong(&rt, rt.alloc(), &OVER_TWO_LINES)?, None);
+    Ok(())
+}
+
+/// A model's text, a whole log, and its verdict.
+struct Whole {
+    model: &'static [u8],
+    log: &'static str,
+    verdict: Expected,
+}
+
+impl<R> Example<R> for Whole {
+    fn holds(&self, _rt: &R, alloc: Global) -> Result<bool, AllocError> {
+        match read_opb(alloc, self.model) {
+            Ok(model) => Ok(is_expected(check(alloc, &model, self.log.as_bytes()), self.verdict)),
+            Err(_) => Ok(false),
+        }
+    }
+}
+
+/// No constraint.
+const NOTHING: &[u8] = b"* #variable= 0 #constraint= 0\n";
+
+/// A constraint that does not hold, and one that does.
+const NEVER: &[u8] = b"* #variable= 0 #constraint= 2\n>= 1 ;\n>= -1 ;\n";
+
+/// A model that states all variables there can be, of which a log names two: memory goes by those.
+const ALL_VARIABLES: &[u8] =
+    b"* #variable= 4294967295 #constraint= 2\n+1 x1 >= 1 ;\n-1 x1 >= 0 ;\n";
+
+static SMALL_MODELS: [Whole; 7] = [
+    Whole {
+        model: TWO_LINES,
+        log: "",
+        verdict: Stops(1, Cause::EndsEarly),
+    },
+    Whole {
+        model: TWO_LINES,
+        log: "embedding proof 2\n",
+        verdict: Stops(1, Cause::Form),
+    },
+    Whole {
+        model: TWO_LINES,
+        log: "embedding proof 1\nm 3\n",
+        verdict: Stops(2, Cause::Form),
+    },
+    Whole {
+        model: NOTHING,
+        log: "embedding proof 1\nm 0\ny\n",
+        verdict: Is(Verdict::Satisfiable),
+    },
+    Whole {
+        model: NEVER,
+        log: "embedding proof 1\nm 2\ne 1\n",
+        verdict: Is(Verdict::Unsatisfiable),
+    },
+    Whole {
+        model: NEVER,
+        log: "embedding proof 1\nm 2\ne 2\n",
+        verdict: Stops(3, Cause::NotFalse),
+    },
+    Whole {
+        model: ALL_VARIABLES,
+        log: "embedding proof 1\nm 2\nu 0.1 ; 1 2 ;\nu 0.2 x9 ; 0.1 ;\ne 0.1\n",
+        verdict: Is(Verdict::Unsatisfiable),
+    },
+];
+
+#[test]
+fn head_lines_and_small_models(rt: HostRuntime) -> Result<(), Fail> {
+    assert_eq!(rt; first_wrong(&rt, rt.alloc(), &SMALL_MODELS)?, None);
+    Ok(())
+}
+
+/// Three vertices go to two: the sum of all constraints, divided by three.
+static COUNTED: [Whole; 1] = [Whole {
+    model: THREE_INTO_TWO,
+    log: "embedding proof 1\nm 8\np 0.1 1 3 + 5 + 7 + 8 + 3 d ;\ne 0.1\n",
+    verdict: Is(Verdict::Unsatisfiable),
+}];
+
+#[test]
+fn counting_refutes_three_into_two(rt: HostRuntime) -> Result<(), Fail> {
+    assert_eq!(rt; first_wrong(&rt, rt.alloc(), &COUNTED)?, None);
+    Ok(())
+}
+
+const WHOLE_LOG: &[u8] = b"embedding proof 1
+m 34
+p 0.1 15 24 + 6 + ;
+p 0.2 15 26 + 6 + ;
+u 0.3 ~x1 ; 0.1 0.2 11 ;
+p 0.4 16 23 + 6 + ;
+p 0.5 16 25 + 6 + ;
+u 0.6 ~x2 ; 0.4 0.5 12 ;
+p 0.7 17 24 + 6 + ;
+p 0.8 17 26 + 6 + ;
+u 0.9 ~x3 ; 0.7 0.8 13 ;
+p 0.10 18 23 + 6 + ;
+p 0.11 18 25 + 6 + ;
+u 0.12 ~x4 ; 0.10 0.11 14 ;
+u 0.13 ; 0.3 0.6 0.9 0.12 1 ;
+e 0.13
+";
+
+/// How many bytes the first front of a log has that does not end early, at the line after its last whole one.
+fn first_front_that_ends(alloc: Global, model: &Model, log: &[u8]) -> usize {
+    let mut line: u64 = 1;
+    for n in 0..log.len() {
+        let verdict = check(alloc, model, &log[..n]);
+        if !is_expected(verdict, Stops(line, Cause::EndsEarly)) {
+            return n;
+        }
+        if log[n] == b'\n' {
+            line = line.wrapping_add(1);
+        }
+    }
+    log.len()
+}
+
+#[test]
+fn each_front_of_an_accepted_log_ends_early(rt: HostRuntime) -> Result<(), Fail> {
+    let alloc = rt.alloc();
+    let model = read_opb(alloc, TRIANGLE_INTO_CYCLE).ok().ok_or("no model")?;
+    assert!(rt; check(alloc, &model, WHOLE_LOG) == Verdict::Unsatisfiable);
+    assert_eq!(rt;
+        first_front_that_ends(alloc, &model, WHOLE_LOG),
+        WHOLE_LOG.len()
+    );
+    Ok(())
+}
+
+/// Two logs over two constraints, whole.
+static FROM_TEXTS: [Whole; 2] = [
+    Whole {
+        model: TWO_LINES,
+        log: "embedding proof 1\nm 2\nu 0.1 ; 1 2 ;\ne 0.1\n",
+        verdict: Is(Verdict::Unsatisfiable),
+    },
+    Whole {
+        model: TWO_LINES,
+        log: "embedding proof 1\nm 2\nu 0.1 ; 2 ;\ne 0.1\n",
+        verdict: Stops(3, Cause::NoConflict),
+    },
+];
+
+#[test]
+fn a_model_from_its_text(rt: HostRuntime) -> Result<(), Fail> {
+    assert_eq!(rt; first_wrong(&rt, rt.alloc(), &FROM_TEXTS)?, None);
+    Ok(())
+}
+
+/// The verdict of a log that is fed by pieces of so many bytes.
+fn fed_by(alloc: Global, model: &Model, log: &[u8], size: usize) -> Result<Verdict, AllocError>
+    requires { 0 < size }
+{
+    let mut checker = Checker::new(alloc, model)?;
+    for piece in log.chunks(size) {
+        checker.feed(alloc, piece)?;
+    }
+    Ok(checker.finish())
+}
+
+/// Whether a log has this verdict by pieces of one byte, of two and so on.
+fn shows_however_cut(
+    alloc: Global,
+    model: &Model,
+    log: &[u8],
+    expected: Expected,
+) -> Result<bool, AllocError> {
+    for less in 0..log.len() {
+        let verdict = fed_by(alloc, model, log, less + 1)?;
+        if !is_expected(verdict, expected) {
+            return Ok(false);
+        }
+    }
+    Ok(true)
+}
+
+#[test]
+fn a_log_is_accepted_however_it_is_cut(rt: HostRuntime) -> Result<(), Fail> {
+    let alloc = rt.alloc();
+    let model = read_opb(alloc, TRIANGLE_INTO_CYCLE).ok().ok_or("no model")?;
+    let same = shows_however_cut(alloc, &model, WHOLE_LOG, Is(Verdict::Unsatisfiable))?;
+    assert!(rt; same);
+    Ok(())
+}
+
+#[test]
+fn text_behind_a_claim_is_refused_however_it_is_cut(rt: HostRuntime) -> Result<(), Fail> {
+    let alloc = rt.alloc();
+    let model = read_opb(alloc, TWO_LINES).ok().ok_or("no model")?;
+    let log = b"embedding proof 1\nm 2\nq\nq\nx";
+    let same = shows_however_cut(alloc, &model, log, Stops(4, Cause::Form))?;
+    assert!(rt; same);
+    Ok(())
+}
+
+/// A log in a file: how many bytes it may have, which call on the files fails (0: none), and what is told.
+struct InFile {
+    log: &'static str,
+    most: u64,
+    failing: u64,
+    expected: Checked,
+}
+
+const SHORT: &str = "embedding proof 1\nm 2\nq\n";
+
+const WRONG: &str = "embedding proof 2\nm 2\nq\n";
+
+static IN_FILES: [InFile; 8] = [
+    InFile {
+        log: SHORT,
+        most: 24,
+        failing: 0,
+        expected: Checked::Verdict(Verdict::Undecided),
+    },
+    InFile {
+        log: SHORT,
+        most: u64::MAX,
+        failing: 0,
+        expected: Checked::Verdict(Verdict::Undecided),
+    },
+    InFile {
+        log: SHORT,
+        most: 23,
+        failing: 0,
+        expected: Checked::TooLong,
+    },
+    InFile {
+        log: WRONG,
+        most: 24,
+        failing: 0,
+        expected: Checked::Verdict(Verdict::Refused {
+            line: 1,
+            cause: Cause::Form,
+        }),
+    },
+    InFile {
+        log: WRONG,
+        most: 10,
+        failing: 0,
+        expected: Checked::TooLong,
+    },
+    InFile {
+        log: SHORT,
+        most: 24,
+        failing: 1,
+        expected: Checked::Failed,
+    },
+    InFile {
+        log: WRONG,
+        most: 24,
+        failing: 2,
+        expected: Checked::Failed,
+    },
+    InFile {
+        log: SHORT,
+        most: 24,
+        failing: 3,
+        expected: Checked::Failed,
+    },
+];
+
+impl<R> Example<R> for InFile {
+    fn holds(&self, _rt: &R, alloc: Global) -> Result<bool, AllocError> {
+        let Ok(model) = read_opb(alloc, TWO_LINES) else {
+            return Ok(false);
+        };
+        let mut parts = Vec::new(alloc);
+        parts.push(MemoryPart {
+            name: String::from_str(alloc, "l")?,
+            bytes: Some(Vec::from_slice(alloc, self.log.as_bytes())?),
+            room: 0,
+        })?;
+        let failing = Vec::from_slice(alloc, &[self.failing])?;
+        let mut files = MemoryFiles::new(alloc, parts, failing)?;
+        Ok(check_file(alloc, &model, &mut files, "l", self.most) == self.expected)
+    }
+}
+
+#[test]
+fn logs_in_files(rt: HostRuntime) -> Result<(), Fail> {
+    assert_eq!(rt; first_wrong(&rt, rt.alloc(), &IN_FILES)?, None);
+    Ok(())
+}

@@ -1,0 +1,282 @@
+//! Worked problems and the texts of their encodings.
+
+ghost use Rattle.std.specs.Prelude.{◌≡◌, ◌<◌};
+ghost use Rattle.graph_theory.specs.Graph.{size};
+ghost use Rattle.encoding_theory.specs.Pairs.{is_edge_pair as is_edge, is_non_edge_pair as is_non_edge};
+
+use graph_rows::Problem;
+use lad_reader::LadKind;
+use outer_io::MemorySink;
+use pb_encoding::Encoding;
+use sample_graphs::{EDGE, FOUR_CYCLE, TRIANGLE, graph_in};
+use std::alloc::{AllocError, Global};
+use std::test::Fail;
+use worked_examples::{Example, first_wrong};
+
+const SECOND_WITH_LOOP: &[u8] = b"2 0 1 1";
+
+/// The problem of two texts.
+fn problem(
+    alloc: Global,
+    pattern: &[u8],
+    target: &[u8],
+    kind: LadKind,
+    induced: bool,
+) -> Option<Problem> {
+    let pattern = graph_in(alloc, pattern, kind)?;
+    let target = graph_in(alloc, target, kind)?;
+    Some(Problem::new(pattern, target, induced))
+}
+
+/// Whether this is the text of the encoding of a problem.
+fn is_text(alloc: Global, q: &Problem, text: &str) -> Result<bool, AllocError> {
+    let encoding = Encoding::new(alloc, q)?;
+    let mut sink = MemorySink::new(alloc, 4096, Vec::new(alloc))?;
+    Ok(encoding.write(alloc, &mut sink).is_ok() && sink.bytes() == text.as_bytes())
+}
+
+const EDGE_INTO_EDGE: &str = "* #variable= 4 #constraint= 10
++1 x1 +1 x2 >= 1 ;
+-1 x1 -1 x2 >= -1 ;
++1 x3 +1 x4 >= 1 ;
+-1 x3 -1 x4 >= -1 ;
+-1 x1 -1 x3 >= -1 ;
+-1 x2 -1 x4 >= -1 ;
+-1 x1 +1 x4 >= 0 ;
+-1 x2 +1 x3 >= 0 ;
++1 x2 -1 x3 >= 0 ;
++1 x1 -1 x4 >= 0 ;
+";
+
+const THREE_INTO_TWO: &str = "* #variable= 6 #constraint= 8
++1 x1 +1 x2 >= 1 ;
+-1 x1 -1 x2 >= -1 ;
++1 x3 +1 x4 >= 1 ;
+-1 x3 -1 x4 >= -1 ;
++1 x5 +1 x6 >= 1 ;
+-1 x5 -1 x6 >= -1 ;
+-1 x1 -1 x3 -1 x5 >= -1 ;
+-1 x2 -1 x4 -1 x6 >= -1 ;
+";
+
+const LOOP_INTO_TWO: &str = "* #variable= 2 #constraint= 5
++1 x1 +1 x2 >= 1 ;
+-1 x1 -1 x2 >= -1 ;
+-1 x1 >= -1 ;
+-1 x2 >= -1 ;
+-1 x1 >= 0 ;
+";
+
+const VERTEX_INTO_TWO: &str = "* #variable= 2 #constraint= 5
++1 x1 +1 x2 >= 1 ;
+-1 x1 -1 x2 >= -1 ;
+-1 x1 >= -1 ;
+-1 x2 >= -1 ;
+-1 x2 >= 0 ;
+";
+
+const TWO_INTO_EDGE: &str = "* #variable= 4 #constraint= 10
++1 x1 +1 x2 >= 1 ;
+-1 x1 -1 x2 >= -1 ;
++1 x3 +1 x4 >= 1 ;
+-1 x3 -1 x4 >= -1 ;
+-1 x1 -1 x3 >= -1 ;
+-1 x2 -1 x4 >= -1 ;
+-1 x1 >= 0 ;
+-1 x2 >= 0 ;
+-1 x3 >= 0 ;
+-1 x4 >= 0 ;
+";
+
+const PLAIN: LadKind = LadKind::Lad;
+
+/// Two graphs, whether the copy is to be induced, and the text of the encoding.
+struct Encoded {
+    pattern: &'static [u8],
+    target: &'static [u8],
+    induced: bool,
+    text: &'static str,
+}
+
+impl<R> Example<R> for Encoded {
+    fn holds(&self, _rt: &R, alloc: Global) -> Result<bool, AllocError> {
+        match problem(alloc, self.pattern, self.target, PLAIN, self.induced) {
+            Some(q) => is_text(alloc, &q, self.text),
+            None => Ok(false),
+        }
+    }
+}
+
+static ENCODED: [Encoded; 7] = [
+    // an edge into an edge
+    Encoded {
+        pattern: EDGE,
+        target: EDGE,
+        induced: false,
+        text: EDGE_INTO_EDGE,
+    },
+    // nothing into nothing
+    Encoded {
+        pattern: b"0",
+        target: b"0",
+        induced: false,
+        text: "* #variable= 0 #constraint= 0\n",
+    },
+    // a vertex into nothing
+    Encoded {
+        pattern: b"1 0",
+        target: b"0",
+        induced: false,
+        text: "* #variable= 0 #constraint= 2\n>= 1 ;\n>= -1 ;\n",
+    },
+    // three vertices into two
+    Encoded {
+        pattern: b"3 0 0 0",
+        target: b"2 0 0",
+        induced: false,
+        text: THREE_INTO_TWO,
+    },
+    // a loop into two vertices
+    Encoded {
+        pattern: b"1 1 0",
+        target: SECOND_WITH_LOOP,
+        induced: false,
+        text: LOOP_INTO_TWO,
+    },
+    // a vertex into the same, induced
+    Encoded {
+        pattern: b"1 0",
+        target: SECOND_WITH_LOOP,
+        induced: true,
+        text: VERTEX_INTO_TWO,
+    },
+    // two vertices into an edge, induced
+    Encoded {
+        pattern: b"2 0 0",
+        target: EDGE,
+        induced: true,
+        text: TWO_INTO_EDGE,
+    },
+];
+
+#[test]
+fn makes_each_line(rt: HostRuntime) -> Result<(), Fail> {
+    assert_eq!(rt; first_wrong(&rt, rt.alloc(), &ENCODED)?, None);
+    Ok(())
+}
+
+const LABELLED_EDGE: &str = "* #variable= 4 #constraint= 12
++1 x1 +1 x2 >= 1 ;
+-1 x1 -1 x2 >= -1 ;
++1 x3 +1 x4 >= 1 ;
+-1 x3 -1 x4 >= -1 ;
+-1 x1 -1 x3 >= -1 ;
+-1 x2 -1 x4 >= -1 ;
+-1 x2 >= 0 ;
+-1 x3 >= 0 ;
+-1 x1 +1 x4 >= 0 ;
+-1 x2 +1 x3 >= 0 ;
++1 x2 -1 x3 >= 0 ;
++1 x1 -1 x4 >= 0 ;
+";
+
+#[test]
+fn refuses_other_labels(rt: HostRuntime) -> Result<(), Fail> {
+    let edge = b"2 1 1 1 2 1 0";
+    let q = problem(rt.alloc(), edge, edge, LadKind::VertexLabelledLad, false);
+    let q = q.ok_or("no problem")?;
+    assert!(rt; is_text(rt.alloc(), &q, LABELLED_EDGE)?);
+    Ok(())
+}
+
+/// Whether the two vertices have an edge between them.
+fn is_edge_pair(q: &Problem, p: u16, r: u16) -> bool
+    requires p_in { p < size q.now.pattern }
+    requires r_in { r < size q.now.pattern }
+    ensures { result ≡ is_edge q.now p r }
+{
+    let pattern = q.pattern();
+    p != r && (pattern.has_edge(p, r) || pattern.has_edge(r, p))
+}
+
+/// Whether they have none, and are to have none between their images.
+fn is_non_edge_pair(q: &Problem, p: u16, r: u16) -> bool
+    requires p_in { p < size q.now.pattern }
+    requires r_in { r < size q.now.pattern }
+    ensures { result ≡ is_non_edge q.now p r }
+{
+    let pattern = q.pattern();
+    q.induced() && p != r && !pattern.has_edge(p, r) && !pattern.has_edge(r, p)
+}
+
+/// The number of the line of a pair with an edge, where there is one.
+fn edge_of(encoding: &Encoding, q: &Problem, p: u16, r: u16, t: u16) -> Option<u64>
+    requires { encoding.now ≡ q.now }
+{
+    let vertices = q.pattern().size();
+    let targets = q.target().size();
+    if p < vertices && r < vertices && t < targets && is_edge_pair(q, p, r) {
+        Some(encoding.edge(p, r, t))
+    } else {
+        None
+    }
+}
+
+/// The number of the line of a pair without an edge, where there is one.
+fn non_edge_of(encoding: &Encoding, q: &Problem, p: u16, r: u16, t: u16) -> Option<u64>
+    requires { encoding.now ≡ q.now }
+{
+    let vertices = q.pattern().size();
+    let targets = q.target().size();
+    if p < vertices && r < vertices && t < targets && is_non_edge_pair(q, p, r) {
+        Some(encoding.non_edge(p, r, t))
+    } else {
+        None
+    }
+}
+
+/// The numbers of the lines of `p` at `t`: at least, at most, at most for the target vertex, and the refusal.
+fn lines_of(
+    encoding: &Encoding,
+    q: &Problem,
+    p: u16,
+    t: u16,
+) -> Option<(u64, u64, u64, Option<u64>)>
+    requires { encoding.now ≡ q.now }
+{
+    if p < q.pattern().size() && t < q.target().size() {
+        Some((
+            encoding.at_least(p),
+            encoding.at_most(p),
+            encoding.at_most_target(t),
+            encoding.refused(p, t),
+        ))
+    } else {
+        None
+    }
+}
+
+#[test]
+fn numbers_lines_of_a_triangle(rt: HostRuntime) -> Result<(), Fail> {
+    let q = problem(rt.alloc(), TRIANGLE, FOUR_CYCLE, PLAIN, false).ok_or("no problem")?;
+    let encoding = Encoding::new(rt.alloc(), &q)?;
+    assert_eq!(rt; encoding.len(), 34);
+    assert_eq!(rt; lines_of(&encoding, &q, 2, 3), Some((5, 6, 10, None)));
+    assert_eq!(rt; edge_of(&encoding, &q, 0, 2, 0), Some(15));
+    assert_eq!(rt; edge_of(&encoding, &q, 1, 2, 1), Some(24));
+    assert_eq!(rt; edge_of(&encoding, &q, 2, 1, 3), Some(34));
+    assert_eq!(rt; edge_of(&encoding, &q, 1, 1, 0), None);
+    Ok(())
+}
+
+#[test]
+fn numbers_lines_of_an_induced_copy(rt: HostRuntime) -> Result<(), Fail> {
+    let q = problem(rt.alloc(), b"3 1 1 1 0 0", SECOND_WITH_LOOP, PLAIN, true).ok_or("no problem")?;
+    let encoding = Encoding::new(rt.alloc(), &q)?;
+    assert_eq!(rt; encoding.len(), 23);
+    assert_eq!(rt; lines_of(&encoding, &q, 2, 1), Some((5, 6, 8, Some(11))));
+    assert_eq!(rt; edge_of(&encoding, &q, 1, 0, 1), Some(15));
+    assert_eq!(rt; non_edge_of(&encoding, &q, 0, 2, 0), Some(16));
+    assert_eq!(rt; non_edge_of(&encoding, &q, 2, 1, 1), Some(23));
+    Ok(())
+}

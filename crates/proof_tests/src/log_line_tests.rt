@@ -1,0 +1,209 @@
+//! Lines of logs, read and written.
+
+use outer_io::MemorySink;
+use proof_log::{StepFault, read_step, write_step};
+use std::alloc::{AllocError, Global};
+use std::test::Fail;
+use worked_examples::{Example, first_wrong};
+
+/// A line that is read, and whose step is written as it.
+struct Kept(&'static [u8]);
+
+impl<R> Example<R> for Kept {
+    fn holds(&self, _rt: &R, alloc: Global) -> Result<bool, AllocError> {
+        let Ok(step) = read_step(alloc, self.0) else {
+            return Ok(false);
+        };
+        let mut sink = MemorySink::new(alloc, 256, Vec::new(alloc))?;
+        Ok(write_step(&step, &mut sink).is_ok() && sink.bytes().strip_suffix(b"\n") == Some(self.0))
+    }
+}
+
+static KEPT: [Kept; 46] = [
+    // a triangle into a cycle of four
+    Kept(b"embedding proof 1"),
+    Kept(b"m 34"),
+    Kept(b"p 0.1 15 24 + 6 + ;"),
+    Kept(b"p 0.2 15 26 + 6 + ;"),
+    Kept(b"u 0.3 ~x1 ; 0.1 0.2 11 ;"),
+    Kept(b"p 0.4 16 23 + 6 + ;"),
+    Kept(b"p 0.5 16 25 + 6 + ;"),
+    Kept(b"u 0.6 ~x2 ; 0.4 0.5 12 ;"),
+    Kept(b"p 0.7 17 24 + 6 + ;"),
+    Kept(b"p 0.8 17 26 + 6 + ;"),
+    Kept(b"u 0.9 ~x3 ; 0.7 0.8 13 ;"),
+    Kept(b"p 0.10 18 23 + 6 + ;"),
+    Kept(b"p 0.11 18 25 + 6 + ;"),
+    Kept(b"u 0.12 ~x4 ; 0.10 0.11 14 ;"),
+    Kept(b"u 0.13 ; 0.3 0.6 0.9 0.12 1 ;"),
+    Kept(b"e 0.13"),
+    // short logs, lawful and not
+    Kept(b"m 0"),
+    Kept(b"y"),
+    Kept(b"m 2"),
+    Kept(b"e 1"),
+    Kept(b"m 8"),
+    Kept(b"p 0.1 1 3 + 5 + 7 + 8 + 3 d ;"),
+    Kept(b"e 0.1"),
+    Kept(b"u 0.1 ; 1 2 ;"),
+    Kept(b"u 0.1 ; 2 ;"),
+    Kept(b"q"),
+    Kept(b"p 0.1 1 9223372036854775807 * 9223372036854775807 * ;"),
+    Kept(b"p 0.1 0.2 ;"),
+    Kept(b"p 0.1 1 ;"),
+    Kept(b"p 0.1 2 ;"),
+    Kept(b"p 0.2 1 ;"),
+    Kept(b"u 0.1 x1 ~x1 ; 1 ;"),
+    Kept(b"p 0.1 + ;"),
+    Kept(b"p 0.1 1 2 ;"),
+    Kept(b"p 0.1 0 * ;"),
+    Kept(b"y x1"),
+    // numbers at their limits, empty lists
+    Kept(b"p 64.9223372036854775807 ~x4294967295 x0 #4194303 + s ;"),
+    Kept(b"p 0.1 ;"),
+    Kept(b"p 0.1 0 0 d 1 0 * s 2 ;"),
+    Kept(b"u 0.1 ; ;"),
+    Kept(b"n 0 1.1"),
+    Kept(b"n 4194303 64.1"),
+    Kept(b"e #4194303"),
+    Kept(b"e 9223372036854775807"),
+    Kept(b"y x1 x4294967295 x0"),
+    Kept(b"y x7 x7"),
+];
+
+#[test]
+fn reads_and_writes_lines(rt: HostRuntime) -> Result<(), Fail> {
+    assert_eq!(rt; first_wrong(&rt, rt.alloc(), &KEPT)?, None);
+    Ok(())
+}
+
+/// A line that is no step.
+struct Refused(&'static [u8]);
+
+impl<R> Example<R> for Refused {
+    fn holds(&self, _rt: &R, alloc: Global) -> Result<bool, AllocError> {
+        match read_step(alloc, self.0) {
+            Err(fault) => Ok(fault == StepFault::Form),
+            Ok(_) => Ok(false),
+        }
+    }
+}
+
+static REFUSED: [Refused; 40] = [
+    // an owner out of range
+    Refused(b"p 65.1 1 ;"),
+    // a leading zero
+    Refused(b"p 0.1 01 ;"),
+    // an operand of 2^63
+    Refused(b"p 0.1 1 9223372036854775808 * ;"),
+    // a row without a dot
+    Refused(b"n 0 1"),
+    // no words
+    Refused(b""),
+    // a blank
+    Refused(b" "),
+    // a blank in front
+    Refused(b" q"),
+    // a blank behind
+    Refused(b"q "),
+    // two blanks
+    Refused(b"e  0.1"),
+    // a tab
+    Refused(b"e\t0.1"),
+    // a carriage return
+    Refused(b"q\r"),
+    // an unknown word
+    Refused(b"x 0.1 1 ;"),
+    // a longer kind
+    Refused(b"qq"),
+    // a byte that is no text
+    Refused(b"\xff"),
+    // an empty list's second blank
+    Refused(b"u 0.1  ; 1 ;"),
+    // no end
+    Refused(b"p 0.1 1"),
+    // no second end
+    Refused(b"u 0.1 x1 ;"),
+    // a word behind the end
+    Refused(b"p 0.1 1 ; 2"),
+    // a word behind the second end
+    Refused(b"u 0.1 ; 1 ; 2"),
+    // an end at a word
+    Refused(b"p 0.1 1;"),
+    // a row of 2^22
+    Refused(b"n 4194304 0.1"),
+    // a reference to such a row
+    Refused(b"e #4194304"),
+    // a row with a leading zero
+    Refused(b"e #00"),
+    // a row without digits
+    Refused(b"e #"),
+    // a variable of 2^32
+    Refused(b"y x4294967296"),
+    // a negated one
+    Refused(b"y ~x1"),
+    // a variable alone
+    Refused(b"y 1"),
+    // two signs
+    Refused(b"u 0.1 ~~x1 ; ;"),
+    // a number for a literal
+    Refused(b"u 0.1 1 ; ;"),
+    // a literal for a reference
+    Refused(b"u 0.1 ; x1 ;"),
+    // a number 0
+    Refused(b"e 0.0"),
+    // two dots
+    Refused(b"e 0.1.1"),
+    // no owner
+    Refused(b"e .1"),
+    // a leading zero of the owner
+    Refused(b"e 00.1"),
+    // a sign without an operand
+    Refused(b"p 0.1 * ;"),
+    // a sign behind an operation
+    Refused(b"p 0.1 1 + * ;"),
+    // two signs with one operand
+    Refused(b"p 0.1 2 * d ;"),
+    // a name as an operand
+    Refused(b"p 0.1 0.1 d ;"),
+    // a number of twenty digits
+    Refused(b"m 99999999999999999999"),
+    // a number that wraps to 0
+    Refused(b"e 340282366920938463463374607431768211456"),
+];
+
+#[test]
+fn refuses_lines(rt: HostRuntime) -> Result<(), Fail> {
+    assert_eq!(rt; first_wrong(&rt, rt.alloc(), &REFUSED)?, None);
+    Ok(())
+}
+
+/// The line whose writing is to stop.
+const LINE: &[u8] = b"u 64.7 ~x3 ; #12 ;";
+
+/// Whether writing the line fails where this call on the sink fails, and leaves a front part of it.
+fn stops_at(alloc: Global, call: u64) -> Result<bool, AllocError> {
+    let Ok(step) = read_step(alloc, LINE) else {
+        return Ok(false);
+    };
+    let mut failing = Vec::new(alloc);
+    failing.push(call)?;
+    let mut sink = MemorySink::new(alloc, 64, failing)?;
+    Ok(write_step(&step, &mut sink).is_err() && LINE.starts_with(sink.bytes()))
+}
+
+/// The first call, from 1, whose fault does not stop it so, or 12.
+fn first_not_stopped(alloc: Global) -> Result<u64, AllocError> {
+    for call in 1u64..12 {
+        if !stops_at(alloc, call)? {
+            return Ok(call);
+        }
+    }
+    Ok(12)
+}
+
+#[test]
+fn stops_where_the_sink_fails(rt: HostRuntime) -> Result<(), Fail> {
+    assert_eq!(rt; first_not_stopped(rt.alloc())?, 12);
+    Ok(())
+}

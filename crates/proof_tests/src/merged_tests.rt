@@ -1,0 +1,182 @@
+//! Logs to the letter: a triangle into a cycle of four, whose refutation two owners share, and an edge into an edge.
+
+ghost use Rattle.std.specs.Prelude.{◌≡◌, ◌+◌, ◌≤◌, [], ◌∷◌, length, IfOk, OnOk};
+
+use crate::worked_models::TRIANGLE_INTO_CYCLE;
+use journals::{Journal, Keeper};
+use log_theory::{Cause, Name, Step, Variables, Verdict};
+use merged_log::{write_refutation, write_solution, write_undecided};
+use nogood_book::{Row, RowKind};
+use opb_text::read_opb;
+use outer_io::MemorySink;
+use proof_checker::check;
+use proof_log::read_step;
+use std::alloc::{AllocError, Global};
+use std::test::Fail;
+use worked_examples::{Example, first_wrong};
+
+/// Keeps the line that a text tells.
+fn keep(alloc: Global, journal: &mut Journal, line: &[u8]) -> Result<(), AllocError>
+    ensures owner { journal.new.owner ≡ journal.old.owner }
+    ensures notes { journal.new.notes ≡ journal.old.notes }
+    ensures lines { OnOk result (length journal.new.steps ≡ length journal.old.steps + 1) }
+{
+    match read_step(alloc, line) {
+        Ok(Step::P { name, ops }) => {
+            journal.keep(Step::P { name, ops })?;
+            Ok(())
+        }
+        Ok(Step::U { name, lits, refs }) => {
+            journal.keep(Step::U { name, lits, refs })?;
+            Ok(())
+        }
+        _ => Err(AllocError),
+    }
+}
+
+/// A journal of some lines, one of which is noted for a row.
+fn journal(
+    alloc: Global,
+    owner: u8,
+    lines: &[&[u8]],
+    row: u32,
+    number: u64,
+) -> Result<Journal, AllocError>
+    requires { owner ≤ 64 }
+    ensures owner { IfOk result (λ j. j.owner ≡ owner) }
+    ensures notes { IfOk result (λ j. j.notes ≡ (row, number) ∷ []) }
+    ensures lines { IfOk result (λ j. length j.steps ≡ length lines.now) }
+{
+    let mut journal = Journal::new(alloc, owner);
+    for line in lines {
+        keep(alloc, &mut journal, line)?;
+    }
+    journal.room()?;
+    journal.note(row, Name { owner, number });
+    Ok(journal)
+}
+
+/// That vertex 0 of the triangle does not go to 0.
+const FIRST: [&[u8]; 3] = [
+    b"p 0.1 15 24 + 6 + ;",
+    b"p 0.1 15 26 + 6 + ;",
+    b"u 0.1 ~x1 ; 1.1 1.2 11 ;",
+];
+
+/// That it does not go to 1, and since it does not go to 0 either, nowhere.
+const SECOND: [&[u8]; 10] = [
+    b"p 0.1 16 23 + 6 + ;",
+    b"p 0.1 16 25 + 6 + ;",
+    b"u 0.1 ~x2 ; 2.1 2.2 12 ;",
+    b"p 0.1 17 24 + 6 + ;",
+    b"p 0.1 17 26 + 6 + ;",
+    b"u 0.1 ~x3 ; 2.4 2.5 13 ;",
+    b"p 0.1 18 23 + 6 + ;",
+    b"p 0.1 18 25 + 6 + ;",
+    b"u 0.1 ~x4 ; 2.7 2.8 14 ;",
+    b"u 0.1 ; #0 2.3 2.6 2.9 1 ;",
+];
+
+const MERGED: &[u8] =
+    b"embedding proof 1\nm 34\np 1.1 15 24 + 6 + ;\np 1.2 15 26 + 6 + ;\nu 1.3 ~x1 ; 1.1 1.2 11 ;\nn 0 1.3\n\
+p 2.1 16 23 + 6 + ;\np 2.2 16 25 + 6 + ;\nu 2.3 ~x2 ; 2.1 2.2 12 ;\nn 1 2.3\np 2.4 17 24 + 6 + ;\np 2.5 17 26 + 6 + ;\n\
+u 2.6 ~x3 ; 2.4 2.5 13 ;\np 2.7 18 23 + 6 + ;\np 2.8 18 25 + 6 + ;\nu 2.9 ~x4 ; 2.7 2.8 14 ;\nu 2.10 ; #0 2.3 2.6 2.9 1 ;\ne 2.10\n";
+
+fn nogood(owner: u8, value: u16) -> Row
+    ensures { result.owner ≡ owner }
+{
+    Row {
+        kind: RowKind::Nogood,
+        owner,
+        parent: None,
+        vertex: 0,
+        value,
+    }
+}
+
+#[test]
+fn journals_of_two_owners_are_merged(rt: HostRuntime) -> Result<(), Fail> {
+    let first = journal(rt.alloc(), 1, &FIRST, 0, 3)?;
+    let second = journal(rt.alloc(), 2, &SECOND, 1, 3)?;
+    let mut journals = Vec::with_capacity(rt.alloc(), 3)?;
+    journals.push_reserved(Journal::new(rt.alloc(), 0));
+    journals.push_reserved(first);
+    journals.push_reserved(second);
+    let rows = [nogood(1, 0), nogood(2, 1)];
+    let mut sink = MemorySink::new(rt.alloc(), 4096, Vec::new(rt.alloc()))?;
+    assert!(rt; write_refutation(34, &journals, &rows, 2, &mut sink).is_ok());
+    assert_eq!(rt; sink.bytes(), MERGED);
+    Ok(())
+}
+
+#[test]
+fn other_logs_are_a_head_and_a_line(rt: HostRuntime) -> Result<(), Fail> {
+    let mut sink = MemorySink::new(rt.alloc(), 4096, Vec::new(rt.alloc()))?;
+    assert!(rt; write_undecided(34, &mut sink).is_ok());
+    assert_eq!(rt; sink.bytes(), b"embedding proof 1\nm 34\nq\n".as_slice());
+    let mut sink = MemorySink::new(rt.alloc(), 4096, Vec::new(rt.alloc()))?;
+    let ones = Variables::new(Vec::from_slice(rt.alloc(), &[1u32, 4])?);
+    assert!(rt; write_solution(10, ones, &mut sink).is_ok());
+    assert_eq!(rt;
+        sink.bytes(),
+        b"embedding proof 1\nm 10\ny x1 x4\n".as_slice()
+    );
+    Ok(())
+}
+
+/// The merged log with the lines of the two owners, up to what they share, in the other order.
+const EXCHANGED: &[u8] =
+    b"embedding proof 1\nm 34\np 2.1 16 23 + 6 + ;\np 2.2 16 25 + 6 + ;\nu 2.3 ~x2 ; 2.1 2.2 12 ;\nn 1 2.3\n\
+p 1.1 15 24 + 6 + ;\np 1.2 15 26 + 6 + ;\nu 1.3 ~x1 ; 1.1 1.2 11 ;\nn 0 1.3\np 2.4 17 24 + 6 + ;\np 2.5 17 26 + 6 + ;\n\
+u 2.6 ~x3 ; 2.4 2.5 13 ;\np 2.7 18 23 + 6 + ;\np 2.8 18 25 + 6 + ;\nu 2.9 ~x4 ; 2.7 2.8 14 ;\nu 2.10 ; #0 2.3 2.6 2.9 1 ;\ne 2.10\n";
+
+/// Constraint 1 alone, of two variables.
+const ONE_OF_TWO: &[u8] = b"* #variable= 2 #constraint= 1\n+1 x1 +1 x2 >= 1 ;\n";
+
+/// A model, a log, and its verdict.
+struct Judged {
+    model: &'static [u8],
+    log: &'static [u8],
+    verdict: Verdict,
+}
+
+impl<R> Example<R> for Judged {
+    fn holds(&self, _rt: &R, alloc: Global) -> Result<bool, AllocError> {
+        match read_opb(alloc, self.model) {
+            Ok(model) => Ok(check(alloc, &model, self.log) == self.verdict),
+            Err(_) => Ok(false),
+        }
+    }
+}
+
+static JUDGED: [Judged; 4] = [
+    Judged {
+        model: TRIANGLE_INTO_CYCLE,
+        log: MERGED,
+        verdict: Verdict::Unsatisfiable,
+    },
+    Judged {
+        model: TRIANGLE_INTO_CYCLE,
+        log: EXCHANGED,
+        verdict: Verdict::Refused {
+            line: 10,
+            cause: Cause::Order,
+        },
+    },
+    Judged {
+        model: TRIANGLE_INTO_CYCLE,
+        log: b"embedding proof 1\nm 34\nq\n",
+        verdict: Verdict::Undecided,
+    },
+    Judged {
+        model: ONE_OF_TWO,
+        log: b"embedding proof 1\nm 1\ny x2\n",
+        verdict: Verdict::Satisfiable,
+    },
+];
+
+#[test]
+fn the_checker_goes_by_the_order_of_the_rows(rt: HostRuntime) -> Result<(), Fail> {
+    assert_eq!(rt; first_wrong(&rt, rt.alloc(), &JUDGED)?, None);
+    Ok(())
+}

@@ -1,0 +1,163 @@
+//! What `check` answers.
+
+use memory_runs::{CLEAN, check_over, parts, run_over};
+use std::alloc::{AllocError, Global};
+use std::test::Fail;
+use std::thread::Threads;
+use worked_examples::{Example, first_wrong};
+
+/// A model of one variable that is one and is not.
+const BOTH_WAYS: &str = "* #variable= 1 #constraint= 2\n+1 x1 >= 1 ;\n-1 x1 >= 0 ;\n";
+
+/// A log over an encoding, and what its check ends with.
+struct Checked {
+    encoding: &'static str,
+    log: &'static str,
+    status: u8,
+    out: &'static str,
+    err: &'static str,
+}
+
+impl<R: Threads + Sync> Example<R> for Checked {
+    fn holds(&self, rt: &R, alloc: Global) -> Result<bool, AllocError> {
+        let ran = check_over(rt, alloc, self.encoding.as_bytes(), self.log.as_bytes())?;
+        Ok(ran.gave(self.status, self.out, self.err))
+    }
+}
+
+static CHECKED: [Checked; 16] = [
+    Checked {
+        encoding: "* #variable= 0 #constraint= 0\n",
+        log: "embedding proof 1\nm 0\ny\n",
+        status: 0,
+        out: "accepted satisfiable\n",
+        err: "",
+    },
+    Checked {
+        encoding: "* #variable= 0 #constraint= 2\n>= 1 ;\n>= -1 ;\n",
+        log: "embedding proof 1\nm 2\ne 1\n",
+        status: 0,
+        out: "accepted unsatisfiable\n",
+        err: "",
+    },
+    Checked {
+        encoding: BOTH_WAYS,
+        log: "embedding proof 1\nm 2\nu 0.1 ; 1 2 ;\ne 0.1\n",
+        status: 0,
+        out: "accepted unsatisfiable\n",
+        err: "",
+    },
+    Checked {
+        encoding: BOTH_WAYS,
+        log: "embedding proof 1\nm 2\nq\n",
+        status: 0,
+        out: "accepted undecided\n",
+        err: "",
+    },
+    Checked {
+        encoding: BOTH_WAYS,
+        log: "embedding proof 1\nm 2\nu 0.1 ; 2 ;\ne 0.1\n",
+        status: 7,
+        out: "",
+        err: "log: line 3: NoConflict\n",
+    },
+    Checked {
+        encoding: BOTH_WAYS,
+        log: "embedding proof 1\nm 2\np 0.1 1 9223372036854775807 * 9223372036854775807 * ;\n",
+        status: 7,
+        out: "",
+        err: "log: line 3: Wide\n",
+    },
+    Checked {
+        encoding: BOTH_WAYS,
+        log: "embedding proof 1\nm 2\np 0.1 0.2 ;\n",
+        status: 7,
+        out: "",
+        err: "log: line 3: NoSuchName\n",
+    },
+    Checked {
+        encoding: BOTH_WAYS,
+        log: "embedding proof 1\nm 2\np 0.1 1 ;\np 0.1 2 ;\n",
+        status: 7,
+        out: "",
+        err: "log: line 4: NameUsed\n",
+    },
+    Checked {
+        encoding: BOTH_WAYS,
+        log: "embedding proof 1\nm 2\n",
+        status: 7,
+        out: "",
+        err: "log: line 3: EndsEarly\n",
+    },
+    Checked {
+        encoding: BOTH_WAYS,
+        log: "embedding proof 1\nm 2\ny\n",
+        status: 7,
+        out: "",
+        err: "log: line 3: NotSolution\n",
+    },
+    Checked {
+        encoding: BOTH_WAYS,
+        log: "",
+        status: 7,
+        out: "",
+        err: "log: line 1: EndsEarly\n",
+    },
+    Checked {
+        encoding: "",
+        log: "",
+        status: 4,
+        out: "",
+        err: "encoding: line 1: Header\n",
+    },
+    Checked {
+        encoding: "* #variable= 1 #constraint= 1\n+1 x1 = 1 ;\n",
+        log: "",
+        status: 4,
+        out: "",
+        err: "encoding: line 2: Equality\n",
+    },
+    Checked {
+        encoding: "* #variable= 1 #constraint= 1\n+1 x2 >= 1 ;\n",
+        log: "",
+        status: 4,
+        out: "",
+        err: "encoding: line 2: NoSuchVariable\n",
+    },
+    Checked {
+        encoding: "* #variable= 1 #constraint= 2\n+1 x1 >= 1 ;\n",
+        log: "",
+        status: 4,
+        out: "",
+        err: "encoding: line 3: Count\n",
+    },
+    Checked {
+        encoding: "* #variable= 1 #constraint= 1\n+1 x1 >= 1\n",
+        log: "",
+        status: 4,
+        out: "",
+        err: "encoding: line 2: Form\n",
+    },
+];
+
+#[test]
+fn each_log_has_its_answer(rt: HostRuntime) -> Result<(), Fail> {
+    assert_eq!(rt; first_wrong(&rt, rt.alloc(), &CHECKED)?, None);
+    Ok(())
+}
+
+#[test]
+fn a_missing_log_is_a_fault(rt: HostRuntime) -> Result<(), Fail> {
+    let files = parts(rt.alloc(), &[("e", BOTH_WAYS)])?;
+    let ran = run_over(&rt, rt.alloc(), "subgraph check e l", files, CLEAN)?;
+    assert!(rt; ran.gave(5, "", "files: fault\n"));
+    Ok(())
+}
+
+#[test]
+fn a_bad_encoding_comes_before_a_missing_log(rt: HostRuntime) -> Result<(), Fail> {
+    let files = parts(rt.alloc(), &[("e", "x"), ("l", "")])?;
+    let ran = run_over(&rt, rt.alloc(), "subgraph check e absent", files, CLEAN)?;
+    assert!(rt; ran.gave(4, "", "encoding: line 1: Header\n"));
+    Ok(())
+}

@@ -1,0 +1,167 @@
+//! Domains that are counted together.
+
+ghost use Rattle.std.specs.Prelude.{◌≡◌, ℕ, ◌<◌, true, IfOk};
+ghost use Rattle.domain_bits.specs.Removals.{in_domain};
+ghost use Rattle.all_different.specs.Pruning.{DecidedApart};
+
+use all_different::{Pruned, Scratch, prune, prune_undecided};
+use domain_bits::Domains;
+use std::alloc::{AllocError, Global};
+use std::test::Fail;
+use worked_examples::{Example, first_wrong};
+
+#[test]
+fn two_domains_of_two_values_empty_a_third(rt: HostRuntime) -> Result<(), Fail> {
+    let mut domains = Domains::new(rt.alloc(), 3, 3)?;
+    let mut scratch = Scratch::new(rt.alloc(), 3, 3)?;
+    domains.intersect(0, &[0b011]);
+    domains.intersect(1, &[0b011]);
+    assert_eq!(rt; prune(&mut domains, &mut scratch), Pruned::Hall);
+    assert_eq!(rt; scratch.set(), [0, 1].as_slice());
+    assert_eq!(rt; scratch.values(), [0b011].as_slice());
+    assert_eq!(rt; domains.row(2), [0b100].as_slice());
+    assert_eq!(rt; prune(&mut domains, &mut scratch), Pruned::Quiet);
+    Ok(())
+}
+
+#[test]
+fn three_domains_of_two_values_have_no_choice(rt: HostRuntime) -> Result<(), Fail> {
+    let mut domains = Domains::new(rt.alloc(), 3, 2)?;
+    let mut scratch = Scratch::new(rt.alloc(), 3, 2)?;
+    assert_eq!(rt; prune(&mut domains, &mut scratch), Pruned::Fail);
+    assert_eq!(rt; scratch.set(), [0, 1, 2].as_slice());
+    assert_eq!(rt; scratch.values(), [0b11].as_slice());
+    assert_eq!(rt; domains.trail().len(), 0);
+    Ok(())
+}
+
+/// Domains of four vertices and six values that have just the values of these rows.
+fn domains_of(alloc: Global, rows: [u64; 4]) -> Result<Domains, AllocError>
+    ensures vertices { IfOk result (λ d. d.vertices ≡ 4) }
+    ensures values { IfOk result (λ d. d.values ≡ 6) }
+{
+    let mut domains = Domains::new(alloc, 4, 6)?;
+    domains.intersect(0, &[rows[0]]);
+    domains.intersect(1, &[rows[1]]);
+    domains.intersect(2, &[rows[2]]);
+    domains.intersect(3, &[rows[3]]);
+    Ok(domains)
+}
+
+/// Whether no other domain has the value of `p`.
+fn stands_alone(d: &Domains, p: u16, t: u16) -> bool
+    requires { t < d.now.values }
+    ensures { result ≡ true → (r : ℕ) → r < d.now.vertices → (p ≡ r → ⊥)
+        → in_domain d.now r t ≡ true → ⊥ }
+{
+    for r in 0..d.vertices() {
+        if r != p && d.has(r, t) {
+            return false;
+        }
+    }
+    true
+}
+
+/// Whether each value that is all of a domain is in no other.
+fn are_apart(d: &Domains) -> bool
+    ensures { result ≡ true → DecidedApart d.now }
+{
+    for p in 0..d.vertices() {
+        if let Some(t) = d.only(p) {
+            if !stands_alone(d, p, t) {
+                return false;
+            }
+        }
+    }
+    true
+}
+
+/// The rows of four domains, what counting them answers, and how many vertices it tells.
+struct Counted {
+    rows: [u64; 4],
+    answer: Pruned,
+    set: usize,
+}
+
+/// Whether both ways to count domains answer this, tell the same set of so many vertices, and leave the same domains.
+fn answer_alike(
+    alloc: Global,
+    plain: &mut Domains,
+    undecided: &mut Domains,
+    answer: Pruned,
+    set: usize,
+) -> Result<bool, AllocError>
+    requires vertices { plain.old.vertices ≡ 4 }
+    requires values { plain.old.values ≡ 6 }
+    requires other_vertices { undecided.old.vertices ≡ 4 }
+    requires other_values { undecided.old.values ≡ 6 }
+    requires apart { DecidedApart undecided.old }
+{
+    let mut scratch = Scratch::new(alloc, 4, 6)?;
+    let mut sister = Scratch::new(alloc, 4, 6)?;
+    let first = prune(plain, &mut scratch);
+    let second = prune_undecided(undecided, &mut sister);
+    Ok(
+        first == answer
+            && second == answer
+            && sister.set().len() == set
+            && sister.set() == scratch.set()
+            && undecided.trail() == plain.trail(),
+    )
+}
+
+impl<R> Example<R> for Counted {
+    fn holds(&self, _rt: &R, alloc: Global) -> Result<bool, AllocError> {
+        let mut plain = domains_of(alloc, self.rows)?;
+        let mut undecided = domains_of(alloc, self.rows)?;
+        if !are_apart(&undecided) {
+            return Ok(false);
+        }
+        answer_alike(alloc, &mut plain, &mut undecided, self.answer, self.set)
+    }
+}
+
+static COUNTED: [Counted; 6] = [
+    // no more than the decided
+    Counted {
+        rows: [0b1, 0b10, 0b111100, 0b111100],
+        answer: Pruned::Quiet,
+        set: 0,
+    },
+    // two that keep to themselves
+    Counted {
+        rows: [0b1, 0b110, 0b110, 0b111000],
+        answer: Pruned::Quiet,
+        set: 0,
+    },
+    // two behind a decided one
+    Counted {
+        rows: [0b1, 0b110, 0b110, 0b1110],
+        answer: Pruned::Hall,
+        set: 3,
+    },
+    // one left by two
+    Counted {
+        rows: [0b111110, 0b1, 0b1010, 0b1010],
+        answer: Pruned::Hall,
+        set: 3,
+    },
+    // three of two values
+    Counted {
+        rows: [0b1, 0b110, 0b110, 0b110],
+        answer: Pruned::Fail,
+        set: 4,
+    },
+    // an empty one
+    Counted {
+        rows: [0b1, 0b0, 0b111110, 0b111110],
+        answer: Pruned::Fail,
+        set: 1,
+    },
+];
+
+#[test]
+fn both_answer_alike_on_domains_at_rest(rt: HostRuntime) -> Result<(), Fail> {
+    assert_eq!(rt; first_wrong(&rt, rt.alloc(), &COUNTED)?, None);
+    Ok(())
+}
