@@ -223,10 +223,10 @@ claim_holds Undecided m text laws e = tt
 
 claim_says : (claim : Claim) (m : OpbModel) (text : List ℕ) → LogLaws → AnswerLaws → verdict_of m.variables m.constraints text ≡ verdict_of_claim claim → VerdictSays (Accepted claim) m text
 claim_says claim m text laws answers e = (
-      e,
-      subst (λ (v : Verdict). Accepts m.variables m.constraints text v) e (answers.accepted m.variables m.constraints text (subst IsClaim (sym e) (is_claim claim))),
-      claim_holds claim m text laws e,
-    )
+  e,
+  subst (λ (v : Verdict). Accepts m.variables m.constraints text v) e (answers.accepted m.variables m.constraints text (subst IsClaim (sym e) (is_claim claim))),
+  claim_holds claim m text laws e,
+)
 
 judged_claim : (claim : Claim) (f : List ℕ → Verdict) (most : ℕ) (content : Option (List ℕ)) → FileSays (Judged (verdict_of_claim claim)) f most content → IsJudged f most content (verdict_of_claim claim)
 judged_claim Unsatisfiable f most content s = s
