@@ -4,7 +4,6 @@ use memory_runs::{CLEAN, Failing, Ran, run_over};
 use std::alloc::{AllocError, Global};
 use std::test::Fail;
 use std::thread::Threads;
-use worked_examples::{Example, first_wrong};
 
 /// Runs the words over no file, with this call on the output failing.
 fn run_demo<R: Threads + Sync>(
@@ -32,11 +31,24 @@ struct Shown {
     accounts: usize,
 }
 
-impl<R: Threads + Sync> Example<R> for Shown {
-    fn holds(&self, rt: &R, alloc: Global) -> Result<bool, AllocError> {
-        let ran = run_demo(rt, alloc, self.line, self.failing)?;
-        Ok(ran.gave(self.status, self.out, self.err) && ran.accounts == self.accounts)
+/// Whether the runs of a row end so.
+fn holds<R: Threads + Sync>(rt: &R, alloc: Global, row: &Shown) -> Result<bool, AllocError> {
+    let ran = run_demo(rt, alloc, row.line, row.failing)?;
+    Ok(ran.gave(row.status, row.out, row.err) && ran.accounts == row.accounts)
+}
+
+/// The place, from 0, of the first row that does not hold.
+fn first_wrong<R: Threads + Sync>(
+    rt: &R,
+    alloc: Global,
+    rows: &[Shown],
+) -> Result<Option<usize>, AllocError> {
+    for (at, row) in rows.iter().enumerate() {
+        if !holds(rt, alloc, row)? {
+            return Ok(Some(at));
+        }
     }
+    Ok(None)
 }
 
 static SHOWN: [Shown; 4] = [

@@ -4,7 +4,6 @@ use memory_runs::{EDGE, run_pair};
 use std::alloc::{AllocError, Global};
 use std::test::Fail;
 use std::thread::Threads;
-use worked_examples::{Example, first_wrong};
 
 const EDGE_INTO_EDGE: &str = "* #variable= 4 #constraint= 10
 +1 x1 +1 x2 >= 1 ;
@@ -37,11 +36,24 @@ struct Encoded {
     err: &'static str,
 }
 
-impl<R: Threads + Sync> Example<R> for Encoded {
-    fn holds(&self, rt: &R, alloc: Global) -> Result<bool, AllocError> {
-        let ran = run_pair(rt, alloc, self.line, self.pattern, self.target)?;
-        Ok(ran.gave(self.status, self.out, self.err))
+/// Whether the runs of a row end so.
+fn holds<R: Threads + Sync>(rt: &R, alloc: Global, row: &Encoded) -> Result<bool, AllocError> {
+    let ran = run_pair(rt, alloc, row.line, row.pattern, row.target)?;
+    Ok(ran.gave(row.status, row.out, row.err))
+}
+
+/// The place, from 0, of the first row that does not hold.
+fn first_wrong<R: Threads + Sync>(
+    rt: &R,
+    alloc: Global,
+    rows: &[Encoded],
+) -> Result<Option<usize>, AllocError> {
+    for (at, row) in rows.iter().enumerate() {
+        if !holds(rt, alloc, row)? {
+            return Ok(Some(at));
+        }
     }
+    Ok(None)
 }
 
 static ENCODED: [Encoded; 8] = [

@@ -4,7 +4,6 @@ use memory_runs::{CLEAN, EDGE, Failing, Ran, parts, run_over};
 use std::alloc::{AllocError, Global};
 use std::test::Fail;
 use std::thread::Threads;
-use worked_examples::{Example, first_wrong};
 
 /// Runs the program over an edge as pattern and target, a good and a bad mapping of it, and an encoding with a good and a bad
 /// log, with this call failing.
@@ -75,11 +74,28 @@ fn are_told<R: Threads + Sync>(
     Ok(true)
 }
 
-impl<R: Threads + Sync> Example<R> for OfFiles {
-    fn holds(&self, rt: &R, alloc: Global) -> Result<bool, AllocError> {
-        let ran = run_files(rt, alloc, self.line, self.beyond)?;
-        Ok(ran.status == 0 && are_told(rt, alloc, self)?)
+/// Whether the runs of a row end so.
+fn holds_of_files<R: Threads + Sync>(
+    rt: &R,
+    alloc: Global,
+    row: &OfFiles,
+) -> Result<bool, AllocError> {
+    let ran = run_files(rt, alloc, row.line, row.beyond)?;
+    Ok(ran.status == 0 && are_told(rt, alloc, row)?)
+}
+
+/// The place, from 0, of the first row that does not hold.
+fn first_wrong_of_files<R: Threads + Sync>(
+    rt: &R,
+    alloc: Global,
+    rows: &[OfFiles],
+) -> Result<Option<usize>, AllocError> {
+    for (at, row) in rows.iter().enumerate() {
+        if !holds_of_files(rt, alloc, row)? {
+            return Ok(Some(at));
+        }
     }
+    Ok(None)
 }
 
 static OF_FILES: [OfFiles; 4] = [
@@ -103,7 +119,7 @@ static OF_FILES: [OfFiles; 4] = [
 
 #[test]
 fn each_fault_of_the_files_is_told(rt: HostRuntime) -> Result<(), Fail> {
-    assert_eq!(rt; first_wrong(&rt, rt.alloc(), &OF_FILES)?, None);
+    assert_eq!(rt; first_wrong_of_files(&rt, rt.alloc(), &OF_FILES)?, None);
     Ok(())
 }
 
@@ -135,12 +151,29 @@ fn are_cut_off<R: Threads + Sync>(
     Ok(true)
 }
 
-impl<R: Threads + Sync> Example<R> for OfOutput {
-    fn holds(&self, rt: &R, alloc: Global) -> Result<bool, AllocError> {
-        let whole = run_failing(rt, alloc, self.line, CLEAN)?;
-        let beyond = run_out(rt, alloc, self.line, self.beyond)?;
-        Ok(beyond.status == 0 && are_cut_off(rt, alloc, self, &whole)?)
+/// Whether the runs of a row end so.
+fn holds_of_output<R: Threads + Sync>(
+    rt: &R,
+    alloc: Global,
+    row: &OfOutput,
+) -> Result<bool, AllocError> {
+    let whole = run_failing(rt, alloc, row.line, CLEAN)?;
+    let beyond = run_out(rt, alloc, row.line, row.beyond)?;
+    Ok(beyond.status == 0 && are_cut_off(rt, alloc, row, &whole)?)
+}
+
+/// The place, from 0, of the first row that does not hold.
+fn first_wrong_of_output<R: Threads + Sync>(
+    rt: &R,
+    alloc: Global,
+    rows: &[OfOutput],
+) -> Result<Option<usize>, AllocError> {
+    for (at, row) in rows.iter().enumerate() {
+        if !holds_of_output(rt, alloc, row)? {
+            return Ok(Some(at));
+        }
     }
+    Ok(None)
 }
 
 static OF_OUTPUT: [OfOutput; 4] = [
@@ -164,7 +197,7 @@ static OF_OUTPUT: [OfOutput; 4] = [
 
 #[test]
 fn each_fault_of_the_output_is_told(rt: HostRuntime) -> Result<(), Fail> {
-    assert_eq!(rt; first_wrong(&rt, rt.alloc(), &OF_OUTPUT)?, None);
+    assert_eq!(rt; first_wrong_of_output(&rt, rt.alloc(), &OF_OUTPUT)?, None);
     Ok(())
 }
 
@@ -188,15 +221,32 @@ fn run_err<R: Threads + Sync>(
     run_failing(rt, alloc, line, failing)
 }
 
-impl<R: Threads + Sync> Example<R> for OfErrors {
-    fn holds(&self, rt: &R, alloc: Global) -> Result<bool, AllocError> {
-        for number in 1..7 {
-            if run_err(rt, alloc, self.line, number)?.status != self.status {
-                return Ok(false);
-            }
+/// Whether the runs of a row end so.
+fn holds_of_errors<R: Threads + Sync>(
+    rt: &R,
+    alloc: Global,
+    row: &OfErrors,
+) -> Result<bool, AllocError> {
+    for number in 1..7 {
+        if run_err(rt, alloc, row.line, number)?.status != row.status {
+            return Ok(false);
         }
-        Ok(true)
     }
+    Ok(true)
+}
+
+/// The place, from 0, of the first row that does not hold.
+fn first_wrong_of_errors<R: Threads + Sync>(
+    rt: &R,
+    alloc: Global,
+    rows: &[OfErrors],
+) -> Result<Option<usize>, AllocError> {
+    for (at, row) in rows.iter().enumerate() {
+        if !holds_of_errors(rt, alloc, row)? {
+            return Ok(Some(at));
+        }
+    }
+    Ok(None)
 }
 
 static OF_ERRORS: [OfErrors; 8] = [
@@ -236,6 +286,6 @@ static OF_ERRORS: [OfErrors; 8] = [
 
 #[test]
 fn a_fault_of_the_error_stream_changes_no_status(rt: HostRuntime) -> Result<(), Fail> {
-    assert_eq!(rt; first_wrong(&rt, rt.alloc(), &OF_ERRORS)?, None);
+    assert_eq!(rt; first_wrong_of_errors(&rt, rt.alloc(), &OF_ERRORS)?, None);
     Ok(())
 }

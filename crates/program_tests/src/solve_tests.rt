@@ -4,7 +4,6 @@ use memory_runs::{CLEAN, EDGE, FOUR_CYCLE, Ran, TRIANGLE, part, run_over, run_pa
 use std::alloc::{AllocError, Global};
 use std::test::Fail;
 use std::thread::Threads;
-use worked_examples::{Example, first_wrong};
 
 /// A path of three vertices.
 const PATH: &str = "3\n1 1\n2 0 2\n1 1\n";
@@ -18,11 +17,28 @@ struct Answered {
     out: &'static str,
 }
 
-impl<R: Threads + Sync> Example<R> for Answered {
-    fn holds(&self, rt: &R, alloc: Global) -> Result<bool, AllocError> {
-        let ran = run_pair(rt, alloc, self.line, self.pattern, self.target)?;
-        Ok(ran.gave(self.status, self.out, ""))
+/// Whether the runs of a row end so.
+fn holds_answered<R: Threads + Sync>(
+    rt: &R,
+    alloc: Global,
+    row: &Answered,
+) -> Result<bool, AllocError> {
+    let ran = run_pair(rt, alloc, row.line, row.pattern, row.target)?;
+    Ok(ran.gave(row.status, row.out, ""))
+}
+
+/// The place, from 0, of the first row that does not hold.
+fn first_wrong_answered<R: Threads + Sync>(
+    rt: &R,
+    alloc: Global,
+    rows: &[Answered],
+) -> Result<Option<usize>, AllocError> {
+    for (at, row) in rows.iter().enumerate() {
+        if !holds_answered(rt, alloc, row)? {
+            return Ok(Some(at));
+        }
     }
+    Ok(None)
 }
 
 static ANSWERED: [Answered; 19] = [
@@ -163,7 +179,7 @@ static ANSWERED: [Answered; 19] = [
 
 #[test]
 fn each_pair_has_its_answer(rt: HostRuntime) -> Result<(), Fail> {
-    assert_eq!(rt; first_wrong(&rt, rt.alloc(), &ANSWERED)?, None);
+    assert_eq!(rt; first_wrong_answered(&rt, rt.alloc(), &ANSWERED)?, None);
     Ok(())
 }
 
@@ -174,11 +190,24 @@ struct Spent {
     accounts: usize,
 }
 
-impl<R: Threads + Sync> Example<R> for Spent {
-    fn holds(&self, rt: &R, alloc: Global) -> Result<bool, AllocError> {
-        let ran = run_pair(rt, alloc, self.line, TRIANGLE, FOUR_CYCLE)?;
-        Ok(ran.accounts == self.accounts && (ran.status == 2) == (self.accounts > 0))
+/// Whether the runs of a row end so.
+fn holds_spent<R: Threads + Sync>(rt: &R, alloc: Global, row: &Spent) -> Result<bool, AllocError> {
+    let ran = run_pair(rt, alloc, row.line, TRIANGLE, FOUR_CYCLE)?;
+    Ok(ran.accounts == row.accounts && (ran.status == 2) == (row.accounts > 0))
+}
+
+/// The place, from 0, of the first row that does not hold.
+fn first_wrong_spent<R: Threads + Sync>(
+    rt: &R,
+    alloc: Global,
+    rows: &[Spent],
+) -> Result<Option<usize>, AllocError> {
+    for (at, row) in rows.iter().enumerate() {
+        if !holds_spent(rt, alloc, row)? {
+            return Ok(Some(at));
+        }
     }
+    Ok(None)
 }
 
 static SPENT: [Spent; 4] = [
@@ -202,7 +231,7 @@ static SPENT: [Spent; 4] = [
 
 #[test]
 fn each_thread_leaves_an_account(rt: HostRuntime) -> Result<(), Fail> {
-    assert_eq!(rt; first_wrong(&rt, rt.alloc(), &SPENT)?, None);
+    assert_eq!(rt; first_wrong_spent(&rt, rt.alloc(), &SPENT)?, None);
     Ok(())
 }
 
@@ -242,11 +271,28 @@ struct Refused {
     err: &'static str,
 }
 
-impl<R: Threads + Sync> Example<R> for Refused {
-    fn holds(&self, rt: &R, alloc: Global) -> Result<bool, AllocError> {
-        let ran = run_pair(rt, alloc, self.line, self.pattern, self.target)?;
-        Ok(ran.gave(4, "", self.err))
+/// Whether the runs of a row end so.
+fn holds_refused<R: Threads + Sync>(
+    rt: &R,
+    alloc: Global,
+    row: &Refused,
+) -> Result<bool, AllocError> {
+    let ran = run_pair(rt, alloc, row.line, row.pattern, row.target)?;
+    Ok(ran.gave(4, "", row.err))
+}
+
+/// The place, from 0, of the first row that does not hold.
+fn first_wrong_refused<R: Threads + Sync>(
+    rt: &R,
+    alloc: Global,
+    rows: &[Refused],
+) -> Result<Option<usize>, AllocError> {
+    for (at, row) in rows.iter().enumerate() {
+        if !holds_refused(rt, alloc, row)? {
+            return Ok(Some(at));
+        }
     }
+    Ok(None)
 }
 
 static REFUSED: [Refused; 11] = [
@@ -320,7 +366,7 @@ static REFUSED: [Refused; 11] = [
 
 #[test]
 fn each_bad_text_is_refused(rt: HostRuntime) -> Result<(), Fail> {
-    assert_eq!(rt; first_wrong(&rt, rt.alloc(), &REFUSED)?, None);
+    assert_eq!(rt; first_wrong_refused(&rt, rt.alloc(), &REFUSED)?, None);
     Ok(())
 }
 
@@ -364,14 +410,31 @@ impl Embedded {
     }
 }
 
-impl<R: Threads + Sync> Example<R> for Embedded {
-    fn holds(&self, rt: &R, alloc: Global) -> Result<bool, AllocError> {
-        let (solve, verify) = self.words();
-        let solved = run_pair(rt, alloc, solve, self.pattern, self.target)?;
-        let map = solved.out.bytes();
-        let verified = run_three(rt, alloc, verify, self.pattern, self.target, map)?;
-        Ok(solved.status == 0 && verified.gave(0, "embedding\n", ""))
+/// Whether the runs of a row end so.
+fn holds_embedded<R: Threads + Sync>(
+    rt: &R,
+    alloc: Global,
+    row: &Embedded,
+) -> Result<bool, AllocError> {
+    let (solve, verify) = row.words();
+    let solved = run_pair(rt, alloc, solve, row.pattern, row.target)?;
+    let map = solved.out.bytes();
+    let verified = run_three(rt, alloc, verify, row.pattern, row.target, map)?;
+    Ok(solved.status == 0 && verified.gave(0, "embedding\n", ""))
+}
+
+/// The place, from 0, of the first row that does not hold.
+fn first_wrong_embedded<R: Threads + Sync>(
+    rt: &R,
+    alloc: Global,
+    rows: &[Embedded],
+) -> Result<Option<usize>, AllocError> {
+    for (at, row) in rows.iter().enumerate() {
+        if !holds_embedded(rt, alloc, row)? {
+            return Ok(Some(at));
+        }
     }
+    Ok(None)
 }
 
 static EMBEDDED: [Embedded; 8] = [
@@ -419,7 +482,7 @@ static EMBEDDED: [Embedded; 8] = [
 
 #[test]
 fn what_solve_prints_verifies(rt: HostRuntime) -> Result<(), Fail> {
-    assert_eq!(rt; first_wrong(&rt, rt.alloc(), &EMBEDDED)?, None);
+    assert_eq!(rt; first_wrong_embedded(&rt, rt.alloc(), &EMBEDDED)?, None);
     Ok(())
 }
 

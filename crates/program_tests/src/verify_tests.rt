@@ -4,7 +4,6 @@ use memory_runs::{EDGE, run_three};
 use std::alloc::{AllocError, Global};
 use std::test::Fail;
 use std::thread::Threads;
-use worked_examples::{Example, first_wrong};
 
 /// Words, what the files `p`, `t` and `m` hold, and what a run ends with.
 struct Verified {
@@ -17,12 +16,25 @@ struct Verified {
     err: &'static str,
 }
 
-impl<R: Threads + Sync> Example<R> for Verified {
-    fn holds(&self, rt: &R, alloc: Global) -> Result<bool, AllocError> {
-        let mapping = self.mapping.as_bytes();
-        let ran = run_three(rt, alloc, self.line, self.pattern, self.target, mapping)?;
-        Ok(ran.gave(self.status, self.out, self.err))
+/// Whether the runs of a row end so.
+fn holds<R: Threads + Sync>(rt: &R, alloc: Global, row: &Verified) -> Result<bool, AllocError> {
+    let mapping = row.mapping.as_bytes();
+    let ran = run_three(rt, alloc, row.line, row.pattern, row.target, mapping)?;
+    Ok(ran.gave(row.status, row.out, row.err))
+}
+
+/// The place, from 0, of the first row that does not hold.
+fn first_wrong<R: Threads + Sync>(
+    rt: &R,
+    alloc: Global,
+    rows: &[Verified],
+) -> Result<Option<usize>, AllocError> {
+    for (at, row) in rows.iter().enumerate() {
+        if !holds(rt, alloc, row)? {
+            return Ok(Some(at));
+        }
     }
+    Ok(None)
 }
 
 static VERIFIED: [Verified; 19] = [

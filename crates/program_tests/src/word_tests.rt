@@ -4,16 +4,28 @@ use memory_runs::run_pair;
 use std::alloc::{AllocError, Global};
 use std::test::Fail;
 use std::thread::Threads;
-use worked_examples::{Example, first_wrong};
 
 /// Words that are no command.
 struct NoCommand(&'static str);
 
-impl<R: Threads + Sync> Example<R> for NoCommand {
-    fn holds(&self, rt: &R, alloc: Global) -> Result<bool, AllocError> {
-        let ran = run_pair(rt, alloc, self.0, "0\n", "0\n")?;
-        Ok(ran.gave(3, "", "words: not a command\n"))
+/// Whether the runs of a row end so.
+fn holds<R: Threads + Sync>(rt: &R, alloc: Global, row: &NoCommand) -> Result<bool, AllocError> {
+    let ran = run_pair(rt, alloc, row.0, "0\n", "0\n")?;
+    Ok(ran.gave(3, "", "words: not a command\n"))
+}
+
+/// The place, from 0, of the first row that does not hold.
+fn first_wrong<R: Threads + Sync>(
+    rt: &R,
+    alloc: Global,
+    rows: &[NoCommand],
+) -> Result<Option<usize>, AllocError> {
+    for (at, row) in rows.iter().enumerate() {
+        if !holds(rt, alloc, row)? {
+            return Ok(Some(at));
+        }
     }
+    Ok(None)
 }
 
 static NO_COMMAND: [NoCommand; 13] = [

@@ -4,7 +4,6 @@ use memory_runs::{CLEAN, check_over, parts, run_over};
 use std::alloc::{AllocError, Global};
 use std::test::Fail;
 use std::thread::Threads;
-use worked_examples::{Example, first_wrong};
 
 /// A model of one variable that is one and is not.
 const BOTH_WAYS: &str = "* #variable= 1 #constraint= 2\n+1 x1 >= 1 ;\n-1 x1 >= 0 ;\n";
@@ -18,11 +17,24 @@ struct Checked {
     err: &'static str,
 }
 
-impl<R: Threads + Sync> Example<R> for Checked {
-    fn holds(&self, rt: &R, alloc: Global) -> Result<bool, AllocError> {
-        let ran = check_over(rt, alloc, self.encoding.as_bytes(), self.log.as_bytes())?;
-        Ok(ran.gave(self.status, self.out, self.err))
+/// Whether the runs of a row end so.
+fn holds<R: Threads + Sync>(rt: &R, alloc: Global, row: &Checked) -> Result<bool, AllocError> {
+    let ran = check_over(rt, alloc, row.encoding.as_bytes(), row.log.as_bytes())?;
+    Ok(ran.gave(row.status, row.out, row.err))
+}
+
+/// The place, from 0, of the first row that does not hold.
+fn first_wrong<R: Threads + Sync>(
+    rt: &R,
+    alloc: Global,
+    rows: &[Checked],
+) -> Result<Option<usize>, AllocError> {
+    for (at, row) in rows.iter().enumerate() {
+        if !holds(rt, alloc, row)? {
+            return Ok(Some(at));
+        }
     }
+    Ok(None)
 }
 
 static CHECKED: [Checked; 16] = [

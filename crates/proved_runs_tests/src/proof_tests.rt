@@ -7,7 +7,6 @@ use memory_runs::{
 use std::alloc::{AllocError, Global};
 use std::test::Fail;
 use std::thread::Threads;
-use worked_examples::{Example, first_wrong};
 
 /// The head of a log over 34 constraints.
 const HEAD: &str = "embedding proof 1\nm 34\n";
@@ -66,12 +65,25 @@ fn begins(ran: &Ran, shown: &Shown) -> bool {
         && ran.file("l").starts_with(shown.log.as_bytes())
 }
 
-impl<R: Threads + Sync> Example<R> for Shown {
-    fn holds(&self, rt: &R, alloc: Global) -> Result<bool, AllocError> {
-        let ran = run_proof(rt, alloc, self.line, self.pattern, self.target, CLEAN)?;
-        let is_accepted = is_checked(rt, alloc, &ran, 0, self.told, "")?;
-        Ok(is_accepted && begins(&ran, self))
+/// Whether the runs of a row end so.
+fn holds<R: Threads + Sync>(rt: &R, alloc: Global, row: &Shown) -> Result<bool, AllocError> {
+    let ran = run_proof(rt, alloc, row.line, row.pattern, row.target, CLEAN)?;
+    let is_accepted = is_checked(rt, alloc, &ran, 0, row.told, "")?;
+    Ok(is_accepted && begins(&ran, row))
+}
+
+/// The place, from 0, of the first row that does not hold.
+fn first_wrong<R: Threads + Sync>(
+    rt: &R,
+    alloc: Global,
+    rows: &[Shown],
+) -> Result<Option<usize>, AllocError> {
+    for (at, row) in rows.iter().enumerate() {
+        if !holds(rt, alloc, row)? {
+            return Ok(Some(at));
+        }
     }
+    Ok(None)
 }
 
 static SHOWN: [Shown; 9] = [

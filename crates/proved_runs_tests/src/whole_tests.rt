@@ -4,7 +4,6 @@ use memory_runs::{EDGE, FOUR_CYCLE, Ran, TRIANGLE, check_over, run_pair};
 use std::alloc::{AllocError, Global};
 use std::test::Fail;
 use std::thread::Threads;
-use worked_examples::{Example, first_wrong};
 
 /// A refutation of a triangle in a cycle of four vertices: each image of the first vertex leaves its neighbours two values
 /// that have no edge between them.
@@ -38,12 +37,25 @@ struct Accepted {
     out: &'static str,
 }
 
-impl<R: Threads + Sync> Example<R> for Accepted {
-    fn holds(&self, rt: &R, alloc: Global) -> Result<bool, AllocError> {
-        let encoded = run_pair(rt, alloc, self.line, self.pattern, self.target)?;
-        let checked = check_of(rt, alloc, &encoded, self.log)?;
-        Ok(encoded.status == 0 && checked.gave(0, self.out, ""))
+/// Whether the runs of a row end so.
+fn holds<R: Threads + Sync>(rt: &R, alloc: Global, row: &Accepted) -> Result<bool, AllocError> {
+    let encoded = run_pair(rt, alloc, row.line, row.pattern, row.target)?;
+    let checked = check_of(rt, alloc, &encoded, row.log)?;
+    Ok(encoded.status == 0 && checked.gave(0, row.out, ""))
+}
+
+/// The place, from 0, of the first row that does not hold.
+fn first_wrong<R: Threads + Sync>(
+    rt: &R,
+    alloc: Global,
+    rows: &[Accepted],
+) -> Result<Option<usize>, AllocError> {
+    for (at, row) in rows.iter().enumerate() {
+        if !holds(rt, alloc, row)? {
+            return Ok(Some(at));
+        }
     }
+    Ok(None)
 }
 
 /// Checks the log over the encoding that was written.
