@@ -176,10 +176,30 @@ fn one_shared_neighbour_is_counted_by_its_own_lines(rt: HostRuntime) -> Result<(
     Ok(())
 }
 
-const TWO_SHARED: &[u8] = b"p 1.1 10 x2 + x10 + 1 * 26 + 42 + 2 d ;
-p 1.2 12 x4 + x12 + 1 * 28 + 44 + 2 d ;
-p 1.3 6 9 + 3 * 13 + 17 + 1.1 + 1.2 + ;
-p 1.4 6 11 + 3 * 15 + 19 + 1.1 + 1.2 + ;
+const THREE: &[u8] = b"5 3 2 3 4 3 2 3 4 2 0 1 2 0 1 2 0 1";
+
+const THREE_SHARED: &[u8] = b"p 1.1 13 x3 + x8 + 2 * 53 + 63 + 73 + 3 d ;
+p 1.2 14 x4 + x9 + 2 * 54 + 64 + 74 + 3 d ;
+p 1.3 15 x5 + x10 + 2 * 55 + 65 + 75 + 3 d ;
+p 1.4 4 11 + 4 * 16 + 21 + 26 + 1.1 + 1.2 + 1.3 + ;
+";
+
+// Two vertices, each joined to the other three, into the same graph.
+#[test]
+fn three_shared_neighbours_leave_out_all_others(rt: HostRuntime) -> Result<(), Fail> {
+    let q = problem(rt.alloc(), THREE, THREE, false).ok_or("no problem")?;
+    let head = b"embedding proof 1\nm 75\n";
+    let is_so = is_this(rt.alloc(), &q, 0, 0, 1, head, THREE_SHARED)?;
+    assert!(rt; is_so);
+    Ok(())
+}
+
+const TWO_SHARED: &[u8] = b"u 1.1 ~x6 ~x14 ; 10 ;
+p 1.2 1.1 26 + 42 + 2 d ;
+u 1.3 ~x8 ~x16 ; 12 ;
+p 1.4 1.3 28 + 44 + 2 d ;
+p 1.5 6 9 + 3 * 13 + 17 + 1.2 + 1.4 + ;
+p 1.6 6 11 + 3 * 15 + 19 + 1.2 + 1.4 + ;
 ";
 
 /// Whether the lines of a problem for 0 and 2 at 0 and at 2 are these, with one table for both, and a checker takes them.
@@ -218,18 +238,24 @@ fn is_named(
     Ok(line == Ref::Made(Name { owner: 1, number }))
 }
 
-const ONCE_EACH: &[u8] = b"p 1.1 10 x2 + x10 + 1 * 26 + 42 + 2 d ;
-p 1.2 12 x4 + x12 + 1 * 28 + 44 + 2 d ;
-p 1.3 6 9 + 3 * 13 + 17 + 1.1 + 1.2 + ;
-p 1.4 6 11 + 3 * 15 + 19 + 1.1 + 1.2 + ;
-p 1.5 14 4 + ;
+const ONCE_EACH: &[u8] = b"u 1.1 ~x6 ~x14 ; 10 ;
+p 1.2 1.1 26 + 42 + 2 d ;
+u 1.3 ~x8 ~x16 ; 12 ;
+p 1.4 1.3 28 + 44 + 2 d ;
+p 1.5 6 9 + 3 * 13 + 17 + 1.2 + 1.4 + ;
+p 1.6 6 11 + 3 * 15 + 19 + 1.2 + 1.4 + ;
+p 1.7 14 4 + ;
+p 1.8 1.1 22 + 38 + 2 d ;
+p 1.9 1.3 24 + 40 + 2 d ;
+p 1.10 2 9 + 3 * 29 + 33 + 1.8 + 1.9 + ;
 ";
 
-/// Whether the lines for pairs have these numbers and this text.
+/// Whether the lines for pairs have these numbers and this text, and a checker takes them.
 fn are_named(
     alloc: Global,
     q: &Problem,
     asked: &[((u16, u16, u16), u64)],
+    head: &[u8],
     text: &[u8],
 ) -> Result<bool, AllocError> {
     let lines = Encoding::new(alloc, q)?;
@@ -240,20 +266,28 @@ fn are_named(
             return Ok(false);
         }
     }
-    Ok(journal.text() == text)
+    Ok(journal.text() == text && are_taken(alloc, &lines, head, text)?)
 }
 
-const ASKED: [((u16, u16, u16), u64); 4] = [
-    ((0, 0, 2), 3),
-    ((0, 2, 2), 4),
-    ((0, 0, 2), 3),
-    ((0, 1, 1), 5),
+const ASKED: [((u16, u16, u16), u64); 5] = [
+    ((0, 0, 2), 5),
+    ((0, 2, 2), 6),
+    ((0, 0, 2), 5),
+    ((0, 1, 1), 7),
+    ((2, 0, 0), 10),
 ];
 
+// The clauses of two that are shared serve from either side.
 #[test]
 fn each_line_is_made_once(rt: HostRuntime) -> Result<(), Fail> {
     let q = problem(rt.alloc(), FOUR_CYCLE, FOUR_CYCLE, false).ok_or("no problem")?;
-    let is_so = are_named(rt.alloc(), &q, &ASKED, ONCE_EACH)?;
+    let is_so = are_named(
+        rt.alloc(),
+        &q,
+        &ASKED,
+        b"embedding proof 1\nm 44\n",
+        ONCE_EACH,
+    )?;
     assert!(rt; is_so);
     Ok(())
 }

@@ -7,7 +7,7 @@ use Rattle.log_theory.specs.declared.step.Name.{Name}
 use Rattle.log_theory.specs.declared.step.Ref.TheVariants.{Made}
 use Rattle.reason_theory.specs.Reasons.{ForcesFirst}
 use Rattle.propagation.specs.Recording.{CountedSet}
-use Rattle.row_theory.specs.Rows.{spread_form}
+use Rattle.row_theory.specs.Rows.{spread_form, not_both_form}
 use Rattle.kept_lines.specs.Frames.{Frame, IsNamed}
 use Rattle.kept_lines.specs.Rows.{Widens}
 use Rattle.kept_lines.proofs.Naming.{named_later}
@@ -37,7 +37,10 @@ made_last q made_for w units firsts lines sets forms more h = record {
   units_are = λ v n e. named_later w forms more (Made n) (is_false v) (h.units_are v n e);
   firsts_are = λ p n e. let x = h.firsts_are p n e in (x.0, named_later w forms more (Made n) x.0 x.1, x.2);
   rows_are = (
-    record { named = λ p r v n a b c e. named_later w forms more (Made n) (spread_form q p r v) (h.rows_are.0.named p r v n a b c e) },
+    record {
+      named = λ p r v n a b c e. named_later w forms more (Made n) (spread_form q p r v) (h.rows_are.0.named p r v n a b c e);
+      apart = λ m r v n a b c e. named_later w forms more (Made n) (not_both_form q m r v) (h.rows_are.0.apart m r v n a b c e);
+    },
     record { named = λ p t r n a b c e. let x = h.rows_are.1.named p t r n a b c e in (x.0, named_later w forms more (Made n) x.0 x.1, x.2) },
   );
   sets_are = sets_last q w sets forms more h.sets_are;
@@ -50,7 +53,10 @@ made_wider q made_for w v units firsts lines sets forms wider h = record {
   units_are = λ x n e. named_wider w v forms (Made n) (is_false x) wider (h.units_are x n e);
   firsts_are = λ p n e. let x = h.firsts_are p n e in (x.0, named_wider w v forms (Made n) x.0 wider x.1, x.2);
   rows_are = (
-    record { named = λ p r u n a b c e. named_wider w v forms (Made n) (spread_form q p r u) wider (h.rows_are.0.named p r u n a b c e) },
+    record {
+      named = λ p r u n a b c e. named_wider w v forms (Made n) (spread_form q p r u) wider (h.rows_are.0.named p r u n a b c e);
+      apart = λ m r u n a b c e. named_wider w v forms (Made n) (not_both_form q m r u) wider (h.rows_are.0.apart m r u n a b c e);
+    },
     record { named = λ p t r n a b c e. let x = h.rows_are.1.named p t r n a b c e in (x.0, named_wider w v forms (Made n) x.0 wider x.1, x.2) },
   );
   sets_are = sets_wider q w v sets forms wider h.sets_are;

@@ -1,6 +1,6 @@
 -- The lines may be kept, and what they force.
-use Rattle.std.proofs.Common.{◌≡◌, ℕ, ◌-◌, ◌<◌, ◌==◌, Bool, true, false, ◌||◌, cond, List, [], ◌++◌, refl, sym, ap, subst, ◌∙◌, arith, Option, Some, None, Result, Ok, Err, inl, inr, ◌⊎◌}
-use Rattle.std.specs.Prelude.{IsSome, OnOk, OnErr}
+use Rattle.std.proofs.Common.{◌≡◌, ℕ, ◌<◌, ◌==◌, Bool, true, false, ◌||◌, cond, List, [], ◌++◌, refl, sym, ap, subst, ◌∙◌, arith, Option, Some, None, Result, Ok, Err, inl, inr, ◌⊎◌}
+use Rattle.std.specs.Prelude.{IsSome}
 use Rattle.std.specs.declared.alloc.AllocError.{AllocError}
 use Rattle.std.proofs.lemmas.Bool.{cases_eq, eq-eqb, ne_eqb}
 use Rattle.graph_theory.specs.Graph.{size}
@@ -15,98 +15,27 @@ use Rattle.log_theory.specs.declared.step.Step.{Step}
 use Rattle.log_theory.specs.declared.step.Step.TheVariants.{P}
 use Rattle.log_theory.specs.Lookups.{Lookup, makes}
 use Rattle.log_theory.specs.LogText.{IsName, AreOps}
-use Rattle.log_theory.specs.Verdicts.{in_range, axiom_variables}
 use Rattle.journal_theory.specs.Journals.{Finds, HoldsOwn}
 use Rattle.encoding_theory.specs.Variables.{variables}
 use Rattle.encoding_theory.specs.Pairs.{is_edge_pair, is_non_edge_pair}
 use Rattle.encoding_theory.specs.Encoding.{at_most_target, pair_form}
 use Rattle.reason_theory.specs.Reasons.{ForcesBeside}
 use Rattle.row_theory.specs.Operations.{FindsEncoding}
-use Rattle.encoding_theory.specs.Places.{PlaceLaws, at_most_target_place}
+use Rattle.encoding_theory.specs.Places.{at_most_target_place}
 use Rattle.encoding_theory.proofs.PlaceProofs.{place_laws}
-use Rattle.row_theory.specs.Rows.{is_paired, target_line, edge_line, non_edge_line, spread_form, spread_ops}
+use Rattle.row_theory.specs.Rows.{is_paired, target_line, edge_line, non_edge_line, spread_form}
 use Rattle.row_theory.specs.Laws.{IsPlainProblem, IsPlace, FindsSpread, RowMakes}
 use Rattle.row_theory.proofs.Making.{row_laws}
-use Rattle.kept_lines.specs.Frames.{Frame, IsFrameOf, IsNamed, MayFollow, IsKept, Goes, Lasts, AnyForms}
-use Rattle.kept_lines.proofs.Going.{goes_as, goes_beside, goes_then, goes_kept}
-use Rattle.journals.specs.Keeping.{IsLine, Keeps}
+use Rattle.kept_lines.specs.Frames.{Frame, IsFrameOf, MayFollow, IsKept, Goes, AnyForms}
+use Rattle.kept_lines.proofs.Going.{goes_as, goes_beside, goes_then}
 use Rattle.kept_lines.proofs.Naming.{named_later}
 use Rattle.row_lines.specs.declared.row_lines.RowLines.{RowLines}
 use Rattle.row_lines.specs.declared.sharing.Sharing.{Sharing}
 use Rattle.row_lines.specs.declared.sharing.Sharing.TheVariants.{Nothing, One, Many}
 use Rattle.row_lines.specs.Choices.{IsSharing, own_line, entry_at, pair_key, pair_name, name_or_none, spread_ref, row_ops, row_form}
 use Rattle.row_lines.specs.Claims.{AreSpreads, HasAround, IsRowLine, IsRow, IsRowNamed, AreRows, Knows, IsKnownRow, IsThere}
-use Rattle.row_lines.proofs.Good.{AreGood, good_ops, good_rows, good_range, good_spread_ops, good_row_ops}
-
-finds_encoding : (q : Problem) (owner : ℕ) (w : Frame) (look : Lookup) → IsFrameOf q owner w → Finds w.base look → FindsEncoding q look
-finds_encoding q owner w look frame finds = record { line = λ k f at. finds.alike _ f (frame.model.line k f at) }
-
--- A line of good operations may be kept where they make its form.
-good_follows : (q : Problem) (owner : ℕ) (w : Frame) (forms : List Form) (name : Name) (ops : List Op) (f : Form) → IsFrameOf q owner w → AreGood (variables q) ops
-    → ((look : Lookup) → Finds w.base look → HoldsOwn w.owner forms look → makes look (P name ops) ≡ Ok f) → MayFollow w forms (P name ops) f
-good_follows q owner w forms name ops f frame good makes_it = record {
-  made = makes_it;
-  rows = λ k names. absurd (good_rows (variables q) ops good k names);
-  ranges = ap (λ (x : Problem). in_range (variables x) (axiom_variables ops)) frame.problem_is ∙ good_range (variables q) ops good;
-}
-
--- ---- a line that counts shared neighbours
-
-pub spread_line_ops : (q : Problem) → IsPlainProblem q → (p r v c : ℕ) (ops : List Op) → ops ≡ spread_ops q p r v (c - 1) → p < size q.pattern → r < size q.pattern → v < size q.target → c < 65536 → AreOps ops
-spread_line_ops q plain p r v c ops is p_in r_in v_in few = subst AreOps (sym is) (good_ops (variables q) (spread_ops q p r v (c - 1)) (good_spread_ops q plain p r v (c - 1) p_in r_in v_in (omega (arith, few))))
-
-pub spread_follows : (q : Problem) → IsPlainProblem q → (owner : ℕ) (w : Frame) (forms : List Form) (name : Name) (p r v c : ℕ) (ops : List Op) → IsFrameOf q owner w → ops ≡ spread_ops q p r v (c - 1)
-    → IsPlace q p v r → IsSharing q p r (Many c) → c < 65536 → MayFollow w forms (P name ops) (spread_form q p r v)
-spread_follows q plain owner w forms name p r v c ops frame is place shares few =
-    subst (λ (os : List Op). MayFollow w forms (P name os) (spread_form q p r v)) (sym is)
-    (good_follows q owner w forms name (spread_ops q p r v (c - 1)) (spread_form q p r v) frame (good_spread_ops q plain p r v (c - 1) place.first place.second place.place (omega (arith, few)))
-    (λ look finds own. ((row_laws q plain).makes look (finds_encoding q owner w look frame finds)).spread name p v r (c - 1) place (omega (arith, shares.0, shares.1)) (omega (arith, shares.1))))
-
--- ---- a table of their names
-
-pub spreads_last : (w : Frame) (q : Problem) (names : List (ℕ × Name)) (forms more : List Form) → AreSpreads w q names forms → AreSpreads w q names (forms ++ more)
-spreads_last w q names forms more h = record { named = λ p r v n p_in r_in v_in is. named_later w forms more (Made n) (spread_form q p r v) (h.named p r v n p_in r_in v_in is) }
-
--- One name more, of a line that is named.
-pub spreads_added : (w : Frame) (q : Problem) → IsPlainProblem q → (old new : List (ℕ × Name)) (forms : List Form) (p r v : ℕ) (n : Name) → p < size q.pattern → r < size q.pattern → v < size q.target
-    → ((k : ℕ) → entry_at new k ≡ cond (k == pair_key p r v) (Some n) (entry_at old k)) → IsNamed w forms (Made n) (spread_form q p r v) → AreSpreads w q old forms → AreSpreads w q new forms
-spreads_added w q plain old new forms p r v n p_in r_in v_in added named h = record { named = λ a b u m a_in b_in u_in is. by a b u m a_in b_in u_in is (cases_eq (pair_key a b u) (pair_key p r v)) }
-  where
-    by : (a b u : ℕ) (m : Name) → a < size q.pattern → b < size q.pattern → u < size q.target → pair_name new a b u ≡ Some m
-        → (pair_key a b u ≡ pair_key p r v) ⊎ (pair_key a b u ≡ pair_key p r v → ⊥) → IsNamed w forms (Made m) (spread_form q a b u)
-    by a b u m a_in b_in u_in is (inl same) =
-        let few = plain.vertices_few in
-        let less = plain.targets_few in
-        let a_is : p ≡ a = omega (arith, same, few, less, a_in, b_in, u_in, p_in, r_in, v_in) in
-        let b_is : r ≡ b = omega (arith, same, few, less, a_in, b_in, u_in, p_in, r_in, v_in) in
-        let u_is : v ≡ u = omega (arith, same, few, less, a_in, b_in, u_in, p_in, r_in, v_in) in
-        let read : Some n ≡ Some m = sym (added (pair_key a b u) ∙ ap (λ (x : Bool). cond x (Some n) (entry_at old (pair_key a b u))) (eq-eqb (pair_key a b u) (pair_key p r v) same)) ∙ is in
-        let n_is : n ≡ m = cc in
-        subst (λ (x : Name). IsNamed w forms (Made x) (spread_form q a b u)) n_is
-        (subst (λ (x : ℕ). IsNamed w forms (Made n) (spread_form q x b u)) a_is (subst (λ (x : ℕ). IsNamed w forms (Made n) (spread_form q p x u)) b_is (subst (λ (x : ℕ). IsNamed w forms (Made n) (spread_form q p r x)) u_is named)))
-    by a b u m a_in b_in u_in is (inr other) =
-        h.named a b u m a_in b_in u_in (sym (added (pair_key a b u) ∙ ap (λ (x : Bool). cond x (Some n) (entry_at old (pair_key a b u))) (ne_eqb (pair_key a b u) (pair_key p r v) other)) ∙ is)
-
--- What adding a name does to the table, whatever it answers.
-pub spreads_put : (w : Frame) (q : Problem) → IsPlainProblem q → (old new : List (ℕ × Name)) (forms : List Form) (p r v : ℕ) (n : Name) (result : Result (Unit {0}) AllocError) → p < size q.pattern → r < size q.pattern → v < size q.target
-    → OnOk result ((k : ℕ) → entry_at new k ≡ cond (k == pair_key p r v) (Some n) (entry_at old k)) → OnErr result (new ≡ old) → IsNamed w forms (Made n) (spread_form q p r v) → AreSpreads w q old forms → AreSpreads w q new forms
-spreads_put w q plain old new forms p r v n (Ok done) p_in r_in v_in added refused named h = spreads_added w q plain old new forms p r v n p_in r_in v_in added named h
-spreads_put w q plain old new forms p r v n (Err e) p_in r_in v_in added refused named h = subst (λ (names : List (ℕ × Name)). AreSpreads w q names forms) (sym refused) h
-
--- A line that may follow is kept, and what lasts stays so.
-pub goes_beside_kept : (w : Frame) (result : Result Name AllocError) (owner : ℕ) (old new : Option (List Step)) (step : Step) (f : Form) (Claim : List Form → Type 0) → w.owner ≡ owner → Keeps result owner old new step → IsLine step → Lasts Claim
-    → ((forms : List Form) → Claim forms → MayFollow w forms step f) → Goes w old new Claim (λ forms. IsKept w result f forms × Claim forms)
-goes_beside_kept w result owner old new step f Claim same keeps line lasts may =
-    goes_as w old new (λ forms. Claim forms × Claim forms) (λ forms. IsKept w result f forms × Claim forms) Claim (λ forms. IsKept w result f forms × Claim forms) (λ forms c. (c, c)) (λ forms k. k)
-    (goes_beside w old new Claim (IsKept w result f) Claim lasts (goes_kept w result owner old new step f Claim same keeps line may))
-
--- A line that counts shared neighbours is kept beside the names of a table.
-pub spread_goes : (q : Problem) → IsPlainProblem q → (owner : ℕ) (w : Frame) (name : Name) (p r v c : ℕ) (ops : List Op) (names : List (ℕ × Name)) (result : Result Name AllocError) (old new : Option (List Step)) → IsFrameOf q owner w
-    → ops ≡ spread_ops q p r v (c - 1) → IsPlace q p v r → IsSharing q p r (Many c) → c < 65536 → Keeps result owner old new (P name ops)
-    → Goes w old new (AreSpreads w q names) (λ forms. IsKept w result (spread_form q p r v) forms × AreSpreads w q names forms)
-spread_goes q plain owner w name p r v c ops names result old new frame is place shares few keeps =
-    goes_beside_kept w result owner old new (P name ops) (spread_form q p r v) (AreSpreads w q names) frame.owner_is keeps (spread_line_ops q plain p r v c ops is place.first place.second place.place few)
-    (λ forms more h. spreads_last w q names forms more h) (λ forms h. spread_follows q plain owner w forms name p r v c ops frame is place shares few)
+use Rattle.row_lines.proofs.Spreading.{finds_encoding, good_follows, spreads_last, no_spreads}
+use Rattle.row_lines.proofs.Good.{good_ops, good_row_ops}
 
 -- ---- the line of a pair
 
@@ -221,10 +150,6 @@ pub rows_stop : (q k : Problem) (p t r : ℕ) (w : Frame) (owner : ℕ) (a b : O
 rows_stop q k p t r w owner a b old new e same frame first =
     goes_as w a b (AreSpreads w q old) (AreSpreads w q new) (AreSpreads w q old) (IsRow w q p t r new (Err e)) (λ forms h. h) (λ forms h. (h, tt))
     (subst (λ (x : Problem). (f : Frame) → IsFrameOf x owner f → Goes f a b (AreSpreads f x old) (AreSpreads f x new)) same first w frame)
-
--- A table without names.
-pub no_spreads : (w : Frame) (q : Problem) (names : List (ℕ × Name)) (forms : List Form) → names ≡ [] → AreSpreads w q names forms
-no_spreads w q names forms none = subst (λ (xs : List (ℕ × Name)). AreSpreads w q xs forms) (sym none) (record { named = λ p r v n p_in r_in v_in is. absurd cc })
 
 pub row_alone : (w : Frame) (q : Problem) (p t r : ℕ) (a b : Option (List Step)) (old new : List (ℕ × Name)) (result : Result Name AllocError) → old ≡ [] → Goes w a b (AreSpreads w q old) (IsRow w q p t r new result)
     → Goes w a b AnyForms (IsRowLine w q p t r result)

@@ -12,16 +12,17 @@ use Rattle.log_theory.specs.declared.step.Ref.{Ref}
 use Rattle.log_theory.specs.declared.step.Ref.TheVariants.{Line, Made, Shared}
 use Rattle.log_theory.specs.declared.step.Op.{Op}
 use Rattle.log_theory.specs.declared.step.Op.TheVariants.{Push, Axiom, Add, Times, Divide, Saturate}
-use Rattle.log_theory.specs.LogText.{IsName, IsRef, AreOps}
+use Rattle.log_theory.specs.LogText.{IsName, IsRef, AreOps, AreLiterals}
+use Rattle.log_theory.specs.Lookups.{variables_of}
 use Rattle.log_theory.specs.Verdicts.{in_range, axiom_variables}
 use Rattle.journal_theory.specs.Referring.{op_refs, NamesRow}
-use Rattle.encoding_theory.specs.Variables.{variables, collect, when}
+use Rattle.encoding_theory.specs.Variables.{variable, variables, collect, when}
 use Rattle.encoding_theory.specs.Pairs.{is_edge_pair, is_non_edge_pair}
 use Rattle.encoding_theory.specs.Encoding.{vertex_forms, vertex_group, target_forms, target_group, is_refused, refusal, refused_at, refused_of, refused_group, pair_at, pair_forms, pairs_at, pairs_of, pair_group, edge_group, non_edge_group, encoding}
 use Rattle.encoding_theory.specs.Places.{at_most_place, at_most_target_place, edge_place, non_edge_place}
 use Rattle.encoding_theory.proofs.PlaceProofs.{place_laws}
 use Rattle.row_theory.specs.Operations.{adds_where}
-use Rattle.row_theory.specs.Rows.{at_most_line, target_line, edge_line, non_edge_line, is_shared, there, spread_ops, around_ops, weight}
+use Rattle.row_theory.specs.Rows.{at_most_line, target_line, edge_line, non_edge_line, is_shared, there, spread_ops, not_both, two_ops, around_ops, weight}
 use Rattle.row_theory.specs.Laws.{IsPlainProblem}
 use Rattle.row_lines.specs.declared.sharing.Sharing.{Sharing}
 use Rattle.row_lines.specs.declared.sharing.Sharing.TheVariants.{Nothing, One, Many}
@@ -114,7 +115,7 @@ length_when : {X : Type 0} (b : Bool) (xs : List X) → length (when b xs) ≤ l
 length_when true xs = omega arith
 length_when false xs = omega arith
 
-count_few : (f : ℕ → Bool) (n : ℕ) → count f n ≤ n
+pub count_few : (f : ℕ → Bool) (n : ℕ) → count f n ≤ n
 count_few f zero = omega arith
 count_few f (suc n) = let h = count_few f n in let one = by (f n) in omega (arith, h, one)
   where
@@ -196,6 +197,23 @@ module _ (q : Problem) (plain : IsPlainProblem q) where
       (good_append (variables q) (Times less ∷ adds_where (is_shared q.pattern p r) (λ m. Push (edge_line q m r w)) (size q.pattern)) (Divide (less + 1) ∷ [])
       (omega (arith, few), good_where (variables q) (is_shared q.pattern p r) (λ m. Push (edge_line q m r w)) (size q.pattern) (λ m m_in is. good_edge m r w m_in r_in w_in (shared_second q p r m is)))
       (omega (arith, few), tt))
+
+  pub good_two_ops : (n : Name) (p r w : ℕ) → IsName n → r < size q.pattern → w < size q.target → AreGood (variables q) (two_ops q (Made n) p r w)
+  good_two_ops n p r w name r_in w_in = (
+    name,
+    good_append (variables q) (adds_where (is_shared q.pattern p r) (λ m. Push (edge_line q m r w)) (size q.pattern)) (Divide 2 ∷ [])
+        (good_where (variables q) (is_shared q.pattern p r) (λ m. Push (edge_line q m r w)) (size q.pattern) (λ m m_in is. good_edge m r w m_in r_in w_in (shared_second q p r m is))) (omega arith, tt),
+  )
+
+  -- A clause's literals, as good as axioms of them.
+  pub good_not_both : (m n w : ℕ) → m < size q.pattern → n < size q.pattern → w < size q.target → AreLiterals (not_both q m n w) × (in_range (variables q) (variables_of (not_both q m n w)) ≡ true)
+  good_not_both m n w m_in n_in w_in =
+      let a = good_there w m w_in m_in in
+      let b = good_there w n w_in n_in in (
+        (a.2, (b.2, tt)),
+        three (nat_lt 0 (variable q m w)) (nat_le (variable q m w) (variables q)) (in_range (variables q) (variable q n w ∷ [])) (lt-ltb 0 (variable q m w) a.0) (le-leb (variable q m w) (variables q) a.1)
+            (three (nat_lt 0 (variable q n w)) (nat_le (variable q n w) (variables q)) true (lt-ltb 0 (variable q n w) b.0) (le-leb (variable q n w) (variables q) b.1) refl),
+      )
 
   -- The references of a line for two vertices: its own, and those that count at neighbours.
   abbrev IsGoodOwn : Option Ref → Type 0

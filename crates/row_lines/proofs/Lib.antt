@@ -1,3 +1,4 @@
 mod Pairs
 mod Good
+mod Spreading
 mod Following

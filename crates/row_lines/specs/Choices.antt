@@ -16,6 +16,7 @@ use Rattle.log_theory.specs.declared.step.Op.TheVariants.{Push, Add, Times}
 use Rattle.encoding_theory.specs.Pairs.{is_edge_pair, is_non_edge_pair}
 use Rattle.encoding_theory.specs.Encoding.{at_most_target}
 use Rattle.row_theory.specs.Rows.{at_most_line, target_line, weight, edge_line, non_edge_line, is_shared, beside_form, beside_ops, alone_ops, joined_form, joined_ops, apart_form, apart_ops}
+use Rattle.row_lines.specs.declared.sharing.Sharers.{Sharers}
 use Rattle.row_lines.specs.declared.sharing.Sharing.{Sharing}
 use Rattle.row_lines.specs.declared.sharing.Sharing.TheVariants.{Nothing, One, Many}
 
@@ -31,6 +32,14 @@ abbrev pub IsSharing : Problem → ℕ → ℕ → Sharing → Type 0
 IsSharing q p r Nothing = common q.pattern p r ≡ 0
 IsSharing q p r (One m) = (common q.pattern p r ≡ 1) × (m < size q.pattern) × (is_shared q.pattern p r m ≡ true)
 IsSharing q p r (Many c) = (common q.pattern p r ≡ c) × (2 ≤ c)
+
+-- Two vertices with the number of neighbours that they share, more than one.
+pub record AreSharers (q : Problem) (pair : Sharers) : Type 0 where
+  pub first_in : pair.p < size q.pattern
+  pub second_in : pair.r < size q.pattern
+  pub others : pair.p ≡ pair.r → ⊥
+  pub counted : common q.pattern pair.p pair.r ≡ pair.count
+  pub many : 2 ≤ pair.count
 
 -- ---- references
 
@@ -48,6 +57,13 @@ entry_at names k = lookup (is_at (nat_cmp k)) names
 
 abbrev pub pair_name : List (ℕ × Name) → ℕ → ℕ → ℕ → Option Name
 pair_name names p r w = entry_at names (pair_key p r w)
+
+-- The number, and the name, of the clause that m and n are not both at w: a first vertex that no pattern has sets it apart.
+abbrev pub not_both_key : ℕ → ℕ → ℕ → ℕ
+not_both_key m n w = pair_key (m + 1024) n w
+
+abbrev pub not_both_name : List (ℕ × Name) → ℕ → ℕ → ℕ → Option Name
+not_both_name names m n w = entry_at names (not_both_key m n w)
 
 abbrev pub name_or_none : Option Name → Ref
 name_or_none (Some n) = Made n

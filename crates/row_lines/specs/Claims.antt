@@ -9,17 +9,33 @@ use Rattle.proof_theory.specs.Forms.{Form}
 use Rattle.log_theory.specs.declared.step.Name.{Name}
 use Rattle.log_theory.specs.declared.step.Ref.{Ref}
 use Rattle.log_theory.specs.declared.step.Ref.TheVariants.{Made}
+use Rattle.log_theory.specs.declared.step.Op.{Op}
+use Rattle.log_theory.specs.declared.step.Step.TheVariants.{P}
 use Rattle.reason_theory.specs.Reasons.{ForcesBeside}
-use Rattle.row_theory.specs.Rows.{target_line, is_paired, spread_form}
-use Rattle.kept_lines.specs.Frames.{Frame, IsNamed}
+use Rattle.row_theory.specs.Rows.{target_line, is_paired, spread_form, not_both_form}
+use Rattle.kept_lines.specs.Frames.{Frame, IsNamed, IsKept, MayFollow}
 use Rattle.row_lines.specs.declared.row_lines.RowLines.{RowLines}
 use Rattle.row_lines.specs.declared.sharing.Sharing.{Sharing}
 use Rattle.row_lines.specs.declared.sharing.Sharing.TheVariants.{Many}
-use Rattle.row_lines.specs.Choices.{entry_at, pair_name}
+use Rattle.row_lines.specs.Choices.{entry_at, pair_name, not_both_name}
 
--- Each name of the table is that of the line that counts shared neighbours there.
+-- Each name of the table is that of the line that counts shared neighbours there, or of the clause that two are not both there.
 pub record AreSpreads (w : Frame) (q : Problem) (names : List (ℕ × Name)) (forms : List Form) : Type 0 where
   pub named : (p r v : ℕ) (n : Name) → p < size q.pattern → r < size q.pattern → v < size q.target → pair_name names p r v ≡ Some n → IsNamed w forms (Made n) (spread_form q p r v)
+  pub apart : (m r v : ℕ) (n : Name) → m < size q.pattern → r < size q.pattern → v < size q.target → not_both_name names m r v ≡ Some n → IsNamed w forms (Made n) (not_both_form q m r v)
+
+-- So they are, and the name that is answered is that of the clause that m and r are not both at v.
+abbrev pub IsNotBoth : Frame → Problem → ℕ → ℕ → ℕ → List (ℕ × Name) → Result Name AllocError → List Form → Type 0
+IsNotBoth w q m r v names result forms = AreSpreads w q names forms × IsKept w result (not_both_form q m r v) forms
+
+-- The operations that are answered may be kept as the line that counts shared neighbours at v.
+abbrev pub MaySpread : Frame → Problem → ℕ → ℕ → ℕ → Result (List Op) AllocError → List Form → Type 0
+MaySpread w q p r v (Ok ops) forms = (name : Name) → MayFollow w forms (P name ops) (spread_form q p r v)
+MaySpread w q p r v (Err e) forms = Unit {0}
+
+-- So they may, and the table's names are right.
+abbrev pub HasSpreadOps : Frame → Problem → ℕ → ℕ → ℕ → List (ℕ × Name) → Result (List Op) AllocError → List Form → Type 0
+HasSpreadOps w q p r v names result forms = AreSpreads w q names forms × MaySpread w q p r v result forms
 
 -- What has a name keeps one.
 abbrev pub Stay : List (ℕ × Name) → List (ℕ × Name) → Type 0

@@ -4,6 +4,7 @@ ghost use Rattle.std.specs.Prelude.{◌≡◌, ◌<◌, ◌≤◌, true};
 ghost use Rattle.graph_theory.specs.Graph.{size};
 ghost use Rattle.graph_theory.specs.Neighbours.{is_neighbour};
 ghost use Rattle.encoding_theory.specs.Pairs.{is_edge_pair as is_edge, is_non_edge_pair as is_non_edge};
+ghost use Rattle.reason_theory.specs.Reasons.{not_there};
 ghost use Rattle.row_theory.specs.Laws.{IsPlainProblem};
 ghost use Rattle.row_theory.specs.Rows.{at_most_line, target_line, edge_line, non_edge_line, is_shared as is_shared_by, is_paired as is_paired_by, there as there_at, weight as weight_at};
 
@@ -169,6 +170,18 @@ impl<'a, 'b> Known<'a, 'b> {
         Literal {
             variable: u32::from(v) * u32::from(self.targets()) + u32::from(w) + 1,
             negated: false,
+        }
+    }
+
+    /// That it is not.
+    pub(crate) fn not_there(&self, w: u16, v: u16) -> Literal
+        requires v_in { v < size self.now.pattern }
+        requires w_in { w < size self.now.target }
+        ensures { result ≡ not_there self.now (v, w) }
+    {
+        Literal {
+            negated: true,
+            ..self.there(w, v)
         }
     }
 

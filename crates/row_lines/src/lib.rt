@@ -12,6 +12,7 @@ mod pair_names;
 mod row;
 mod row_lines;
 mod sharing;
+mod spreads;
 
 pub use pair_names::PairNames;
 pub use row::{row_line, row_line_with};

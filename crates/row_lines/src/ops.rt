@@ -4,16 +4,17 @@ ghost use Rattle.std.specs.Prelude.{◌≡◌, ◌<◌, ◌≤◌, ◌+◌, ◌+
 ghost use Rattle.graph_theory.specs.Graph.{size};
 ghost use Rattle.graph_theory.specs.Neighbours.{is_neighbour};
 ghost use Rattle.log_theory.specs.declared.step.Op.TheVariants.{Push as PushOp, Axiom as AxiomOp, Add as AddOp};
+ghost use Rattle.log_theory.specs.declared.step.Ref.TheVariants.{Made as MadeRef};
 ghost use Rattle.encoding_theory.specs.Variables.{when};
 ghost use Rattle.encoding_theory.specs.Pairs.{is_edge_pair};
 ghost use Rattle.row_theory.specs.Operations.{adds_where};
-ghost use Rattle.row_theory.specs.Rows.{edge_line, is_shared as is_shared_by, there as there_at, spread_ops as spread_ops_of};
+ghost use Rattle.row_theory.specs.Rows.{edge_line, is_shared as is_shared_by, there as there_at, spread_ops as spread_ops_of, two_ops as two_ops_of, not_both as not_both_of, target_line};
 ghost use Rattle.row_lines.specs.Choices.{IsSharing, begin_of, own_line as own_line_of, spread_ref as spread_ref_of, plain_ops as plain_ops_of, counted_ops as counted_ops_of, row_ops as row_ops_of};
 
 use crate::known::Known;
 use crate::pair_names::PairNames;
 use crate::sharing::Sharing;
-use log_theory::{Op, Ops, Ref};
+use log_theory::{Clause, Name, Op, Ops, Ref, Refs};
 use std::alloc::{AllocError, Global};
 
 /// Adds the line of two vertices at `t`, where it is wanted.
@@ -135,6 +136,56 @@ pub(crate) fn spread_ops(
     add_backs(known, &mut ops, p, r, w)?;
     ops.push(Op::Divide(u64::from(less) + 1))?;
     Ok(Ops::new(ops))
+}
+
+/// The operations of that line where two are shared, of which `clause` says that they are not both at `w`.
+pub(crate) fn two_ops(
+    alloc: Global,
+    known: &Known,
+    clause: Name,
+    p: u16,
+    r: u16,
+    w: u16,
+) -> Result<Ops, AllocError>
+    requires p_in { p < size known.now.pattern }
+    requires r_in { r < size known.now.pattern }
+    requires w_in { w < size known.now.target }
+    ensures { IfOk result (λ ops. ops ≡ two_ops_of known.now (MadeRef clause) p r w) }
+{
+    let mut ops = Vec::new(alloc);
+    ops.push(Op::Push(Ref::Made(clause)))?;
+    add_backs(known, &mut ops, p, r, w)?;
+    ops.push(Op::Divide(2))?;
+    Ok(Ops::new(ops))
+}
+
+/// The literals of the clause that `m` and `n` are not both at `w`.
+pub(crate) fn not_both(
+    alloc: Global,
+    known: &Known,
+    m: u16,
+    n: u16,
+    w: u16,
+) -> Result<Clause, AllocError>
+    requires m_in { m < size known.now.pattern }
+    requires n_in { n < size known.now.pattern }
+    requires w_in { w < size known.now.target }
+    ensures { IfOk result (λ lits. lits ≡ not_both_of known.now m n w) }
+{
+    let mut lits = Vec::new(alloc);
+    lits.push(known.not_there(w, m))?;
+    lits.push(known.not_there(w, n))?;
+    Ok(Clause::new(lits))
+}
+
+/// The line that such a clause follows from.
+pub(crate) fn target_refs(alloc: Global, known: &Known, w: u16) -> Result<Refs, AllocError>
+    requires { w < size known.now.target }
+    ensures { IfOk result (λ refs. refs ≡ target_line known.now w ∷ []) }
+{
+    let mut refs = Vec::new(alloc);
+    refs.push(known.target(w))?;
+    Ok(Refs::new(refs))
 }
 
 /// The line that counts those shared at `w`.

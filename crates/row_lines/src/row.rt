@@ -10,117 +10,15 @@ ghost use Rattle.row_lines.specs.Choices.{IsSharing, pair_name};
 ghost use Rattle.row_lines.specs.Claims.{AreSpreads, HasAround, Stay, IsRowLine, IsRow};
 
 use crate::known::Known;
-use crate::ops::{row_ops, spread_ops};
+use crate::ops::row_ops;
 use crate::pair_names::PairNames;
-use crate::sharing::{Sharing, sharing_of};
+use crate::sharing::{Sharers, Sharing, sharing_of};
+use crate::spreads::{NO_NAME, keep_around};
 use graph_rows::Problem;
 use journals::Keeper;
 use log_theory::{Name, Step};
 use pb_encoding::Encoding;
 use std::alloc::{AllocError, Global};
-
-/// The name of a step that is given to a keeper, which gives it the next one.
-const NO_NAME: Name = Name {
-    owner: 0,
-    number: 0,
-};
-
-/// Keeps the line that counts those shared at `w`.
-fn keep_spread<K: Keeper>(
-    alloc: Global,
-    known: &Known,
-    spreads: &mut PairNames,
-    keeper: &mut K,
-    p: u16,
-    r: u16,
-    w: u16,
-    count: u16,
-) -> Result<(), AllocError>
-    requires p_in { p < size known.now.pattern }
-    requires r_in { r < size known.now.pattern }
-    requires w_in { w < size known.now.target }
-    requires others { p ≡ r → ⊥ }
-    requires shared { IsSharing known.now p r (ManyShared count) }
-    ensures goes { (f : Frame) → IsFrameOf known.now (K.owner keeper.old) f
-        → Goes f (K.kept keeper.old) (K.kept keeper.new) (AreSpreads f known.now spreads.old)
-        (AreSpreads f known.now spreads.new) }
-    ensures there { OnOk result (IsSome (pair_name spreads.new p r w)) }
-    ensures stay { Stay spreads.old spreads.new }
-    ensures owner { K.owner keeper.new ≡ K.owner keeper.old }
-    ensures notes { K.notes keeper.new ≡ K.notes keeper.old }
-    ensures spare { K.spare keeper.new ≡ K.spare keeper.old }
-{
-    known.is_plain();
-    let ops = spread_ops(alloc, known, p, r, w, count - 1)?;
-    let name = keeper.keep(Step::P { name: NO_NAME, ops })?;
-    spreads.add(p, r, w, name)
-}
-
-/// Keeps it where `w` is a neighbour of `t`, unless it is there.
-fn keep_spread_at<K: Keeper>(
-    alloc: Global,
-    known: &Known,
-    spreads: &mut PairNames,
-    keeper: &mut K,
-    p: u16,
-    t: u16,
-    r: u16,
-    w: u16,
-    count: u16,
-) -> Result<(), AllocError>
-    requires p_in { p < size known.now.pattern }
-    requires t_in { t < size known.now.target }
-    requires r_in { r < size known.now.pattern }
-    requires w_in { w < size known.now.target }
-    requires others { p ≡ r → ⊥ }
-    requires shared { IsSharing known.now p r (ManyShared count) }
-    ensures goes { (f : Frame) → IsFrameOf known.now (K.owner keeper.old) f
-        → Goes f (K.kept keeper.old) (K.kept keeper.new) (AreSpreads f known.now spreads.old)
-        (AreSpreads f known.now spreads.new) }
-    ensures there { OnOk result
-        (is_neighbour known.now.target t w ≡ true → IsSome (pair_name spreads.new p r w)) }
-    ensures stay { Stay spreads.old spreads.new }
-    ensures owner { K.owner keeper.new ≡ K.owner keeper.old }
-    ensures notes { K.notes keeper.new ≡ K.notes keeper.old }
-    ensures spare { K.spare keeper.new ≡ K.spare keeper.old }
-{
-    if known.is_near(t, w) {
-        if spreads.find(p, r, w).is_none() {
-            keep_spread(alloc, known, spreads, keeper, p, r, w, count)?;
-        }
-    }
-    Ok(())
-}
-
-/// Keeps it for each neighbour of `t`.
-fn keep_around<K: Keeper>(
-    alloc: Global,
-    known: &Known,
-    spreads: &mut PairNames,
-    keeper: &mut K,
-    p: u16,
-    t: u16,
-    r: u16,
-    count: u16,
-) -> Result<(), AllocError>
-    requires p_in { p < size known.now.pattern }
-    requires t_in { t < size known.now.target }
-    requires r_in { r < size known.now.pattern }
-    requires others { p ≡ r → ⊥ }
-    requires shared { IsSharing known.now p r (ManyShared count) }
-    ensures goes { (f : Frame) → IsFrameOf known.now (K.owner keeper.old) f
-        → Goes f (K.kept keeper.old) (K.kept keeper.new) (AreSpreads f known.now spreads.old)
-        (AreSpreads f known.now spreads.new) }
-    ensures there { OnOk result (HasAround known.now spreads.new (ManyShared count) p t r) }
-    ensures owner { K.owner keeper.new ≡ K.owner keeper.old }
-    ensures notes { K.notes keeper.new ≡ K.notes keeper.old }
-    ensures spare { K.spare keeper.new ≡ K.spare keeper.old }
-{
-    for w in 0..known.targets() {
-        keep_spread_at(alloc, known, spreads, keeper, p, t, r, w, count)?;
-    }
-    Ok(())
-}
 
 /// Keeps those that the line rests on, and that are not there.
 fn keep_spreads<K: Keeper>(
@@ -147,7 +45,9 @@ fn keep_spreads<K: Keeper>(
     ensures spare { K.spare keeper.new ≡ K.spare keeper.old }
 {
     match sharing {
-        Sharing::Many(count) => keep_around(alloc, known, spreads, keeper, p, t, r, count),
+        Sharing::Many(count) => {
+            keep_around(alloc, known, spreads, keeper, Sharers { p, r, count }, t)
+        }
         Sharing::Nothing => Ok(()),
         Sharing::One(_) => Ok(()),
     }
@@ -186,7 +86,8 @@ fn keep_row<K: Keeper>(
 
 /// Gives a keeper the line that takes from `r` each value that is not consistent with `p` at `t`, and those that it rests on and that the
 /// table does not name. The line names two others, or one; where the two share neighbours it names one more for each of these and for
-/// each neighbour of `t`. Each line that it rests on names one for each shared neighbour, and a literal for each other vertex.
+/// each neighbour of `t`. Each line that it rests on names one for each shared neighbour, and a literal for each other vertex;
+/// or where two are shared a clause in place of these literals.
 pub fn row_line_with<K: Keeper>(
     alloc: Global,
     q: &Problem,

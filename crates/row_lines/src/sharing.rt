@@ -1,8 +1,10 @@
 //! How many neighbours two pattern vertices share.
 
-ghost use Rattle.std.specs.Prelude.{◌≡◌, ◌<◌, IfOk};
+ghost use Rattle.std.specs.Prelude.{◌≡◌, ◌<◌, true, IfOk, IfSome};
 ghost use Rattle.graph_theory.specs.Graph.{size};
+ghost use Rattle.graph_theory.specs.Neighbours.{common};
 ghost use Rattle.row_theory.specs.Rows.{is_shared as is_shared_by};
+ghost use Rattle.row_theory.specs.Laws.{AreTwoShared};
 ghost use Rattle.row_lines.specs.Choices.{IsSharing, IsFirstShared};
 
 use crate::known::Known;
@@ -17,6 +19,14 @@ pub(crate) enum Sharing {
     Many(u16),
 }
 
+/// Two pattern vertices, and how many neighbours they share.
+#[derive(Clone, Copy)]
+pub(crate) struct Sharers {
+    pub(crate) p: u16,
+    pub(crate) r: u16,
+    pub(crate) count: u16,
+}
+
 /// The first shared neighbour.
 fn first_shared(known: &Known, p: u16, r: u16) -> Option<u16>
     requires p_in { p < size known.now.pattern }
@@ -29,6 +39,45 @@ fn first_shared(known: &Known, p: u16, r: u16) -> Option<u16>
         }
     }
     None
+}
+
+/// The first shared neighbour behind `m`.
+fn next_shared(known: &Known, p: u16, r: u16, m: u16) -> Option<u16>
+    requires p_in { p < size known.now.pattern }
+    requires r_in { r < size known.now.pattern }
+    requires m_in { m < size known.now.pattern }
+    ensures { IfSome result
+        (λ n. (m < n) × (n < size known.now.pattern)
+        × (is_shared_by known.now.pattern p r n ≡ true)) }
+{
+    let _vertices = known.vertices();
+    for n in m + 1..known.vertices() {
+        if known.is_shared(p, r, n) {
+            return Some(n);
+        }
+    }
+    None
+}
+
+/// The two shared neighbours, where there are two. Cost: four words for each vertex up to the second.
+pub(crate) fn two_shared(known: &Known, pair: Sharers) -> Option<(u16, u16)>
+    requires p_in { pair.p < size known.now.pattern }
+    requires r_in { pair.r < size known.now.pattern }
+    requires counted { common known.now.pattern pair.p pair.r ≡ pair.count }
+    ensures { IfSome result
+        (λ two. AreTwoShared known.now.pattern pair.p pair.r two.0 two.1) }
+{
+    if pair.count != 2 {
+        return None;
+    }
+    let m = match first_shared(known, pair.p, pair.r) {
+        Some(m) => m,
+        None => return None,
+    };
+    match next_shared(known, pair.p, pair.r, m) {
+        Some(n) => Some((m, n)),
+        None => None,
+    }
 }
 
 /// How many neighbours the two share. Cost: two words for each word of a row, and only where it is one alone, four for each vertex up to it.

@@ -123,7 +123,7 @@ module _ (q : Problem) (plain : IsPlainProblem q) (p r w less : ℕ) (shares : c
       (worth_target q a w) (λ v low out. worth_there q a w v)
 
   -- The shared ones alone.
-  worth_held : (a : ℕ → Bool) → IsWorth a (few_form q p r w) (held_where q a (is_shared q.pattern p r) w) 0
+  pub worth_held : (a : ℕ → Bool) → IsWorth a (few_form q p r w) (held_where q a (is_shared q.pattern p r) w) 0
   worth_held a = record {
     worth =
         let h = (worth_few a).worth in

@@ -3,4 +3,5 @@ pub mod Values
 pub mod Around
 pub mod Forcing
 pub mod Dividing
+pub mod Pairing
 pub mod Making

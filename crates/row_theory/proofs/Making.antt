@@ -1,5 +1,5 @@
 -- The operations of the lines make their forms, and no sum on the way is too wide.
-use Rattle.std.proofs.Common.{◌≡◌, ℕ, zero, suc, ◌+◌, ◌*◌, ◌^◌, ◌≤◌, ◌<◌, ◌==◌, Bool, true, false, not, cond, List, [], ◌∷◌, ◌++◌, ℤ, pos, negsuc, unsigned_abs, refl, ap, ◌∙◌, arith, Option, Some, Result, Ok, Err}
+use Rattle.std.proofs.Common.{◌≡◌, ℕ, zero, suc, ◌+◌, ◌*◌, ◌^◌, ◌≤◌, ◌<◌, ◌==◌, Bool, true, false, not, cond, List, [], ◌∷◌, ◌++◌, ℤ, pos, negsuc, unsigned_abs, refl, sym, ap, ◌∙◌, arith, Option, Some, Result, Ok, Err}
 use Rattle.std.proofs.lemmas.Int.{unsigned_abs-mul}
 use Rattle.std.proofs.lemmas.Bool.{ne_eqb, and_parts}
 use native.Mathlib.Nat.{suc-mul, mul-le-mul_right}
@@ -28,11 +28,12 @@ use Rattle.encoding_theory.proofs.PlaceProofs.{place_laws}
 use Rattle.forcing_theory.specs.Sums.{IsSmall}
 use Rattle.forcing_theory.proofs.Summing.{size_append, small_sum, narrow_small}
 use Rattle.row_theory.specs.Operations.{sum_where, adds_where, FindsEncoding}
-use Rattle.row_theory.specs.Rows.{at_most_line, target_line, edge_line, is_shared, beside_form, beside_ops, alone_ops, there, spread_form, spread_ops, around_form, around_ops, weight, joined_form, joined_ops, apart_form, apart_ops}
-use Rattle.row_theory.specs.Laws.{IsPlainProblem, IsPlace, FindsSpread, RowMakes, RowSizes, RowLaws}
+use Rattle.row_theory.specs.Rows.{at_most_line, target_line, edge_line, is_shared, beside_form, beside_ops, alone_ops, there, spread_form, spread_ops, not_both_form, two_ops, around_form, around_ops, weight, joined_form, joined_ops, apart_form, apart_ops}
+use Rattle.row_theory.specs.Laws.{IsPlainProblem, IsPlace, AreTwoShared, FindsSpread, RowMakes, RowSizes, RowLaws}
 use Rattle.row_theory.proofs.Totals.{one_if}
 use Rattle.row_theory.proofs.Around.{neighbour_flip}
 use Rattle.row_theory.proofs.Dividing.{few_form, backs_form, spread_exact, one_alone}
+use Rattle.row_theory.proofs.Pairing.{not_both_made, few_two, two_exact}
 use Rattle.row_theory.proofs.Forcing.{row_forces}
 
 -- ---- sizes
@@ -177,6 +178,11 @@ module _ (q : Problem) (plain : IsPlainProblem q) where
   small_there : (w v : ℕ) → IsSmall 1 (axiom_form (there q w v))
   small_there w v = small_form (literal_term (there q w v) ∷ []) (pos 0) 1 (omega arith) (omega arith)
 
+  small_few : (p r w : ℕ) → IsSmall 2048 (few_form q p r w)
+  small_few p r w =
+      let few = plain.vertices_few in
+      small_more (1024 + size_of q.pattern * 1) 2048 _ (small_where (λ v. not (is_shared q.pattern p r v)) (λ v. axiom_form (there q w v)) (at_most_target q w) 1024 1 (size_of q.pattern) (small_target w) (λ v. small_there w v)) (omega (arith, few))
+
   weight_few : (t : ℕ) → weight q t ≤ 8193
   weight_few t = let d = count_few (is_neighbour q.target t) (size_of q.target) in let few = plain.targets_few in omega (arith, d, few)
 
@@ -275,8 +281,8 @@ module _ (q : Problem) (plain : IsPlainProblem q) where
         (step look [] (at_most_target q w ∷ []) (Push (target_line q w)) (others_ops q p r w) (pushed look [] (target_line q w) (at_most_target q w) (find_target w place.place))
         ∙ runs_where look (λ v. not (is_shared q.pattern p r v)) (λ v. Axiom (there q w v)) (λ v. axiom_form (there q w v)) (at_most_target q w) 1024 1 (size_of q.pattern) (small_target w) (λ v. small_there w v) (let few = plain.vertices_few in omega (arith, few)) (λ v stack v_in out. refl))
         (runs_on look (few_form q p r w ∷ []) (backs_form q p r w less ∷ []) (spread_form q p r w ∷ []) (Times less ∷ (backs_ops q p r w)) (Divide (less + 1) ∷ [])
-        (step look (few_form q p r w ∷ []) (times_of less (few_form q p r w) ∷ []) (Times less) (backs_ops q p r w) (multiplied look [] less (few_form q p r w) (2048 * less) some small_few (let room = less_few in omega (arith, room)))
-        ∙ runs_where look (is_shared q.pattern p r) (λ m. Push (edge_line q m r w)) (λ m. pair_form q m r w) (times_of less (few_form q p r w)) (2048 * less) 8193 (size_of q.pattern) small_few (λ m. small_pair m r w)
+        (step look (few_form q p r w ∷ []) (times_of less (few_form q p r w) ∷ []) (Times less) (backs_ops q p r w) (multiplied look [] less (few_form q p r w) (2048 * less) some small_times_few (let room = less_few in omega (arith, room)))
+        ∙ runs_where look (is_shared q.pattern p r) (λ m. Push (edge_line q m r w)) (λ m. pair_form q m r w) (times_of less (few_form q p r w)) (2048 * less) 8193 (size_of q.pattern) small_times_few (λ m. small_pair m r w)
         (let room = less_few in let few = plain.vertices_few in omega (arith, room, few))
         (λ m stack m_in is. pushed look stack (edge_line q m r w) (pair_form q m r w) (find_joined m r w m_in place.second place.place (of_second p r m is))))
         (step look (backs_form q p r w less ∷ []) (spread_form q p r w ∷ []) (Divide (less + 1)) []
@@ -285,9 +291,21 @@ module _ (q : Problem) (plain : IsPlainProblem q) where
         less_few : less ≤ 1024
         less_few = let c = count_few (is_shared q.pattern p r) (size_of q.pattern) in let few = plain.vertices_few in let e : count (is_shared q.pattern p r) (size_of q.pattern) ≡ less + 1 = shares in omega (arith, c, few, e)
 
-        small_few : IsSmall (2048 * less) (times_of less (few_form q p r w))
-        small_few = small_times 2048 less (few_form q p r w)
-            (let few = plain.vertices_few in small_more (1024 + size_of q.pattern * 1) 2048 _ (small_where (λ v. not (is_shared q.pattern p r v)) (λ v. axiom_form (there q w v)) (at_most_target q w) 1024 1 (size_of q.pattern) (small_target w) (λ v. small_there w v)) (omega (arith, few)))
+        small_times_few : IsSmall (2048 * less) (times_of less (few_form q p r w))
+        small_times_few = small_times 2048 less (few_form q p r w) (small_few p r w)
+
+    two_made : (name : Name) (clause : Ref) (m n p w r : ℕ) → IsPlace q p w r → AreTwoShared q.pattern p r m n → look clause ≡ Some (not_both_form q m n w) → makes look (P name (two_ops q clause p r w)) ≡ Ok (spread_form q p r w)
+    two_made name clause m n p w r place two found = line_made look name (two_ops q clause p r w) (spread_form q p r w)
+        (step look [] (few_form q p r w ∷ []) (Push clause) (backs_ops q p r w ++ Divide 2 ∷ [])
+        (pushed look [] clause (few_form q p r w) (found ∙ ap (λ (f : Form). let o : Option Form = Some f in o) (sym (few_two q plain p r m n w two))))
+        ∙ runs_on look (few_form q p r w ∷ []) (backs ∷ []) (spread_form q p r w ∷ []) (backs_ops q p r w) (Divide 2 ∷ [])
+        (runs_where look (is_shared q.pattern p r) (λ m. Push (edge_line q m r w)) (λ m. pair_form q m r w) (few_form q p r w) 2048 8193 (size_of q.pattern) (small_few p r w) (λ m. small_pair m r w)
+        (let few = plain.vertices_few in omega (arith, few))
+        (λ m stack m_in is. pushed look stack (edge_line q m r w) (pair_form q m r w) (find_joined m r w m_in place.second place.place (of_second p r m is))))
+        (step look (backs ∷ []) (spread_form q p r w ∷ []) (Divide 2) [] (divided look [] 2 backs (spread_form q p r w) 9216 (omega arith) (two_exact q plain p r m n w two) (small_spread p r w) (omega arith))))
+      where
+        backs : Form
+        backs = sum_where (is_shared q.pattern p r) (λ m. pair_form q m r w) (few_form q p r w) (size_of q.pattern)
 
     row_makes : RowMakes q look
     row_makes = record {
@@ -296,6 +314,8 @@ module _ (q : Problem) (plain : IsPlainProblem q) where
       joined = joined_made;
       apart = apart_made;
       spread = spread_made;
+      not_both = λ name m n w order n_in w_in. not_both_made q m n w order w_in n_in look name (find_target w w_in);
+      two = two_made;
       one_spread = λ m p w r place m_in one is. find_joined m r w m_in place.second place.place (of_second p r m is) ∙ ap (λ (f : Form). let o : Option Form = Some f in o) (one_alone q plain m p r w m_in one is);
       edge = λ p t r place is. find_edge p r t place.first place.second place.place is;
       non_edge = λ p t r place is. finds.line (non_edge_place q p r t) (pair_form q p r t) ((place_laws q).non_edge p r t place.first place.second place.place is);

@@ -170,3 +170,45 @@ only_one test also (suc n) m low passes one = by (λ lower left. only_one test a
         both_first : (b c : Bool) → one_if b ≡ 0 → one_if (b && c) ≡ 0
         both_first true c e = absurd (omega (arith, e))
         both_first false c e = refl
+
+-- ---- where two numbers pass
+
+some_two : (test : ℕ → Bool) (n k m : ℕ) → k < m → m < n → test k ≡ true → test m ≡ true → 2 ≤ count test n
+some_two test zero k m order low first second = absurd (omega (arith, low))
+some_two test (suc n) k m order low first second = by (λ lower. some_two test n k m order lower first second) (cases_eq m n)
+  where
+    by : (m < n → 2 ≤ count test n) → (m ≡ n) ⊎ (m ≡ n → ⊥) → 2 ≤ count test (suc n)
+    by later (inl same) =
+        let here : one_if (test n) ≡ 1 = ap one_if (ap test (sym same) ∙ second) in
+        let some = count_some test n k (omega (arith, order, same)) first in
+        omega (arith, here, some)
+    by later (inr other) = let h = later (omega (arith, low, other)) in omega (arith, h)
+
+both_is : (b : Bool) → one_if b ≡ 1 → (c : Bool) → one_if (b && c) ≡ one_if c
+both_is true e c = refl
+both_is false e c = absurd (omega (arith, e))
+
+both_none : (b : Bool) → one_if b ≡ 0 → (c : Bool) → one_if (b && c) ≡ 0
+both_none true e c = absurd (omega (arith, e))
+both_none false e c = refl
+
+-- Where two numbers alone pass, these are what is counted.
+pub only_two : (test also : ℕ → Bool) (n k m : ℕ) → k < m → m < n → test k ≡ true → test m ≡ true → count test n ≡ 2 → count (λ i. test i && also i) n ≡ one_if (also k) + one_if (also m)
+only_two test also zero k m order low first second two = absurd (omega (arith, low))
+only_two test also (suc n) k m order low first second two = by (λ lower left. only_two test also n k m order lower first second left) (cases_eq m n)
+  where
+    by : (m < n → count test n ≡ 2 → count (λ i. test i && also i) n ≡ one_if (also k) + one_if (also m)) → (m ≡ n) ⊎ (m ≡ n → ⊥)
+        → count (λ i. test i && also i) (suc n) ≡ one_if (also k) + one_if (also m)
+    by later (inl same) =
+        let here : one_if (test n) ≡ 1 = ap one_if (ap test (sym same) ∙ second) in
+        let both = both_is (test n) here (also n) in
+        let rest = only_one test also n k (omega (arith, order, same)) first (omega (arith, two, here)) in
+        let e : one_if (also n) ≡ one_if (also m) = ap (λ (v : ℕ). one_if (also v)) (sym same) in
+        omega (arith, both, rest, e)
+    by later (inr other) =
+        let lower : m < n = omega (arith, low, other) in
+        let some = some_two test n k m order lower first second in
+        let none : one_if (test n) ≡ 0 = omega (arith, two, some) in
+        let here = both_none (test n) none (also n) in
+        let rest = later lower (omega (arith, two, none)) in
+        omega (arith, here, rest)

@@ -114,7 +114,7 @@ worth_target q a w = record {
       omega (arith, ints);
 }
 
-one_less : (b : Bool) → cond b (negsuc 0) (pos 0) +ℤ pos (one_if b) ≡ pos 0
+pub one_less : (b : Bool) → cond b (negsuc 0) (pos 0) +ℤ pos (one_if b) ≡ pos 0
 one_less true = omega (arith, ints)
 one_less false = omega (arith, ints)
 

@@ -1,19 +1,19 @@
 -- The laws of the lines for a pair of pattern vertices.
 
-use Rattle.std.specs.Prelude.{◌≡◌, ℕ, ◌<◌, ◌≤◌, ◌^◌, ◌+◌, true, false, Some, Ok}
-use Rattle.graph_theory.specs.Graph.{size}
+use Rattle.std.specs.Prelude.{◌≡◌, ℕ, ◌<◌, ◌≤◌, ◌^◌, ◌+◌, true, false, [], ◌∷◌, Some, Ok}
+use Rattle.graph_theory.specs.Graph.{Graph, size}
 use Rattle.graph_theory.specs.Embedding.{Problem}
 use Rattle.graph_theory.specs.Neighbours.{common, is_neighbour}
 use Rattle.log_theory.specs.declared.step.Name.{Name}
 use Rattle.log_theory.specs.declared.step.Ref.{Ref}
-use Rattle.log_theory.specs.declared.step.Step.TheVariants.{P}
+use Rattle.log_theory.specs.declared.step.Step.TheVariants.{P, U}
 use Rattle.log_theory.specs.Lookups.{Lookup, makes}
 use Rattle.encoding_theory.specs.Pairs.{IsPlain, is_edge_pair, is_non_edge_pair}
 use Rattle.encoding_theory.specs.Encoding.{at_most_target, pair_form}
 use Rattle.forcing_theory.specs.Sums.{IsSmall}
 use Rattle.reason_theory.specs.Reasons.{ForcesBeside}
 use Rattle.row_theory.specs.Operations.{FindsEncoding}
-use Rattle.row_theory.specs.Rows.{edge_line, non_edge_line, is_paired, is_shared, beside_form, beside_ops, alone_ops, spread_form, spread_ops, joined_form, joined_ops, apart_form, apart_ops}
+use Rattle.row_theory.specs.Rows.{target_line, edge_line, non_edge_line, is_paired, is_shared, beside_form, beside_ops, alone_ops, spread_form, spread_ops, not_both, not_both_form, two_ops, joined_form, joined_ops, apart_form, apart_ops}
 
 -- Plain graphs within the limits of a problem.
 pub record IsPlainProblem (q : Problem) : Type 0 where
@@ -28,6 +28,14 @@ pub record IsPlace (q : Problem) (p t r : ℕ) : Type 0 where
   pub place : t < size q.target
   pub second : r < size q.pattern
   pub others : p ≡ r → ⊥
+
+-- These two are all that p and r share, in their order.
+pub record AreTwoShared (g : Graph) (p r m n : ℕ) : Type 0 where
+  pub counted : common g p r ≡ 2
+  pub order : m < n
+  pub below : n < size g
+  pub first : is_shared g p r m ≡ true
+  pub second : is_shared g p r n ≡ true
 
 -- The line of each neighbour of t is found.
 abbrev pub FindsSpread : Problem → Lookup → (ℕ → Ref) → ℕ → ℕ → ℕ → Type 0
@@ -48,6 +56,8 @@ pub record RowMakes (q : Problem) (look : Lookup) : Type 0 where
       → makes look (P name (joined_ops q own spread p t r)) ≡ Ok (joined_form q p t r)
   pub apart : (name : Name) (spread : ℕ → Ref) (p t r : ℕ) → IsPlace q p t r → FindsSpread q look spread p t r → makes look (P name (apart_ops q spread p t r)) ≡ Ok (apart_form q p t r)
   pub spread : (name : Name) (p w r less : ℕ) → IsPlace q p w r → common q.pattern p r ≡ less + 1 → 0 < less → makes look (P name (spread_ops q p r w less)) ≡ Ok (spread_form q p r w)
+  pub not_both : (name : Name) (m n w : ℕ) → m < n → n < size q.pattern → w < size q.target → makes look (U name (not_both q m n w) (target_line q w ∷ [])) ≡ Ok (not_both_form q m n w)
+  pub two : (name : Name) (clause : Ref) (m n p w r : ℕ) → IsPlace q p w r → AreTwoShared q.pattern p r m n → look clause ≡ Some (not_both_form q m n w) → makes look (P name (two_ops q clause p r w)) ≡ Ok (spread_form q p r w)
   pub one_spread : (m p w r : ℕ) → IsPlace q p w r → m < size q.pattern → common q.pattern p r ≡ 1 → is_shared q.pattern p r m ≡ true → look (edge_line q m r w) ≡ Some (spread_form q p r w)
   pub edge : (p t r : ℕ) → IsPlace q p t r → is_edge_pair q p r ≡ true → look (edge_line q p r t) ≡ Some (pair_form q p r t)
   pub non_edge : (p t r : ℕ) → IsPlace q p t r → is_non_edge_pair q p r ≡ true → look (non_edge_line q p r t) ≡ Some (pair_form q p r t)

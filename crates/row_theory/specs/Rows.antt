@@ -9,6 +9,7 @@ use Rattle.graph_theory.specs.Neighbours.{is_neighbour, degree}
 use Rattle.proof_theory.specs.declared.literal.Literal.{Literal}
 use Rattle.proof_theory.specs.Forms.{Form, form_of}
 use Rattle.proof_theory.specs.Rules.{sum_of, times_of}
+use Rattle.proof_theory.specs.Slack.{clause_form}
 use Rattle.log_theory.specs.declared.step.Ref.{Ref}
 use Rattle.log_theory.specs.declared.step.Ref.TheVariants.{Line}
 use Rattle.log_theory.specs.declared.step.Op.{Op}
@@ -17,6 +18,7 @@ use Rattle.encoding_theory.specs.Variables.{variable}
 use Rattle.encoding_theory.specs.Pairs.{is_edge_pair, is_non_edge_pair}
 use Rattle.encoding_theory.specs.Encoding.{terms_where, at_most, at_most_target, pair_form}
 use Rattle.encoding_theory.specs.Places.{at_most_place, at_most_target_place, edge_place, non_edge_place}
+use Rattle.reason_theory.specs.Reasons.{not_there}
 use Rattle.row_theory.specs.Operations.{sum_where, adds_where}
 
 -- ---- lines of the encoding
@@ -73,6 +75,20 @@ abbrev pub spread_ops : Problem → ℕ → ℕ → ℕ → ℕ → List Op
 spread_ops q p r w less =
     (Push (target_line q w) ∷ adds_where (λ v. not (is_shared q.pattern p r v)) (λ v. Axiom (there q w v)) (size q.pattern))
     ++ ((Times less ∷ adds_where (is_shared q.pattern p r) (λ m. Push (edge_line q m r w)) (size q.pattern)) ++ Divide (less + 1) ∷ [])
+
+-- ---- two shared neighbours
+
+-- That m and n are not both at w, as literals.
+abbrev pub not_both : Problem → ℕ → ℕ → ℕ → List Literal
+not_both q m n w = not_there q (m, w) ∷ not_there q (n, w) ∷ []
+
+-- Their clause. It names neither p nor r, so that it serves for all vertices that share these two.
+abbrev pub not_both_form : Problem → ℕ → ℕ → ℕ → Form
+not_both_form q m n w = clause_form (not_both q m n w)
+
+-- Where two are shared, `clause` names theirs at w. It says that one of them at most is there; for each r is then beside w; divided.
+abbrev pub two_ops : Problem → Ref → ℕ → ℕ → ℕ → List Op
+two_ops q clause p r w = Push clause ∷ (adds_where (is_shared q.pattern p r) (λ m. Push (edge_line q m r w)) (size q.pattern) ++ Divide 2 ∷ [])
 
 -- ---- shared neighbours that are asked for, where p is at t
 

@@ -1,4 +1,4 @@
-use Rattle.std.proofs.Common.{◌≡◌, ◌∙◌, sym, subst}
+use Rattle.std.proofs.Common.{◌∙◌, sym, subst}
 use Rattle.log_theory.specs.declared.step.Ref.{Ref}
 use Rattle.log_theory.specs.LogText.{IsRef}
 use Rattle.row_theory.specs.Rows.{target_line}

@@ -1,4 +1,4 @@
-use Rattle.std.proofs.Common.{◌≡◌, refl, sym, subst, Ok}
+use Rattle.std.proofs.Common.{refl, sym, subst, Ok}
 use Rattle.std.proofs.lemmas.Result.{err_from_is_err_and}
 use Rattle.graph_theory.specs.Embedding.{Problem}
 use Rattle.log_theory.specs.declared.step.Ref.TheVariants.{Made}
