@@ -325,7 +325,20 @@ WHOLE: List[Tuple[str, str, str]] = [
     ("a first line cut", "embedding proof 1", "log: line 1: EndsEarly"),
     ("a first line alone", "embedding proof 1\n", "log: line 2: EndsEarly"),
     ("two lines alone", "embedding proof 1\nm 2\n", "log: line 3: EndsEarly"),
-    ("another first line", "embedding proof 2\nm 2\nq\n", "log: line 1: Form"),
+    ("another first line", "embedding proof 3\nm 2\nq\n", "log: line 1: Form"),
+    ("a log without hints", "embedding proof 2\nm 2\nq\n", UNDECIDED),
+    ("a first line without hints, cut", "embedding proof 2", "log: line 1: EndsEarly"),
+    ("a line of units without hints", "embedding proof 2\nm 2\nu 0.1 x1 x2 ;\nq\n", UNDECIDED),
+    ("no contradiction without hints", "embedding proof 2\nm 2\nu 0.1 x1 ;\nq\n", "log: line 3: NoConflict"),
+    ("the literals are not true, without hints", "embedding proof 2\nm 2\nu 0.1 x1 ~x2 ;\nq\n", "log: line 3: NoConflict"),
+    ("what was made serves the next", "embedding proof 2\nm 2\np 0.1 1 x1 + ;\nu 0.2 x1 x2 ;\nu 0.3 x3 x1 x2 ;\nq\n", UNDECIDED),
+    ("what is assumed ends with its line", "embedding proof 2\nm 2\nu 0.1 x1 x2 ;\nu 0.2 x1 ;\nq\n", "log: line 4: NoConflict"),
+    ("a used name comes first without hints", "embedding proof 2\nm 2\nu 0.1 x1 x2 ;\nu 0.1 x1 x1 ;\nq\n", "log: line 4: NameUsed"),
+    ("a variable twice before no contradiction", "embedding proof 2\nm 2\nu 0.1 x3 x3 ;\nq\n", "log: line 3: Twice"),
+    ("a line with hints in a log without", "embedding proof 2\nm 2\nu 0.1 x1 x2 ; 1 ;\nq\n", "log: line 3: Form"),
+    ("an empty list of hints in a log without", "embedding proof 2\nm 2\nu 0.1 x1 x2 ; ;\nq\n", "log: line 3: Form"),
+    ("a line without hints and end", "embedding proof 2\nm 2\nu 0.1 x1 x2\nq\n", "log: line 3: Form"),
+    ("both first lines", "embedding proof 2\nembedding proof 1\nm 2\nq\n", "log: line 2: Form"),
     ("a first line with a blank", "embedding proof 1 \nm 2\nq\n", "log: line 1: Form"),
     ("a first line with a carriage return", "embedding proof 1\r\nm 2\nq\n", "log: line 1: Form"),
     ("no second line", "embedding proof 1\nq\n", "log: line 2: Form"),
@@ -346,6 +359,12 @@ def cases() -> Iterator[Case]:
         yield what, MODEL.encode(), f"embedding proof 1\nm 5\n{lines}".encode("latin-1"), told
     for what, text, told in WHOLE:
         yield what, LOOSE.encode(), text.encode("latin-1"), told
+
+
+def without_hints(log: bytes) -> bytes:
+    """The log with another first line, and with no references in its `u` lines."""
+    lines = log.replace(b"embedding proof 1\n", b"embedding proof 2\n", 1).split(b"\n")
+    return b"\n".join(line[: line.index(b";") + 1] if line.startswith(b"u ") and b";" in line else line for line in lines)
 
 
 def status_of(told: str) -> int:

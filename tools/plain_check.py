@@ -104,6 +104,22 @@ def contradict(literals: List[Literal], constraints: List[Constraint]) -> bool:
     return False
 
 
+def spread(literals: List[Literal], constraints: List[Constraint]) -> bool:
+    """Whether, with all the literals false, these constraints in whatever order end in a contradiction."""
+    false = set(literals)
+    while True:
+        before = len(false)
+        for constraint in constraints:
+            terms, bound = normal_form(constraint)
+            slack = sum(a for a, literal in terms if literal not in false) - bound
+            if slack < 0:
+                return True
+            # Neither a true nor a false literal is open.
+            false |= {-literal for a, literal in terms if not {literal, -literal} & false and a > slack}
+        if len(false) == before:
+            return False
+
+
 # Encodings --------------------------------------------------------------------------------------------------------------------
 
 
@@ -183,6 +199,8 @@ class Log:
     def __init__(self, variables: int, constraints: List[Constraint]) -> None:
         self.variables = variables
         self.constraints = constraints
+        #: Whether a `u` line names what leads to its contradiction, as the first line tells.
+        self.hinted = True
         #: Each constraint under all that refers to it, as it is written: its number, `W.I` or `#K`.
         self.named = {b"%d" % i: constraint for i, constraint in enumerate(constraints, 1)}
         #: How many each W has made, and the greatest K.
@@ -281,16 +299,19 @@ class Log:
         return found
 
     def follow(self, words: List[bytes]) -> None:
-        """`u NAME LITERALS ; REFERENCES ;`"""
-        refuse_if(words.count(b";") != 2 or words[-1] != b";" or words[1] == b";", "Form")
+        """`u NAME LITERALS ; REFERENCES ;`, or in a log without hints `u NAME LITERALS ;`"""
+        refuse_if(words.count(b";") != (2 if self.hinted else 1) or words[-1] != b";" or words[1] == b";", "Form")
         self.name(words[1])
         middle = words.index(b";")
         literals = [self.literal(word) for word in words[2:middle]]
         references = [self.reference(word) for word in words[middle + 1 : -1]]
         self.expect_name(words[1])
         refuse_if(len({abs(literal) for literal in literals}) != len(literals), "Twice")
-        constraints = [self.find(reference) for reference in references]
-        refuse_if(not contradict(literals, constraints), "NoConflict")
+        if self.hinted:
+            constraints = [self.find(reference) for reference in references]
+            refuse_if(not contradict(literals, constraints), "NoConflict")
+        else:
+            refuse_if(not spread(literals, list(self.named.values())), "NoConflict")
         self.give(words[1], of_terms([(1, literal) for literal in literals], 1))
 
     def rename(self, words: List[bytes]) -> None:
@@ -323,7 +344,8 @@ class Log:
         """Does what a line says; a last line's claim."""
         words = line.split(b" ")
         if number == 1:
-            refuse_if(line != b"embedding proof 1", "Form")
+            refuse_if(line not in (b"embedding proof 1", b"embedding proof 2"), "Form")
+            self.hinted = line == b"embedding proof 1"
         elif number == 2:
             refuse_if(len(words) != 2 or words[0] != b"m" or self.number(words[1]) != len(self.constraints), "Form")
         elif words[0] == b"p":

@@ -38,6 +38,12 @@ class PlainCheck(unittest.TestCase):
             with self.subTest(what):
                 self.assertEqual(self.judge(encoding, log), (told, check_cases.status_of(told)))
 
+    def test_hints_dropped(self) -> None:
+        for what, encoding, log, told in check_cases.cases():
+            if told.startswith("accepted"):
+                with self.subTest(what):
+                    self.assertEqual(self.judge(encoding, check_cases.without_hints(log)), (told, 0))
+
     def test_program(self) -> None:
         command = [sys.executable, str(TOOLS / "plain_check.py"), *map(str, self.files)]
         for file, text in zip(self.files, (check_cases.MODEL, "embedding proof 1\nm 5\nu 0.1 ; 4 5 1 ;\ne 0.1\n")):

@@ -5,6 +5,7 @@ use Rattle.std.proofs.lemmas.Bool.{eq-eqb}
 use Rattle.std.proofs.lemmas.List.{append_assoc}
 use Rattle.proof_theory.specs.Forms.{Form}
 use Rattle.proof_theory.specs.Rules.{is_contradiction}
+use Rattle.log_theory.specs.declared.profile.Profile.TheVariants.{Hinted}
 use Rattle.log_theory.specs.declared.step.Ref.{Ref}
 use Rattle.log_theory.specs.declared.step.Step.{Step}
 use Rattle.log_theory.specs.declared.step.Step.TheVariants.{Head, Model, P, U, N, E, Y, Q}
@@ -15,7 +16,7 @@ use Rattle.log_theory.specs.Steps.{◌>>=◌, unless, or_fault}
 use Rattle.log_theory.specs.Words.{joined, line_text}
 use Rattle.log_theory.specs.LogText.{IsStep, step_words, read_line}
 use Rattle.log_theory.specs.Tables.{Table, empty_table, find, step_of}
-use Rattle.log_theory.specs.Verdicts.{in_range, step_variables, Stage, Opening, Counting, Proving, Progress, Goes, Ends, progress_of, line_progress, refuted_by}
+use Rattle.log_theory.specs.Verdicts.{in_range, step_variables, Stage, Opening, Counting, Proving, Progress, Goes, Ends, progress_of, further_progress, refuted_by}
 use Rattle.log_theory.specs.Acceptance.{NoFeed, AreLines, lines_text, Runs, Accepts}
 use Rattle.log_theory.proofs.Splitting.{AllBetween, joined_bytes}
 use Rattle.log_theory.proofs.StepReadBack.{words_step, step_read_back}
@@ -37,17 +38,17 @@ pub are_lines : (n : ℕ) (steps : List Step) → AreWritten n steps → AreLine
 are_lines n [] w = tt
 are_lines n (s ∷ ss) w = (no_feed s w.0.is_step, are_lines n ss w.1)
 
--- A line leads where its step does.
-pub line_goes : (n : ℕ) (model : List Form) (stage : Stage) (s : Step) → IsWritten n s → line_progress n model stage (step_line s) ≡ progress_of model stage s
+-- A line of a log with hints leads where its step does, behind the first one.
+pub line_goes : (n : ℕ) (model : List Form) (stage : Stage) (s : Step) → IsWritten n s → further_progress n model Hinted stage (step_line s) ≡ progress_of model stage s
 line_goes n model stage s w =
     ap (λ (o : Option Step). or_fault o Malformed >>= λ x. unless (in_range n (step_variables x)) Malformed >>= λ _. progress_of model stage x) (step_read_back s w.is_step)
     ∙ ap (λ (b : Bool). unless b Malformed >>= λ _. progress_of model stage s) w.variables
 
 -- A step that makes a table is a line of a proof that leads there.
-step_goes : (model : List Form) (t m : Table) (s : Step) → step_of model t s ≡ Ok m → progress_of model (Proving t) s ≡ Ok (Goes (Proving m))
-step_goes model t m (P name ops) h = ap (λ (x : Result Table Cause). x >>= λ u. Ok (Goes (Proving u))) h
-step_goes model t m (U name lits refs) h = ap (λ (x : Result Table Cause). x >>= λ u. Ok (Goes (Proving u))) h
-step_goes model t m (N row name) h = ap (λ (x : Result Table Cause). x >>= λ u. Ok (Goes (Proving u))) h
+step_goes : (model : List Form) (t m : Table) (s : Step) → step_of model t s ≡ Ok m → progress_of model (Proving Hinted t) s ≡ Ok (Goes (Proving Hinted m))
+step_goes model t m (P name ops) h = ap (λ (x : Result Table Cause). x >>= λ u. Ok (Goes (Proving Hinted u))) h
+step_goes model t m (U name lits refs) h = ap (λ (x : Result Table Cause). x >>= λ u. Ok (Goes (Proving Hinted u))) h
+step_goes model t m (N row name) h = ap (λ (x : Result Table Cause). x >>= λ u. Ok (Goes (Proving Hinted u))) h
 step_goes model t m Head h = absurd cc
 step_goes model t m (Model k) h = absurd cc
 step_goes model t m (E at) h = absurd cc
@@ -55,24 +56,24 @@ step_goes model t m (Y ones) h = absurd cc
 step_goes model t m Q h = absurd cc
 
 -- The last line ends the log.
-last_ends : (model : List Form) (t : Table) (at : Ref) (f : Form) → find model t at ≡ Some f → is_contradiction f ≡ true → progress_of model (Proving t) (E at) ≡ Ok (Ends Unsatisfiable)
+last_ends : (model : List Form) (t : Table) (at : Ref) (f : Form) → find model t at ≡ Some f → is_contradiction f ≡ true → progress_of model (Proving Hinted t) (E at) ≡ Ok (Ends Unsatisfiable)
 last_ends model t at f found false_ = ap refuted_by found ∙ ap (λ (b : Bool). unless b NotFalse >>= λ _. Ok (Ends Unsatisfiable)) false_
 
 -- Lines that step, and the last one, run to the end.
 runs_on : (n : ℕ) (model : List Form) (steps : List Step) (at : Ref) (t u : Table) (f : Form) → AreWritten n (steps ++ E at ∷ []) → StepsRun model t steps u
-    → find model u at ≡ Some f → is_contradiction f ≡ true → Runs n model (Goes (Proving t)) (map step_line (steps ++ E at ∷ [])) (Ends Unsatisfiable)
+    → find model u at ≡ Some f → is_contradiction f ≡ true → Runs n model (Goes (Proving Hinted t)) (map step_line (steps ++ E at ∷ [])) (Ends Unsatisfiable)
 runs_on n model [] at t u f w run found false_ =
-    (Ends Unsatisfiable, (line_goes n model (Proving t) (E at) w.0 ∙ last_ends model t at f (subst (λ (x : Table). find model x at ≡ Some f) run found) false_, refl))
+    (Ends Unsatisfiable, (line_goes n model (Proving Hinted t) (E at) w.0 ∙ last_ends model t at f (subst (λ (x : Table). find model x at ≡ Some f) run found) false_, refl))
 runs_on n model (s ∷ ss) at t u f w run found false_ =
-    (Goes (Proving run.0), (line_goes n model (Proving t) s w.0 ∙ step_goes model t run.0 s run.1, runs_on n model ss at run.0 u f w.1 run.2 found false_))
+    (Goes (Proving Hinted run.0), (line_goes n model (Proving Hinted t) s w.0 ∙ step_goes model t run.0 s run.1, runs_on n model ss at run.0 u f w.1 run.2 found false_))
 
 pub text_accepted : TextLaw
 text_accepted n model steps at t f written run found false_ = record {
   lines = map step_line (whole_log model steps at);
   are_lines = are_lines n (whole_log model steps at) written;
   text = refl;
-  runs = (Goes Counting, (line_goes n model Opening Head written.0, (Goes (Proving empty_table), (line_goes n model Counting (Model (length model)) written.1.0 ∙ counted, runs_on n model steps at empty_table t f written.1.1 run found false_))));
+  runs = (Goes (Counting Hinted), (refl, (Goes (Proving Hinted empty_table), (line_goes n model (Counting Hinted) (Model (length model)) written.1.0 ∙ counted, runs_on n model steps at empty_table t f written.1.1 run found false_))));
 }
   where
-    counted : progress_of model Counting (Model (length model)) ≡ Ok (Goes (Proving empty_table))
-    counted = ap (λ (b : Bool). unless b Malformed >>= λ _. Ok (Goes (Proving empty_table))) (eq-eqb (length model) (length model) refl)
+    counted : progress_of model (Counting Hinted) (Model (length model)) ≡ Ok (Goes (Proving Hinted empty_table))
+    counted = ap (λ (b : Bool). unless b Malformed >>= λ _. Ok (Goes (Proving Hinted empty_table))) (eq-eqb (length model) (length model) refl)

@@ -8,7 +8,7 @@ ghost use Rattle.journals.specs.Keeping.{IsLine, Keeps, Notes, text_of, ends_fro
 
 use crate::buffer::TextBuffer;
 use crate::keeper::Keeper;
-use log_theory::{Name, Step};
+use log_theory::{Name, Profile, Step};
 use proof_log::write_step;
 use std::alloc::{AllocError, Global};
 use std::marker::Model;
@@ -86,7 +86,7 @@ impl Journal {
     {
         self.ends.reserve(1)?;
         let before = self.text.len();
-        if write_step(step, &mut self.text).is_err() {
+        if write_step(Profile::Hinted, step, &mut self.text).is_err() {
             self.text.truncate(before);
             return Err(AllocError);
         }

@@ -5,5 +5,9 @@ pub mod LogSound
 pub mod LogVerdicts
 pub mod LogFronts
 pub mod LogAnswers
+pub mod PlainReadBack
+pub mod Dropping
+pub mod DroppedLogs
 mod OpbRows
-mod LogRows
+pub mod LogRows
+mod PlainRows

@@ -8,7 +8,7 @@ use Rattle.proof_theory.specs.Forms.{Form, put, sorted}
 use Rattle.log_theory.specs.Verdicts.{verdict_of}
 
 -- +1 x1 >= 1 and -1 x1 >= 0
-abbrev two : List Form
+abbrev pub two : List Form
 two = record { terms = (1, pos 1) ∷ []; bound = pos 1 } ∷ record { terms = (1, negsuc 0) ∷ []; bound = pos 0 } ∷ []
 
 -- >= 1 and >= -1
@@ -20,7 +20,7 @@ abbrev three_into_two : List Form
 three_into_two = record { terms = (1, pos 1) ∷ (2, pos 1) ∷ []; bound = pos 1 } ∷ record { terms = (1, negsuc 0) ∷ (2, negsuc 0) ∷ []; bound = negsuc 0 } ∷ record { terms = (3, pos 1) ∷ (4, pos 1) ∷ []; bound = pos 1 } ∷ record { terms = (3, negsuc 0) ∷ (4, negsuc 0) ∷ []; bound = negsuc 0 } ∷ record { terms = (5, pos 1) ∷ (6, pos 1) ∷ []; bound = pos 1 } ∷ record { terms = (5, negsuc 0) ∷ (6, negsuc 0) ∷ []; bound = negsuc 0 } ∷ record { terms = (1, negsuc 0) ∷ (3, negsuc 0) ∷ (5, negsuc 0) ∷ []; bound = negsuc 0 } ∷ record { terms = (2, negsuc 0) ∷ (4, negsuc 0) ∷ (6, negsuc 0) ∷ []; bound = negsuc 0 } ∷ []
 
 -- A triangle into a cycle of four.
-abbrev triangle : List Form
+abbrev pub triangle : List Form
 triangle = record { terms = (1, pos 1) ∷ (2, pos 1) ∷ (3, pos 1) ∷ (4, pos 1) ∷ []; bound = pos 1 } ∷ record { terms = (1, negsuc 0) ∷ (2, negsuc 0) ∷ (3, negsuc 0) ∷ (4, negsuc 0) ∷ []; bound = negsuc 0 } ∷ record { terms = (5, pos 1) ∷ (6, pos 1) ∷ (7, pos 1) ∷ (8, pos 1) ∷ []; bound = pos 1 } ∷ record { terms = (5, negsuc 0) ∷ (6, negsuc 0) ∷ (7, negsuc 0) ∷ (8, negsuc 0) ∷ []; bound = negsuc 0 } ∷ record { terms = (9, pos 1) ∷ (10, pos 1) ∷ (11, pos 1) ∷ (12, pos 1) ∷ []; bound = pos 1 } ∷ record { terms = (9, negsuc 0) ∷ (10, negsuc 0) ∷ (11, negsuc 0) ∷ (12, negsuc 0) ∷ []; bound = negsuc 0 } ∷ record { terms = (1, negsuc 0) ∷ (5, negsuc 0) ∷ (9, negsuc 0) ∷ []; bound = negsuc 0 } ∷ record { terms = (2, negsuc 0) ∷ (6, negsuc 0) ∷ (10, negsuc 0) ∷ []; bound = negsuc 0 } ∷ record { terms = (3, negsuc 0) ∷ (7, negsuc 0) ∷ (11, negsuc 0) ∷ []; bound = negsuc 0 } ∷ record { terms = (4, negsuc 0) ∷ (8, negsuc 0) ∷ (12, negsuc 0) ∷ []; bound = negsuc 0 } ∷ record { terms = (1, negsuc 0) ∷ (6, pos 1) ∷ (8, pos 1) ∷ []; bound = pos 0 } ∷ record { terms = (2, negsuc 0) ∷ (5, pos 1) ∷ (7, pos 1) ∷ []; bound = pos 0 } ∷ record { terms = (3, negsuc 0) ∷ (6, pos 1) ∷ (8, pos 1) ∷ []; bound = pos 0 } ∷ record { terms = (4, negsuc 0) ∷ (5, pos 1) ∷ (7, pos 1) ∷ []; bound = pos 0 } ∷ record { terms = (1, negsuc 0) ∷ (10, pos 1) ∷ (12, pos 1) ∷ []; bound = pos 0 } ∷ record { terms = (2, negsuc 0) ∷ (9, pos 1) ∷ (11, pos 1) ∷ []; bound = pos 0 } ∷ record { terms = (3, negsuc 0) ∷ (10, pos 1) ∷ (12, pos 1) ∷ []; bound = pos 0 } ∷ record { terms = (4, negsuc 0) ∷ (9, pos 1) ∷ (11, pos 1) ∷ []; bound = pos 0 } ∷ record { terms = (2, pos 1) ∷ (4, pos 1) ∷ (5, negsuc 0) ∷ []; bound = pos 0 } ∷ record { terms = (1, pos 1) ∷ (3, pos 1) ∷ (6, negsuc 0) ∷ []; bound = pos 0 } ∷ record { terms = (2, pos 1) ∷ (4, pos 1) ∷ (7, negsuc 0) ∷ []; bound = pos 0 } ∷ record { terms = (1, pos 1) ∷ (3, pos 1) ∷ (8, negsuc 0) ∷ []; bound = pos 0 } ∷ record { terms = (5, negsuc 0) ∷ (10, pos 1) ∷ (12, pos 1) ∷ []; bound = pos 0 } ∷ record { terms = (6, negsuc 0) ∷ (9, pos 1) ∷ (11, pos 1) ∷ []; bound = pos 0 } ∷ record { terms = (7, negsuc 0) ∷ (10, pos 1) ∷ (12, pos 1) ∷ []; bound = pos 0 } ∷ record { terms = (8, negsuc 0) ∷ (9, pos 1) ∷ (11, pos 1) ∷ []; bound = pos 0 } ∷ record { terms = (2, pos 1) ∷ (4, pos 1) ∷ (9, negsuc 0) ∷ []; bound = pos 0 } ∷ record { terms = (1, pos 1) ∷ (3, pos 1) ∷ (10, negsuc 0) ∷ []; bound = pos 0 } ∷ record { terms = (2, pos 1) ∷ (4, pos 1) ∷ (11, negsuc 0) ∷ []; bound = pos 0 } ∷ record { terms = (1, pos 1) ∷ (3, pos 1) ∷ (12, negsuc 0) ∷ []; bound = pos 0 } ∷ record { terms = (6, pos 1) ∷ (8, pos 1) ∷ (9, negsuc 0) ∷ []; bound = pos 0 } ∷ record { terms = (5, pos 1) ∷ (7, pos 1) ∷ (10, negsuc 0) ∷ []; bound = pos 0 } ∷ record { terms = (6, pos 1) ∷ (8, pos 1) ∷ (11, negsuc 0) ∷ []; bound = pos 0 } ∷ record { terms = (5, pos 1) ∷ (7, pos 1) ∷ (12, negsuc 0) ∷ []; bound = pos 0 } ∷ []
 
 -- The verdict over the two constraints, of the head and some lines.

@@ -1,5 +1,6 @@
 -- What an accepted log claims is true of its model.
 use Rattle.std.proofs.Common.{◌≡◌, ℕ, zero, suc, ◌<◌, ◌^◌, Bool, true, false, not, ◌==◌, ◌&&◌, nat_le, List, [], ◌∷◌, Option, Some, None, Result, Ok, Err, unsigned_abs, refl, subst, arith}
+use Rattle.proof_theory.specs.declared.literal.Literal.{Literal}
 use Rattle.log_theory.specs.declared.step.Ref.{Ref}
 use Rattle.log_theory.specs.declared.step.Ref.TheVariants.{Made}
 use Rattle.log_theory.specs.declared.step.Op.{Op}
@@ -11,9 +12,11 @@ use Rattle.proof_theory.specs.Forms.{Form, Holds, Satisfies, size}
 use Rattle.proof_theory.specs.Rules.{sum_of, times_of, divide_of, saturate_of}
 use Rattle.proof_theory.specs.Slack.{refutes, negations, clause_form, axiom_form}
 use Rattle.log_theory.specs.Steps.{◌>>=◌, unless, or_fault}
-use Rattle.log_theory.specs.Lookups.{Lookup, narrow, on_top, on_two, operate, evaluate, only_one, find_all, are_distinct, variables_of, makes}
+use Rattle.log_theory.specs.Lookups.{Lookup, narrow, on_top, on_two, operate, evaluate, only_one, find_all, are_distinct, variables_of, makes, closed_clause}
 use Rattle.proof_theory.proofs.Rules.{axiom_form_holds, sum_holds, times_holds, divide_holds, saturate_holds}
+use Rattle.proof_theory.specs.Propagation.{closes}
 use Rattle.proof_theory.proofs.Refutation.{refuted_clause, clause_form_holds}
+use Rattle.proof_theory.proofs.Propagation.{closes_found, closed_clause as clause_of_closure}
 
 -- What a step that succeeded went through.
 pub bind_ok : {E A B : Type 0} (r : Result A E) (f : A → Result B E) (y : B) → (r >>= f) ≡ Ok y → (x : A) × ((r ≡ Ok x) × (f x ≡ Ok y))
@@ -113,3 +116,11 @@ makes_sound look a l (Model m) f e = absurd cc
 makes_sound look a l (E at) f e = absurd cc
 makes_sound look a l (Y ones) f e = absurd cc
 makes_sound look a l Q f e = absurd cc
+
+-- A clause that propagation over forms finds holds wherever they hold.
+pub closed_sound : (a : ℕ → Bool) (fs : List Form) (lits : List Literal) (f : Form) → Satisfies fs a → closed_clause fs lits ≡ Ok f → Holds f a
+closed_sound a fs lits f sat e =
+    let b = bind_ok (unless (are_distinct (variables_of lits)) _) _ f e in
+    let d = bind_ok (unless (closes (negations lits) fs) _) _ f b.1.1 in
+    subst (λ (x : Form). Holds x a) (ok_same (clause_form lits) f d.1.1)
+    (clause_form_holds lits a (clause_of_closure lits fs (closes_found (negations lits) fs (unless_ok (closes (negations lits) fs) _ d.0 d.1.0)) a sat))

@@ -1,8 +1,11 @@
 -- The laws of whole logs: soundness, one answer, and fronts that end early.
-use Rattle.std.proofs.Common.{◌≡◌, ◌≢◌, ℕ, zero, suc, ◌+◌, ◌≤◌, ◌<◌, Bool, true, false, cond, ◌==◌, ◌&&◌, ◌||◌, nat_lt, nat_le, List, [], ◌∷◌, ◌++◌, length, get_or, set, replicate, Option, Some, Result, Ok, Err, ℤ, pos, ◌≤ℤ◌, ◌+ℤ◌, refl, sym, ap, ◌∙◌, subst, arith, inl, inr, ◌⊎◌, slice_get}
+use Rattle.std.proofs.Common.{◌≡◌, ◌≢◌, ℕ, zero, suc, ◌+◌, ◌≤◌, ◌<◌, Bool, true, false, cond, ◌==◌, ◌&&◌, ◌||◌, nat_lt, nat_le, List, [], ◌∷◌, ◌++◌, length, map, get_or, set, replicate, Option, Some, Result, Ok, Err, ℤ, pos, ◌≤ℤ◌, ◌+ℤ◌, refl, sym, ap, ◌∙◌, subst, arith, inl, inr, ◌⊎◌, slice_get}
 use Rattle.std.proofs.lemmas.Int.{ints}
 use Rattle.std.proofs.lemmas.Bool.{and_parts, cases_eq, cases_lt, eqb-true, leb-true, ltb-true}
 use Rattle.std.proofs.lemmas.List.{get_or-set_same, get_or-set_other, set_past, get_or_past}
+use Rattle.std.specs.List.{flat_map}
+use Rattle.log_theory.specs.declared.profile.Profile.{Profile}
+use Rattle.log_theory.specs.declared.profile.Profile.TheVariants.{Hinted, Plain}
 use Rattle.log_theory.specs.declared.step.Name.{Name}
 use Rattle.log_theory.specs.declared.step.Ref.{Ref}
 use Rattle.log_theory.specs.declared.step.Ref.TheVariants.{Line, Made, Shared}
@@ -15,12 +18,12 @@ use Rattle.proof_theory.specs.Forms.{Form, Holds, Satisfies, value, assignment, 
 use Rattle.proof_theory.specs.Rules.{is_contradiction}
 use Rattle.log_theory.specs.Steps.{◌>>=◌, unless, or_fault}
 use Rattle.log_theory.specs.Words.{pieces}
-use Rattle.log_theory.specs.LogText.{read_line}
-use Rattle.log_theory.specs.Lookups.{makes, is_among, are_distinct}
-use Rattle.log_theory.specs.Tables.{Table, empty_table, made_by, from_one, shared_at, find, fresh_name, fresh_row, with_made, step_of}
-use Rattle.log_theory.specs.Verdicts.{holds_at, all_hold_at, in_range, step_variables, Stage, Opening, Counting, Proving, Progress, Goes, Ends, refuted_by, solved_by, progress_of, line_progress, at_end, go_on, verdict_from, verdict_of}
+use Rattle.log_theory.specs.Profiles.{read_in, profile_of}
+use Rattle.log_theory.specs.Lookups.{makes, closed_clause, is_among, are_distinct}
+use Rattle.log_theory.specs.Tables.{Table, empty_table, made_by, from_one, shared_at, find, fresh_name, fresh_row, with_made, step_of, all_forms, step_in}
+use Rattle.log_theory.specs.Verdicts.{holds_at, all_hold_at, in_range, step_variables, Stage, Opening, Counting, Proving, Progress, Goes, Ends, refuted_by, solved_by, progress_of, further_progress, line_progress, at_end, go_on, verdict_from, verdict_of}
 use Rattle.proof_theory.proofs.Rules.{contradiction_fails}
-use Rattle.log_theory.proofs.LogSound.{IsSound, bind_ok, unless_ok, or_fault_ok, makes_sound}
+use Rattle.log_theory.proofs.LogSound.{IsSound, bind_ok, unless_ok, or_fault_ok, makes_sound, closed_sound}
 
 some_same : (f g : Form) → let x : Option Form = Some f in let y : Option Form = Some g in x ≡ y → f ≡ g
 some_same f g e = cc
@@ -114,11 +117,44 @@ step_sound model t u (E at) a sat h e = absurd cc
 step_sound model t u (Y ones) a sat h e = absurd cc
 step_sound model t u Q a sat h e = absurd cc
 
+satisfied_append : (fs gs : List Form) (a : ℕ → Bool) → Satisfies fs a → Satisfies gs a → Satisfies (fs ++ gs) a
+satisfied_append [] gs a h k = k
+satisfied_append (f ∷ fs) gs a h k = (h.0, satisfied_append fs gs a h.1 k)
+
+satisfied_lists : (lists : List (List Form)) (a : ℕ → Bool) → ((owner : ℕ) → Satisfies (get_or lists owner []) a) → Satisfies (flat_map (λ fs. fs) lists) a
+satisfied_lists [] a h = tt
+satisfied_lists (fs ∷ lists) a h = satisfied_append fs (flat_map (λ gs. gs) lists) a (h 0) (satisfied_lists lists a (λ owner. h (suc owner)))
+
+satisfied_entries : (ss : List (ℕ × Form)) (a : ℕ → Bool) → EntriesHold ss a → Satisfies (map (λ s. s.1) ss) a
+satisfied_entries [] a h = tt
+satisfied_entries (s ∷ ss) a h = (h.0, satisfied_entries ss a h.1)
+
+-- All forms so far hold.
+all_satisfied : (model : List Form) (t : Table) (a : ℕ → Bool) → Satisfies model a → TableHolds t a → Satisfies (all_forms model t) a
+all_satisfied model t a s h =
+    satisfied_append model (flat_map (λ fs. fs) t.made ++ map (λ e. e.1) t.shared) a s
+    (satisfied_append (flat_map (λ fs. fs) t.made) (map (λ e. e.1) t.shared) a (satisfied_lists t.made a h.made) (satisfied_entries t.shared a h.shared))
+
+-- A step of either profile keeps the table true.
+step_in_sound : (profile : Profile) (model : List Form) (t u : Table) (s : Step) (a : ℕ → Bool) → Satisfies model a → TableHolds t a → step_in profile model t s ≡ Ok u → TableHolds u a
+step_in_sound Hinted model t u s a sat h e = step_sound model t u s a sat h e
+step_in_sound Plain model t u (U name lits refs) a sat h e =
+    let b = bind_ok (fresh_name t name) _ u e in
+    let d = bind_ok (closed_clause (all_forms model t) lits) _ u b.1.1 in
+    subst (λ (x : Table). TableHolds x a) (table_same _ u d.1.1) (made_holds t name d.0 a h (closed_sound a (all_forms model t) lits d.0 (all_satisfied model t a sat h) d.1.0))
+step_in_sound Plain model t u (P name ops) a sat h e = step_sound model t u (P name ops) a sat h e
+step_in_sound Plain model t u (N row name) a sat h e = step_sound model t u (N row name) a sat h e
+step_in_sound Plain model t u Head a sat h e = absurd cc
+step_in_sound Plain model t u (Model m) a sat h e = absurd cc
+step_in_sound Plain model t u (E at) a sat h e = absurd cc
+step_in_sound Plain model t u (Y ones) a sat h e = absurd cc
+step_in_sound Plain model t u Q a sat h e = absurd cc
+
 -- What a stage keeps true of every assignment that satisfies the model.
 abbrev pub StageHolds : List Form → Stage → Type 0
-StageHolds model (Proving t) = (a : ℕ → Bool) → Satisfies model a → TableHolds t a
+StageHolds model (Proving profile t) = (a : ℕ → Bool) → Satisfies model a → TableHolds t a
 StageHolds model Opening = Unit {0}
-StageHolds model Counting = Unit {0}
+StageHolds model (Counting profile) = Unit {0}
 
 -- What a line's progress says.
 abbrev pub ProgressHolds : ℕ → List Form → Progress → Type 0
@@ -153,33 +189,39 @@ solved_progress n model ones p r e =
     subst (λ (x : Progress). ProgressHolds n model x) (progress_same (Ends Satisfiable) p d.1.1)
     (ones, (r, all_hold model (λ v. is_among v ones) (unless_ok (all_hold_at (λ v. is_among v ones) model) _ d.0 d.1.0)))
 
-made_progress : (n : ℕ) (model : List Form) (t : Table) (s : Step) (p : Progress) → StageHolds model (Proving t) → (step_of model t s >>= λ u. Ok (Goes (Proving u))) ≡ Ok p → ProgressHolds n model p
-made_progress n model t s p h e =
-    let b = bind_ok (step_of model t s) _ p e in
-    subst (λ (x : Progress). ProgressHolds n model x) (progress_same (Goes (Proving b.0)) p b.1.1)
-    (λ a sat. step_sound model t b.0 s a sat (h a sat) b.1.0)
+made_progress : (n : ℕ) (model : List Form) (profile : Profile) (t : Table) (s : Step) (p : Progress) → StageHolds model (Proving profile t) → (step_in profile model t s >>= λ u. Ok (Goes (Proving profile u))) ≡ Ok p → ProgressHolds n model p
+made_progress n model profile t s p h e =
+    let b = bind_ok (step_in profile model t s) _ p e in
+    subst (λ (x : Progress). ProgressHolds n model x) (progress_same (Goes (Proving profile b.0)) p b.1.1)
+    (λ a sat. step_in_sound profile model t b.0 s a sat (h a sat) b.1.0)
 
 progress_sound : (n : ℕ) (model : List Form) (stage : Stage) (s : Step) (p : Progress) → StageHolds model stage → in_range n (step_variables s) ≡ true → progress_of model stage s ≡ Ok p → ProgressHolds n model p
-progress_sound n model Opening Head p h r e = subst (λ (x : Progress). ProgressHolds n model x) (progress_same (Goes Counting) p e) tt
-progress_sound n model Counting (Model m) p h r e =
+progress_sound n model (Counting profile) (Model m) p h r e =
     let b = bind_ok (unless (m == length model) _) _ p e in
-    subst (λ (x : Progress). ProgressHolds n model x) (progress_same (Goes (Proving empty_table)) p b.1.1) (λ a sat. empty_holds a)
-progress_sound n model (Proving t) (E at) p h r e = refuted_progress n model (find model t at) p (λ f k a sat. (find_sound model t a sat (h a sat)).holds at f k) e
-progress_sound n model (Proving t) (Y ones) p h r e = solved_progress n model ones p r e
-progress_sound n model (Proving t) Q p h r e = subst (λ (x : Progress). ProgressHolds n model x) (progress_same (Ends Undecided) p e) tt
-progress_sound n model (Proving t) (P name ops) p h r e = made_progress n model t (P name ops) p h e
-progress_sound n model (Proving t) (U name lits refs) p h r e = made_progress n model t (U name lits refs) p h e
-progress_sound n model (Proving t) (N row name) p h r e = made_progress n model t (N row name) p h e
-progress_sound n model (Proving t) Head p h r e = absurd cc
-progress_sound n model (Proving t) (Model m) p h r e = absurd cc
+    subst (λ (x : Progress). ProgressHolds n model x) (progress_same (Goes (Proving profile empty_table)) p b.1.1) (λ a sat. empty_holds a)
+progress_sound n model (Proving profile t) (E at) p h r e = refuted_progress n model (find model t at) p (λ f k a sat. (find_sound model t a sat (h a sat)).holds at f k) e
+progress_sound n model (Proving profile t) (Y ones) p h r e = solved_progress n model ones p r e
+progress_sound n model (Proving profile t) Q p h r e = subst (λ (x : Progress). ProgressHolds n model x) (progress_same (Ends Undecided) p e) tt
+progress_sound n model (Proving profile t) (P name ops) p h r e = made_progress n model profile t (P name ops) p h e
+progress_sound n model (Proving profile t) (U name lits refs) p h r e = made_progress n model profile t (U name lits refs) p h e
+progress_sound n model (Proving profile t) (N row name) p h r e = made_progress n model profile t (N row name) p h e
+progress_sound n model (Proving profile t) Head p h r e = made_progress n model profile t Head p h e
+progress_sound n model (Proving profile t) (Model m) p h r e = made_progress n model profile t (Model m) p h e
 progress_sound n model stage s p h r e = absurd cc
+
+further_sound : (n : ℕ) (model : List Form) (profile : Profile) (stage : Stage) (line : List ℕ) (p : Progress) → StageHolds model stage → further_progress n model profile stage line ≡ Ok p → ProgressHolds n model p
+further_sound n model profile stage line p h e =
+    let b = bind_ok (or_fault (read_in profile line) _) _ p e in
+    let d = bind_ok (unless (in_range n (step_variables b.0)) _) _ p b.1.1 in
+    progress_sound n model stage b.0 p h (unless_ok (in_range n (step_variables b.0)) _ d.0 d.1.0) d.1.1
 
 -- What a line leads to is true.
 pub line_sound : (n : ℕ) (model : List Form) (stage : Stage) (line : List ℕ) (p : Progress) → StageHolds model stage → line_progress n model stage line ≡ Ok p → ProgressHolds n model p
-line_sound n model stage line p h e =
-    let b = bind_ok (or_fault (read_line line) _) _ p e in
-    let d = bind_ok (unless (in_range n (step_variables b.0)) _) _ p b.1.1 in
-    progress_sound n model stage b.0 p h (unless_ok (in_range n (step_variables b.0)) _ d.0 d.1.0) d.1.1
+line_sound n model Opening line p h e =
+    let b = bind_ok (or_fault (profile_of line) _) _ p e in
+    subst (λ (x : Progress). ProgressHolds n model x) (progress_same (Goes (Counting b.0)) p b.1.1) tt
+line_sound n model (Counting profile) line p h e = further_sound n model profile (Counting profile) line p h e
+line_sound n model (Proving profile t) line p h e = further_sound n model profile (Proving profile t) line p h e
 
 -- What a verdict says of its model.
 abbrev pub VerdictHolds : ℕ → List Form → Verdict → Type 0

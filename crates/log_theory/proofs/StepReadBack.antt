@@ -45,7 +45,7 @@ passes_dot : Passes (λ b. b == 46) 48 57
 passes_dot = record { over = λ b h k. ne_eqb b 46 (λ (e : b ≡ 46). omega arith) }
 
 -- A name is read as itself.
-name_read : (n : Name) → IsName n → name_of (name_text n) ≡ Some n
+pub name_read : (n : Name) → IsName n → name_of (name_text n) ≡ Some n
 name_read n h =
     let a = h.owner_fits in
     let b = h.from_one in
@@ -117,7 +117,7 @@ literal_read l h = by-sign l.negated refl
     by-sign true e = ap (literal_from true) (variable_read l.variable h) ∙ ap (λ (b : Bool). let o : Option Literal = Some (record { variable = l.variable; negated = b }) in o) (sym e)
     by-sign false e = ap (literal_from false) (variable_read l.variable h) ∙ ap (λ (b : Bool). let o : Option Literal = Some (record { variable = l.variable; negated = b }) in o) (sym e)
 
-literals_read : (ls : List Literal) → AreLiterals ls → all_of literal_of (map literal_text ls) ≡ Some ls
+pub literals_read : (ls : List Literal) → AreLiterals ls → all_of literal_of (map literal_text ls) ≡ Some ls
 literals_read [] h = refl
 literals_read (l ∷ ls) h = ap (λ (o : Option Literal). in_front o (all_of literal_of (map literal_text ls))) (literal_read l h.0) ∙ ap (λ (o : Option (List Literal)). in_front (Some l) o) (literals_read ls h.1)
 
@@ -165,17 +165,17 @@ literal_plain l = by-sign l.negated
     by-sign false = record { semicolon = refl; star = refl; dee = refl; plus = refl; cut = refl }
 
 -- Words before the first `;`.
-abbrev AreBefore : List (List ℕ) → Type 0
+abbrev pub AreBefore : List (List ℕ) → Type 0
 AreBefore [] = Unit {0}
 AreBefore (w ∷ ws) = (same_word w (codes ";") ≡ false) × AreBefore ws
 
-part_at : (ws rest : List (List ℕ)) → AreBefore ws → part (ws ++ codes ";" ∷ rest) ≡ Some (record { front = ws; rest = rest })
+pub part_at : (ws rest : List (List ℕ)) → AreBefore ws → part (ws ++ codes ";" ∷ rest) ≡ Some (record { front = ws; rest = rest })
 part_at [] rest h = refl
 part_at (w ∷ ws) rest h =
     ap (λ (x : Bool). cond x (Some (record { front = []; rest = ws ++ codes ";" ∷ rest })) (parted_in_front w (part (ws ++ codes ";" ∷ rest)))) h.0
     ∙ ap (parted_in_front w) (part_at ws rest h.1)
 
-before_literals : (ls : List Literal) → AreBefore (map literal_text ls)
+pub before_literals : (ls : List Literal) → AreBefore (map literal_text ls)
 before_literals [] = tt
 before_literals (l ∷ ls) = ((literal_plain l).semicolon, before_literals ls)
 
@@ -246,7 +246,7 @@ some_append : (w more : List ℕ) → is_empty w ≡ false → is_empty (w ++ mo
 some_append [] more e = absurd cc
 some_append (b ∷ bs) more e = refl
 
-word_name : (n : Name) → IsName n → IsWord (name_text n)
+pub word_name : (n : Name) → IsName n → IsWord (name_text n)
 word_name n h =
     let a = h.owner_fits in
     let c = h.number_fits in
@@ -268,7 +268,7 @@ words_refs : (rs : List Ref) → AreRefs rs → AreWords (map ref_text rs)
 words_refs [] h = tt
 words_refs (r ∷ rs) h = (word_ref r h.0, words_refs rs h.1)
 
-words_literals : (ls : List Literal) → AreLiterals ls → AreWords (map literal_text ls)
+pub words_literals : (ls : List Literal) → AreLiterals ls → AreWords (map literal_text ls)
 words_literals [] h = tt
 words_literals (l ∷ ls) h = (word_literal l h.0, words_literals ls h.1)
 
@@ -276,7 +276,7 @@ words_ones : (vs : List ℕ) → AreOnes vs → AreWords (map (λ v. 120 ∷ dec
 words_ones [] h = tt
 words_ones (v ∷ vs) h = let l : v < 2 ^ 32 = h.0 in (word_prefixed 120 v (omega arith) (omega arith) (omega arith), words_ones vs h.1)
 
-sign : (b : ℕ) → 33 ≤ b → b ≤ 126 → IsWord (b ∷ [])
+pub sign : (b : ℕ) → 33 ≤ b → b ≤ 126 → IsWord (b ∷ [])
 sign b h k = record { some = refl; bytes = (h, k, tt) }
 
 words_ops : (os : List Op) → AreOps os → AreWords (op_words os)
@@ -305,7 +305,7 @@ ones_line (v ∷ w ∷ []) h = refl
 ones_line (v ∷ w ∷ x ∷ vs) h = refl
 
 -- The words of a step tell that step.
-words_read : (s : Step) → IsStep s → step_of_words (step_words s) ≡ Some s
+pub words_read : (s : Step) → IsStep s → step_of_words (step_words s) ≡ Some s
 words_read Head h = refl
 words_read (Model m) h = ap m_from (numeral-decimal (2 ^ 63) m h (omega arith))
 words_read (P name ops) h =
@@ -329,11 +329,11 @@ words_read Q h = refl
 passes_blank : Passes (λ b. b == 32) 33 126
 passes_blank = record { over = λ b h k. ne_eqb b 32 (λ (e : b ≡ 32). omega arith) }
 
-line_words : (ws : List (List ℕ)) → AreWords ws → ws ≢ [] → pieces (λ b. b == 32) (joined ws) ≡ ws
+pub line_words : (ws : List (List ℕ)) → AreWords ws → ws ≢ [] → pieces (λ b. b == 32) (joined ws) ≡ ws
 line_words [] h n = absurd (n refl)
 line_words (w ∷ ws) h n = pieces_joined (λ b. b == 32) w ws passes_blank refl h
 
-step_has_words : (s : Step) → step_words s ≢ []
+pub step_has_words : (s : Step) → step_words s ≢ []
 step_has_words Head e = cc
 step_has_words (Model m) e = cc
 step_has_words (P name ops) e = cc

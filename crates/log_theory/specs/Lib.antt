@@ -2,9 +2,10 @@ pub mod Steps
 pub mod Words
 pub mod OpbText
 pub mod OpbReading
+pub mod LogText
+pub mod Profiles
 pub mod Lookups
 pub mod Tables
-pub mod LogText
 pub mod Verdicts
 pub mod Acceptance
 pub mod TextLaws

@@ -12,6 +12,7 @@ use Rattle.log_theory.specs.declared.step.Cause.TheVariants.{Form as Malformed, 
 use Rattle.proof_theory.specs.Forms.{Form, size}
 use Rattle.proof_theory.specs.Rules.{sum_of, times_of, divide_of, saturate_of}
 use Rattle.proof_theory.specs.Slack.{refutes, negations, clause_form, axiom_form}
+use Rattle.proof_theory.specs.Propagation.{closes}
 use Rattle.log_theory.specs.Steps.{◌>>=◌, unless, or_fault}
 
 -- What each reference names, if anything.
@@ -78,3 +79,9 @@ makes look (U name lits refs) =
     unless (are_distinct (variables_of lits)) Twice >>= λ _. find_all look refs >>= λ fs. unless (refutes (negations lits) fs) NoConflict >>= λ _. Ok (clause_form lits)
 makes look (N row name) = or_fault (look (Made name)) NoSuchName
 makes look _ = Err Malformed
+
+-- The clause that a line without hints makes over some forms, or its first fault but those of its own name: unit propagation over all of
+-- them has to come to a conflict.
+abbrev pub closed_clause : List Form → List Literal → Result Form Cause
+closed_clause fs lits =
+    unless (are_distinct (variables_of lits)) Twice >>= λ _. unless (closes (negations lits) fs) NoConflict >>= λ _. Ok (clause_form lits)

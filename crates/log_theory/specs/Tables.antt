@@ -1,5 +1,8 @@
 -- The table of the forms that a log has made so far, and one line's step.
-use Rattle.std.specs.Prelude.{ℕ, zero, suc, ◌+◌, Bool, true, false, cond, not, ◌==◌, ◌&&◌, nat_le, nat_lt, List, [], ◌∷◌, ◌++◌, length, get_or, set, replicate, slice_get, Option, Some, None, Result, Ok, Err}
+use Rattle.std.specs.Prelude.{ℕ, zero, suc, ◌+◌, Bool, true, false, cond, not, ◌==◌, ◌&&◌, nat_le, nat_lt, List, [], ◌∷◌, ◌++◌, map, length, get_or, set, replicate, slice_get, Option, Some, None, Result, Ok, Err}
+use Rattle.std.specs.List.{flat_map}
+use Rattle.log_theory.specs.declared.profile.Profile.{Profile}
+use Rattle.log_theory.specs.declared.profile.Profile.TheVariants.{Hinted, Plain}
 use Rattle.log_theory.specs.declared.step.Name.{Name}
 use Rattle.log_theory.specs.declared.step.Ref.TheVariants.{Line, Made, Shared}
 use Rattle.log_theory.specs.declared.step.Step.{Step}
@@ -8,7 +11,7 @@ use Rattle.log_theory.specs.declared.step.Cause.{Cause}
 use Rattle.log_theory.specs.declared.step.Cause.TheVariants.{Form as Malformed, NameUsed, Order}
 use Rattle.proof_theory.specs.Forms.{Form}
 use Rattle.log_theory.specs.Steps.{◌>>=◌, unless}
-use Rattle.log_theory.specs.Lookups.{Lookup, makes}
+use Rattle.log_theory.specs.Lookups.{Lookup, makes, closed_clause}
 
 -- For each owner from 0 to 64 the forms that it made, in the order of their numbers; and the shared ones with their rows.
 pub record Table : Type 0 where
@@ -66,9 +69,19 @@ with_made t name f = record { made = set t.made name.owner (made_by t name.owner
 abbrev pub with_shared : Table → ℕ → Form → Table
 with_shared t row f = record { made = t.made; shared = t.shared ++ (row, f) ∷ [] }
 
--- One line's step: the table after it, or its first fault.
+-- One line's step in a log with hints: the table after it, or its first fault.
 abbrev pub step_of : List Form → Table → Step → Result Table Cause
 step_of model t (P name ops) = fresh_name t name >>= λ _. makes (find model t) (P name ops) >>= λ f. Ok (with_made t name f)
 step_of model t (U name lits refs) = fresh_name t name >>= λ _. makes (find model t) (U name lits refs) >>= λ f. Ok (with_made t name f)
 step_of model t (N row name) = fresh_row t row >>= λ _. makes (find model t) (N row name) >>= λ f. Ok (with_shared t row f)
 step_of model t _ = Err Malformed
+
+-- The model's forms and all that were made so far, by whatever name.
+abbrev pub all_forms : List Form → Table → List Form
+all_forms model t = model ++ (flat_map (λ fs. fs) t.made ++ map (λ s. s.1) t.shared)
+
+-- One line's step in a log of a profile; without hints a `u` line names nothing, and is judged over all forms so far.
+abbrev pub step_in : Profile → List Form → Table → Step → Result Table Cause
+step_in Hinted model t s = step_of model t s
+step_in Plain model t (U name lits refs) = fresh_name t name >>= λ _. closed_clause (all_forms model t) lits >>= λ f. Ok (with_made t name f)
+step_in Plain model t s = step_of model t s

@@ -1,5 +1,7 @@
 -- The laws of texts, from the definitions alone.
 use Rattle.std.specs.Prelude.{◌≡◌, ◌≢◌, ℕ, Bool, List, [], ◌++◌, Ok, Some}
+use Rattle.log_theory.specs.declared.profile.Profile.{Profile}
+use Rattle.log_theory.specs.declared.profile.Profile.TheVariants.{Hinted, Plain}
 use Rattle.log_theory.specs.declared.step.Cause.{Cause}
 use Rattle.log_theory.specs.declared.step.Cause.TheVariants.{EndsEarly}
 use Rattle.log_theory.specs.declared.step.Verdict.{Verdict}
@@ -8,7 +10,9 @@ use Rattle.proof_theory.specs.Forms.{Form, IsSolution, HasNoSolution}
 use Rattle.log_theory.specs.Verdicts.{verdict_of, IsClaim}
 use Rattle.log_theory.specs.declared.step.Step.{Step}
 use Rattle.log_theory.specs.Words.{joined}
+use Rattle.log_theory.specs.declared.step.Step.TheVariants.{Head}
 use Rattle.log_theory.specs.LogText.{IsStep, step_words, read_line}
+use Rattle.log_theory.specs.Profiles.{told_in, words_in, read_in, log_profile, dropped_line, dropped_log}
 use Rattle.log_theory.specs.Acceptance.{Accepts, Refuses}
 use Rattle.log_theory.specs.OpbText.{OpbModel, IsOpbModel, opb_text}
 use Rattle.log_theory.specs.OpbReading.{opb_answer}
@@ -34,3 +38,11 @@ pub record AnswerLaws : Type 0 where
 -- The line of a step, its numbers in their ranges, is read as that step.
 abbrev pub StepLaw : Type 0
 StepLaw = (s : Step) → IsStep s → read_line (joined (step_words s)) ≡ Some s
+
+-- The line of a step in a profile is read as what the profile keeps of that step; without hints it is the line with hints, but for its
+-- references, where it is not the first; and a log with hints that is accepted is accepted with the same claim when
+-- its hints are dropped.
+pub record ProfileLaws : Type 0 where
+  pub read : (profile : Profile) (s : Step) → IsStep s → read_in profile (joined (words_in profile s)) ≡ Some (told_in profile s)
+  pub line : (s : Step) → IsStep s → s ≢ Head → dropped_line (joined (step_words s)) ≡ joined (words_in Plain s)
+  pub dropped : (n : ℕ) (model : List Form) (log : List ℕ) (claim : Verdict) → log_profile log ≡ Some Hinted → Accepts n model log claim → Accepts n model (dropped_log log) claim

@@ -1,9 +1,10 @@
 -- What a whole log shows over a model: the claim of its last line, or its first faulty line with its first cause.
 use Rattle.std.specs.Prelude.{ℕ, ◌+◌, ⊤, Bool, true, ◌==◌, ◌&&◌, nat_lt, nat_le, List, [], ◌∷◌, length, Option, Result, Ok, Err, int_le}
+use Rattle.log_theory.specs.declared.profile.Profile.{Profile}
 use Rattle.log_theory.specs.declared.step.Op.{Op}
 use Rattle.log_theory.specs.declared.step.Op.TheVariants.{Axiom}
 use Rattle.log_theory.specs.declared.step.Step.{Step}
-use Rattle.log_theory.specs.declared.step.Step.TheVariants.{Head, Model, P, U, E, Y, Q}
+use Rattle.log_theory.specs.declared.step.Step.TheVariants.{Model, P, U, E, Y, Q}
 use Rattle.log_theory.specs.declared.step.Cause.{Cause}
 use Rattle.log_theory.specs.declared.step.Cause.TheVariants.{EndsEarly, Form as Malformed, Twice, NoSuchName, NotFalse, NotSolution}
 use Rattle.log_theory.specs.declared.step.Verdict.{Verdict}
@@ -12,9 +13,9 @@ use Rattle.proof_theory.specs.Forms.{Form, value}
 use Rattle.proof_theory.specs.Rules.{is_contradiction}
 use Rattle.log_theory.specs.Steps.{◌>>=◌, unless, or_fault}
 use Rattle.log_theory.specs.Words.{pieces}
-use Rattle.log_theory.specs.LogText.{read_line}
+use Rattle.log_theory.specs.Profiles.{read_in, profile_of}
 use Rattle.log_theory.specs.Lookups.{is_among, are_distinct, variables_of}
-use Rattle.log_theory.specs.Tables.{Table, empty_table, find, step_of}
+use Rattle.log_theory.specs.Tables.{Table, empty_table, find, step_in}
 
 -- Whether the form holds under an assignment.
 abbrev pub holds_at : (ℕ → Bool) → Form → Bool
@@ -43,11 +44,11 @@ step_variables (U name lits refs) = variables_of lits
 step_variables (Y ones) = ones
 step_variables _ = []
 
--- Where a log stands: before its first line, before its second, or behind both with a table.
+-- Where a log stands: before its first line, which tells its profile, before its second, or behind both with a table.
 pub data Stage : Type 0 where
   Opening : Stage
-  Counting : Stage
-  Proving : Table → Stage
+  Counting : Profile → Stage
+  Proving : Profile → Table → Stage
 
 -- What a line leads to: another stage, or the end with a verdict.
 pub data Progress : Type 0 where
@@ -62,19 +63,25 @@ refuted_by o = or_fault o NoSuchName >>= λ f. unless (is_contradiction f) NotFa
 abbrev pub solved_by : List Form → List ℕ → Result Progress Cause
 solved_by model ones = unless (are_distinct ones) Twice >>= λ _. unless (all_hold_at (λ v. is_among v ones) model) NotSolution >>= λ _. Ok (Ends Satisfiable)
 
--- What a step leads to at a stage.
+-- What a step leads to behind the first line.
 abbrev pub progress_of : List Form → Stage → Step → Result Progress Cause
-progress_of model Opening Head = Ok (Goes Counting)
-progress_of model Counting (Model m) = unless (m == length model) Malformed >>= λ _. Ok (Goes (Proving empty_table))
-progress_of model (Proving t) (E at) = refuted_by (find model t at)
-progress_of model (Proving t) (Y ones) = solved_by model ones
-progress_of model (Proving t) Q = Ok (Ends Undecided)
-progress_of model (Proving t) s = step_of model t s >>= λ u. Ok (Goes (Proving u))
+progress_of model (Counting profile) (Model m) = unless (m == length model) Malformed >>= λ _. Ok (Goes (Proving profile empty_table))
+progress_of model (Proving profile t) (E at) = refuted_by (find model t at)
+progress_of model (Proving profile t) (Y ones) = solved_by model ones
+progress_of model (Proving profile t) Q = Ok (Ends Undecided)
+progress_of model (Proving profile t) s = step_in profile model t s >>= λ u. Ok (Goes (Proving profile u))
 progress_of model stage s = Err Malformed
 
--- What a line leads to: its grammar comes first, then the range of its variables.
+-- What a line of a profile leads to behind the first one: its grammar comes first, then the range of its variables.
+abbrev pub further_progress : ℕ → List Form → Profile → Stage → List ℕ → Result Progress Cause
+further_progress n model profile stage line =
+    or_fault (read_in profile line) Malformed >>= λ s. unless (in_range n (step_variables s)) Malformed >>= λ _. progress_of model stage s
+
+-- What a line leads to: the first one tells the profile in which all others are read.
 abbrev pub line_progress : ℕ → List Form → Stage → List ℕ → Result Progress Cause
-line_progress n model stage line = or_fault (read_line line) Malformed >>= λ s. unless (in_range n (step_variables s)) Malformed >>= λ _. progress_of model stage s
+line_progress n model Opening line = or_fault (profile_of line) Malformed >>= λ profile. Ok (Goes (Counting profile))
+line_progress n model (Counting profile) line = further_progress n model profile (Counting profile) line
+line_progress n model (Proving profile t) line = further_progress n model profile (Proving profile t) line
 
 -- The verdict where nothing but the end of the text follows, else the refusal of the next line, k.
 abbrev pub at_end : ℕ → Verdict → List (List ℕ) → Verdict

@@ -6,12 +6,14 @@
 // the contracts of functions with empty bodies. It names no graph.
 #![tactic(auto)]
 
-ghost use Rattle.log_theory.specs.TextLaws.{AnswerLaws, LogLaws, OpbLaw, StepLaw};
+ghost use Rattle.log_theory.specs.TextLaws.{AnswerLaws, LogLaws, OpbLaw, ProfileLaws, StepLaw};
 
 pub mod opb;
+pub mod profile;
 pub mod step;
 
 pub use opb::OpbCause;
+pub use profile::Profile;
 pub use step::{Cause, Clause, Name, Op, Ops, Ref, Refs, Step, Variables, Verdict};
 
 /// What is written as OPB text is read back.
@@ -32,4 +34,9 @@ pub fn answer_laws()
 /// The line of a step is read as that step.
 pub fn step_law()
     ensures { StepLaw }
+{}
+
+/// The lines of a log without hints are read as those with hints are, and a log that is accepted with its hints is accepted without them.
+pub fn profile_laws()
+    ensures { ProfileLaws }
 {}

@@ -3,6 +3,7 @@ use Rattle.std.proofs.Common.{◌≡◌, ℕ, ◌^◌, ◌<◌, ◌&&◌, Bool, 
 use Rattle.std.proofs.lemmas.Bool.{eq-eqb}
 use Rattle.std.proofs.lemmas.Grind.{common_steps}
 use Rattle.proof_theory.specs.Forms.{Form, Holds, Satisfies}
+use Rattle.log_theory.specs.declared.profile.Profile.TheVariants.{Hinted}
 use Rattle.log_theory.specs.declared.step.Step.{Step}
 use Rattle.log_theory.specs.declared.step.Step.TheVariants.{Head, Model, Y, Q}
 use Rattle.log_theory.specs.declared.step.Cause.TheVariants.{Form as Malformed, Twice, NotSolution}
@@ -12,7 +13,7 @@ use Rattle.log_theory.specs.Steps.{◌>>=◌, unless}
 use Rattle.log_theory.specs.Lookups.{is_among}
 use Rattle.log_theory.specs.LogText.{AreOnes}
 use Rattle.log_theory.specs.Tables.{empty_table}
-use Rattle.log_theory.specs.Verdicts.{holds_at, all_hold_at, Opening, Counting, Proving, Goes, Ends, progress_of}
+use Rattle.log_theory.specs.Verdicts.{holds_at, all_hold_at, Counting, Proving, Goes, Ends, progress_of}
 use Rattle.log_theory.specs.Acceptance.{Accepts}
 use Rattle.journal_theory.specs.Stepping.{step_line, IsWritten}
 use Rattle.journal_theory.proofs.Writing.{are_lines, line_goes}
@@ -20,20 +21,20 @@ use Rattle.merged_log.specs.Steps.{log_text}
 use Rattle.merged_log.specs.Answers.{undecided, solution, Solves}
 
 -- A last line that ends a log with a verdict, behind a head.
-ends_log : (n lines : ℕ) (model : List Form) (s : Step) (v : Verdict) → lines < 2 ^ 63 → length model ≡ lines → IsWritten n s → progress_of model (Proving empty_table) s ≡ Ok (Ends v)
+ends_log : (n lines : ℕ) (model : List Form) (s : Step) (v : Verdict) → lines < 2 ^ 63 → length model ≡ lines → IsWritten n s → progress_of model (Proving Hinted empty_table) s ≡ Ok (Ends v)
     → Accepts n model (log_text (Head ∷ Model lines ∷ s ∷ [])) v
 ends_log n lines model s v fits count written ends =
     let head : IsWritten n Head = record { is_step = tt; variables = refl } in
     let second : IsWritten n (Model lines) = record { is_step = fits; variables = refl } in
     let same : lines ≡ length model = sym count in
-    let counted : progress_of model Counting (Model lines) ≡ Ok (Goes (Proving empty_table)) =
-    ap (λ (b : Bool). unless b Malformed >>= λ _. Ok (Goes (Proving empty_table))) (eq-eqb lines (length model) same) in record {
+    let counted : progress_of model (Counting Hinted) (Model lines) ≡ Ok (Goes (Proving Hinted empty_table)) =
+    ap (λ (b : Bool). unless b Malformed >>= λ _. Ok (Goes (Proving Hinted empty_table))) (eq-eqb lines (length model) same) in record {
       lines = map step_line (Head ∷ Model lines ∷ s ∷ []);
       are_lines = are_lines n (Head ∷ Model lines ∷ s ∷ []) (head, (second, (written, tt)));
       text = refl;
       runs = (
-        Goes Counting,
-        (line_goes n model Opening Head head, (Goes (Proving empty_table), (line_goes n model Counting (Model lines) second ∙ counted, (Ends v, (line_goes n model (Proving empty_table) s written ∙ ends, refl))))),
+        Goes (Counting Hinted),
+        (refl, (Goes (Proving Hinted empty_table), (line_goes n model (Counting Hinted) (Model lines) second ∙ counted, (Ends v, (line_goes n model (Proving Hinted empty_table) s written ∙ ends, refl))))),
       );
     }
 

@@ -12,7 +12,7 @@ ghost use Rattle.merged_log.specs.Answers.{undecided, solution, Solves};
 
 use crate::head::write_head;
 use journal_theory::line_laws;
-use log_theory::{Step, Variables};
+use log_theory::{Profile, Step, Variables};
 use outer_io::{Failed, Sink};
 use proof_log::write_step;
 
@@ -28,7 +28,7 @@ pub fn write_undecided<S: Sink>(lines: u64, sink: &mut S) -> Result<(), Failed>
 {
     line_laws();
     write_head(lines, sink)?;
-    write_step(&Step::Q, sink)
+    write_step(Profile::Hinted, &Step::Q, sink)
 }
 
 /// Puts the log of a solution: the head, in one call of the sink, and a last line with the variables that are one in it. It takes no
@@ -44,5 +44,5 @@ pub fn write_solution<S: Sink>(lines: u64, ones: Variables, sink: &mut S) -> Res
 {
     line_laws();
     write_head(lines, sink)?;
-    write_step(&Step::Y { ones }, sink)
+    write_step(Profile::Hinted, &Step::Y { ones }, sink)
 }

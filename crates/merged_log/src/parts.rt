@@ -11,7 +11,7 @@ ghost use Rattle.merged_log.specs.Lines.{part_of, brought, count_then};
 
 use crate::notes::note_of;
 use journals::Journal;
-use log_theory::{Name, Step};
+use log_theory::{Name, Profile, Step};
 use outer_io::{Failed, Sink};
 use proof_log::write_step;
 
@@ -66,7 +66,7 @@ fn put_shared<S: Sink>(
 {
     let _ends = journal.ends();
     put_part(journal, from, name.number as usize, sink)?;
-    write_step(&Step::N { row, name }, sink)
+    write_step(Profile::Hinted, &Step::N { row, name }, sink)
 }
 
 /// Puts what a row of the journal's owner brings, and gives how many of the lines stand there then.

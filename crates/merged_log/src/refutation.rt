@@ -20,7 +20,7 @@ use crate::parts::put_part;
 use crate::rows::put_rows;
 use journal_theory::{line_laws, merge_laws};
 use journals::Journal;
-use log_theory::{Name, Ref, Step};
+use log_theory::{Name, Profile, Ref, Step};
 use nogood_book::Row;
 use outer_io::{Failed, Sink};
 use proof_log::write_step;
@@ -122,7 +122,7 @@ fn write_end<S: Sink>(journal: &Journal, owner: u8, sink: &mut S) -> Result<(), 
 {
     let number = journal.ends().len() as u64;
     let at = Ref::Made(Name { owner, number });
-    write_step(&Step::E { at }, sink)
+    write_step(Profile::Hinted, &Step::E { at }, sink)
 }
 
 /// Puts the merged lines and the last line.

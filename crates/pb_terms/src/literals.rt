@@ -2,6 +2,7 @@
 
 ghost use Rattle.std.specs.Prelude.{◌≡◌, ℕ, ◌+◌, ◌≤◌, ◌<◌, Bool, not, List, length, replicate, slice_set, IfOk, OnOk};
 ghost use Rattle.proof_theory.specs.Slack.{setting};
+ghost use Rattle.pb_terms.specs.Trail.{unset_count};
 
 use proof_theory::Literal;
 use std::alloc::{AllocError, Global};
@@ -56,6 +57,13 @@ impl Literals {
         while let Some(variable) = self.trail.pop() {
             self.values[variable as usize] = None;
         }
+    }
+
+    /// How many variables are set. Constant.
+    pub fn count(&self) -> usize
+        ensures { result + unset_count self.now ≡ length self.now }
+    {
+        self.trail.len()
     }
 
     /// The value of each variable, at its place.

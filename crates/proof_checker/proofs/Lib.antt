@@ -1,6 +1,7 @@
 pub mod Backwards
 pub mod SharedRows
 pub mod Propagation
+pub mod Passing
 pub mod Claims
 pub mod Leading
 pub mod FedLines

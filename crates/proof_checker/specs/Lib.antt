@@ -1,6 +1,7 @@
 pub mod Told
 pub mod Rows
 pub mod Reach
+pub mod Passing
 pub mod Ones
 pub mod Turns
 pub mod Stages

@@ -8,11 +8,11 @@ use Rattle.proof_checker.specs.declared.line_checker.Place.TheVariants.{Opening,
 
 abbrev pub stage_of : Place → Table → Stage
 stage_of Opening t = verdicts.Opening
-stage_of Counting t = verdicts.Counting
-stage_of Proving t = verdicts.Proving t
+stage_of (Counting profile) t = verdicts.Counting profile
+stage_of (Proving profile) t = verdicts.Proving profile t
 
 -- Before both head lines nothing is made.
 abbrev pub StandsWith : Place → Table → Type 0
 StandsWith Opening t = t ≡ empty_table
-StandsWith Counting t = t ≡ empty_table
-StandsWith Proving t = Unit {0}
+StandsWith (Counting profile) t = t ≡ empty_table
+StandsWith (Proving profile) t = Unit {0}

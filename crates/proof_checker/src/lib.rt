@@ -1,13 +1,15 @@
 // The checker of proof logs. It reads a log line by line over the constraints of a model, and tells exactly the verdict of the
 // definition: the claim of the last line, or the first faulty line with its first cause. It shares no code with a search, names no
 // graph, and takes a log of any origin. The lines are those of a pseudo-Boolean proof log (Gocht, McCreesh, Nordström 2020): cutting
-// planes in reverse Polish notation, clauses by unit propagation along the references that they name, and shared rows. What the
-// layers above use is `check`, over a log in memory, and `check_file`, which reads a file piece by piece. Both stand on `Checker`, which is
-// fed a log cut anywhere and keeps of its text the unfinished line alone; `LineChecker` below it takes one line at a time.
+// planes in reverse Polish notation, clauses by unit propagation along the references that they name, or over all constraints so
+// far where the log's first line tells that it has no hints, and shared rows. What the layers above use is `check`, over a log in
+// memory, and `check_file`, which reads a file piece by piece. Both stand on `Checker`, which is fed a log cut anywhere and keeps of
+// its text the unfinished line alone; `LineChecker` below it takes one line at a time.
 #![tactic(auto)]
 
 mod checker;
 mod clauses;
+mod closing;
 mod cutting;
 mod fault;
 mod line_checker;

@@ -2,9 +2,10 @@
 // of the log than the next line.
 
 ghost use Rattle.std.specs.Prelude.{◌≡◌, true, length, IfOk};
-ghost use Rattle.log_theory.specs.Verdicts.{Opening, Counting, Proving, in_range, line_progress, progress_of, step_variables};
+ghost use Rattle.log_theory.specs.Verdicts.{Opening, Counting, Proving, in_range, further_progress, line_progress, progress_of, step_variables};
 ghost use Rattle.log_theory.specs.declared.step.Cause.TheVariants.{Form};
-ghost use Rattle.log_theory.specs.LogText.{read_line};
+ghost use Rattle.log_theory.specs.Words.{same_word};
+ghost use Rattle.log_theory.specs.Profiles.{profile_of, read_in};
 ghost use Rattle.log_theory.specs.Steps.{or_fault};
 ghost use Rattle.proof_checker.specs.Told.{Told};
 ghost use Rattle.proof_checker.specs.Turns.{Turns};
@@ -13,18 +14,18 @@ use super::fault::LineFault;
 use super::lines::{Turn, prove};
 use super::ranges::is_in_range;
 use super::table::Table;
-use log_theory::{Cause, Step};
+use log_theory::{Cause, Profile, Step};
 use pb_terms::{Constraint, Literals};
 use proof_log::{StepFault, read_step};
 use std::alloc::{AllocError, Global};
 use std::marker::Model;
 
-/// Where a log stands: before its first line, before its second, or behind both.
+/// Where a log stands: before its first line, which tells its profile, before its second, or behind both.
 #[derive(Clone, Copy, Debug)]
 enum Place {
     Opening,
-    Counting,
-    Proving,
+    Counting(Profile),
+    Proving(Profile),
 }
 
 /// The model and where a log over it stands. Contracts see both, with the table of what the log has made.
@@ -48,11 +49,33 @@ impl<'a> Model for LineChecker<'a> {
     ghost invariant = { λ c. StandsWith c.place c.table };
 }
 
-/// The step that a line tells, or why it tells none.
-fn step_in(alloc: Global, line: &[u8]) -> Result<Step, LineFault>
-    ensures { Told result (or_fault (read_line line.now) Form) }
+/// Whether a line is this text.
+fn is_line(line: &[u8], text: &[u8]) -> bool
+    ensures { result ≡ same_word line.now text.now }
 {
-    match read_step(alloc, line) {
+    line == text
+}
+
+/// The profile that a log's first line tells, if it is a first line.
+fn profile_of(line: &[u8]) -> Option<Profile>
+    ensures { result ≡ profile_of line.now }
+{
+    let hinted = is_line(line, b"embedding proof 1");
+    let plain = is_line(line, b"embedding proof 2");
+    if hinted {
+        return Some(Profile::Hinted);
+    }
+    if plain {
+        return Some(Profile::Plain);
+    }
+    None
+}
+
+/// The step that a line of a profile tells, or why it tells none.
+fn step_in(alloc: Global, profile: Profile, line: &[u8]) -> Result<Step, LineFault>
+    ensures { Told result (or_fault (read_in profile line.now) Form) }
+{
+    match read_step(alloc, profile, line) {
         Ok(step) => Ok(step),
         Err(StepFault::Form) => Err(LineFault::Cause(Cause::Form)),
         Err(StepFault::NoMemory) => Err(LineFault::NoMemory),
@@ -80,7 +103,23 @@ impl<'a> LineChecker<'a> {
         })
     }
 
-    /// What a step leads to.
+    /// What the first line leads to.
+    fn open(&mut self, line: &[u8]) -> Result<Turn, LineFault>
+        requires { self.old.stage ≡ Opening }
+        ensures same { (self.new.variables ≡ self.old.variables)
+            × (self.new.model ≡ self.old.model) }
+        ensures turns { Turns result
+            (line_progress self.old.variables self.old.model Opening line.now)
+            self.new.stage }
+    {
+        let Some(profile) = profile_of(line) else {
+            return Err(LineFault::Cause(Cause::Form));
+        };
+        self.place = Place::Counting(profile);
+        Ok(Turn::Goes)
+    }
+
+    /// What a step behind the first line leads to.
     fn take(&mut self, alloc: Global, step: &Step) -> Result<Turn, LineFault>
         requires { in_range self.old.variables (step_variables step.now) ≡ true }
         ensures same { (self.new.variables ≡ self.old.variables)
@@ -89,31 +128,43 @@ impl<'a> LineChecker<'a> {
             self.new.stage }
     {
         match (self.place, step) {
-            (Place::Opening, Step::Head) => {
-                self.place = Place::Counting;
-                Ok(Turn::Goes)
-            }
-            (Place::Counting, Step::Model(count)) => {
+            (Place::Counting(profile), Step::Model(count)) => {
                 if *count != self.model.len() as u64 {
                     return Err(LineFault::Cause(Cause::Form));
                 }
-                self.place = Place::Proving;
+                self.place = Place::Proving(profile);
                 Ok(Turn::Goes)
             }
-            (Place::Proving, step) => prove(
+            (Place::Proving(profile), step) => prove(
                 alloc,
                 &mut self.set,
                 self.variables,
                 self.model,
                 &mut self.table,
+                profile,
                 step,
             ),
             _ => Err(LineFault::Cause(Cause::Form)),
         }
     }
 
-    /// What the next line, without its LF, leads to. Costs the line and the terms that it touches. Nothing is said of where the checker
-    /// stands after a fault, or behind a last line.
+    /// What a line of a profile leads to, behind the first one.
+    fn take_line(&mut self, alloc: Global, profile: Profile, line: &[u8]) -> Result<Turn, LineFault>
+        ensures same { (self.new.variables ≡ self.old.variables)
+            × (self.new.model ≡ self.old.model) }
+        ensures turns { Turns result
+            (further_progress self.old.variables self.old.model profile self.old.stage line.now)
+            self.new.stage }
+    {
+        let step = step_in(alloc, profile, line)?;
+        if !is_in_range(self.variables, &step) {
+            return Err(LineFault::Cause(Cause::Form));
+        }
+        self.take(alloc, &step)
+    }
+
+    /// What the next line, without its LF, leads to. Costs the line and the terms that it touches: in a log without hints those of all
+    /// constraints so far for a `u` line. Nothing is said of where the checker stands after a fault, or behind a last line.
     pub fn step(&mut self, alloc: Global, line: &[u8]) -> Result<Turn, LineFault>
         ensures same { (self.new.variables ≡ self.old.variables)
             × (self.new.model ≡ self.old.model) }
@@ -121,10 +172,10 @@ impl<'a> LineChecker<'a> {
             (line_progress self.old.variables self.old.model self.old.stage line.now)
             self.new.stage }
     {
-        let step = step_in(alloc, line)?;
-        if !is_in_range(self.variables, &step) {
-            return Err(LineFault::Cause(Cause::Form));
+        match self.place {
+            Place::Opening => self.open(line),
+            Place::Counting(profile) => self.take_line(alloc, profile, line),
+            Place::Proving(profile) => self.take_line(alloc, profile, line),
         }
-        self.take(alloc, &step)
     }
 }

@@ -1,19 +1,21 @@
 // What each kind of line leads to, behind the first two lines of a log.
 
-ghost use Rattle.std.specs.Prelude.{◌≡◌, true};
+ghost use Rattle.std.specs.Prelude.{◌≡◌, true, []};
 ghost use Rattle.proof_theory.specs.Forms.{Form};
 ghost use Rattle.log_theory.specs.declared.step.Step.TheVariants.{P, U};
-ghost use Rattle.log_theory.specs.Tables.{find, step_of};
+ghost use Rattle.log_theory.specs.declared.profile.Profile.TheVariants.{Plain};
+ghost use Rattle.log_theory.specs.Tables.{find, step_of, step_in};
 ghost use Rattle.log_theory.specs.Verdicts.{Stage, Proving, in_range, progress_of, refuted_by, step_variables};
 ghost use Rattle.proof_checker.specs.Told.{Leads};
 ghost use Rattle.proof_checker.specs.Turns.{Turns};
 
+use super::closing::derive_alone;
 use super::fault::LineFault;
 use super::ones::check_ones;
 use super::propagate::derive;
 use super::stack::evaluate;
 use super::table::Table;
-use log_theory::{Cause, Name, Op, Ref, Step, Verdict};
+use log_theory::{Cause, Name, Op, Profile, Ref, Step, Verdict};
 use pb_terms::{Constraint, Literal, Literals};
 use std::alloc::Global;
 
@@ -58,6 +60,23 @@ fn make_by_propagation(
     Ok(())
 }
 
+/// A line that makes a clause by unit propagation over all constraints so far.
+fn make_by_closing(
+    alloc: Global,
+    set: &mut Literals,
+    model: &[Constraint],
+    table: &mut Table,
+    name: Name,
+    literals: &[Literal],
+) -> Result<(), LineFault>
+    ensures { Leads result (step_in Plain model.now table.old (U name literals.now [])) table.new }
+{
+    table.fresh_name(name)?;
+    let made = derive_alone(alloc, set, model, table, literals)?;
+    table.push_made(name, made)?;
+    Ok(())
+}
+
 /// The claim that a constraint is plainly false.
 fn refute_by(model: &[Constraint], table: &Table, at: Ref) -> Result<Turn, LineFault>
     ensures { (stage : Stage) → Turns result (refuted_by (find model.now table.now at)) stage }
@@ -71,25 +90,23 @@ fn refute_by(model: &[Constraint], table: &Table, at: Ref) -> Result<Turn, LineF
     Ok(Turn::Ends(Verdict::Unsatisfiable))
 }
 
-/// What a line behind the first two leads to. Costs the terms that it touches.
+/// What a line of a profile leads to behind the first two. Costs the terms that it touches: without hints those of all constraints so far
+/// for a `u` line.
 pub fn prove(
     alloc: Global,
     set: &mut Literals,
     variables: u32,
     model: &[Constraint],
     table: &mut Table,
+    profile: Profile,
     step: &Step,
 ) -> Result<Turn, LineFault>
     requires { in_range variables (step_variables step.now) ≡ true }
-    ensures { Turns result (progress_of model.now (Proving table.old) step.now)
-        (Proving table.new) }
+    ensures { Turns result (progress_of model.now (Proving profile table.old) step.now)
+        (Proving profile table.new) }
 {
-    match step {
-        Step::P { name, ops } => {
-            make_by_operations(alloc, model, table, *name, ops.as_slice())?;
-            Ok(Turn::Goes)
-        }
-        Step::U { name, lits, refs } => {
+    match (profile, step) {
+        (Profile::Hinted, Step::U { name, lits, refs }) => {
             make_by_propagation(
                 alloc,
                 set,
@@ -101,16 +118,24 @@ pub fn prove(
             )?;
             Ok(Turn::Goes)
         }
-        Step::N { row, name } => {
+        (Profile::Plain, Step::U { name, lits, .. }) => {
+            make_by_closing(alloc, set, model, table, *name, lits.as_slice())?;
+            Ok(Turn::Goes)
+        }
+        (_, Step::P { name, ops }) => {
+            make_by_operations(alloc, model, table, *name, ops.as_slice())?;
+            Ok(Turn::Goes)
+        }
+        (_, Step::N { row, name }) => {
             table.share(*row, *name)?;
             Ok(Turn::Goes)
         }
-        Step::E { at } => refute_by(model, table, *at),
-        Step::Y { ones } => {
+        (_, Step::E { at }) => refute_by(model, table, *at),
+        (_, Step::Y { ones }) => {
             check_ones(alloc, variables, model, ones.as_slice())?;
             Ok(Turn::Ends(Verdict::Satisfiable))
         }
-        Step::Q => Ok(Turn::Ends(Verdict::Undecided)),
-        Step::Head | Step::Model(_) => Err(LineFault::Cause(Cause::Form)),
+        (_, Step::Q) => Ok(Turn::Ends(Verdict::Undecided)),
+        (_, Step::Head | Step::Model(_)) => Err(LineFault::Cause(Cause::Form)),
     }
 }

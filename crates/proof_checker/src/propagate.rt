@@ -61,16 +61,18 @@ fn force(set: &mut Literals, terms: &[(u32, i128)], slack: i128)
 }
 
 /// Whether a constraint is a conflict; else sets all that it forces. A pass or two over its terms.
-fn follow(set: &mut Literals, next: &Constraint) -> bool
+pub fn follow(set: &mut Literals, next: &Constraint) -> bool
     requires { Reaches (length set.old) next.now.terms }
     ensures follows { Follows result (setting set.old) next.now (setting set.new) }
+    ensures rises { Rises 0 next.now.terms }
     ensures long { length set.new ≡ length set.old }
 {
+    let terms = next.terms();
     let slack = next.slack(set);
     if slack < 0 {
         return true;
     }
-    force(set, next.terms(), slack);
+    force(set, terms, slack);
     false
 }
 
@@ -90,7 +92,7 @@ fn refute(set: &mut Literals, model: &[Constraint], table: &Table, refs: &[Ref])
 }
 
 /// The number after the last variable of terms that rise. Constant.
-fn reach(terms: &[(u32, i128)]) -> u64
+pub fn reach(terms: &[(u32, i128)]) -> u64
     requires { Rises 0 terms.now }
     ensures reaches { Reaches result terms.now }
     ensures small { result ≤ 2 ^ 32 }
@@ -120,7 +122,7 @@ fn reach_of(model: &[Constraint], table: &Table, refs: &[Ref]) -> Result<u64, Ca
 }
 
 /// A number above the variables of all literals. One pass.
-fn above(literals: &[Literal]) -> u64
+pub fn above(literals: &[Literal]) -> u64
     ensures reach { LiteralsReach result literals.now }
     ensures small { result ≤ 2 ^ 32 }
 {
@@ -135,7 +137,7 @@ fn above(literals: &[Literal]) -> u64
 
 /// Unsets every variable, with room for those below `room`. Where that is more than there was, it is made anew, twice as large at least,
 /// so that all of a log's lines together cost no more than four times the greatest variable that they name, whatever number a text states.
-fn clear(alloc: Global, set: &mut Literals, room: u64) -> Result<(), AllocError>
+pub fn clear(alloc: Global, set: &mut Literals, room: u64) -> Result<(), AllocError>
     requires { room ≤ 2 ^ 32 }
     ensures { OnOk result ((set.new ≡ replicate (length set.new) None) × (room ≤ length set.new)) }
 {
@@ -166,7 +168,7 @@ fn negate(set: &mut Literals, literal: Literal) -> bool
 }
 
 /// Makes each literal false, unless a variable stands twice among them. Constant for each.
-fn negate_all(set: &mut Literals, literals: &[Literal]) -> bool
+pub fn negate_all(set: &mut Literals, literals: &[Literal]) -> bool
     requires within { LiteralsReach (length set.old) literals.now }
     requires fresh { (v : ℕ) → setting set.old v ≡ None }
     ensures distinct { result ≡ are_distinct (variables_of literals.now) }

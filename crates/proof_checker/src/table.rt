@@ -1,7 +1,9 @@
 // The table of the constraints that a log has made, by owner and number, and of the rows that they are shared under.
 
 ghost use Rattle.std.specs.Prelude.{◌≡◌, ◌<◌, ◌≤◌, ◌∷◌, ◌++◌, [], ℕ, List, length, slice_get, get_or, map, replicate, IfOk, OnOk, OnErr, MatchResult, option_copied, Ok};
+ghost use Rattle.std.specs.List.{flat_map};
 ghost use Rattle.proof_theory.specs.Forms.{Form};
+ghost use Rattle.proof_theory.specs.Propagation.{IsAmong};
 ghost use Rattle.log_theory.specs.Tables.{empty_table, made_by, from_one, shared_at, find, fresh_name, fresh_row, with_made, step_of};
 ghost use Rattle.log_theory.specs.declared.step.Step.TheVariants.{N};
 ghost use Rattle.proof_checker.specs.Told.{Leads, Passes};
@@ -151,6 +153,15 @@ impl Table {
             }
             Err(_) => None,
         }
+    }
+
+    /// The constraints of each owner in the order of their numbers; whatever a row shares is among them.
+    pub fn lists(&self) -> &[Vec<Constraint>]
+        ensures made { map (λ v. v.items) result.now ≡ self.now.made }
+        ensures shared { (f : Form) → IsAmong f (map (λ s. s.1) self.now.shared)
+            → IsAmong f (flat_map (λ fs. fs) self.now.made) }
+    {
+        &self.made
     }
 
     /// What a reference names in a model and the table. Constant, or logarithmic in the number of rows for a row.

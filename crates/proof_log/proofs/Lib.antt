@@ -5,3 +5,4 @@ pub mod LineKinds
 pub mod Operations
 pub mod PutLines
 pub mod Ranges
+pub mod PlainLines

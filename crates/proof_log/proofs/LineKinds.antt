@@ -17,7 +17,7 @@ use Rattle.proof_log.proofs.FromLeft.{with_rest, parted_items, items_told_parted
 use Rattle.proof_log.proofs.Operations.{ops_told_parted}
 
 -- Words in front of a `;` that ends the line.
-closed_parted : {A : Type 0} → (tell : List (List ℕ) → Option (List A)) (p : Option Parted) → when_closed tell (closed p) ≡ closed_items (parted_items tell p)
+pub closed_parted : {A : Type 0} → (tell : List (List ℕ) → Option (List A)) (p : Option Parted) → when_closed tell (closed p) ≡ closed_items (parted_items tell p)
 closed_parted tell None = refl
 closed_parted {A} tell (Some p) = by p.rest
   where

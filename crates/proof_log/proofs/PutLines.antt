@@ -12,6 +12,8 @@ use Rattle.log_theory.specs.declared.step.Op.{Op}
 use Rattle.log_theory.specs.declared.step.Op.TheVariants.{Push, Axiom, Add, Times, Divide, Saturate}
 use Rattle.log_theory.specs.declared.step.Step.TheVariants.{P, U, Y}
 use Rattle.log_theory.specs.Words.{line_text}
+use Rattle.log_theory.specs.declared.profile.Profile.TheVariants.{Plain}
+use Rattle.log_theory.specs.Profiles.{words_in}
 use Rattle.log_theory.specs.LogText.{name_text, ref_text, literal_text, op_words, step_words}
 use Rattle.proof_log.specs.Writing.{spaced, op_text, spaced_ref, spaced_literal, spaced_one}
 use Rattle.outer_io.specs.KnownText.{StopsIn}
@@ -78,6 +80,13 @@ u_text name lits refs =
     ∙ ap (λ (t : List ℕ). spaced (map literal_text lits) ++ 32 ∷ 59 ∷ t)
     (ap (λ (t : List ℕ). t ++ 32 ∷ 59 ∷ []) (sym (flat_map-map ref_text refs)) ∙ sym (flat_map-append (λ (v : List ℕ). 32 ∷ v) (map ref_text refs) ((59 ∷ []) ∷ [])))
     ∙ sym (flat_map-append (λ (v : List ℕ). 32 ∷ v) (map literal_text lits) ((59 ∷ []) ∷ (map ref_text refs ++ (59 ∷ []) ∷ [])))))
+
+pub plain_u_text : (name : Name) (lits : List Literal) (refs : List Ref)
+    → ((codes "u " ++ name_text name) ++ flat_map spaced_literal lits) ++ codes " ;\n" ≡ line_text (words_in Plain (U name lits refs))
+plain_u_text name lits refs =
+    ap (λ (t : List ℕ). 117 ∷ 32 ∷ t)
+    (two_ends (name_text name) (flat_map spaced_literal lits) (32 ∷ 59 ∷ []) (10 ∷ [])
+    ∙ ap (λ (t : List ℕ). (name_text name ++ t) ++ 10 ∷ []) (ap (λ (t : List ℕ). t ++ 32 ∷ 59 ∷ []) (sym (flat_map-map literal_text lits)) ∙ sym (flat_map-append (λ (v : List ℕ). 32 ∷ v) (map literal_text lits) ((59 ∷ []) ∷ []))))
 
 pub y_text : (ones : List ℕ) → (codes "y" ++ flat_map spaced_one ones) ++ codes "\n" ≡ line_text (step_words (Y ones))
 y_text ones = ap (λ (t : List ℕ). (121 ∷ t) ++ 10 ∷ []) (sym (flat_map-map (λ v. 120 ∷ decimal v) ones))

@@ -53,7 +53,7 @@ pieces_within (a ∷ []) = record { is = tt }
 pieces_within (a ∷ b ∷ []) = name_from_within (numeral_of a) (numeral_of b) (numeral_within (2 ^ 63) b)
 pieces_within (a ∷ b ∷ c ∷ ps) = record { is = tt }
 
-name_within : (w : List ℕ) → Within IsName (name_of w)
+pub name_within : (w : List ℕ) → Within IsName (name_of w)
 name_within w = pieces_within (pieces (λ b. b == 46) w)
 
 ref_from_within : (k : Option ℕ) (n : Option Name) → Within (λ x. x < 2 ^ 63) k → Within IsName n → Within IsRef (ref_from k n)
@@ -85,7 +85,7 @@ literal_within : (w : List ℕ) → Within IsSmall (literal_of w)
 literal_within [] = record { is = tt }
 literal_within (b ∷ bs) = either IsSmall (b == 126) _ _ (literal_from_within true (variable_of bs) (variable_within bs)) (literal_from_within false (variable_of (b ∷ bs)) (variable_within (b ∷ bs)))
 
-literals_within : (ws : List (List ℕ)) → Within AreLiterals (all_of literal_of ws)
+pub literals_within : (ws : List (List ℕ)) → Within AreLiterals (all_of literal_of ws)
 literals_within [] = record { is = tt }
 literals_within (w ∷ ws) = by (literal_of w) (all_of literal_of ws) (literal_within w) (literals_within ws)
   where
@@ -162,7 +162,7 @@ ops_within ws = by (ops_read ws) (ops_read_within ws)
     by None h = record { is = tt }
     by (Some r) h = waiting r.waits r.ops h.is
 
-closed_within : {A : Type 0} → (P : List A → Type 0) (tell : List (List ℕ) → Option (List A)) → ((ws : List (List ℕ)) → Within P (tell ws)) → (o : Option (List (List ℕ))) → Within P (when_closed tell o)
+pub closed_within : {A : Type 0} → (P : List A → Type 0) (tell : List (List ℕ) → Option (List A)) → ((ws : List (List ℕ)) → Within P (tell ws)) → (o : Option (List (List ℕ))) → Within P (when_closed tell o)
 closed_within P tell h None = record { is = tt }
 closed_within P tell h (Some ws) = h ws
 
@@ -211,7 +211,7 @@ long_within kind name ws short h =
     (p_within (name_of name) (when_closed (λ os. ops_from (ops_read os)) (closed (part ws))) (name_within name) (closed_within AreOps (λ os. ops_from (ops_read os)) ops_within (closed (part ws))))
     (either IsStep (same_word kind (codes "u")) _ _ (u_within name (part ws)) h)
 
-step_within : (kind : List ℕ) (ws : List (List ℕ)) → Within IsStep (step_behind kind ws)
+pub step_within : (kind : List ℕ) (ws : List (List ℕ)) → Within IsStep (step_behind kind ws)
 step_within kind [] = either IsStep (same_word kind (codes "y")) _ _ (record { is = tt }) (either IsStep (same_word kind (codes "q")) _ _ (record { is = tt }) (record { is = tt }))
 step_within kind (v ∷ []) =
     long_within kind v [] _

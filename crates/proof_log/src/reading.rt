@@ -1,14 +1,16 @@
 //! A line read in one pass over its words.
 ghost use Rattle.std.specs.Prelude.{◌≡◌, ◌≢◌, ℕ, List, [], ◌∷◌, codes, Some, None, IfOk, IfErr, MatchOption};
 ghost use Rattle.log_theory.specs.Words.{same_word};
-ghost use Rattle.log_theory.specs.LogText.{ref_of, u_from, step_behind, read_line, IsStep};
+ghost use Rattle.log_theory.specs.LogText.{ref_of, u_from, step_behind};
+ghost use Rattle.log_theory.specs.Profiles.{plain_step, read_in, IsStepIn};
+ghost use Rattle.log_theory.specs.declared.profile.Profile.TheVariants.{Hinted, Plain};
 ghost use Rattle.proof_log.specs.Reading.{items_told, closed_items, IsTold};
 
 use crate::fault::StepFault;
 use crate::items::{name_in, numeral_in, ref_in, row_in};
 use crate::lists::{read_literals, read_ones, read_ops, read_refs};
 use crate::pieces::{Pieces, is_byte, is_word};
-use log_theory::{Clause, Name, Step};
+use log_theory::{Clause, Name, Profile, Refs, Step};
 use std::alloc::Global;
 
 /// The only word that is left.
@@ -184,18 +186,99 @@ fn read_behind(alloc: Global, kind: &[u8], words: &mut Pieces) -> Result<Step, S
     }
 }
 
-/// The step that a line tells, without the line feed that ends it, or that it tells none.
-///
-/// It takes the words from the left, none twice, in time linear in the bytes, whatever they are. Only the lists of the step
-/// take memory.
-pub fn read_step(alloc: Global, bytes: &[u8]) -> Result<Step, StepFault>
-    ensures found { IfOk result (λ s. read_line bytes.now ≡ Some s) }
-    ensures ranges { IfOk result (λ s. IsStep s) }
-    ensures fault { IfErr result (λ e. e ≡ StepFault.Form → read_line bytes.now ≡ None) }
+/// No references.
+fn no_refs(alloc: Global) -> Refs
+    ensures { result ≡ [] }
+{
+    Refs::new(Vec::new(alloc))
+}
+
+/// The words behind `u` in a log without hints: a name, literals and the end.
+fn read_plain_u(alloc: Global, words: &mut Pieces) -> Result<Step, StepFault>
+    ensures { IsTold result (plain_step (codes "u" ∷ words.old)) }
+{
+    let Some(word) = words.next() else {
+        return Err(StepFault::Form);
+    };
+    let Some(name) = name_in(word) else {
+        return Err(StepFault::Form);
+    };
+    match read_literals(alloc, words) {
+        Ok(lits) if words.is_done() => {
+            let refs = no_refs(alloc);
+            Ok(Step::U { name, lits, refs })
+        }
+        Ok(_) => Err(StepFault::Form),
+        Err(fault) => Err(fault),
+    }
+}
+
+/// The words behind `embedding` in a log without hints.
+fn read_plain_head(words: &mut Pieces) -> Result<Step, StepFault>
+    ensures { IsTold result (plain_step (codes "embedding" ∷ words.old)) }
+{
+    let Some((first, second)) = last_two(words) else {
+        return Err(StepFault::Form);
+    };
+    if !is_word(first, b"proof") {
+        return Err(StepFault::Form);
+    }
+    if !is_byte(second, b'2') {
+        return Err(StepFault::Form);
+    }
+    Ok(Step::Head)
+}
+
+/// The words behind the first one in a log without hints.
+fn read_plain_behind(alloc: Global, kind: &[u8], words: &mut Pieces) -> Result<Step, StepFault>
+    ensures { IsTold result (plain_step (kind.now ∷ words.old)) }
+{
+    if is_byte(kind, b'u') {
+        read_plain_u(alloc, words)
+    } else if is_word(kind, b"embedding") {
+        read_plain_head(words)
+    } else {
+        read_behind(alloc, kind, words)
+    }
+}
+
+/// The step that a line of a log with hints tells.
+fn read_hinted(alloc: Global, bytes: &[u8]) -> Result<Step, StepFault>
+    ensures found { IfOk result (λ s. read_in Hinted bytes.now ≡ Some s) }
+    ensures ranges { IfOk result (λ s. IsStepIn Hinted s) }
+    ensures fault { IfErr result (λ e. e ≡ StepFault.Form → read_in Hinted bytes.now ≡ None) }
 {
     let mut words = Pieces::new(bytes, b' ');
     match words.next() {
         Some(kind) => read_behind(alloc, kind, &mut words),
         None => Err(StepFault::Form),
+    }
+}
+
+/// The step that a line of a log without hints tells.
+fn read_plain(alloc: Global, bytes: &[u8]) -> Result<Step, StepFault>
+    ensures found { IfOk result (λ s. read_in Plain bytes.now ≡ Some s) }
+    ensures ranges { IfOk result (λ s. IsStepIn Plain s) }
+    ensures fault { IfErr result (λ e. e ≡ StepFault.Form → read_in Plain bytes.now ≡ None) }
+{
+    let mut words = Pieces::new(bytes, b' ');
+    match words.next() {
+        Some(kind) => read_plain_behind(alloc, kind, &mut words),
+        None => Err(StepFault::Form),
+    }
+}
+
+/// The step that a line of a log of a profile tells, without the line feed that ends it, or that it tells none.
+///
+/// It takes the words from the left, none twice, in time linear in the bytes, whatever they are. Only the lists of the step
+/// take memory.
+pub fn read_step(alloc: Global, profile: Profile, bytes: &[u8]) -> Result<Step, StepFault>
+    ensures found { IfOk result (λ s. read_in profile bytes.now ≡ Some s) }
+    ensures ranges { IfOk result (λ s. IsStepIn profile s) }
+    ensures fault { IfErr result (λ e. e ≡ StepFault.Form → read_in profile bytes.now ≡ None) }
+{
+    match profile {
+        Profile::Hinted => read_hinted(alloc, bytes),
+        Profile::Plain => read_plain(alloc, bytes),
     }
 }

@@ -5,11 +5,13 @@ ghost use Rattle.outer_io.specs.KnownText.{Wrote};
 ghost use Rattle.outer_io.specs.Sinks.{HasBlame};
 ghost use Rattle.log_theory.specs.declared.step.Step.TheVariants.{Model as TheModel, N};
 ghost use Rattle.log_theory.specs.Words.{joined, line_text};
-ghost use Rattle.log_theory.specs.LogText.{name_text, ref_text, step_words, read_line, IsStep};
+ghost use Rattle.log_theory.specs.LogText.{name_text, ref_text, step_words, IsStep};
+ghost use Rattle.log_theory.specs.Profiles.{words_in, told_in, read_in};
+ghost use Rattle.log_theory.specs.declared.profile.Profile.TheVariants.{Plain};
 ghost use Rattle.proof_log.specs.Writing.{op_text, spaced_ref, spaced_literal, spaced_one};
 
 use itoa::Buffer;
-use log_theory::{Name, Op, Ref, Step, step_law};
+use log_theory::{Name, Op, Profile, Ref, Step, profile_laws};
 use outer_io::{Failed, Sink, put_all};
 use proof_theory::Literal;
 
@@ -285,18 +287,12 @@ fn write_model<S: Sink>(constraints: u64, sink: &mut S) -> Result<(), Failed>
     put_all(&[b"m ", digits.format(constraints).as_bytes(), b"\n"], sink)
 }
 
-/// Puts the line of a step with its line feed; what was put is read as that step.
-///
-/// Each number is a call of the sink, and so is each text between two of them: up to four calls for each word. It takes no
-/// memory. The condition is that of `read_step`'s answers: numbers in the ranges that a line may write.
-pub fn write_step<S: Sink>(step: &Step, sink: &mut S) -> Result<(), Failed>
-    requires { IsStep step.now }
+/// Puts the line of a step in a log with hints.
+fn write_hinted<S: Sink>(step: &Step, sink: &mut S) -> Result<(), Failed>
     ensures text { Wrote (S.spot sink.old).steady (S.contents sink.old) (S.contents sink.new) result
         (line_text (step_words step.now)) }
-    ensures read { read_line (joined (step_words step.now)) ≡ Some step.now }
     ensures cause { HasBlame S.spot S.rest S.faults S.blamed sink.old sink.new result }
 {
-    step_law();
     match step {
         Step::Head => sink.put(b"embedding proof 1\n"),
         Step::Model(constraints) => write_model(*constraints, sink),
@@ -314,5 +310,43 @@ pub fn write_step<S: Sink>(step: &Step, sink: &mut S) -> Result<(), Failed>
         Step::E { at } => write_e(b"e ", *at, b"\n", sink),
         Step::Y { ones } => write_y(b"y", ones.as_slice(), b"\n", sink),
         Step::Q => sink.put(b"q\n"),
+    }
+}
+
+/// Puts the line of a step in a log without hints.
+fn write_plain<S: Sink>(step: &Step, sink: &mut S) -> Result<(), Failed>
+    ensures text { Wrote (S.spot sink.old).steady (S.contents sink.old) (S.contents sink.new) result
+        (line_text (words_in Plain step.now)) }
+    ensures cause { HasBlame S.spot S.rest S.faults S.blamed sink.old sink.new result }
+{
+    match step {
+        Step::Head => sink.put(b"embedding proof 2\n"),
+        Step::U { name, lits, .. } => { write_clause(b"u ", *name, lits.as_slice(), b" ;\n", sink) }
+        Step::Model(_) => write_hinted(step, sink),
+        Step::P { .. } => write_hinted(step, sink),
+        Step::N { .. } => write_hinted(step, sink),
+        Step::E { .. } => write_hinted(step, sink),
+        Step::Y { .. } => write_hinted(step, sink),
+        Step::Q => write_hinted(step, sink),
+    }
+}
+
+/// Puts the line of a step in a log of a profile, with its line feed; what was put is read as that step, without hints where the profile
+/// has none.
+///
+/// Each number is a call of the sink, and so is each text between two of them: up to four calls for each word. It takes no
+/// memory. The condition is that of `read_step`'s answers: numbers in the ranges that a line may write.
+pub fn write_step<S: Sink>(profile: Profile, step: &Step, sink: &mut S) -> Result<(), Failed>
+    requires { IsStep step.now }
+    ensures text { Wrote (S.spot sink.old).steady (S.contents sink.old) (S.contents sink.new) result
+        (line_text (words_in profile step.now)) }
+    ensures read { read_in profile (joined (words_in profile step.now))
+        ≡ Some (told_in profile step.now) }
+    ensures cause { HasBlame S.spot S.rest S.faults S.blamed sink.old sink.new result }
+{
+    profile_laws();
+    match profile {
+        Profile::Hinted => write_hinted(step, sink),
+        Profile::Plain => write_plain(step, sink),
     }
 }

@@ -14,7 +14,7 @@ use worked_examples::{Example, first_wrong};
 
 /// What is expected of a log.
 #[derive(Clone, Copy)]
-enum Expected {
+pub enum Expected {
     /// This verdict.
     Is(Verdict),
     /// That it is refused at this line for this cause.
@@ -22,7 +22,7 @@ enum Expected {
 }
 
 /// Whether a verdict is the one expected.
-fn is_expected(verdict: Verdict, expected: Expected) -> bool {
+pub fn is_expected(verdict: Verdict, expected: Expected) -> bool {
     match expected {
         Is(other) => verdict == other,
         Stops(line, cause) => verdict == Verdict::Refused { line, cause },
@@ -98,10 +98,10 @@ fn logs_over_two_lines(rt: HostRuntime) -> Result<(), Fail> {
 }
 
 /// A model's text, a whole log, and its verdict.
-struct Whole {
-    model: &'static [u8],
-    log: &'static str,
-    verdict: Expected,
+pub struct Whole {
+    pub model: &'static [u8],
+    pub log: &'static str,
+    pub verdict: Expected,
 }
 
 impl<R> Example<R> for Whole {
@@ -123,7 +123,7 @@ const NEVER: &[u8] = b"* #variable= 0 #constraint= 2\n>= 1 ;\n>= -1 ;\n";
 const ALL_VARIABLES: &[u8] =
     b"* #variable= 4294967295 #constraint= 2\n+1 x1 >= 1 ;\n-1 x1 >= 0 ;\n";
 
-static SMALL_MODELS: [Whole; 7] = [
+static SMALL_MODELS: [Whole; 8] = [
     Whole {
         model: TWO_LINES,
         log: "",
@@ -131,8 +131,13 @@ static SMALL_MODELS: [Whole; 7] = [
     },
     Whole {
         model: TWO_LINES,
-        log: "embedding proof 2\n",
+        log: "embedding proof 3\n",
         verdict: Stops(1, Cause::Form),
+    },
+    Whole {
+        model: TWO_LINES,
+        log: "embedding proof 2\n",
+        verdict: Stops(2, Cause::EndsEarly),
     },
     Whole {
         model: TWO_LINES,
@@ -301,7 +306,7 @@ struct InFile {
 
 const SHORT: &str = "embedding proof 1\nm 2\nq\n";
 
-const WRONG: &str = "embedding proof 2\nm 2\nq\n";
+const WRONG: &str = "embedding proof 3\nm 2\nq\n";
 
 static IN_FILES: [InFile; 8] = [
     InFile {

@@ -19,6 +19,8 @@ mod merged_tests;
 #[cfg(test)]
 mod model_tests;
 #[cfg(test)]
+mod plain_tests;
+#[cfg(test)]
 mod sum_tests;
 #[cfg(test)]
 mod worked_models;

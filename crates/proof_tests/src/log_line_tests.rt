@@ -1,21 +1,33 @@
 //! Lines of logs, read and written.
 
+use log_theory::{Profile, Step};
 use outer_io::MemorySink;
-use proof_log::{StepFault, read_step, write_step};
+use proof_log::{StepFault, plain, read_step, write_step};
 use std::alloc::{AllocError, Global};
 use std::test::Fail;
 use worked_examples::{Example, first_wrong};
+
+/// Whether a step is written as this line in a log of this profile.
+fn is_written_as(
+    alloc: Global,
+    profile: Profile,
+    step: &Step,
+    line: &[u8],
+) -> Result<bool, AllocError> {
+    let mut sink = MemorySink::new(alloc, 256, Vec::new(alloc))?;
+    let done = write_step(profile, step, &mut sink);
+    Ok(done.is_ok() && sink.bytes().strip_suffix(b"\n") == Some(line))
+}
 
 /// A line that is read, and whose step is written as it.
 struct Kept(&'static [u8]);
 
 impl<R> Example<R> for Kept {
     fn holds(&self, _rt: &R, alloc: Global) -> Result<bool, AllocError> {
-        let Ok(step) = read_step(alloc, self.0) else {
+        let Ok(step) = read_step(alloc, Profile::Hinted, self.0) else {
             return Ok(false);
         };
-        let mut sink = MemorySink::new(alloc, 256, Vec::new(alloc))?;
-        Ok(write_step(&step, &mut sink).is_ok() && sink.bytes().strip_suffix(b"\n") == Some(self.0))
+        is_written_as(alloc, Profile::Hinted, &step, self.0)
     }
 }
 
@@ -82,7 +94,7 @@ struct Refused(&'static [u8]);
 
 impl<R> Example<R> for Refused {
     fn holds(&self, _rt: &R, alloc: Global) -> Result<bool, AllocError> {
-        match read_step(alloc, self.0) {
+        match read_step(alloc, Profile::Hinted, self.0) {
             Err(fault) => Ok(fault == StepFault::Form),
             Ok(_) => Ok(false),
         }
@@ -183,13 +195,13 @@ const LINE: &[u8] = b"u 64.7 ~x3 ; #12 ;";
 
 /// Whether writing the line fails where this call on the sink fails, and leaves a front part of it.
 fn stops_at(alloc: Global, call: u64) -> Result<bool, AllocError> {
-    let Ok(step) = read_step(alloc, LINE) else {
+    let Ok(step) = read_step(alloc, Profile::Hinted, LINE) else {
         return Ok(false);
     };
     let mut failing = Vec::new(alloc);
     failing.push(call)?;
     let mut sink = MemorySink::new(alloc, 64, failing)?;
-    Ok(write_step(&step, &mut sink).is_err() && LINE.starts_with(sink.bytes()))
+    Ok(write_step(Profile::Hinted, &step, &mut sink).is_err() && LINE.starts_with(sink.bytes()))
 }
 
 /// The first call, from 1, whose fault does not stop it so, or 12.
@@ -205,5 +217,75 @@ fn first_not_stopped(alloc: Global) -> Result<u64, AllocError> {
 #[test]
 fn stops_where_the_sink_fails(rt: HostRuntime) -> Result<(), Fail> {
     assert_eq!(rt; first_not_stopped(rt.alloc())?, 12);
+    Ok(())
+}
+
+/// A line of a log with hints, and the same line without them.
+struct Dropped(&'static [u8], &'static [u8]);
+
+impl<R> Example<R> for Dropped {
+    fn holds(&self, _rt: &R, alloc: Global) -> Result<bool, AllocError> {
+        let Ok(step) = read_step(alloc, Profile::Hinted, self.0) else {
+            return Ok(false);
+        };
+        let Ok(read) = read_step(alloc, Profile::Plain, self.1) else {
+            return Ok(false);
+        };
+        let dropped = plain(alloc, &step)?;
+        let mut one = MemorySink::new(alloc, 256, Vec::new(alloc))?;
+        let mut other = MemorySink::new(alloc, 256, Vec::new(alloc))?;
+        Ok(
+            is_written_as(alloc, Profile::Plain, &step, self.1)?
+                && write_step(Profile::Hinted, &read, &mut one).is_ok()
+                && write_step(Profile::Hinted, &dropped, &mut other).is_ok()
+                && one.bytes() == other.bytes(),
+        )
+    }
+}
+
+static DROPPED: [Dropped; 9] = [
+    Dropped(b"embedding proof 1", b"embedding proof 2"),
+    Dropped(b"m 34", b"m 34"),
+    Dropped(b"p 0.1 15 24 + 6 + ;", b"p 0.1 15 24 + 6 + ;"),
+    Dropped(b"u 0.3 ~x1 ; 0.1 0.2 11 ;", b"u 0.3 ~x1 ;"),
+    Dropped(b"u 0.13 ; #3 ;", b"u 0.13 ;"),
+    Dropped(b"n 0 1.1", b"n 0 1.1"),
+    Dropped(b"e 0.13", b"e 0.13"),
+    Dropped(b"y x1 x2", b"y x1 x2"),
+    Dropped(b"q", b"q"),
+];
+
+#[test]
+fn reads_and_writes_lines_without_hints(rt: HostRuntime) -> Result<(), Fail> {
+    assert_eq!(rt; first_wrong(&rt, rt.alloc(), &DROPPED)?, None);
+    Ok(())
+}
+
+/// A line that is no step in a log of this profile.
+struct Other(Profile, &'static [u8]);
+
+impl<R> Example<R> for Other {
+    fn holds(&self, _rt: &R, alloc: Global) -> Result<bool, AllocError> {
+        match read_step(alloc, self.0, self.1) {
+            Err(fault) => Ok(fault == StepFault::Form),
+            Ok(_) => Ok(false),
+        }
+    }
+}
+
+static OF_THE_OTHER_PROFILE: [Other; 8] = [
+    Other(Profile::Plain, b"embedding proof 1"),
+    Other(Profile::Plain, b"u 0.1 ; 2 ;"),
+    Other(Profile::Plain, b"u 0.1 ; ;"),
+    Other(Profile::Plain, b"u 0.1 x1"),
+    Other(Profile::Plain, b"u 0.1 x1 ; 2"),
+    Other(Profile::Plain, b"embedding proof 3"),
+    Other(Profile::Hinted, b"embedding proof 2"),
+    Other(Profile::Hinted, b"u 0.1 ;"),
+];
+
+#[test]
+fn refuses_lines_of_the_other_profile(rt: HostRuntime) -> Result<(), Fail> {
+    assert_eq!(rt; first_wrong(&rt, rt.alloc(), &OF_THE_OTHER_PROFILE)?, None);
     Ok(())
 }

@@ -4,7 +4,7 @@ ghost use Rattle.std.specs.Prelude.{◌≡◌, ◌+◌, ◌≤◌, [], ◌∷◌
 
 use crate::worked_models::TRIANGLE_INTO_CYCLE;
 use journals::{Journal, Keeper};
-use log_theory::{Cause, Name, Step, Variables, Verdict};
+use log_theory::{Cause, Name, Profile, Step, Variables, Verdict};
 use merged_log::{write_refutation, write_solution, write_undecided};
 use nogood_book::{Row, RowKind};
 use opb_text::read_opb;
@@ -21,7 +21,7 @@ fn keep(alloc: Global, journal: &mut Journal, line: &[u8]) -> Result<(), AllocEr
     ensures notes { journal.new.notes ≡ journal.old.notes }
     ensures lines { OnOk result (length journal.new.steps ≡ length journal.old.steps + 1) }
 {
-    match read_step(alloc, line) {
+    match read_step(alloc, Profile::Hinted, line) {
         Ok(Step::P { name, ops }) => {
             journal.keep(Step::P { name, ops })?;
             Ok(())

@@ -4,3 +4,4 @@ pub mod Rounding
 pub mod Rules
 pub mod Refutation
 mod FormRows
+pub mod Propagation

@@ -28,18 +28,18 @@ weight_below s a (t ∷ ts) h =
     let e = weight_of_term (s t.0) (a t.0) t.1 (h.same t.0) in
     omega arith
 
-some_same : (b d : Bool) → let P : Option Bool → Option Bool → Type 0 = λ x y. x ≡ y in P (Some b) (Some d) → b ≡ d
+pub some_same : (b d : Bool) → let P : Option Bool → Option Bool → Type 0 = λ x y. x ≡ y in P (Some b) (Some d) → b ≡ d
 some_same b d e = cc
 
 -- A value that is forced and not taken leaves the weight below what is open by more than the slack.
-forced_term : (k c : ℤ) (b : Bool) → forced_by k c ≡ Some b → (k <ℤ pos (unsigned_abs c)) × (wanted c ≡ b)
+pub forced_term : (k c : ℤ) (b : Bool) → forced_by k c ≡ Some b → (k <ℤ pos (unsigned_abs c)) × (wanted c ≡ b)
 forced_term k c b = by-cases (int_lt k (pos (unsigned_abs c))) refl
   where
     by-cases : (x : Bool) → int_lt k (pos (unsigned_abs c)) ≡ x → cond x (Some (wanted c)) None ≡ Some b → (k <ℤ pos (unsigned_abs c)) × (wanted c ≡ b)
     by-cases true e h = (grind (arith, ints), cc)
     by-cases false e h = absurd cc
 
-unwanted_weight : (c : ℤ) (b : Bool) → b ≡ not (wanted c) → term_weight b c ≡ 0
+pub unwanted_weight : (c : ℤ) (b : Bool) → b ≡ not (wanted c) → term_weight b c ≡ 0
 unwanted_weight (pos n) b e = rw e refl
 unwanted_weight (negsuc n) b e = rw e refl
 
@@ -107,7 +107,7 @@ false_literal false true e = absurd cc
 false_literal false false e = refl
 
 -- Where no literal of the clause is true, the negations agree with the assignment.
-negations_agree : (ls : List Literal) (a : ℕ → Bool) → clause_holds a ls ≡ false → Agrees (negations ls) a
+pub negations_agree : (ls : List Literal) (a : ℕ → Bool) → clause_holds a ls ≡ false → Agrees (negations ls) a
 negations_agree ls a e = record { same = λ v b h. at ls v b e h }
   where
     literal_false : (l : Literal) (v : ℕ) (b : Bool) → is_true_at a l ≡ false → l.variable ≡ v → l.negated ≡ b → a v ≡ b

@@ -1,4 +1,5 @@
 pub mod Forms
 pub mod Rules
 pub mod Slack
+pub mod Propagation
 pub mod FormLaws

@@ -9,7 +9,7 @@ use Rattle.log_theory.specs.LogText.{name_text, step_words}
 use Rattle.outer_io.specs.KnownText.{Wrote}
 use Rattle.proof_log.specs.Writing.{op_text, spaced_ref, spaced_literal, spaced_one}
 use Rattle.proof_log.proofs.PutLines.{p_text, u_text, y_text}
-use Rattle.proof_log.proofs.writing.write_step.Goals as goal
+use Rattle.proof_log.proofs.writing.write_hinted.Goals as goal
 
 pub returns-in-P-clause-text : goal.returns-in-P-clause-text
 returns-in-P-clause-text g c =

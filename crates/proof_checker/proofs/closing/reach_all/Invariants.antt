@@ -1,0 +1,13 @@
+use Rattle.std.proofs.Common.{◌≤◌, ◌^◌, drop, length}
+use Rattle.proof_checker.specs.Reach.{AllReach}
+use Rattle.proof_checker.proofs.closing.reach_all.Given as goal
+
+abbrev pub invariant-loop-i : goal.invariant-loop-i
+invariant-loop-i l = record {
+  reach : AllReach l.most (drop l.i l.constraints);
+  small : l.most ≤ 2 ^ 32;
+  inside : l.i ≤ length l.constraints;
+}
+
+abbrev pub decreases-loop-i : goal.decreases-loop-i
+decreases-loop-i l = l.i
