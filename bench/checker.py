@@ -1,13 +1,17 @@
 #!/usr/bin/env python3
 """Times the checker of logs on logs that are made here, by a seed.
 
-    checker.py PROGRAM [--times N] [--seed N] [--only WORD]
+    checker.py PROGRAM [--times N] [--seed N] [--only WORD] [--closing N] [--peer PEER]
 
-PROGRAM is the words that check a log, as `crates/subgraph/out/subgraph check`; an encoding and a log are put behind them. Two kinds of logs:
+PROGRAM is the words that check a log, as `crates/subgraph/out/subgraph check`; an encoding and a log are put behind them. Five kinds of logs:
 
     follow   100,000 `u` lines over a ring of N implications: each line follows 20 of them that stand behind one another, to a conflict
     rows     20,000 `u` lines over N rows of 200 literals: each line makes all but one literal of a row false by 10 rows, to a conflict
     sum      `p` lines that sum N constraints of 20 terms each, from the left, over 20,000 variables: 1,000,000 references in all
+    close    the lines of `follow`, as many as --closing says, in a log without hints
+    close-r  the lines of `rows`, in a log without hints, at most as many
+
+With `--peer PEER` another checker, as that of closing.cpp, judges the logs without hints too; its seconds stand in a last column.
 
 A log's time is the least of N runs, less that of a log over the same encoding that ends at once; memory is the most that a run held.
 """
@@ -77,6 +81,22 @@ def sums(seed, count):
     return opb(VARIABLES, forms), lines, REFERENCES, REFERENCES * WIDTH
 
 
+def unhinted(make):
+    """The same log with no hints. A reference then is one that the line's propagation needs at least."""
+    def made(seed, count):
+        model, lines, references, terms = make(seed, count)
+        lines = [line[:line.index(";") + 1] + "\n" for line in lines]
+        return model, lines, references, terms
+    return made
+
+
+def shortened(made, most):
+    """The first lines of a log."""
+    model, lines, references, terms = made
+    kept = min(most, len(lines))
+    return model, lines[:kept], references * kept // len(lines), terms * kept // len(lines)
+
+
 def run(words):
     """Seconds of processor time, and megabytes at most."""
     child = subprocess.Popen(words, stdout=subprocess.PIPE, stderr=subprocess.STDOUT)
@@ -88,33 +108,45 @@ def run(words):
     return used.ru_utime + used.ru_stime, used.ru_maxrss / 1024
 
 
+def timed(call, encoding, log, empty, times):
+    """The least seconds of the log less those of the empty one, and the most megabytes."""
+    nothing = min(run(call + [encoding, empty])[0] for _ in range(times))
+    taken = [run(call + [encoding, log]) for _ in range(times)]
+    return max(min(t for t, _ in taken) - nothing, 1e-3), max(m for _, m in taken)
+
+
 def main():
     words = argparse.ArgumentParser()
     words.add_argument("program")
     words.add_argument("--times", type=int, default=3)
     words.add_argument("--seed", type=int, default=7)
     words.add_argument("--only", default="")
+    words.add_argument("--closing", type=int, default=LINES)
+    words.add_argument("--peer")
     asked = words.parse_args()
     made = [("follow", follow, 1_000), ("follow", follow, 10_000), ("follow", follow, 100_000), ("rows", rows, 1_100),
-            ("rows", rows, 11_000), ("sum", sums, 10), ("sum", sums, 100), ("sum", sums, 1_000)]
-    print("| log | references | terms read | seconds | million references a second | million terms a second | MB |")
-    print("|---|---|---|---|---|---|---|")
+            ("rows", rows, 11_000), ("sum", sums, 10), ("sum", sums, 100), ("sum", sums, 1_000),
+            ("close", unhinted(follow), 1_000), ("close", unhinted(follow), 10_000), ("close", unhinted(follow), 100_000),
+            ("close-r", unhinted(rows), 1_100), ("close-r", unhinted(rows), 11_000)]
+    print("| log | references | terms read | seconds | million references a second | million terms a second | MB | peer's seconds |")
+    print("|---|---|---|---|---|---|---|---|")
     with tempfile.TemporaryDirectory() as folder:
         encoding, log, empty = (os.path.join(folder, name) for name in ("encoding", "log", "empty"))
         for name, make, count in made:
             if asked.only not in f"{name} {count}":
                 continue
-            model, lines, references, terms = make(asked.seed, count)
-            head = f"embedding proof 1\nm {model.count(chr(10)) - 1}\n"
+            is_hinted = not name.startswith("close")
+            model, lines, references, terms = shortened(make(asked.seed, count), LINES if is_hinted else asked.closing)
+            head = f"embedding proof {1 if is_hinted else 2}\nm {model.count(chr(10)) - 1}\n"
             for path, text in ((encoding, model), (log, head + "".join(lines) + "q\n"), (empty, head + "q\n")):
                 with open(path, "w", encoding="ascii") as file:
                     file.write(text)
-            call = asked.program.split()
-            nothing = min(run(call + [encoding, empty])[0] for _ in range(asked.times))
-            taken = [run(call + [encoding, log]) for _ in range(asked.times)]
-            seconds = max(min(t for t, _ in taken) - nothing, 1e-3)
+            seconds, most = timed(asked.program.split(), encoding, log, empty, asked.times)
+            beside = "-"
+            if asked.peer and not is_hinted:
+                beside = f"{timed(asked.peer.split(), encoding, log, empty, asked.times)[0]:.2f}"
             print(f"| {name} {count:,} | {references:,} | {terms:,} | {seconds:.2f} | {references / seconds / 1e6:.2f} "
-                  f"| {terms / seconds / 1e6:.0f} | {max(m for _, m in taken):.0f} |", flush=True)
+                  f"| {terms / seconds / 1e6:.0f} | {most:.0f} | {beside} |", flush=True)
 
 
 main()
