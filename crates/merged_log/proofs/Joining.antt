@@ -1,20 +1,18 @@
 -- Journals that stand beside the same rows are journals as a log wants them.
-use Rattle.std.proofs.Common.{inl, inr, ◌⊎◌, ◌≡◌, ◌≢◌, ℕ, zero, suc, ◌+◌, ◌^◌, ◌<◌, ◌≤◌, cond, Bool, true, false, List, [], ◌∷◌, ◌++◌, length, get_or, map, Option, Some, None, refl, sym, ap, subst, ◌∙◌, arith}
+use Rattle.std.proofs.Common.{inl, inr, ◌≡◌, ℕ, zero, suc, ◌^◌, ◌<◌, ◌≤◌, cond, Bool, true, false, List, [], ◌∷◌, length, get_or, Option, Some, None, refl, sym, ap, subst, ◌∙◌, arith}
 use Rattle.std.specs.Prelude.{slice_get}
-use Rattle.std.proofs.lemmas.List.{length-map}
 use Rattle.std.proofs.lemmas.Option.{slice_get_within, get_or_from_slice_get}
 use Rattle.proof_theory.specs.Forms.{Form}
 use Rattle.log_theory.specs.declared.step.Step.{Step}
-use Rattle.log_theory.specs.Lookups.{Lookup}
 use Rattle.log_theory.specs.Tables.{from_one}
 use Rattle.nogood_book.specs.declared.row.Row.{Row as BookRow}
 use Rattle.journals.specs.Keeping.{Keeping}
 use Rattle.journal_theory.specs.Referring.{step_refs, NamesRow}
-use Rattle.journal_theory.specs.Journals.{IsJournal, base_of, Row, IsNogoodOf, Journal, no_journal, note_of, Journaled}
-use Rattle.journal_theory.specs.Merging.{journal_of, noted_at, AreJournals}
+use Rattle.journal_theory.specs.Journals.{IsJournal, base_of, Row, IsNogoodOf, Journal, note_of, Journaled}
+use Rattle.journal_theory.specs.Merging.{journal_of, AreJournals}
 use Rattle.journal_theory.specs.Laws.{MergeLaws}
 use Rattle.journal_theory.proofs.Placing.{get_some, from_one_within}
-use Rattle.merged_log.specs.Steps.{journal_in, row_in, journals_in, rows_in, StandAtOwners, HaveOwners, NotesAreOfLines, AllWritten, AreInRange, StandBeside, IsAloneOrBare, AreOfWorkers, EndsFalse, MayBeMerged}
+use Rattle.merged_log.specs.Steps.{journal_in, row_in, journals_in, rows_in, NotesAreOfLines, AllWritten, AreInRange, StandBeside, IsAloneOrBare, AreOfWorkers, EndsFalse, MayBeMerged}
 use Rattle.merged_log.proofs.RowSteps.{journal_here, long_in}
 use Rattle.merged_log.proofs.Accepting.{refutation_accepted}
 

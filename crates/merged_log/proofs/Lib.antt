@@ -7,3 +7,5 @@ mod Claiming
 mod Images
 mod Holding
 mod Joining
+mod Profiled
+mod Ranges

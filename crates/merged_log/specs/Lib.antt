@@ -3,3 +3,4 @@ pub mod Notes
 pub mod Steps
 pub mod Answers
 pub mod Premises
+pub mod Profiles

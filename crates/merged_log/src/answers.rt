@@ -8,6 +8,7 @@ ghost use Rattle.log_theory.specs.Acceptance.{Accepts};
 ghost use Rattle.log_theory.specs.LogText.{AreOnes};
 ghost use Rattle.proof_theory.specs.Forms.{Form};
 ghost use Rattle.merged_log.specs.Steps.{log_text};
+ghost use Rattle.merged_log.specs.Profiles.{in_profile};
 ghost use Rattle.merged_log.specs.Answers.{undecided, solution, Solves};
 
 use crate::head::write_head;
@@ -18,31 +19,36 @@ use proof_log::write_step;
 
 /// Puts the log that claims nothing of a model of so many constraints: the head, in one call of the sink, and a last line. It takes
 /// no memory.
-pub fn write_undecided<S: Sink>(lines: u64, sink: &mut S) -> Result<(), Failed>
+pub fn write_undecided<S: Sink>(profile: Profile, lines: u64, sink: &mut S) -> Result<(), Failed>
     requires { lines < 2 ^ 63 }
     ensures text { Wrote (S.spot sink.old).steady (S.contents sink.old) (S.contents sink.new) result
-        (log_text (undecided lines)) }
+        (in_profile profile (log_text (undecided lines))) }
     ensures cause { HasBlame S.spot S.rest S.faults S.blamed sink.old sink.new result }
     ensures accepted { (n : ℕ) (model : List Form) → length model ≡ lines
-        → Accepts n model (log_text (undecided lines)) Undecided }
+        → Accepts n model (in_profile profile (log_text (undecided lines))) Undecided }
 {
     line_laws();
-    write_head(lines, sink)?;
+    write_head(profile, lines, sink)?;
     write_step(Profile::Hinted, &Step::Q, sink)
 }
 
 /// Puts the log of a solution: the head, in one call of the sink, and a last line with the variables that are one in it. It takes no
 /// memory.
-pub fn write_solution<S: Sink>(lines: u64, ones: Variables, sink: &mut S) -> Result<(), Failed>
+pub fn write_solution<S: Sink>(
+    profile: Profile,
+    lines: u64,
+    ones: Variables,
+    sink: &mut S,
+) -> Result<(), Failed>
     requires model { lines < 2 ^ 63 }
     requires ones { AreOnes ones }
     ensures text { Wrote (S.spot sink.old).steady (S.contents sink.old) (S.contents sink.new) result
-        (log_text (solution lines ones)) }
+        (in_profile profile (log_text (solution lines ones))) }
     ensures cause { HasBlame S.spot S.rest S.faults S.blamed sink.old sink.new result }
     ensures accepted { (n : ℕ) (model : List Form) → length model ≡ lines → Solves n model ones
-        → Accepts n model (log_text (solution lines ones)) Satisfiable }
+        → Accepts n model (in_profile profile (log_text (solution lines ones))) Satisfiable }
 {
     line_laws();
-    write_head(lines, sink)?;
+    write_head(profile, lines, sink)?;
     write_step(Profile::Hinted, &Step::Y { ones }, sink)
 }

@@ -11,7 +11,7 @@ ghost use Rattle.log_theory.specs.Tables.{from_one};
 ghost use Rattle.proof_theory.specs.Forms.{Form};
 ghost use Rattle.proof_theory.specs.Rules.{is_contradiction};
 ghost use Rattle.journal_theory.specs.Merging.{journal_of, merge_from, merged, begun, last_name, AreJournals};
-ghost use Rattle.journals.specs.Keeping.{text_of};
+ghost use Rattle.merged_log.specs.Profiles.{in_profile, text_in};
 ghost use Rattle.merged_log.specs.Steps.{journals_in, rows_in, rows_steps, rows_done, head_steps, refutation, log_text, StandAtOwners, AllRise, HaveOwners, NotesAreOfLines, AllWritten, AreInRange, StandBeside, IsAloneOrBare, AreOfWorkers, EndsFalse, MayBeMerged};
 ghost use Rattle.nogood_book.specs.declared.row.Row.{Row as BookRow};
 
@@ -54,6 +54,7 @@ pub fn may_be_merged(journals: &[Journal])
 
 /// Puts what the rows bring and then the finisher's further lines, where so many lines of each owner stand already.
 fn put_from<S: Sink>(
+    profile: Profile,
     journals: &[Journal],
     rows: &[Row],
     finisher: u8,
@@ -69,12 +70,18 @@ fn put_from<S: Sink>(
     requires rows { length rows.now ≤ 4194304 }
     requires finisher { finisher < length journals.now }
     ensures text { Wrote (S.spot sink.old).steady (S.contents sink.old) (S.contents sink.new) result
-        (text_of (merge_from (journals_in journals.now) finisher 0 (rows_in rows.now) done.old)) }
+        (text_in profile (merge_from (journals_in journals.now) finisher 0 (rows_in rows.now) done.old)) }
     ensures cause { HasBlame S.spot S.rest S.faults S.blamed sink.old sink.new result }
 {
-    put_rows(journals, rows, done, sink)?;
+    put_rows(profile, journals, rows, done, sink)?;
     let last = &journals[usize::from(finisher)];
-    put_part(last, done[usize::from(finisher)], last.ends().len(), sink)
+    put_part(
+        profile,
+        last,
+        done[usize::from(finisher)],
+        last.ends().len(),
+        sink,
+    )
 }
 
 /// Counts all lines of owner 0, and none of the others'.
@@ -88,6 +95,7 @@ fn begin(journals: &[Journal], done: &mut [usize])
 
 /// Puts the merged lines.
 fn put_merged<S: Sink>(
+    profile: Profile,
     journals: &[Journal],
     rows: &[Row],
     finisher: u8,
@@ -103,21 +111,26 @@ fn put_merged<S: Sink>(
     requires rows { length rows.now ≤ 4194304 }
     requires finisher { finisher < length journals.now }
     ensures text { Wrote (S.spot sink.old).steady (S.contents sink.old) (S.contents sink.new) result
-        (text_of (merged (journals_in journals.now) finisher (rows_in rows.now))) }
+        (text_in profile (merged (journals_in journals.now) finisher (rows_in rows.now))) }
     ensures cause { HasBlame S.spot S.rest S.faults S.blamed sink.old sink.new result }
 {
     begin(journals, done);
     let first = &journals[0];
-    put_part(first, 0, first.ends().len(), sink)?;
-    put_from(journals, rows, finisher, done, sink)
+    put_part(profile, first, 0, first.ends().len(), sink)?;
+    put_from(profile, journals, rows, finisher, done, sink)
 }
 
 /// Puts the last line, which names the last of an owner's lines.
-fn write_end<S: Sink>(journal: &Journal, owner: u8, sink: &mut S) -> Result<(), Failed>
+fn write_end<S: Sink>(
+    profile: Profile,
+    journal: &Journal,
+    owner: u8,
+    sink: &mut S,
+) -> Result<(), Failed>
     requires owner { owner ≤ 64 }
     requires some { 0 < length journal.now.steps }
     ensures text { Wrote (S.spot sink.old).steady (S.contents sink.old) (S.contents sink.new) result
-        (text_of (E (Made (record { owner = owner; number = length journal.now.steps })) ∷ [])) }
+        (text_in profile (E (Made (record { owner = owner; number = length journal.now.steps })) ∷ [])) }
     ensures cause { HasBlame S.spot S.rest S.faults S.blamed sink.old sink.new result }
 {
     let number = journal.ends().len() as u64;
@@ -127,6 +140,7 @@ fn write_end<S: Sink>(journal: &Journal, owner: u8, sink: &mut S) -> Result<(), 
 
 /// Puts the merged lines and the last line.
 fn put_body<S: Sink>(
+    profile: Profile,
     journals: &[Journal],
     rows: &[Row],
     finisher: u8,
@@ -141,24 +155,25 @@ fn put_body<S: Sink>(
     requires finisher { finisher < length journals.now }
     requires ends { 0 < length (journal_of (journals_in journals.now) finisher).lines }
     ensures text { Wrote (S.spot sink.old).steady (S.contents sink.old) (S.contents sink.new) result
-        (text_of (merged (journals_in journals.now) finisher (rows_in rows.now)
+        (text_in profile (merged (journals_in journals.now) finisher (rows_in rows.now)
         ++ E (Made (last_name (journals_in journals.now) finisher)) ∷ [])) }
     ensures cause { HasBlame S.spot S.rest S.faults S.blamed sink.old sink.new result }
 {
     let mut counts = [0usize; OWNERS];
     let done = &mut counts[..journals.len()];
-    put_merged(journals, rows, finisher, done, sink)?;
+    put_merged(profile, journals, rows, finisher, done, sink)?;
     let last = &journals[usize::from(finisher)];
-    write_end(last, finisher, sink)
+    write_end(profile, last, finisher, sink)
 }
 
 /// Puts the log of a refutation over a model of so many constraints: the head, owner 0's lines, what each nogood of the rows brings in
-/// their order, the further lines of the finisher, and a last line that names the finisher's last.
+/// their order, the further lines of the finisher, and a last line that names the finisher's last. In a log without hints these are dropped.
 ///
 /// Where the journals are those of a search over the model and the finisher's last constraint is plainly false, the log is accepted. The
-/// parts of a journal's text that stand together are one call of the sink each, and so are the two lines of the head. It takes no
-/// memory. Cost: the bytes of the text, and a search by halves among an owner's notes for each nogood.
+/// parts of a journal's text that stand together are one call of the sink each where they keep their hints, and so are the two lines of
+/// the head. It takes no memory. Cost: the bytes of the text, and a search by halves among an owner's notes for each nogood.
 pub fn write_refutation<S: Sink>(
+    profile: Profile,
     lines: u64,
     journals: &[Journal],
     rows: &[Row],
@@ -175,7 +190,7 @@ pub fn write_refutation<S: Sink>(
     requires finisher { finisher < length journals.now }
     requires ends { 0 < length (journal_of (journals_in journals.now) finisher).lines }
     ensures text { Wrote (S.spot sink.old).steady (S.contents sink.old) (S.contents sink.new) result
-        (log_text (refutation lines journals.now rows.now finisher)) }
+        (in_profile profile (log_text (refutation lines journals.now rows.now finisher))) }
     ensures cause { HasBlame S.spot S.rest S.faults S.blamed sink.old sink.new result }
     ensures accepted { (n : ℕ) (model : List Form) (clause : ℕ → Form) (forms : ℕ → List Form)
         (last : Form) → length model ≡ lines
@@ -183,12 +198,13 @@ pub fn write_refutation<S: Sink>(
         → AreInRange n (journals_in journals.now)
         → from_one (forms finisher) (length (journal_of (journals_in journals.now) finisher).lines)
         ≡ Some last → is_contradiction last ≡ true
-        → Accepts n model (log_text (refutation lines journals.now rows.now finisher))
+        → Accepts n model
+        (in_profile profile (log_text (refutation lines journals.now rows.now finisher)))
         Unsatisfiable }
 {
     merge_laws();
     line_laws();
     ask_all(journals);
-    write_head(lines, sink)?;
-    put_body(journals, rows, finisher, sink)
+    write_head(profile, lines, sink)?;
+    put_body(profile, journals, rows, finisher, sink)
 }

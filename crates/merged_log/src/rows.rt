@@ -4,16 +4,18 @@ ghost use Rattle.std.specs.Prelude.{◌≡◌, ℕ, ◌<◌, ◌≤◌, length, 
 ghost use Rattle.outer_io.specs.KnownText.{Wrote};
 ghost use Rattle.outer_io.specs.Sinks.{HasBlame};
 ghost use Rattle.journal_theory.specs.Merging.{journal_of, noted_at, row_lines, row_done};
-ghost use Rattle.journals.specs.Keeping.{text_of};
+ghost use Rattle.merged_log.specs.Profiles.{text_in};
 ghost use Rattle.merged_log.specs.Steps.{journals_in, row_in, rows_in, rows_steps, rows_done, StandAtOwners, AllRise, HaveOwners, NotesAreOfLines};
 
 use crate::parts::put_row;
 use journals::Journal;
+use log_theory::Profile;
 use nogood_book::{Row, RowKind};
 use outer_io::{Failed, Sink};
 
 /// Puts what one row brings, and counts its owner's lines.
 fn put_of_row<S: Sink>(
+    profile: Profile,
     journals: &[Journal],
     row: &Row,
     place: u32,
@@ -29,7 +31,7 @@ fn put_of_row<S: Sink>(
         → (1 ≤ n) × (n ≤ length (journal_of (journals_in journals.now) row.now.owner).lines) }
     requires place { place < 4194304 }
     ensures text { Wrote (S.spot sink.old).steady (S.contents sink.old) (S.contents sink.new) result
-        (text_of (row_lines (journals_in journals.now) done.old place row.now.owner
+        (text_in profile (row_lines (journals_in journals.now) done.old place row.now.owner
         (noted_at (journals_in journals.now) place (row_in row.now)))) }
     ensures cause { HasBlame S.spot S.rest S.faults S.blamed sink.old sink.new result }
     ensures counts { OnOk result
@@ -41,7 +43,14 @@ fn put_of_row<S: Sink>(
         RowKind::Step => Ok(()),
         RowKind::Nogood => {
             let owner = usize::from(row.owner);
-            let count = put_row(&journals[owner], row.owner, done[owner], place, sink)?;
+            let count = put_row(
+                profile,
+                &journals[owner],
+                row.owner,
+                done[owner],
+                place,
+                sink,
+            )?;
             done[owner] = count;
             Ok(())
         }
@@ -50,6 +59,7 @@ fn put_of_row<S: Sink>(
 
 /// Puts what all rows bring, in order, and counts the lines of each owner.
 pub(crate) fn put_rows<S: Sink>(
+    profile: Profile,
     journals: &[Journal],
     rows: &[Row],
     done: &mut [usize],
@@ -63,14 +73,14 @@ pub(crate) fn put_rows<S: Sink>(
     requires lines { NotesAreOfLines (journals_in journals.now) (rows_in rows.now) }
     requires rows { length rows.now ≤ 4194304 }
     ensures text { Wrote (S.spot sink.old).steady (S.contents sink.old) (S.contents sink.new) result
-        (text_of (rows_steps (journals_in journals.now) 0 (rows_in rows.now) done.old)) }
+        (text_in profile (rows_steps (journals_in journals.now) 0 (rows_in rows.now) done.old)) }
     ensures cause { HasBlame S.spot S.rest S.faults S.blamed sink.old sink.new result }
     ensures counts { OnOk result
         (done.new ≡ rows_done (journals_in journals.now) 0 (rows_in rows.now) done.old) }
     ensures len { length done.new ≡ length done.old }
 {
     for (place, row) in rows.iter().enumerate() {
-        put_of_row(journals, row, place as u32, done, sink)?;
+        put_of_row(profile, journals, row, place as u32, done, sink)?;
     }
     Ok(())
 }

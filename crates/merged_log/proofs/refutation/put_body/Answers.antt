@@ -8,7 +8,7 @@ use Rattle.log_theory.specs.declared.step.Ref.TheVariants.{Made}
 use Rattle.log_theory.specs.declared.step.Step.TheVariants.{E}
 use Rattle.journal_theory.specs.Journals.{Journal}
 use Rattle.journal_theory.specs.Merging.{merged, last_name}
-use Rattle.journals.specs.Keeping.{text_of}
+use Rattle.merged_log.specs.Profiles.{text_in}
 use Rattle.merged_log.specs.Steps.{journals_in, rows_in}
 use Rattle.merged_log.proofs.Putting.{steps-then, steps-first}
 use Rattle.merged_log.proofs.RowSteps.{journal_here, take_replicate}
@@ -22,7 +22,7 @@ returns-in_err-put_merged-clause-text g c =
     let p = err_from_is_err_and c.from_residual.result c.from_residual.ensures.1 in
     let js = journals_in c.args.journals.now in
     let f = c.args.finisher in
-    rw p.1 (steps-first _ _ _ (merged js f (rows_in c.args.rows.now)) (E (Made (last_name js f)) ∷ []) c.in_err-put_merged.ensures.text)
+    rw p.1 (steps-first c.args.profile _ _ _ (merged js f (rows_in c.args.rows.now)) (E (Made (last_name js f)) ∷ []) c.in_err-put_merged.ensures.text)
 
 pub returns-clause-text : goal.returns-clause-text
 returns-clause-text g c =
@@ -32,7 +32,7 @@ returns-clause-text g c =
     let inside = c.requires.finisher in
     let here : slice_get js f ≡ Some j = ap (slice_get js) (sym c.from.ensures) ∙ slice_get_read js _ c.from.result j refl (omega (arith, inside, c.from.ensures)) c.index-journals-from.is in
     let count : length j.steps ≡ (last_name (journals_in js) f).number = ap (λ (x : Journal). length x.lines) (sym (journal_here js f j here)) in
-    let end = subst (λ (n : ℕ). Wrote (g.S.Sink.spot c.put_merged.new.sink).steady (g.S.Sink.contents c.put_merged.new.sink) (g.S.Sink.contents c.write_end.new.sink) c.write_end.result (text_of (E (Made (record { owner = f; number = n })) ∷ [])))
+    let end = subst (λ (n : ℕ). Wrote (g.S.Sink.spot c.put_merged.new.sink).steady (g.S.Sink.contents c.put_merged.new.sink) (g.S.Sink.contents c.write_end.new.sink) c.write_end.result (text_in c.args.profile (E (Made (record { owner = f; number = n })) ∷ [])))
     count c.write_end.ensures.text in
-    steps-then _ _ (ap (λ (s : Spot). s.steady) c.put_merged.ensures.cause.same) _ _ _ c.write_end.result (merged (journals_in js) f (rows_in c.args.rows.now)) (E (Made (last_name (journals_in js) f)) ∷ [])
+    steps-then c.args.profile _ _ (ap (λ (s : Spot). s.steady) c.put_merged.ensures.cause.same) _ _ _ c.write_end.result (merged (journals_in js) f (rows_in c.args.rows.now)) (E (Made (last_name (journals_in js) f)) ∷ [])
     c.in_ok-put_merged.ensures.text end

@@ -5,7 +5,7 @@ use Rattle.outer_io.specs.KnownText.{Wrote, StopsIn}
 use Rattle.outer_io.specs.Sinks.{Spot}
 use Rattle.log_theory.specs.declared.step.Step.{Step}
 use Rattle.journal_theory.specs.Merging.{merge_from, begun}
-use Rattle.journals.specs.Keeping.{text_of}
+use Rattle.merged_log.specs.Profiles.{text_in}
 use Rattle.journals.proofs.Texts.{ends_long}
 use Rattle.merged_log.specs.Lines.{part_of}
 use Rattle.merged_log.specs.Steps.{journals_in, rows_in}
@@ -29,8 +29,8 @@ returns-in_err-put_part-clause-text g c =
     let long : n ≡ length j.steps = ap length c.ends.ensures.ends ∙ ends_long 0 j.steps in
     let rest = merge_from (journals_in js) c.args.finisher 0 (rows_in c.args.rows.now) (begun (journals_in js)) in
     rw p.1
-    (subst (λ (ss : List Step). StopsIn (g.S.Sink.spot c.args.sink.now).steady (g.S.Sink.contents c.args.sink.now) (g.S.Sink.contents c.put_part.new.sink) (text_of (ss ++ rest)))
-    (first_part js j n here (c.requires.owners 0 j here) (omega (arith, long))) (steps-first _ _ _ (part_of j 0 n) rest c.in_err-put_part.ensures.text))
+    (subst (λ (ss : List Step). StopsIn (g.S.Sink.spot c.args.sink.now).steady (g.S.Sink.contents c.args.sink.now) (g.S.Sink.contents c.put_part.new.sink) (text_in c.args.profile (ss ++ rest)))
+    (first_part js j n here (c.requires.owners 0 j here) (omega (arith, long))) (steps-first c.args.profile _ _ _ (part_of j 0 n) rest c.in_err-put_part.ensures.text))
 
 pub returns-clause-text : goal.returns-clause-text
 returns-clause-text g c =
@@ -42,9 +42,9 @@ returns-clause-text g c =
     let inside = c.requires.finisher in
     let here = slice_get_read js _ 0 j refl (omega (arith, inside)) c.index-journals-0.is in
     let long : n ≡ length j.steps = ap length c.ends.ensures.ends ∙ ends_long 0 j.steps in
-    let rest = subst (λ (d : List ℕ). Wrote (g.S.Sink.spot c.put_part.new.sink).steady (g.S.Sink.contents c.put_part.new.sink) (g.S.Sink.contents c.put_from.new.sink) c.put_from.result (text_of (merge_from (journals_in js) f 0 rows d)))
+    let rest = subst (λ (d : List ℕ). Wrote (g.S.Sink.spot c.put_part.new.sink).steady (g.S.Sink.contents c.put_part.new.sink) (g.S.Sink.contents c.put_from.new.sink) c.put_from.result (text_in c.args.profile (merge_from (journals_in js) f 0 rows d)))
     c.begin.ensures c.put_from.ensures.text in
-    subst (λ (ss : List Step). Wrote (g.S.Sink.spot c.args.sink.now).steady (g.S.Sink.contents c.args.sink.now) (g.S.Sink.contents c.put_from.new.sink) c.put_from.result (text_of (ss ++ merge_from (journals_in js) f 0 rows (begun (journals_in js)))))
+    subst (λ (ss : List Step). Wrote (g.S.Sink.spot c.args.sink.now).steady (g.S.Sink.contents c.args.sink.now) (g.S.Sink.contents c.put_from.new.sink) c.put_from.result (text_in c.args.profile (ss ++ merge_from (journals_in js) f 0 rows (begun (journals_in js)))))
     (first_part js j n here (c.requires.owners 0 j here) (omega (arith, long)))
-    (steps-then _ _ (ap (λ (s : Spot). s.steady) c.put_part.ensures.cause.same) _ _ _ c.put_from.result (part_of j 0 n) (merge_from (journals_in js) f 0 rows (begun (journals_in js)))
+    (steps-then c.args.profile _ _ (ap (λ (s : Spot). s.steady) c.put_part.ensures.cause.same) _ _ _ c.put_from.result (part_of j 0 n) (merge_from (journals_in js) f 0 rows (begun (journals_in js)))
     c.in_ok-put_part.ensures.text rest)

@@ -5,6 +5,8 @@ use Rattle.log_theory.specs.declared.step.Step.TheVariants.{E}
 use Rattle.log_theory.specs.Words.{line_text}
 use Rattle.log_theory.specs.LogText.{step_words}
 use Rattle.journals.proofs.Texts.{ends_long}
+use Rattle.merged_log.specs.Profiles.{line_in}
+use Rattle.merged_log.proofs.Profiled.{e_line}
 use Rattle.merged_log.proofs.refutation.write_end.Goals as goal
 
 pub write_step-requires : goal.write_step-requires
@@ -20,5 +22,6 @@ returns-clause-text g c =
     let long : length c.ends.result.now ≡ length c.args.journal.now.steps = ap length c.ends.ensures.ends ∙ ends_long 0 c.args.journal.now.steps in
     subst (λ (t : List ℕ). Wrote (g.S.Sink.spot c.args.sink.now).steady (g.S.Sink.contents c.args.sink.now) (g.S.Sink.contents c.write_step.new.sink) c.write_step.result t)
     (ap (λ (n : ℕ). line_text (step_words (E (Made (record { owner = c.args.owner; number = n }))))) long
-    ∙ sym (append-nil (line_text (step_words (E (Made (record { owner = c.args.owner; number = length c.args.journal.now.steps })))))))
+    ∙ sym (e_line c.args.profile (Made (record { owner = c.args.owner; number = length c.args.journal.now.steps })))
+    ∙ sym (append-nil (line_in c.args.profile (E (Made (record { owner = c.args.owner; number = length c.args.journal.now.steps }))))))
     c.write_step.ensures.text

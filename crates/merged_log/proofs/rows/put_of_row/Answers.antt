@@ -4,7 +4,7 @@ use Rattle.std.specs.Io.KnownBytes.{append_known}
 use Rattle.std.proofs.lemmas.Option.{slice_get_read}
 use Rattle.log_theory.specs.declared.step.Step.{Step}
 use Rattle.journal_theory.specs.Journals.{note_of}
-use Rattle.journals.specs.Keeping.{text_of}
+use Rattle.merged_log.specs.Profiles.{text_in}
 use Rattle.merged_log.specs.Lines.{brought, count_then}
 use Rattle.merged_log.proofs.RowSteps.{row_brings, row_counts}
 use Rattle.merged_log.proofs.rows.put_of_row.Goals as goal
@@ -19,8 +19,8 @@ returns-in_ok-count-in-Nogood-clause-text g c =
     ap (slice_get js) (sym c.from-owner.ensures) ∙ slice_get_read js _ c.from-owner.result j refl (omega (arith, owned, c.from-owner.ensures)) c.index-journals-owner.is in
     let lines = row_brings js c.args.done.now c.args.place r j here (c.requires.owners r.owner j here) c.in-Nogood.is in
     c.in_ok-count-in-Nogood.ensures.text
-    ∙ ap (λ (w : ℕ). append_known (g.S.Sink.contents c.args.sink.now) (text_of (brought j (get_or c.args.done.now w 0) c.args.place (note_of j.notes c.args.place)))) c.from-owner.ensures
-    ∙ ap (λ (ss : List Step). append_known (g.S.Sink.contents c.args.sink.now) (text_of ss)) (sym lines)
+    ∙ ap (λ (w : ℕ). append_known (g.S.Sink.contents c.args.sink.now) (text_in c.args.profile (brought j (get_or c.args.done.now w 0) c.args.place (note_of j.notes c.args.place)))) c.from-owner.ensures
+    ∙ ap (λ (ss : List Step). append_known (g.S.Sink.contents c.args.sink.now) (text_in c.args.profile ss)) (sym lines)
 
 pub returns-in_ok-count-in-Nogood-clause-counts : goal.returns-in_ok-count-in-Nogood-clause-counts
 returns-in_ok-count-in-Nogood-clause-counts g c =

@@ -9,7 +9,7 @@ use Rattle.log_theory.specs.declared.step.Step.{Step}
 use Rattle.nogood_book.specs.declared.row.Row.{Row as BookRow}
 use Rattle.nogood_book.specs.declared.row.RowKind.TheVariants as kinds
 use Rattle.journal_theory.specs.Merging.{row_lines, row_done, noted_at}
-use Rattle.journals.specs.Keeping.{text_of}
+use Rattle.merged_log.specs.Profiles.{text_in}
 use Rattle.merged_log.specs.Steps.{journals_in, row_in, rows_in, rows_steps, rows_done}
 use Rattle.merged_log.proofs.Putting.{steps-stop, steps-more}
 use Rattle.merged_log.proofs.RowSteps.{rows_more, done_more, rows_cut}
@@ -34,14 +34,14 @@ returns-in_err-put_of_row-clause-text g c =
     let i = c.loop-place.place in
     let r = row_in (row_at c.args.rows.now i) in
     let done = c.args.done.now in
-    let stop = subst (λ (d : List ℕ). StopsIn (g.S.Sink.spot c.loop-place.sink).steady (g.S.Sink.contents c.loop-place.sink) (g.S.Sink.contents c.put_of_row.new.sink) (text_of (row_lines js d i r.owner (noted_at js i r))))
+    let stop = subst (λ (d : List ℕ). StopsIn (g.S.Sink.spot c.loop-place.sink).steady (g.S.Sink.contents c.loop-place.sink) (g.S.Sink.contents c.put_of_row.new.sink) (text_in c.args.profile (row_lines js d i r.owner (noted_at js i r))))
     c.loop-place.invariant.counts c.in_err-put_of_row.ensures.text in
     let rest = rows_steps js (0 + length (take (i + 1) rows)) (drop (i + 1) rows) (rows_done js 0 (take (i + 1) rows) done) in
     let whole : (rows_steps js 0 (take i rows) done ++ row_lines js (rows_done js 0 (take i rows) done) i r.owner (noted_at js i r)) ++ rest ≡ rows_steps js 0 rows done =
     ap (λ (ss : List Step). ss ++ rest) (sym (rows_more js rows i r done (here c.args.rows.now i c.loop-place-test.true))) ∙ sym (rows_cut js rows (i + 1) done) in
     rw p.1
-    (subst (λ (ss : List Step). StopsIn (g.S.Sink.spot c.args.sink.now).steady (g.S.Sink.contents c.args.sink.now) (g.S.Sink.contents c.put_of_row.new.sink) (text_of ss)) whole
-    (steps-stop _ _ (ap (λ (s : Spot). s.steady) c.loop-place.invariant.same) _ _ _ (rows_steps js 0 (take i rows) done) (row_lines js (rows_done js 0 (take i rows) done) i r.owner (noted_at js i r)) rest
+    (subst (λ (ss : List Step). StopsIn (g.S.Sink.spot c.args.sink.now).steady (g.S.Sink.contents c.args.sink.now) (g.S.Sink.contents c.put_of_row.new.sink) (text_in c.args.profile ss)) whole
+    (steps-stop c.args.profile _ _ (ap (λ (s : Spot). s.steady) c.loop-place.invariant.same) _ _ _ (rows_steps js 0 (take i rows) done) (row_lines js (rows_done js 0 (take i rows) done) i r.owner (noted_at js i r)) rest
     c.loop-place.invariant.text stop))
 
 pub loop-place-preserved : goal.loop-place-preserved
@@ -52,14 +52,14 @@ loop-place-preserved g c =
     let r = row_in (row_at c.args.rows.now i) in
     let done = c.args.done.now in
     let at = here c.args.rows.now i c.loop-place-test.true in
-    let put : g.S.Sink.contents c.put_of_row.new.sink ≡ append_known (g.S.Sink.contents c.loop-place.sink) (text_of (row_lines js (rows_done js 0 (take i rows) done) i r.owner (noted_at js i r))) =
+    let put : g.S.Sink.contents c.put_of_row.new.sink ≡ append_known (g.S.Sink.contents c.loop-place.sink) (text_in c.args.profile (row_lines js (rows_done js 0 (take i rows) done) i r.owner (noted_at js i r))) =
     c.in_ok-put_of_row.ensures.text
-    ∙ ap (λ (d : List ℕ). append_known (g.S.Sink.contents c.loop-place.sink) (text_of (row_lines js d i r.owner (noted_at js i r)))) c.loop-place.invariant.counts in
+    ∙ ap (λ (d : List ℕ). append_known (g.S.Sink.contents c.loop-place.sink) (text_in c.args.profile (row_lines js d i r.owner (noted_at js i r)))) c.loop-place.invariant.counts in
     record {
       text =
-          steps-more (g.S.Sink.contents c.args.sink.now) (g.S.Sink.contents c.loop-place.sink) (g.S.Sink.contents c.put_of_row.new.sink) (rows_steps js 0 (take i rows) done)
+          steps-more c.args.profile (g.S.Sink.contents c.args.sink.now) (g.S.Sink.contents c.loop-place.sink) (g.S.Sink.contents c.put_of_row.new.sink) (rows_steps js 0 (take i rows) done)
           (row_lines js (rows_done js 0 (take i rows) done) i r.owner (noted_at js i r)) c.loop-place.invariant.text put
-          ∙ ap (λ (ss : List Step). append_known (g.S.Sink.contents c.args.sink.now) (text_of ss)) (sym (rows_more js rows i r done at));
+          ∙ ap (λ (ss : List Step). append_known (g.S.Sink.contents c.args.sink.now) (text_in c.args.profile ss)) (sym (rows_more js rows i r done at));
       counts =
           c.in_ok-put_of_row.ensures.counts ∙ ap (λ (d : List ℕ). row_done d r.owner (noted_at js i r)) c.loop-place.invariant.counts
           ∙ sym (done_more js rows i r done at);

@@ -5,7 +5,7 @@ use Rattle.journals.specs.Keeping.{text_of}
 use Rattle.journals.proofs.Texts.{ends_long}
 use Rattle.merged_log.specs.Lines.{part_of}
 use Rattle.merged_log.proofs.PartTexts.{text_grows, text_within, text_between, names_part}
-use Rattle.merged_log.proofs.parts.put_part.Goals as goal
+use Rattle.merged_log.proofs.parts.put_hinted.Goals as goal
 
 pub end_of-requires : goal.end_of-requires
 end_of-requires g c =
