@@ -5,9 +5,11 @@ use Rattle.std.specs.Option.{option_map_or}
 use Rattle.std.specs.Str.{bytes_eq}
 use Rattle.clap.specs.Words.{Row, Text, first_of, fault_of, subcommand_of}
 use Rattle.clap.specs.Walk.{is_empty}
+use Rattle.log_theory.specs.declared.profile.Profile.{Profile}
+use Rattle.log_theory.specs.declared.profile.Profile.TheVariants.{Hinted}
 use Rattle.graph_theory.specs.declared.lad_text.LadKind.{LadKind}
 use Rattle.graph_theory.specs.declared.lad_text.LadKind.TheVariants.{Lad}
-use Rattle.command_line.specs.Words.{file_name, threads, budget, seed, book, format}
+use Rattle.command_line.specs.Words.{file_name, threads, budget, seed, book, profile, format}
 use Rattle.command_line.specs.Grammar.{grammar}
 use Rattle.command_line.specs.declared.commands.Command.{Command}
 use Rattle.command_line.specs.declared.commands.Command.TheVariants.{Solve, Verify, Encode, Check, Demo}
@@ -51,16 +53,20 @@ threads_at rows = or_default 1 threads (first_of (codes "threads") rows)
 abbrev pub book_at : List Row → Option ℕ
 book_at rows = or_default 65536 book (first_of (codes "book") rows)
 
--- The files of a proof, where both names are good.
-abbrev pub prove_named : Option Text → Option Text → Option (Option ProveWords)
-prove_named (Some e) (Some l) = Some (Some (record { encoding = e; log = l }))
-prove_named _ _ = None
+-- The files of a proof, where both names are good, and so is the profile of its log.
+abbrev pub prove_named : Option Text → Option Text → Option Profile → Option (Option ProveWords)
+prove_named (Some e) (Some l) (Some n) = Some (Some (record { encoding = e; log = l; profile = n }))
+prove_named _ _ _ = None
 
--- The files of a proof, where both are named, or that none is asked for, where neither is.
-abbrev pub prove_from : Option Text → Option Text → Option (Option ProveWords)
-prove_from None None = Some None
-prove_from (Some e) (Some l) = prove_named (file_name e) (file_name l)
-prove_from _ _ = None
+-- The profile of a log, the one with hints where no number is named.
+abbrev pub profile_from : Option Text → Option Profile
+profile_from word = or_default Hinted profile word
+
+-- The files of a proof, where both are named, or that none is asked for, where neither is, and no profile.
+abbrev pub prove_from : Option Text → Option Text → Option Text → Option (Option ProveWords)
+prove_from None None None = Some None
+prove_from (Some e) (Some l) word = prove_named (file_name e) (file_name l) (profile_from word)
+prove_from _ _ _ = None
 
 -- Whether the files of a proof differ from each other, and from the pattern's and the target's.
 abbrev pub are_apart : Text → Text → Option ProveWords → Bool
@@ -68,9 +74,9 @@ are_apart p t None = true
 are_apart p t (Some w) = not (bytes_eq w.encoding w.log) && (not (bytes_eq w.encoding p) && (not (bytes_eq w.encoding t)
     && (not (bytes_eq w.log p) && not (bytes_eq w.log t))))
 
--- The files of a proof that the words name, `--prove` and `--log` together.
+-- The files of a proof that the words name, `--prove` and `--log` together, and `--profile` only beside them.
 abbrev pub prove_at : List Row → Option (Option ProveWords)
-prove_at rows = prove_from (first_of (codes "prove") rows) (first_of (codes "log") rows)
+prove_at rows = prove_from (first_of (codes "prove") rows) (first_of (codes "log") rows) (first_of (codes "profile") rows)
 
 -- A solve, where each of its words is good, and the files of its proof are apart.
 abbrev pub solve_from : Option Text → Option Text → Bool → Option LadKind → Option ℕ → Option ℕ → Option ℕ → Option ℕ

@@ -33,11 +33,13 @@ with_mapping a = with_rule a (positional (codes "mapping"))
 unfoldable pub with_search : App → App
 with_search a = with_rule (with_rule (with_rule a (option (codes "threads"))) (option (codes "seed"))) (option (codes "budget"))
 
--- The files of a proof.
+-- The files of a proof, and the profile of its log.
 unfoldable pub with_proof : App → App
-with_proof a = with_rule (with_rule a (option (codes "prove"))) (option (codes "log"))
+with_proof a = with_rule (with_rule (with_rule a (option (codes "prove"))) (option (codes "log")))
+    (option (codes "profile"))
 
--- `solve P T [--induced] [--format F] [--threads N] [--seed N] [--budget N] [--book N] [--prove ENC --log LOG]`
+-- `solve P T [--induced] [--format F] [--threads N] [--seed N] [--budget N] [--book N]`
+-- `[--prove ENC --log LOG [--profile N]]`
 unfoldable pub solve_grammar : App
 solve_grammar = with_proof (with_rule (with_search (with_kind (with_graphs (new_app (codes "solve"))))) (option (codes "book")))
 

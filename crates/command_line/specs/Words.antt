@@ -1,8 +1,10 @@
 -- What single words stand for: names of files, numbers and formats.
 
-use Rattle.std.specs.Prelude.{ℕ, ◌&&◌, nat_lt, nat_le, if◌then◌else◌, List, length, Option, Some, None, codes}
+use Rattle.std.specs.Prelude.{ℕ, ◌==◌, ◌&&◌, nat_lt, nat_le, if◌then◌else◌, List, length, Option, Some, None, option_map, codes}
 use Rattle.std.specs.Str.{all_ascii_digits, bytes_eq}
 use Rattle.std.specs.Str.Parse.{digits_value}
+use Rattle.log_theory.specs.declared.profile.Profile.{Profile}
+use Rattle.log_theory.specs.declared.profile.Profile.TheVariants.{Hinted, Plain}
 use Rattle.graph_theory.specs.declared.lad_text.LadKind.{LadKind}
 use Rattle.graph_theory.specs.declared.lad_text.LadKind.TheVariants.{Lad, VertexLabelledLad}
 
@@ -31,6 +33,10 @@ threads = number_within 1 64
 -- How many rows of nogoods the workers share is a number from 0 to 4,194,304.
 abbrev pub book : List ℕ → Option ℕ
 book = number_within 0 4194304
+
+-- The profile of a log is a number: 1, with hints, or 2, without.
+abbrev pub profile : List ℕ → Option Profile
+profile text = option_map (λ n. if n == 2 then Plain else Hinted) (number_within 1 2 text)
 
 -- The format that a word names.
 abbrev pub format : List ℕ → Option LadKind

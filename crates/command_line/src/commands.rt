@@ -2,6 +2,7 @@
 
 use crate::file_name::FileName;
 use graph_theory::lad_text::LadKind;
+use log_theory::Profile;
 
 /// What the program is asked to do.
 #[derive(Drop)]
@@ -48,6 +49,8 @@ pub struct ProveWords<'a> {
     pub encoding: FileName<'a>,
     /// The file of the log.
     pub log: FileName<'a>,
+    /// Whether the log is one with hints or without.
+    pub profile: Profile,
 }
 
 /// What the words of `verify` tell.

@@ -87,7 +87,7 @@ fn add_search<'a>(alloc: Global, command: Command<'a>) -> Result<Command<'a>, Al
     add(with_seed, option(alloc, "budget"))
 }
 
-/// The command with the files of a proof.
+/// The command with the files of a proof, and the profile of its log.
 #[tactic(auto, unfolding(crate::specs::Grammar::with_proof))]
 fn add_proof<'a>(alloc: Global, command: Command<'a>) -> Result<Command<'a>, AllocError>
     ensures app { IfOk result (λ c. app_of c ≡ spec.with_proof (app_of command.entry)) }
@@ -95,10 +95,11 @@ fn add_proof<'a>(alloc: Global, command: Command<'a>) -> Result<Command<'a>, All
         (λ c. (fields_of c).has_globals ≡ (fields_of command.entry).has_globals) }
 {
     let with_prove = add(command, option(alloc, "prove"))?;
-    add(with_prove, option(alloc, "log"))
+    let with_log = add(with_prove, option(alloc, "log"))?;
+    add(with_log, option(alloc, "profile"))
 }
 
-/// `solve P T [--induced] [--format F] [--threads N] [--seed N] [--budget N] [--book N] [--prove ENC --log LOG]`
+/// `solve P T [--induced] [--format F] [--threads N] [--seed N] [--budget N] [--book N] [--prove ENC --log LOG [--profile N]]`
 #[tactic(auto, unfolding(crate::specs::Grammar::solve_grammar))]
 fn solve_command<'a>(alloc: Global) -> Result<Command<'a>, AllocError>
     ensures app { IfOk result (λ c. app_of c ≡ spec.solve_grammar) }

@@ -20,6 +20,7 @@ use crate::grammar::whole_grammar;
 use clap::error::ErrorKind;
 use clap::{ArgMatches, Error};
 use graph_theory::lad_text::LadKind;
+use log_theory::Profile;
 use std::alloc::{AllocError, Global};
 
 /// The largest seed.
@@ -197,23 +198,58 @@ fn book_at(matches: &ArgMatches) -> Option<u32>
     }
 }
 
-/// The files of a proof, by both of their words.
-fn prove_named<'a>(encoding: &'a str, log: &'a str) -> Option<Option<ProveWords<'a>>>
+/// The profile that a word numbers.
+fn profile_numbered(text: &str) -> Option<Profile>
+    ensures { result ≡ word.profile text.now }
+{
+    match number_of(text, 1, 2) {
+        Some(2) => Some(Profile::Plain),
+        Some(_) => Some(Profile::Hinted),
+        None => None,
+    }
+}
+
+/// The profile of a log.
+fn profile_from(text: Option<&str>) -> Option<Profile>
+    ensures { result ≡ line.profile_from (option_map (λ s. s.now) text.entry) }
+{
+    match text {
+        Some(text) => profile_numbered(text),
+        None => Some(Profile::Hinted),
+    }
+}
+
+/// The files of a proof, by both of their words, and the profile of its log.
+fn prove_named<'a>(
+    encoding: &'a str,
+    log: &'a str,
+    profile: Option<Profile>,
+) -> Option<Option<ProveWords<'a>>>
     ensures { result
-        ≡ line.prove_named (word.file_name encoding.entry.now) (word.file_name log.entry.now) }
+        ≡ line.prove_named (word.file_name encoding.entry.now) (word.file_name log.entry.now)
+        profile }
 {
     let encoding = FileName::new(encoding)?;
     let log = FileName::new(log)?;
-    Some(Some(ProveWords { encoding, log }))
+    let profile = profile?;
+    Some(Some(ProveWords {
+        encoding,
+        log,
+        profile,
+    }))
 }
 
 /// The files of a proof, where both are named, or that none is asked for.
 fn prove_at<'a>(matches: &ArgMatches<'a>) -> Option<Option<ProveWords<'a>>>
     ensures { result ≡ line.prove_at (rows_of (found_of matches.now)) }
 {
+    let profile = word_at(matches, "profile");
     match (word_at(matches, "prove"), word_at(matches, "log")) {
-        (None, None) => Some(None),
-        (Some(encoding), Some(log)) => prove_named(encoding, log),
+        (None, None) => match profile {
+            Some(_) => None,
+            None => Some(None),
+        },
+        (Some(encoding), Some(log)) => prove_named(encoding, log, profile_from(profile)),
         (Some(_), None) | (None, Some(_)) => None,
     }
 }

@@ -18,7 +18,12 @@ fn words_of(alloc: Global, line: &str) -> Result<Vec<String>, AllocError> {
 fn told_proof(alloc: Global, prove: &Option<ProveWords>) -> Result<String, AllocError> {
     match prove {
         None => String::from_str(alloc, "unproved"),
-        Some(words) => format!(in alloc; "{} {}", words.encoding.as_str(), words.log.as_str()),
+        Some(words) => format!(in alloc;
+            "{} {} {:?}",
+            words.encoding.as_str(),
+            words.log.as_str(),
+            words.profile
+        ),
     }
 }
 
@@ -91,7 +96,7 @@ impl<R> Example<R> for Says {
     }
 }
 
-static SAYS: [Says; 18] = [
+static SAYS: [Says; 19] = [
     Says {
         line: "subgraph solve p t",
         told: "solve p t false Lad 1 0 9223372036854775807 65536 unproved",
@@ -130,11 +135,15 @@ static SAYS: [Says; 18] = [
     },
     Says {
         line: "subgraph solve p t --prove e --log l",
-        told: "solve p t false Lad 1 0 9223372036854775807 65536 e l",
+        told: "solve p t false Lad 1 0 9223372036854775807 65536 e l Hinted",
+    },
+    Says {
+        line: "subgraph solve p t --prove e --profile=02 --log l",
+        told: "solve p t false Lad 1 0 9223372036854775807 65536 e l Plain",
     },
     Says {
         line: "subgraph solve --log=p. --prove . p t",
-        told: "solve p t false Lad 1 0 9223372036854775807 65536 . p.",
+        told: "solve p t false Lad 1 0 9223372036854775807 65536 . p. Hinted",
     },
     Says {
         line: "subgraph verify p t m",
@@ -180,7 +189,7 @@ impl<R> Example<R> for Refused {
     }
 }
 
-static REFUSED: [Refused; 39] = [
+static REFUSED: [Refused; 42] = [
     Refused(""),
     Refused("subgraph solve p"),
     Refused("subgraph solve p t m"),
@@ -212,6 +221,9 @@ static REFUSED: [Refused; 39] = [
     Refused("subgraph solve p t --prove a --log a"),
     Refused("subgraph solve p t --prove p --log l"),
     Refused("subgraph solve p t --prove e --log t"),
+    Refused("subgraph solve p t --profile 2"),
+    Refused("subgraph solve p t --prove e --log l --profile 3"),
+    Refused("subgraph solve p t --prove e --log l --profile 0"),
     Refused("subgraph solve p t --bud 4"),
     Refused("subgraph sol p t"),
     Refused("subgraph --help"),

@@ -1,6 +1,7 @@
 //! A vertex with a loop into two vertices of which the second has one: the files to the letter, with each call failing in turn.
 
 use graph_rows::Problem;
+use log_theory::Profile;
 use outer_io::{MemoryFiles, MemoryPart};
 use proof_files::{Finding, write_proof};
 use sample_graphs::graph;
@@ -57,7 +58,7 @@ fn leaves(
     } else {
         Finding::Nothing
     };
-    let written = write_proof(alloc, &q, &finding, "e", "l", &mut files);
+    let written = write_proof(alloc, &q, &finding, Profile::Hinted, "e", "l", &mut files);
     Ok(written.is_ok() == ok && (files.content("e"), files.content("l")) == contents)
 }
 

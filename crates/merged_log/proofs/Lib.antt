@@ -7,5 +7,5 @@ mod Claiming
 mod Images
 mod Holding
 mod Joining
-mod Profiled
+pub mod Profiled
 mod Ranges

@@ -1,5 +1,5 @@
 -- A log in a profile is its lines in this profile, one after another.
-use Rattle.std.proofs.Common.{◌≡◌, ◌≢◌, ℕ, zero, suc, ◌^◌, ◌<◌, ◌≤◌, Bool, true, false, cond, codes, List, [], ◌∷◌, ◌++◌, length, take, drop, get_or, map, refl, sym, ap, ◌∙◌, append_assoc, append-nil, arith}
+use Rattle.std.proofs.Common.{Some, ◌≡◌, ◌≢◌, ℕ, zero, suc, ◌^◌, ◌<◌, ◌≤◌, Bool, true, false, cond, codes, List, [], ◌∷◌, ◌++◌, length, take, drop, get_or, map, refl, sym, ap, ◌∙◌, append_assoc, append-nil, arith}
 use Rattle.std.specs.List.{flat_map}
 use Rattle.std.specs.Fmt.{decimal}
 use Rattle.std.proofs.lemmas.Bool.{eq-eqb, ne_eqb}
@@ -14,7 +14,7 @@ use Rattle.log_theory.specs.declared.step.Step.TheVariants.{Head, Model, P, U, N
 use Rattle.log_theory.specs.declared.step.Verdict.{Verdict}
 use Rattle.log_theory.specs.Words.{pieces, line_text}
 use Rattle.log_theory.specs.LogText.{name_text, step_words, AreLiterals, IsName, IsStep}
-use Rattle.log_theory.specs.Profiles.{words_in, head_of, dropped_line, dropped_lines, with_feeds, dropped_log}
+use Rattle.log_theory.specs.Profiles.{words_in, head_of, dropped_line, dropped_lines, with_feeds, dropped_log, log_profile}
 use Rattle.log_theory.specs.Acceptance.{NoFeed, AreLines, lines_text, Accepts}
 use Rattle.log_theory.proofs.Splitting.{AllBetween, decimal_bytes}
 use Rattle.log_theory.proofs.Dropping.{Lacks, Lacks-append, cut, pieces_glued}
@@ -152,6 +152,15 @@ whole_text law Plain lines ss fits h =
 pub accepted_in : (profile : Profile) (n : ℕ) (model : List Form) (steps : List Step) (claim : Verdict) → Accepts n model (log_text (Head ∷ steps)) claim → Accepts n model (in_profile profile (log_text (Head ∷ steps))) claim
 accepted_in Hinted n model steps claim a = a
 accepted_in Plain n model steps claim a = log_dropped n model (log_text (Head ∷ steps)) claim refl a
+
+-- Its first line tells the profile.
+plain_told : (ls : List (List ℕ)) → log_profile (with_feeds (head_of Plain ∷ ls)) ≡ Some Plain
+plain_told [] = refl
+plain_told (l ∷ ls) = refl
+
+pub profile_told : (profile : Profile) (steps : List Step) → log_profile (in_profile profile (log_text (Head ∷ steps))) ≡ Some profile
+profile_told Hinted steps = refl
+profile_told Plain steps = plain_told (map dropped_line (pieces (cut 10) (log_text steps)))
 
 -- ---- one line of a journal
 

@@ -28,7 +28,7 @@ fn first_wrong<R: Threads + Sync>(
     Ok(None)
 }
 
-static NO_COMMAND: [NoCommand; 13] = [
+static NO_COMMAND: [NoCommand; 16] = [
     NoCommand("subgraph"),
     NoCommand("subgraph solve p"),
     NoCommand("subgraph solve p t u"),
@@ -40,6 +40,9 @@ static NO_COMMAND: [NoCommand; 13] = [
     NoCommand("subgraph solve p t --prove a --log a"),
     NoCommand("subgraph solve p t --prove p --log l"),
     NoCommand("subgraph solve p t --prove e --log t"),
+    NoCommand("subgraph solve p t --profile 2"),
+    NoCommand("subgraph solve p t --prove e --log l --profile 3"),
+    NoCommand("subgraph solve p t --prove e --log l --profile 2 --profile 2"),
     NoCommand("subgraph verify p t m --prove e --log l"),
     NoCommand("subgraph verify p t"),
 ];

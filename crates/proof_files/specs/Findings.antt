@@ -1,14 +1,16 @@
--- What was found of a problem, and the texts that tell of it: its encoding's, and that of a log over this.
+-- What was found of a problem, and the texts that tell of it: its encoding's, and that of a log over this in a profile.
 
 use Rattle.std.specs.Prelude.{ℕ, List, length}
 use Rattle.graph_theory.specs.Embedding.{Problem, Embeds}
 use Rattle.encoding_theory.specs.Variables.{variables}
 use Rattle.encoding_theory.specs.Encoding.{encoding}
+use Rattle.log_theory.specs.declared.profile.Profile.{Profile}
 use Rattle.log_theory.specs.declared.step.Step.{Step}
 use Rattle.log_theory.specs.declared.step.Verdict.{Verdict}
 use Rattle.log_theory.specs.declared.step.Verdict.TheVariants.{Satisfiable, Unsatisfiable, Undecided}
 use Rattle.log_theory.specs.Acceptance.{Accepts}
 use Rattle.pb_encoding.specs.Writing.{encoding_text}
+use Rattle.merged_log.specs.Profiles.{in_profile}
 use Rattle.merged_log.specs.Steps.{log_text, refutation}
 use Rattle.merged_log.specs.Answers.{solution, undecided, embedding_ones}
 use Rattle.search_proof.specs.Proofs.{IsProof}
@@ -40,10 +42,12 @@ pub record Texts : Type 0 where
   pub log : List ℕ
 
 -- The texts that tell of what was found.
-abbrev pub texts : Problem → Finding → Texts
-texts q finding = record { encoding = encoding_text q; log = log_text (steps_of q finding) }
+abbrev pub texts : Profile → Problem → Finding → Texts
+texts profile q finding =
+    record { encoding = encoding_text q; log = in_profile profile (log_text (steps_of q finding)) }
 
 -- The log is accepted over the encoding, with the verdict that belongs to what was found.
-abbrev pub IsAccepted : Problem → Finding → Type 0
-IsAccepted q finding =
-    Accepts (variables q) (encoding q) (log_text (steps_of q finding)) (verdict_on finding)
+abbrev pub IsAccepted : Profile → Problem → Finding → Type 0
+IsAccepted profile q finding =
+    Accepts (variables q) (encoding q) (in_profile profile (log_text (steps_of q finding)))
+    (verdict_on finding)

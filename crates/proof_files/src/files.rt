@@ -4,6 +4,7 @@ ghost use Rattle.std.specs.Prelude.{◌≡◌, ◌≢◌, ◌≤◌, ◌⊎◌, 
 ghost use Rattle.outer_io.specs.KnownText.{Wrote};
 ghost use Rattle.log_theory.specs.Acceptance.{Accepts};
 ghost use Rattle.pb_encoding.specs.Writing.{encoding_text};
+ghost use Rattle.merged_log.specs.Profiles.{in_profile};
 ghost use Rattle.merged_log.specs.Steps.{log_text};
 ghost use Rattle.encoding_theory.specs.Variables.{variables};
 ghost use Rattle.encoding_theory.specs.Encoding.{encoding as encoding_of};
@@ -15,6 +16,7 @@ ghost use Rattle.proof_files.specs.TwoFiles.{two_files, WritingSays, KeepsOthers
 use crate::finding::Finding;
 use crate::log::{Parts, parts_of, write_log};
 use graph_rows::Problem;
+use log_theory::Profile;
 use outer_io::{Failed, Files, PieceRoom, Pieces, PutFault};
 use pb_encoding::Encoding;
 use std::alloc::Global;
@@ -67,6 +69,7 @@ fn put_encoding<F: Files>(
 
 /// Adds the log of these parts to its file, which is begun: its head, and then the rest in pieces.
 fn add_log<F: Files>(
+    profile: Profile,
     q: &Problem,
     encoding: &Encoding,
     parts: Parts,
@@ -78,22 +81,23 @@ fn add_log<F: Files>(
     requires ready { MayBeWritten q.now parts }
     requires begun { F.begun files.old ≡ Some name.now }
     ensures text { Wrote false (F.content files.old name.now) (F.content files.new name.now) result
-        (log_text (part_steps q.now parts.entry)) }
+        (in_profile profile (log_text (part_steps q.now parts.entry))) }
     ensures fault { OnErr result (FailsAt name.now (F.faults files.old) (F.faults files.new)
         (F.fault_at files.new)) }
     ensures quiet { OnOk result (F.faults files.new ≡ F.faults files.old) }
     ensures files { KeepsAllBut F.tells F.content F.faults name.now files.old files.new }
     ensures accepted { Accepts (variables q.now) (encoding_of q.now)
-        (log_text (part_steps q.now parts.entry)) (part_verdict parts.entry) }
+        (in_profile profile (log_text (part_steps q.now parts.entry))) (part_verdict parts.entry) }
 {
     let mut sink = Pieces::headed(files, name, room);
-    write_log(q, encoding, parts, &mut sink)?;
+    write_log(profile, q, encoding, parts, &mut sink)?;
     sink.flush()
 }
 
 /// Writes the log of these parts to its file.
 #[tactic(auto, using(crate::proofs::Cutting::cut_short_at))]
 fn put_log<F: Files>(
+    profile: Profile,
     q: &Problem,
     encoding: &Encoding,
     parts: Parts,
@@ -105,22 +109,22 @@ fn put_log<F: Files>(
     requires ready { MayBeWritten q.now parts }
     requires name { length name.now ≤ 4095 }
     ensures whole { OnOk result (IsTrue (F.tells files.old)
-        → F.content files.new name.now ≡ Some (log_text (part_steps q.now parts.entry))) }
+        → F.content files.new name.now ≡ Some (in_profile profile (log_text (part_steps q.now parts.entry)))) }
     ensures cut { OnErr result (IsTrue (F.tells files.old)
         → IsCutShort (F.content files.old name.now) (F.content files.new name.now)
-        (log_text (part_steps q.now parts.entry))) }
+        (in_profile profile (log_text (part_steps q.now parts.entry)))) }
     ensures fault { OnErr result (FailsAt name.now (F.faults files.old) (F.faults files.new)
         (F.fault_at files.new)) }
     ensures quiet { OnOk result (F.faults files.new ≡ F.faults files.old) }
     ensures files { KeepsAllBut F.tells F.content F.faults name.now files.old files.new }
     ensures accepted { OnOk result (Accepts (variables q.now) (encoding_of q.now)
-        (log_text (part_steps q.now parts.entry)) (part_verdict parts.entry)) }
+        (in_profile profile (log_text (part_steps q.now parts.entry))) (part_verdict parts.entry)) }
 {
     files.begin(name)?;
-    add_log(q, encoding, parts, name, room, files)
+    add_log(profile, q, encoding, parts, name, room, files)
 }
 
-/// Writes the encoding of the problem whole, and then the log of what was found of it, each in pieces of 65,536 bytes and a last one. The
+/// Writes the encoding of the problem whole, and then the log of what was found of it in a profile, each in pieces of 65,536 bytes and a last one. The
 /// first piece that is added to the log's file is the log's two head lines alone. Neither text is whole in memory.
 ///
 /// The memory for a solution, for what the encoding keeps, and for a piece is taken before the first file is touched; the log
@@ -129,6 +133,7 @@ pub fn write_proof<F: Files>(
     alloc: Global,
     q: &Problem,
     finding: &Finding,
+    profile: Profile,
     encoding: &str,
     log: &str,
     files: &mut F,
@@ -138,8 +143,8 @@ pub fn write_proof<F: Files>(
     requires apart { encoding.now ≢ log.now }
     requires found { IsFound q.now finding.now }
     ensures says { WritingSays result (two_files F.tells F.content F.faults F.fault_at
-        encoding.now log.now files.old files.new) (texts q.now finding.now) }
-    ensures accepted { OnOk result (IsAccepted q.now finding.now) }
+        encoding.now log.now files.old files.new) (texts profile q.now finding.now) }
+    ensures accepted { OnOk result (IsAccepted profile q.now finding.now) }
     ensures quiet { IsErrOf result PutFault.Failed ⊎ (F.faults files.new ≡ F.faults files.old) }
     ensures files { KeepsOthers F.tells F.content F.faults encoding.now log.now files.old
         files.new }
@@ -148,6 +153,6 @@ pub fn write_proof<F: Files>(
     let parts = parts_of(alloc, q, finding)?;
     let mut room = PieceRoom::new(alloc)?;
     put_encoding(alloc, &lines, encoding, &mut room, files)?;
-    put_log(q, &lines, parts, log, &mut room, files)?;
+    put_log(profile, q, &lines, parts, log, &mut room, files)?;
     Ok(())
 }

@@ -7,6 +7,7 @@ ghost use Rattle.encoding_theory.specs.Variables.{variables};
 ghost use Rattle.encoding_theory.specs.Encoding.{encoding as encoding_of};
 ghost use Rattle.log_theory.specs.declared.step.Verdict.TheVariants.{Unsatisfiable};
 ghost use Rattle.log_theory.specs.Acceptance.{Accepts};
+ghost use Rattle.merged_log.specs.Profiles.{in_profile};
 ghost use Rattle.merged_log.specs.Steps.{log_text, refutation};
 ghost use Rattle.search_proof.specs.Proofs.{IsProof};
 ghost use Rattle.proof_files.specs.Findings.{IsFound, steps_of, verdict_on};
@@ -14,7 +15,7 @@ ghost use Rattle.proof_files.specs.Parts.{MayBeWritten, part_steps, part_verdict
 
 use crate::finding::Finding;
 use graph_rows::Problem;
-use log_theory::Variables;
+use log_theory::{Profile, Variables};
 use merged_log::{ones_of, write_refutation, write_solution, write_undecided};
 use outer_io::{Failed, Sink};
 use pb_encoding::Encoding;
@@ -65,6 +66,7 @@ fn lines_of(q: &Problem, encoding: &Encoding) -> u64
 
 /// Puts the log of a refutation over the encoding of its problem. Its two head lines are one call of the sink. It takes no memory.
 pub fn write_refuted<S: Sink>(
+    profile: Profile,
     q: &Problem,
     encoding: &Encoding,
     parts: &Logged,
@@ -73,16 +75,15 @@ pub fn write_refuted<S: Sink>(
     requires same { encoding.now ≡ q.now }
     requires proof { IsProof q.now parts.now }
     ensures text { Wrote (S.spot sink.old).steady (S.contents sink.old) (S.contents sink.new) result
-        (log_text (refutation (length (encoding_of q.now)) parts.now.journals.items
-        parts.now.rows.items
-        parts.now.finisher)) }
+        (in_profile profile (log_text (refutation (length (encoding_of q.now))
+        parts.now.journals.items parts.now.rows.items parts.now.finisher))) }
     ensures cause { HasBlame S.spot S.rest S.faults S.blamed sink.old sink.new result }
     ensures accepted { Accepts (variables q.now) (encoding_of q.now)
-        (log_text (refutation (length (encoding_of q.now)) parts.now.journals.items
-        parts.now.rows.items
-        parts.now.finisher)) Unsatisfiable }
+        (in_profile profile (log_text (refutation (length (encoding_of q.now))
+        parts.now.journals.items parts.now.rows.items parts.now.finisher))) Unsatisfiable }
 {
     write_refutation(
+        profile,
         lines_of(q, encoding),
         parts.journals.as_slice(),
         parts.rows.as_slice(),
@@ -93,6 +94,7 @@ pub fn write_refuted<S: Sink>(
 
 /// Puts the log of these parts. Its two head lines are one call of the sink. It takes no memory.
 pub(crate) fn write_log<S: Sink>(
+    profile: Profile,
     q: &Problem,
     encoding: &Encoding,
     parts: Parts,
@@ -101,14 +103,14 @@ pub(crate) fn write_log<S: Sink>(
     requires same { encoding.now ≡ q.now }
     requires ready { MayBeWritten q.now parts }
     ensures text { Wrote (S.spot sink.old).steady (S.contents sink.old) (S.contents sink.new) result
-        (log_text (part_steps q.now parts.entry)) }
+        (in_profile profile (log_text (part_steps q.now parts.entry))) }
     ensures cause { HasBlame S.spot S.rest S.faults S.blamed sink.old sink.new result }
     ensures accepted { Accepts (variables q.now) (encoding_of q.now)
-        (log_text (part_steps q.now parts.entry)) (part_verdict parts.entry) }
+        (in_profile profile (log_text (part_steps q.now parts.entry))) (part_verdict parts.entry) }
 {
     match parts {
-        Parts::Solution(ones) => write_solution(lines_of(q, encoding), ones, sink),
-        Parts::Refutation(parts) => write_refuted(q, encoding, parts, sink),
-        Parts::Nothing => write_undecided(lines_of(q, encoding), sink),
+        Parts::Solution(ones) => write_solution(profile, lines_of(q, encoding), ones, sink),
+        Parts::Refutation(parts) => write_refuted(profile, q, encoding, parts, sink),
+        Parts::Nothing => write_undecided(profile, lines_of(q, encoding), sink),
     }
 }

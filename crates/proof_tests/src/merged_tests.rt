@@ -104,7 +104,7 @@ fn journals_of_two_owners_are_merged(rt: HostRuntime) -> Result<(), Fail> {
     journals.push_reserved(second);
     let rows = [nogood(1, 0), nogood(2, 1)];
     let mut sink = MemorySink::new(rt.alloc(), 4096, Vec::new(rt.alloc()))?;
-    assert!(rt; write_refutation(34, &journals, &rows, 2, &mut sink).is_ok());
+    assert!(rt; write_refutation(Profile::Hinted, 34, &journals, &rows, 2, &mut sink).is_ok());
     assert_eq!(rt; sink.bytes(), MERGED);
     Ok(())
 }
@@ -112,11 +112,11 @@ fn journals_of_two_owners_are_merged(rt: HostRuntime) -> Result<(), Fail> {
 #[test]
 fn other_logs_are_a_head_and_a_line(rt: HostRuntime) -> Result<(), Fail> {
     let mut sink = MemorySink::new(rt.alloc(), 4096, Vec::new(rt.alloc()))?;
-    assert!(rt; write_undecided(34, &mut sink).is_ok());
+    assert!(rt; write_undecided(Profile::Hinted, 34, &mut sink).is_ok());
     assert_eq!(rt; sink.bytes(), b"embedding proof 1\nm 34\nq\n".as_slice());
     let mut sink = MemorySink::new(rt.alloc(), 4096, Vec::new(rt.alloc()))?;
     let ones = Variables::new(Vec::from_slice(rt.alloc(), &[1u32, 4])?);
-    assert!(rt; write_solution(10, ones, &mut sink).is_ok());
+    assert!(rt; write_solution(Profile::Hinted, 10, ones, &mut sink).is_ok());
     assert_eq!(rt;
         sink.bytes(),
         b"embedding proof 1\nm 10\ny x1 x4\n".as_slice()

@@ -27,6 +27,21 @@ u 1.9 ; 1.2 1.4 1.6 1.8 1 ;
 e 1.9
 ";
 
+/// The same log without hints.
+const WITHOUT_HINTS: &str = "embedding proof 2
+m 34
+p 1.1 4 2 * 12 + 3 * 16 + 31 + 33 + ;
+u 1.2 ~x2 ;
+p 1.3 4 2 * 11 + 3 * 15 + 32 + 34 + ;
+u 1.4 ~x1 ;
+p 1.5 4 2 * 14 + 3 * 18 + 31 + 33 + ;
+u 1.6 ~x4 ;
+p 1.7 4 2 * 13 + 3 * 17 + 32 + 34 + ;
+u 1.8 ~x3 ;
+u 1.9 ;
+e 1.9
+";
+
 /// The first line of the encoding of a triangle in a cycle of four vertices.
 const FIRST_LINE: &str = "* #variable= 12 #constraint= 34\n";
 
@@ -86,7 +101,7 @@ fn first_wrong<R: Threads + Sync>(
     Ok(None)
 }
 
-static SHOWN: [Shown; 9] = [
+static SHOWN: [Shown; 13] = [
     Shown {
         line: "subgraph solve p t --prove e --log l",
         pattern: TRIANGLE,
@@ -175,6 +190,46 @@ static SHOWN: [Shown; 9] = [
         out: "unknown\n",
         encoding: FIRST_LINE,
         log: "embedding proof 1\nm 34\nq\n",
+        told: "accepted undecided\n",
+    },
+    Shown {
+        line: "subgraph solve p t --prove e --log l --profile 2",
+        pattern: TRIANGLE,
+        target: FOUR_CYCLE,
+        status: 1,
+        out: "none\n",
+        encoding: FIRST_LINE,
+        log: WITHOUT_HINTS,
+        told: "accepted unsatisfiable\n",
+    },
+    Shown {
+        line: "subgraph solve p t --prove e --log l --threads 8 --profile 2",
+        pattern: TRIANGLE,
+        target: FOUR_CYCLE,
+        status: 1,
+        out: "none\n",
+        encoding: FIRST_LINE,
+        log: "embedding proof 2\nm 34\n",
+        told: "accepted unsatisfiable\n",
+    },
+    Shown {
+        line: "subgraph solve p t --profile 1 --prove e --log l",
+        pattern: TRIANGLE,
+        target: FOUR_CYCLE,
+        status: 1,
+        out: "none\n",
+        encoding: FIRST_LINE,
+        log: REFUTATION,
+        told: "accepted unsatisfiable\n",
+    },
+    Shown {
+        line: "subgraph solve p t --budget 3 --profile 2 --prove e --log l",
+        pattern: TRIANGLE,
+        target: FOUR_CYCLE,
+        status: 2,
+        out: "unknown\n",
+        encoding: FIRST_LINE,
+        log: "embedding proof 2\nm 34\nq\n",
         told: "accepted undecided\n",
     },
 ];

@@ -7,6 +7,9 @@ use Rattle.graph_theory.specs.Embedding.{Problem, Embeds, HasNone}
 use Rattle.graph_theory.specs.LadFault.{TextLaws}
 use Rattle.search_theory.specs.Bounds.{enough}
 use Rattle.search_theory.specs.Account.{Account}
+use Rattle.encoding_theory.specs.Variables.{variables}
+use Rattle.encoding_theory.specs.Encoding.{encoding}
+use Rattle.log_theory.specs.Acceptance.{Accepts}
 use Rattle.log_theory.specs.declared.step.Verdict.TheVariants.{Satisfiable, Unsatisfiable, Undecided}
 use Rattle.command_line.specs.declared.commands.ProveWords.{ProveWords}
 use Rattle.command_line.specs.declared.commands.SolveWords.{SolveWords}
@@ -98,10 +101,10 @@ proof_says (Ok Yes) w p t accounts d out err names says asked =
     }
 proof_says (Ok Nothing) w p t accounts d out err names says asked =
     let q = says.answers.problem in
-    let held = of_asked w.prove names (λ (n : ProveWords). (log : List ℕ) × HoldProof n d.after q log Unsatisfiable) asked says.answers.is_answer.2 in
+    let held = of_asked w.prove names (λ (n : ProveWords). (log : List ℕ) × Accepts (variables q) (encoding q) log Unsatisfiable × HoldProof n d.after q log Unsatisfiable) asked says.answers.is_answer.2 in
     record {
       yes = λ e. absurd (omega arith);
-      none = λ e. (q, held.0, says.answers.asks, held.1);
+      none = λ e. (q, held.0, says.answers.asks, held.1, held.2);
       unknown = λ e. absurd (omega arith);
     }
 proof_says (Ok Unknown) w p t accounts d out err names says asked =

@@ -8,6 +8,7 @@ use Rattle.search_proof.specs.declared.proof.Proof.TheVariants.{Logged}
 use Rattle.search_proof.specs.Proofs.{IsProven}
 use Rattle.parallel_solve.specs.Solving.{AreSpent}
 use Rattle.pb_encoding.specs.Writing.{encoding_text}
+use Rattle.merged_log.specs.Profiles.{in_profile}
 use Rattle.proof_files.specs.Findings.{Texts}
 use Rattle.proof_files.specs.TwoFiles.{TwoFiles, StopsInEncoding, FailsInWriting}
 use Rattle.proof_files.specs.declared.finding.Finding.{Finding}
@@ -63,7 +64,8 @@ pub record StopsOfAnswer (stops : TwoFiles → Texts → Type 0) (a : Answer) (q
   pub asked : prove ≡ Some names
   pub log : List ℕ
   pub log_is : IsLogOf (decision_of a) q log
-  pub stopped : stops (files_of names d) (record { encoding = encoding_text q; log = log })
+  pub stopped : stops (files_of names d)
+      (record { encoding = encoding_text q; log = in_profile names.profile log })
 
 -- What leaving the proof of an answer says: the files hold it where one is asked for, or why it stopped.
 abbrev pub LeavingSays : Result Unit Stop → Answer → Problem → Option ProveWords → Disk → Type 0

@@ -8,6 +8,8 @@ use Rattle.log_theory.specs.declared.step.Verdict.{Verdict}
 use Rattle.log_theory.specs.declared.step.Verdict.TheVariants.{Satisfiable, Unsatisfiable, Undecided}
 use Rattle.log_theory.specs.Acceptance.{Accepts}
 use Rattle.pb_encoding.specs.Writing.{encoding_text}
+use Rattle.log_theory.specs.Profiles.{log_profile}
+use Rattle.merged_log.specs.Profiles.{in_profile}
 use Rattle.merged_log.specs.Steps.{log_text}
 use Rattle.merged_log.specs.Answers.{solution, undecided, embedding_ones}
 use Rattle.proof_files.specs.Findings.{Texts}
@@ -31,21 +33,22 @@ map_log q m = log_text (solution (length (encoding q)) (embedding_ones q m))
 abbrev pub open_log : Problem → List ℕ
 open_log q = log_text (undecided (length (encoding q)))
 
--- The two files hold the encoding of the problem and this log, which is accepted over the encoding with this verdict.
+-- The two files hold the encoding of the problem and this log in the profile that is asked for: with its hints, or with these dropped. The log as it is held is of this profile, and is accepted over the encoding with this verdict.
 pub record HoldProof (p : ProveWords) (held : List ℕ → Option (List ℕ)) (q : Problem) (log : List ℕ)
     (verdict : Verdict) : Type 0 where
   pub encoding_is : held p.encoding ≡ Some (encoding_text q)
-  pub log_is : held p.log ≡ Some log
-  pub accepts : Accepts (variables q) (encoding q) log verdict
+  pub log_is : held p.log ≡ Some (in_profile p.profile log)
+  pub profile_is : log_profile (in_profile p.profile log) ≡ Some p.profile
+  pub accepts : Accepts (variables q) (encoding q) (in_profile p.profile log) verdict
 
 -- Where a proof is asked for, the files hold it: the log is that of an embedding.
 abbrev pub ShowsMap : Option ProveWords → (List ℕ → Option (List ℕ)) → Problem → List ℕ → Type 0
 ShowsMap prove held q m = IfSome prove (λ p. HoldProof p held q (map_log q m) Satisfiable)
 
--- The log is a refutation.
+-- The log is a refutation, also with its hints.
 abbrev pub ShowsNone : Option ProveWords → (List ℕ → Option (List ℕ)) → Problem → Type 0
-ShowsNone prove held q =
-    IfSome prove (λ p. (log : List ℕ) × HoldProof p held q log Unsatisfiable)
+ShowsNone prove held q = IfSome prove (λ p. (log : List ℕ)
+    × Accepts (variables q) (encoding q) log Unsatisfiable × HoldProof p held q log Unsatisfiable)
 
 -- The log claims nothing.
 abbrev pub ShowsNothing : Option ProveWords → (List ℕ → Option (List ℕ)) → Problem → Type 0
@@ -80,7 +83,8 @@ pub record StopsInProof (stops : TwoFiles → Texts → Type 0) (w : SolveWords)
   pub decision : Decision
   pub log : List ℕ
   pub log_is : IsLogOf decision problem log
-  pub stopped : stops (files_of names d) (record { encoding = encoding_text problem; log = log })
+  pub stopped : stops (files_of names d)
+      (record { encoding = encoding_text problem; log = in_profile names.profile log })
 
 -- The last call that failed was one of writing one of the two files.
 abbrev pub IsWritingOfProof : Option ProveWords → Disk → Type 0

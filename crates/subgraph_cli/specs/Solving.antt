@@ -8,6 +8,9 @@ use Rattle.search_theory.specs.Bounds.{enough}
 use Rattle.search_theory.specs.Account.{Account}
 use Rattle.parallel_solve.specs.Solving.{AreSpent}
 use Rattle.proof_files.specs.TwoFiles.{StopsInEncoding, FailsInWriting}
+use Rattle.encoding_theory.specs.Variables.{variables}
+use Rattle.encoding_theory.specs.Encoding.{encoding}
+use Rattle.log_theory.specs.Acceptance.{Accepts}
 use Rattle.log_theory.specs.declared.step.Verdict.TheVariants.{Satisfiable, Unsatisfiable, Undecided}
 use Rattle.command_line.specs.declared.commands.ProveWords.{ProveWords}
 use Rattle.command_line.specs.declared.commands.SolveWords.{SolveWords}
@@ -131,14 +134,16 @@ pub record SolveLeads (status : ℕ) (w : SolveWords)
   pub refused : (role : Role) (fault : TextFault)
       → IsFirstRefused pattern target w.format role fault → IsOrStops 4 status
 
--- What the two files of a proof hold at each answer: the encoding of the problem that the graphs' files ask, and a log that is accepted over it, that of the map which was written, a refutation, or one that claims nothing.
+-- What the two files of a proof hold at each answer: the encoding of the problem that the graphs' files ask, and a log in the profile that is asked for and accepted over it, that of the map which was written, a refutation, or one that claims nothing.
 pub record SolveProof (o : Outcome) (w : SolveWords) (p : ProveWords)
     (pattern target : Option (List ℕ)) : Type 0 where
   pub yes : o.status ≡ 0 → (q : Problem) × (m : List ℕ)
       × Asks pattern target w.format w.induced q × Got o.out (yes_text m)
       × HoldProof p o.disk.after q (map_log q m) Satisfiable
   pub none : o.status ≡ 1 → (q : Problem) × (log : List ℕ)
-      × Asks pattern target w.format w.induced q × HoldProof p o.disk.after q log Unsatisfiable
+      × Asks pattern target w.format w.induced q
+      × Accepts (variables q) (encoding q) log Unsatisfiable
+      × HoldProof p o.disk.after q log Unsatisfiable
   pub unknown : o.status ≡ 2 → (q : Problem) × Asks pattern target w.format w.induced q
       × HoldProof p o.disk.after q (open_log q) Undecided
 

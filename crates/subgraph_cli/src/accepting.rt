@@ -12,7 +12,7 @@ ghost use Rattle.subgraph_cli.specs.Demonstrating.{HasRefutation};
 use crate::buffer::TextBuffer;
 use crate::stop::Stop;
 use graph_rows::problem::Problem;
-use log_theory::{Verdict, answer_laws};
+use log_theory::{Profile, Verdict, answer_laws};
 use opb_text::Model;
 use outer_io::fault::Failed;
 use pb_encoding::Encoding;
@@ -60,7 +60,7 @@ fn log_of(
         Accepts (variables q.now) (encoding_of q.now) log.bytes Unsatisfiable) }
 {
     let mut log = TextBuffer::new(alloc);
-    write_refuted(q, encoding, parts, &mut log)?;
+    write_refuted(Profile::Hinted, q, encoding, parts, &mut log)?;
     Ok(log)
 }
 

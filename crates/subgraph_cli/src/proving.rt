@@ -57,7 +57,7 @@ pub(crate) fn leave_proof<F: Files>(
     };
     let finding = finding_of(q, answer);
     let (encoding, log) = (names.encoding.as_str(), names.log.as_str());
-    match write_proof(alloc, q, &finding, encoding, log, files) {
+    match write_proof(alloc, q, &finding, names.profile, encoding, log, files) {
         Ok(()) => Ok(()),
         Err(PutFault::Failed) => Err(Stop::FilesFault),
         Err(PutFault::NoMemory) => Err(Stop::NoMemory),

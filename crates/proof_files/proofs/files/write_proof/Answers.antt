@@ -5,6 +5,7 @@ use Rattle.std.proofs.lemmas.Result.{err_from_is_err_and}
 use Rattle.log_theory.specs.declared.step.Step.{Step}
 use Rattle.graph_theory.specs.Embedding.{Problem}
 use Rattle.pb_encoding.specs.Writing.{encoding_text}
+use Rattle.merged_log.specs.Profiles.{in_profile}
 use Rattle.merged_log.specs.Steps.{log_text}
 use Rattle.proof_files.specs.OneFile.{IsCutShort}
 use Rattle.proof_files.specs.TwoFiles.{two_files}
@@ -18,7 +19,7 @@ returns-in_err-put_encoding-clause-says g c =
     let name = c.args.encoding.now in
     let content = g.F.Files.content in
     let d = two_files g.F.Files.tells content g.F.Files.faults g.F.Files.fault_at name c.args.log.now c.args.files.now c.put_encoding.new.files in
-    rw (p.1, p.2) (stops_in_encoding c.in_err-put_encoding.field-0.0 d (texts c.args.q.now c.args.finding.now) (λ e. c.requires.apart (sym e))
+    rw (p.1, p.2) (stops_in_encoding c.in_err-put_encoding.field-0.0 d (texts c.args.profile c.args.q.now c.args.finding.now) (λ e. c.requires.apart (sym e))
     (subst (λ (q : Problem). IsTrue d.tells → IsCutShort (content c.args.files.now name) (content c.put_encoding.new.files name) (encoding_text q)) c.in_ok-lines.ensures c.in_err-put_encoding.ensures.cut)
     c.in_err-put_encoding.ensures.fault c.put_encoding.ensures.files.others)
 
@@ -30,7 +31,7 @@ returns-in_err-put_log-clause-says g c =
     let between = content c.put_encoding.new.files in
     let d = two_files g.F.Files.tells content g.F.Files.faults g.F.Files.fault_at c.args.encoding.now name c.args.files.now c.put_log.new.files in
     let told : IsTrue d.tells → IsTrue (g.F.Files.tells c.put_encoding.new.files) = subst (λ t. IsTrue t) (sym c.put_encoding.ensures.files.told) in
-    rw (p.1, p.2) (stops_in_log d (texts c.args.q.now c.args.finding.now) between (g.F.Files.faults c.put_encoding.new.files) c.requires.apart
+    rw (p.1, p.2) (stops_in_log d (texts c.args.profile c.args.q.now c.args.finding.now) between (g.F.Files.faults c.put_encoding.new.files) c.requires.apart
     (subst (λ (q : Problem). IsTrue d.tells → between c.args.encoding.now ≡ Some (encoding_text q)) c.in_ok-lines.ensures c.in_ok-put_encoding.ensures.whole)
-    (subst (λ (steps : List Step). IsTrue d.tells → IsCutShort (between name) (content c.put_log.new.files name) (log_text steps)) c.in_ok-parts.ensures.steps (λ t. c.in_err-put_log.ensures.cut (told t)))
+    (subst (λ (steps : List Step). IsTrue d.tells → IsCutShort (between name) (content c.put_log.new.files name) (in_profile c.args.profile (log_text steps))) c.in_ok-parts.ensures.steps (λ t. c.in_err-put_log.ensures.cut (told t)))
     c.in_err-put_log.ensures.fault (quiet_at_ok _ c.in_ok-put_encoding.ensures.quiet) c.put_encoding.ensures.files.others c.put_log.ensures.files.others)

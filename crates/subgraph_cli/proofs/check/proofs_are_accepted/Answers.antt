@@ -4,12 +4,13 @@ use Rattle.encoding_theory.specs.Variables.{variables}
 use Rattle.encoding_theory.specs.Encoding.{encoding}
 use Rattle.pb_encoding.specs.Model.{model_of}
 use Rattle.pb_encoding.specs.Writing.{encoding_text}
+use Rattle.merged_log.specs.Profiles.{in_profile}
 use Rattle.subgraph_cli.specs.Checking.{verdict_of_claim}
 use Rattle.subgraph_cli.proofs.check.proofs_are_accepted.Goals as goal
 
 pub returns : goal.returns
 returns c p held q log claim o small_pattern small_target proof short_encoding short_log says =
-    says.leads.accepted (model_of q) log claim record {
+    says.leads.accepted (model_of q) (in_profile p.profile log) claim record {
       model_is = record {
         bytes = encoding_text q;
         there = proof.encoding_is;
@@ -17,4 +18,4 @@ returns c p held q log claim o small_pattern small_target proof short_encoding s
         is = c.opb_law.ensures (model_of q) (c.encodings_are_models.ensures q small_pattern small_target);
       };
       log_is = record { there = proof.log_is; short = short_log };
-    } (c.answer_laws.ensures.accepts (variables q) (encoding q) log (verdict_of_claim claim) proof.accepts)
+    } (c.answer_laws.ensures.accepts (variables q) (encoding q) (in_profile p.profile log) (verdict_of_claim claim) proof.accepts)
