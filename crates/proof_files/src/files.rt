@@ -109,7 +109,8 @@ fn put_log<F: Files>(
     requires ready { MayBeWritten q.now parts }
     requires name { length name.now ≤ 4095 }
     ensures whole { OnOk result (IsTrue (F.tells files.old)
-        → F.content files.new name.now ≡ Some (in_profile profile (log_text (part_steps q.now parts.entry)))) }
+        → F.content files.new name.now
+        ≡ Some (in_profile profile (log_text (part_steps q.now parts.entry)))) }
     ensures cut { OnErr result (IsTrue (F.tells files.old)
         → IsCutShort (F.content files.old name.now) (F.content files.new name.now)
         (in_profile profile (log_text (part_steps q.now parts.entry)))) }
