@@ -9,7 +9,8 @@ use Rattle.log_theory.specs.declared.profile.Profile.{Profile}
 use Rattle.log_theory.specs.declared.profile.Profile.TheVariants.{Hinted}
 use Rattle.graph_theory.specs.declared.lad_text.LadKind.{LadKind}
 use Rattle.graph_theory.specs.declared.lad_text.LadKind.TheVariants.{Lad}
-use Rattle.command_line.specs.Words.{file_name, threads, budget, seed, book, profile, format}
+use Rattle.graph_theory.specs.Plain.{IsUndirected}
+use Rattle.command_line.specs.Words.{file_name, threads, budget, seed, book, profile, format, any_format}
 use Rattle.command_line.specs.Grammar.{grammar}
 use Rattle.command_line.specs.declared.commands.Command.{Command}
 use Rattle.command_line.specs.declared.commands.Command.TheVariants.{Solve, Verify, Encode, Check, Demo}
@@ -33,9 +34,13 @@ abbrev pub or_default : {A : Type 0} → A → (Text → Option A) → Option Te
 or_default default read None = Some default
 or_default default read (Some text) = read text
 
--- The format of both graphs, `lad` where none is named.
+-- The format of both graphs, one without directions, `lad` where none is named.
 abbrev pub format_at : List Row → Option LadKind
 format_at rows = or_default Lad format (first_of (codes "format") rows)
+
+-- The same where each format will do.
+abbrev pub any_format_at : List Row → Option LadKind
+any_format_at rows = or_default Lad any_format (first_of (codes "format") rows)
 
 -- The budget, the largest where none is named.
 abbrev pub budget_at : List Row → Option ℕ
@@ -123,7 +128,7 @@ solve_of rows = solve_from (name_at (codes "pattern") rows) (name_at (codes "tar
 -- The verify that the words after `verify` are.
 abbrev pub verify_of : List Row → Option Command
 verify_of rows = verify_from (name_at (codes "pattern") rows) (name_at (codes "target") rows)
-    (name_at (codes "mapping") rows) (flag_at (codes "induced") rows) (format_at rows)
+    (name_at (codes "mapping") rows) (flag_at (codes "induced") rows) (any_format_at rows)
 
 -- The encode that the words after `encode` are.
 abbrev pub encode_of : List Row → Option Command
@@ -172,6 +177,7 @@ pub record IsSolveInRange (w : SolveWords) : Type 0 where
   pub least : 1 ≤ w.budget
   pub most : w.budget < 2 ^ 63
   pub book : w.book ≤ 4194304
+  pub format : IsUndirected w.format
   pub prove : IfSome w.prove (λ p. IsProveInRange w.pattern w.target p)
 
 pub record IsVerifyInRange (w : VerifyWords) : Type 0 where
@@ -182,6 +188,7 @@ pub record IsVerifyInRange (w : VerifyWords) : Type 0 where
 pub record IsEncodeInRange (w : EncodeWords) : Type 0 where
   pub pattern : length w.pattern ≤ 4095
   pub target : length w.target ≤ 4095
+  pub format : IsUndirected w.format
 
 pub record IsCheckInRange (w : CheckWords) : Type 0 where
   pub encoding : length w.encoding ≤ 4095

@@ -6,7 +6,7 @@ use Rattle.std.specs.Str.Parse.{digits_value}
 use Rattle.log_theory.specs.declared.profile.Profile.{Profile}
 use Rattle.log_theory.specs.declared.profile.Profile.TheVariants.{Hinted, Plain}
 use Rattle.graph_theory.specs.declared.lad_text.LadKind.{LadKind}
-use Rattle.graph_theory.specs.declared.lad_text.LadKind.TheVariants.{Lad, VertexLabelledLad}
+use Rattle.graph_theory.specs.declared.lad_text.LadKind.TheVariants.{Lad, VertexLabelledLad, DirectedLad, LabelledLad}
 
 -- A file's name is a text of at most 4,095 bytes.
 abbrev pub file_name : List ℕ → Option (List ℕ)
@@ -38,7 +38,12 @@ book = number_within 0 4194304
 abbrev pub profile : List ℕ → Option Profile
 profile text = option_map (λ n. if n == 2 then Plain else Hinted) (number_within 1 2 text)
 
--- The format that a word names.
+-- The format without directions that a word names.
 abbrev pub format : List ℕ → Option LadKind
 format text = if bytes_eq text (codes "lad") then Some Lad
     else (if bytes_eq text (codes "vertexlabelledlad") then Some VertexLabelledLad else None)
+
+-- The format that a word names.
+abbrev pub any_format : List ℕ → Option LadKind
+any_format text = if bytes_eq text (codes "directedlad") then Some DirectedLad
+    else (if bytes_eq text (codes "labelledlad") then Some LabelledLad else format text)

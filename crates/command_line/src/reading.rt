@@ -7,6 +7,7 @@ ghost use Rattle.clap.specs.Words.{fault_of, first_of, found_of, rows_of, subcom
 ghost use Rattle.clap.specs.Walk.{is_empty};
 ghost use Rattle.clap.specs.Values.{kind_of};
 ghost use Rattle.clap.specs.declared.error.kind.ErrorKind.TheVariants.{OutOfMemory};
+ghost use Rattle.graph_theory.specs.Plain.{IsUndirected};
 ghost use Rattle.command_line.specs.Words.{number_within};
 ghost use Rattle.command_line.specs.Words as word;
 ghost use Rattle.command_line.specs.Grammar.{grammar};
@@ -95,9 +96,10 @@ fn small_number_of(text: &str, least: u32, most: u32) -> Option<u32>
     }
 }
 
-/// The format that a word names.
+/// The format without directions that a word names.
 fn format_named(text: &str) -> Option<LadKind>
-    ensures { result ≡ word.format text.now }
+    ensures value { result ≡ word.format text.now }
+    ensures undirected { IfSome result IsUndirected }
 {
     if text == "lad" {
         Some(LadKind::Lad)
@@ -105,6 +107,19 @@ fn format_named(text: &str) -> Option<LadKind>
         Some(LadKind::VertexLabelledLad)
     } else {
         None
+    }
+}
+
+/// The format that a word names.
+fn any_format_named(text: &str) -> Option<LadKind>
+    ensures { result ≡ word.any_format text.now }
+{
+    if text == "directedlad" {
+        Some(LadKind::DirectedLad)
+    } else if text == "labelledlad" {
+        Some(LadKind::LabelledLad)
+    } else {
+        format_named(text)
     }
 }
 
@@ -135,12 +150,23 @@ fn flag_at(matches: &ArgMatches, id: &str) -> bool
     }
 }
 
-/// The format of both graphs.
+/// The format of both graphs, one without directions.
 fn format_at(matches: &ArgMatches) -> Option<LadKind>
-    ensures { result ≡ line.format_at (rows_of (found_of matches.now)) }
+    ensures value { result ≡ line.format_at (rows_of (found_of matches.now)) }
+    ensures undirected { IfSome result IsUndirected }
 {
     match word_at(matches, "format") {
         Some(text) => format_named(text),
+        None => Some(LadKind::Lad),
+    }
+}
+
+/// The format of both graphs.
+fn any_format_at(matches: &ArgMatches) -> Option<LadKind>
+    ensures { result ≡ line.any_format_at (rows_of (found_of matches.now)) }
+{
+    match word_at(matches, "format") {
+        Some(text) => any_format_named(text),
         None => Some(LadKind::Lad),
     }
 }
@@ -307,7 +333,7 @@ fn verify_words<'a>(matches: &ArgMatches<'a>) -> Option<Command<'a>>
     let target = name_at(matches, "target")?;
     let mapping = name_at(matches, "mapping")?;
     let induced = flag_at(matches, "induced");
-    let format = format_at(matches)?;
+    let format = any_format_at(matches)?;
     Some(Command::Verify(VerifyWords {
         pattern,
         target,
@@ -319,7 +345,8 @@ fn verify_words<'a>(matches: &ArgMatches<'a>) -> Option<Command<'a>>
 
 /// The encode that was found.
 fn encode_words<'a>(matches: &ArgMatches<'a>) -> Option<Command<'a>>
-    ensures { result ≡ line.encode_of (rows_of (found_of matches.now)) }
+    ensures words { result ≡ line.encode_of (rows_of (found_of matches.now)) }
+    ensures ranges { IfSome result line.IsInRange }
 {
     let pattern = name_at(matches, "pattern")?;
     let target = name_at(matches, "target")?;

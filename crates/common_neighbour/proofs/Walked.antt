@@ -41,16 +41,16 @@ walked_none g row counts t next is none zeros u u_in =
     zeros u ∙ sym (count_skip (of_both g t u) 0 next (omega arith) (λ v _ v_in. none_shared g row t u v is (none v v_in)))
 
 -- the neighbours of a member are counted, and what is no member passed over
-pub walked_next : (g : Graph) (row old new : List ℕ) (t c next : ℕ) → ((a b : ℕ) → is_neighbour g a b ≡ is_neighbour g b a)
+pub walked_next : (g : Graph) (row old new : List ℕ) (t c next : ℕ)
     → ((b : ℕ) → has row b ≡ is_some (edge g t b)) → has row c ≡ true → c + 1 ≤ next → ((v : ℕ) → c + 1 ≤ v → v < next → has row v ≡ false)
     → ((u : ℕ) → u < size g → get_or old u 0 ≡ count (of_both g t u) c)
-    → ((u : ℕ) → get_or new u 0 ≡ get_or old u 0 + from_bool (not (t == c) && is_neighbour g c u))
+    → ((u : ℕ) → get_or new u 0 ≡ get_or old u 0 + from_bool (not (t == c) && is_neighbour g u c))
     → (u : ℕ) → u < size g → get_or new u 0 ≡ count (of_both g t u) next
-walked_next g row old new t c next turns is here le none before more u u_in =
+walked_next g row old new t c next is here le none before more u u_in =
     let rest = count_skip (of_both g t u) (c + 1) next le (λ v l h. none_shared g row t u v is (none v l h)) in
-    let test : of_both g t u c ≡ (not (t == c) && is_neighbour g c u) = rw (sym (is c) ∙ here, turns u c) (drop_true (not (t == c)) (is_neighbour g c u)) in
+    let test : of_both g t u c ≡ (not (t == c) && is_neighbour g u c) = rw (sym (is c) ∙ here) (drop_true (not (t == c)) (is_neighbour g u c)) in
     let e : c + 1 ≡ suc c = omega arith in
-    let own : count (of_both g t u) (suc c) ≡ from_bool (not (t == c) && is_neighbour g c u) + count (of_both g t u) c =
+    let own : count (of_both g t u) (suc c) ≡ from_bool (not (t == c) && is_neighbour g u c) + count (of_both g t u) c =
     ap (λ (n : ℕ). n + count (of_both g t u) c) (sym (from_bool-one_if (of_both g t u c)) ∙ ap from_bool test) in
     omega (arith, rest, ap (count (of_both g t u)) e, own, before u u_in, more u)
   where

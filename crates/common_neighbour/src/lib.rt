@@ -101,7 +101,7 @@ fn is_short_walk(graph: &Graph, t: u16) -> bool
     let mut steps = 0;
     let mut c = next_member(near, 0);
     while c < 64 * near.len() {
-        steps += usize::from(graph.degree(c as u16));
+        steps += usize::from(graph.in_degree(c as u16));
         c = next_member(near, c + 1);
     }
     steps < size * near.len()
@@ -153,7 +153,6 @@ fn walk(graph: &Graph, t: u16, counts: &mut [u16])
     requires zero { (v : ℕ) → slice_index counts.old v ≡ 0 }
     ensures { (u : ℕ) → u < size_of graph.now → slice_index counts.new u ≡ common graph.now t u }
 {
-    graph.neighbours_are_mutual();
     let _size = graph.size();
     let near = graph.row(t);
     let mut c = next_member(near, 0);
@@ -163,21 +162,22 @@ fn walk(graph: &Graph, t: u16, counts: &mut [u16])
     }
 }
 
-/// Counts the neighbours of `c` once more, unless it is `t`. Cost: one step for each of them, and for each word of a row.
+/// Counts the vertices from which an edge leads to `c` once more, unless it is `t`. Cost: one step for each of them, and for each word of
+/// a row.
 fn count_neighbours(graph: &Graph, t: u16, c: u16, counts: &mut [u16])
     requires c_in { c < size_of graph.now }
     requires long { length counts.old ≡ size_of graph.now }
     requires room { (v : ℕ) → slice_index counts.old v < 65535 }
     ensures { (u : ℕ)
         → slice_index counts.new u ≡ slice_index counts.old u
-        + from_bool (not (t == c) && is_neighbour graph.now c u) }
+        + from_bool (not (t == c) && is_neighbour graph.now u c) }
 {
     if c == t {
         return;
     }
     let _size = graph.size();
     let itself = counts[usize::from(c)];
-    count_members(graph.row(c), counts);
+    count_members(graph.in_row(c), counts);
     counts[usize::from(c)] = itself;
 }
 

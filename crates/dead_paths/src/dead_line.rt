@@ -2,6 +2,7 @@
 
 ghost use Rattle.std.specs.Prelude.{◌≡◌, ℕ, ◌^◌, ◌≤◌, ◌<◌, ◌++◌, [], List, length, map, OnOk, IfOk, IfSome};
 ghost use Rattle.graph_theory.specs.Graph.{size};
+ghost use Rattle.graph_theory.specs.Plain.{ArePlain};
 ghost use Rattle.log_theory.specs.LogText.{IsName, AreRefs, AreLiterals};
 ghost use Rattle.reason_theory.specs.Reasons.{not_there};
 ghost use Rattle.nogood_book.specs.Rows.{Sound, AreInRange};
@@ -260,6 +261,7 @@ fn choose_in(
     room: &mut Room,
     chosen: &mut Vec<Entry>,
 ) -> Result<(), AllocError>
+    requires plain { ArePlain walk.now.q.now }
     requires sound { Sound walk.now.q.now walk.now.rows.now }
     requires in_problem { AreInProblem walk.now.q.now (changes_of walk.now.numbers.now
         entries.now) }
@@ -291,6 +293,7 @@ fn choose_for(
     room: &mut Room,
     chosen: &mut Vec<Entry>,
 ) -> Result<(), AllocError>
+    requires plain { ArePlain walk.now.q.now }
     requires sound { Sound walk.now.q.now walk.now.rows.now }
     requires in_problem { AreInProblem walk.now.q.now (changes_of walk.now.numbers.now
         entries.now) }
@@ -406,6 +409,7 @@ pub fn explain<M: LineMaker, N: RowNames, K: Keeper>(
     if !keeper.is_on() {
         return Ok(None);
     }
+    lines.graphs_are_plain();
     let size = size_of(q);
     fill_at(&mut scratch.at, size, path)?;
     let walk = Walk {

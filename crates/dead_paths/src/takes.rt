@@ -2,6 +2,7 @@
 
 ghost use Rattle.std.specs.Prelude.{◌≡◌, ℕ, ◌<◌, ◌⊎◌, ◌||◌, Bool, true, false, List, length, OnOk, IfOk};
 ghost use Rattle.graph_theory.specs.Graph.{size};
+ghost use Rattle.graph_theory.specs.Plain.{ArePlain};
 ghost use Rattle.log_theory.specs.Lookups.{is_among};
 ghost use Rattle.domain_bits.specs.BitRows.{has, words_for};
 ghost use Rattle.nogood_book.specs.declared.row.Row.{Row as TheRow};
@@ -56,6 +57,7 @@ fn by_vertex(
     other: &mut [u64],
     counts: &mut [u16],
 ) -> Result<bool, AllocError>
+    requires plain { ArePlain walk.now.q.now }
     requires held { AreRows (size walk.now.q.now.target) marked.old needed.old }
     requires size { length marked.old ≡ size walk.now.q.now.pattern }
     requires x_in { x.0 < size walk.now.q.now.pattern }
@@ -260,6 +262,7 @@ pub(crate) fn go_back(
     needed: &mut [u64],
     room: &mut Room,
 ) -> Result<bool, AllocError>
+    requires plain { ArePlain walk.now.q.now }
     requires sound { Sound walk.now.q.now walk.now.rows.now }
     requires in_problem { IsInProblem walk.now.q.now (change_of walk.now.numbers.now entry.now) }
     requires held { AreRows (size walk.now.q.now.target) marked.old needed.old }

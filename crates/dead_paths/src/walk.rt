@@ -3,6 +3,7 @@
 ghost use Rattle.std.specs.Prelude.{◌≡◌, ℕ, ◌<◌, ◌≤◌, ◌∷◌, ◌++◌, [], Bool, List, true, false, length, OnOk};
 ghost use Rattle.std.specs.List.{slice_range};
 ghost use Rattle.graph_theory.specs.Graph.{size};
+ghost use Rattle.graph_theory.specs.Plain.{ArePlain};
 ghost use Rattle.log_theory.specs.Lookups.{is_among};
 ghost use Rattle.domain_bits.specs.BitRows.{words_for};
 ghost use Rattle.nogood_book.specs.Rows.{Sound};
@@ -170,6 +171,7 @@ fn step_back(
     room: &mut Room,
     chosen: &mut Vec<Entry>,
 ) -> Result<(), AllocError>
+    requires plain { ArePlain walk.now.q.now }
     requires sound { Sound walk.now.q.now walk.now.rows.now }
     requires in_problem { IsInProblem walk.now.q.now (change_of walk.now.numbers.now entry.now) }
     requires held { AreRows (size walk.now.q.now.target) marked.old needed.old }
@@ -201,6 +203,7 @@ pub(crate) fn choose(
     room: &mut Room,
     chosen: &mut Vec<Entry>,
 ) -> Result<(), AllocError>
+    requires plain { ArePlain walk.now.q.now }
     requires sound { Sound walk.now.q.now walk.now.rows.now }
     requires in_problem { AreInProblem walk.now.q.now (changes_of walk.now.numbers.now
         entries.now) }

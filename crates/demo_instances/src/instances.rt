@@ -1,5 +1,6 @@
 //! The two problems.
 
+ghost use Rattle.graph_theory.specs.Plain.{ArePlain};
 ghost use Rattle.std.specs.Prelude.{◌≡◌, ℕ, ◌<◌, ◌≤◌, IfOk, length, slice_index};
 ghost use Rattle.graph_theory.specs.Graph.{size as size_of};
 ghost use Rattle.demo_instances.specs.SeedProblems.{pair_place, planted_pair, part_pair, sides_pair, next_pair, IsPlanted, IsCycle};
@@ -105,7 +106,8 @@ impl Pairs for CyclePattern {
 
 /// The planted problem of a seed.
 pub fn planted_problem(alloc: Global, words: &Words) -> Result<Problem, AllocError>
-    ensures { IfOk result (IsPlanted words.now) }
+    ensures planted { IfOk result (IsPlanted words.now) }
+    ensures plain { IfOk result ArePlain }
 {
     let target = graph_by(alloc, &PlantedTarget { words }, 150)?;
     let chosen = chosen(alloc, words)?;
@@ -122,7 +124,8 @@ pub fn planted_problem(alloc: Global, words: &Words) -> Result<Problem, AllocErr
 
 /// The cycle's problem of a seed.
 pub fn cycle_problem(alloc: Global, words: &Words) -> Result<Problem, AllocError>
-    ensures { IfOk result (IsCycle words.now) }
+    ensures cycle { IfOk result (IsCycle words.now) }
+    ensures plain { IfOk result ArePlain }
 {
     let target = graph_by(alloc, &CycleTarget { words }, 60)?;
     let pattern = graph_by(alloc, &CyclePattern, 5)?;

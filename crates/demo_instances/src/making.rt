@@ -1,11 +1,12 @@
 //! Graphs from a test of two vertices.
 
 ghost use Rattle.std.specs.Prelude.{◌≡◌, ℕ, ◌<◌, ◌≤◌, Bool, IfOk};
+ghost use Rattle.graph_theory.specs.Plain.{IsPlain};
 ghost use Rattle.demo_instances.specs.Shapes.{IsMadeOf};
 ghost use Rattle.demo_instances.specs.Listing.{ListsThose};
 
 use graph_rows::Graph;
-use lad_reader::{GraphParts, Labels, NeighbourLists};
+use lad_reader::{EdgeLabels, GraphParts, Labels, LadKind, NeighbourLists};
 use std::alloc::{AllocError, Global};
 
 /// A test of two vertices, in this order.
@@ -50,7 +51,8 @@ pub(crate) fn graph_by<P: Pairs>(alloc: Global, pairs: &P, size: usize) -> Resul
     requires good { P.good pairs.now }
     requires size { size ≡ P.size pairs.now }
     requires few { size ≤ 8192 }
-    ensures { IfOk result (IsMadeOf size (P.pair pairs.now)) }
+    ensures made { IfOk result (IsMadeOf size (P.pair pairs.now)) }
+    ensures plain { IfOk result IsPlain }
 {
     let mut lists = Vec::new(alloc);
     for a in 0..size {
@@ -59,8 +61,10 @@ pub(crate) fn graph_by<P: Pairs>(alloc: Global, pairs: &P, size: usize) -> Resul
     }
     let labels = vec![in alloc; 0u32; size]?;
     let parts = GraphParts {
+        kind: LadKind::Lad,
         labels: Labels::from_vec(labels),
         neighbours: NeighbourLists::from_vec(lists),
+        edge_labels: EdgeLabels::none(alloc),
     };
     Graph::new(alloc, &parts)
 }

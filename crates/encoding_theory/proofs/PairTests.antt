@@ -4,7 +4,8 @@ use Rattle.std.proofs.Common.{◌≡◌, ℕ, ◌==◌, Bool, true, false, ◌&&
 use Rattle.std.proofs.lemmas.Bool.{eqb-true, eqb-false, eq-eqb, ne_eqb, and_parts, and_from, or_parts, not-true, not_from_false}
 use Rattle.graph_theory.specs.Graph.{label, edge}
 use Rattle.graph_theory.specs.Embedding.{Problem, KeepsEdge, Matches, Allowed, Compatible}
-use Rattle.encoding_theory.specs.Pairs.{is_kept, is_match, is_allowed, is_compatible, is_linked, TestLaws, IsPlain, PlainLaws}
+use Rattle.encoding_theory.specs.Pairs.{is_kept, is_match, is_allowed, is_compatible, is_linked, TestLaws, PlainLaws}
+use Rattle.graph_theory.specs.Plain.{IsPlain}
 
 kept_from : (e f : Option ℕ) → is_kept e f ≡ true → KeepsEdge e f
 kept_from None f h = tt

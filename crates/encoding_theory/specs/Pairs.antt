@@ -45,12 +45,8 @@ pub record TestLaws : Type 0 where
   pub allowed : (q : Problem) (p t : ℕ) → IsTrue (is_allowed q p t) ↔ Allowed q p t
   pub compatible : (q : Problem) (p t r u : ℕ) → IsTrue (is_compatible q p t r u) ↔ Compatible q p t r u
 
--- A graph without directions and without labels of edges: each edge stands both ways, with label 0.
-pub record IsPlain (g : Graph) : Type 0 where
-  pub both : (a b : ℕ) → edge g a b ≡ edge g b a
-  pub zeros : (a b l : ℕ) → edge g a b ≡ Some l → l ≡ 0
-
--- On such graphs an edge goes to neighbours, and in the induced kind a missing edge to two others without an edge.
+-- On graphs without directions and without labels of edges an edge goes to neighbours, and in the induced kind a missing edge to two
+-- others without an edge.
 pub record PlainLaws (q : Problem) : Type 0 where
   pub pair : (p r : ℕ) → is_edge_pair q p r ≡ is_neighbour q.pattern p r
   pub edge_kept : (p r t u : ℕ) → is_neighbour q.pattern p r ≡ true → is_compatible q p t r u ≡ is_neighbour q.target t u

@@ -9,7 +9,8 @@
 
 ghost use Rattle.graph_theory.specs.Embedding.{Problem};
 ghost use Rattle.graph_theory.specs.Graph.{size};
-ghost use Rattle.encoding_theory.specs.Pairs.{TestLaws, PlainLaws, IsPlain};
+ghost use Rattle.graph_theory.specs.Plain.{IsPlain};
+ghost use Rattle.encoding_theory.specs.Pairs.{TestLaws, PlainLaws};
 ghost use Rattle.encoding_theory.specs.Places.{PlaceLaws};
 ghost use Rattle.encoding_theory.specs.Solutions.{SolutionLaws};
 

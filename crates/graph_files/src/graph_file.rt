@@ -2,6 +2,7 @@
 
 ghost use Rattle.std.specs.Prelude.{◌≡◌, ◌≤◌, ◌⊎◌, IsTrue, IfOk, IsErrOf, Some, length};
 ghost use Rattle.graph_theory.specs.Graph.{Graph as TheGraph, size};
+ghost use Rattle.graph_theory.specs.Plain.{IsPlain, IsUndirected};
 ghost use Rattle.outer_io.specs.Faults.{Rose};
 ghost use Rattle.outer_io.specs.NamedFiles.{SameFiles};
 ghost use Rattle.graph_files.specs.GraphFile.{GraphSays, BytesSay};
@@ -71,6 +72,7 @@ fn graph_in(alloc: Global, bytes: &[u8], kind: LadKind, most: u32) -> Result<Gra
     requires { most ≤ 8192 }
     ensures says { BytesSay bytes.now kind most result }
     ensures few { IfOk result (λ g. size g ≤ most) }
+    ensures plain { IsUndirected kind → IfOk result IsPlain }
 {
     let parts = read_lad(alloc, bytes, kind, most)?;
     Ok(Graph::new(alloc, &parts)?)
@@ -90,6 +92,7 @@ pub fn load_graph<F: Files>(
     ensures says { IsTrue (F.tells files.old)
         → GraphSays (F.content files.old name.now) kind most result }
     ensures few { IfOk result (λ g. size g ≤ most) }
+    ensures plain { IsUndirected kind → IfOk result IsPlain }
 
     ensures rose { IsErrOf result GraphFault.Failed
         → Rose (F.faults files.old) (F.faults files.new) }

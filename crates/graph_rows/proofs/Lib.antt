@@ -4,5 +4,6 @@ pub mod Places
 pub mod Marking
 pub mod HeldGraph
 pub mod Parts
+pub mod LabelCells
 pub mod SameGraphs
 pub mod MappingPut

@@ -8,7 +8,7 @@ use Rattle.std.proofs.lemmas.Grind.{common_steps}
 use Rattle.graph_rows.specs.BitRow.{has, words_for}
 use Rattle.graph_theory.specs.Neighbours.{count}
 use Rattle.graph_theory.proofs.Counts.{count-same}
-use Rattle.graph_rows.specs.Held.{marked, marks_other, AreMarks, AddsMark, AddsListed, stands_in, said, either_said}
+use Rattle.graph_rows.specs.Held.{marked, marks_other, AreMarks, AddsMark, AddsListed, AddsOut, AddsIn, stands_in, said, either_said}
 use Rattle.graph_rows.proofs.Bits.{has-zeros}
 use Rattle.graph_rows.proofs.Counting.{count_more, count_none}
 use Rattle.graph_rows.proofs.Places.{eqb-places}
@@ -210,3 +210,56 @@ said_marks_more width now new lists a listed a_in is so_far adds x y x_in y_in =
     ∙ ap (λ t. t || ((eqb a x && stands_in listed y) || (eqb a y && stands_in listed x))) (so_far x y x_in y_in)
     ∙ said_tests (said (take a lists) x y) (said (take a lists) y x) (eqb a x && stands_in listed y) (eqb a y && stands_in listed x)
     ∙ sym (rw (said_more lists a x y listed a_in is, said_more lists a y x listed a_in is) refl)
+
+-- ---- marks of one direction
+
+out_tests : (o p s e : Bool) → ((o || (p && s)) || (p && e)) ≡ (o || (p && (s || e)))
+out_tests o p s e = grind (arith, common_steps)
+
+-- an edge more leads out
+pub adds_out_more : (width : ℕ) (old now new : List ℕ) (a : ℕ) (listed : List ℕ) (i : ℕ) → i < length listed
+    → AddsOut width old now a (take i listed) → AddsMark width now new a (get_or listed i 0) → AddsOut width old new a (take (i + 1) listed)
+adds_out_more width old now new a listed i i_in adds one = record {
+  each = λ x y x_in y_in.
+      one.each x y y_in ∙ ap (λ t. t || (eqb a x && eqb (get_or listed i 0) y)) (adds.each x y x_in y_in)
+      ∙ out_tests (marked old width x y) (eqb a x) (stands_in (take i listed) y) (eqb (get_or listed i 0) y)
+      ∙ sym (rw (stands_in-take listed i y i_in) refl);
+}
+
+in_tests : (o q s e : Bool) → ((o || (q && s)) || (e && q)) ≡ (o || (q && (s || e)))
+in_tests o q s e = grind (arith, common_steps)
+
+-- an edge more leads in
+pub adds_in_more : (width : ℕ) (old now new : List ℕ) (a : ℕ) (listed : List ℕ) (i : ℕ) → i < length listed
+    → AddsIn width old now a (take i listed) → AddsMark width now new (get_or listed i 0) a → AddsIn width old new a (take (i + 1) listed)
+adds_in_more width old now new a listed i i_in adds one = record {
+  each = λ x y x_in y_in.
+      one.each x y y_in ∙ ap (λ t. t || (eqb (get_or listed i 0) x && eqb a y)) (adds.each x y x_in y_in)
+      ∙ in_tests (marked old width x y) (eqb a y) (stands_in (take i listed) x) (eqb (get_or listed i 0) x)
+      ∙ sym (rw (stands_in-take listed i x i_in) refl);
+}
+
+none_added : (m p : Bool) → m ≡ (m || (p && false))
+none_added true p = refl
+none_added false true = refl
+none_added false false = refl
+
+-- no list, no mark
+pub adds_out_none : (width : ℕ) (old : List ℕ) (a : ℕ) → AddsOut width old old a []
+adds_out_none width old a = record { each = λ x y x_in y_in. none_added (marked old width x y) (eqb a x) }
+
+pub adds_in_none : (width : ℕ) (old : List ℕ) (a : ℕ) → AddsIn width old old a []
+adds_in_none width old a = record { each = λ x y x_in y_in. none_added (marked old width x y) (eqb a y) }
+
+-- the marks say what the lists do, one vertex further
+pub said_out_more : (width : ℕ) (now new : List ℕ) (lists : List (List ℕ)) (a : ℕ) (listed : List ℕ) → a < length lists → get_or lists a [] ≡ listed
+    → ((x y : ℕ) → x < 64 * width → y < 64 * width → marked now width x y ≡ said (take a lists) x y) → AddsOut width now new a listed
+    → (x y : ℕ) → x < 64 * width → y < 64 * width → marked new width x y ≡ said (take (a + 1) lists) x y
+said_out_more width now new lists a listed a_in is so_far adds x y x_in y_in =
+    adds.each x y x_in y_in ∙ ap (λ t. t || (eqb a x && stands_in listed y)) (so_far x y x_in y_in) ∙ sym (said_more lists a x y listed a_in is)
+
+pub said_in_more : (width : ℕ) (now new : List ℕ) (lists : List (List ℕ)) (a : ℕ) (listed : List ℕ) → a < length lists → get_or lists a [] ≡ listed
+    → ((x y : ℕ) → x < 64 * width → y < 64 * width → marked now width x y ≡ said (take a lists) y x) → AddsIn width now new a listed
+    → (x y : ℕ) → x < 64 * width → y < 64 * width → marked new width x y ≡ said (take (a + 1) lists) y x
+said_in_more width now new lists a listed a_in is so_far adds x y x_in y_in =
+    adds.each x y x_in y_in ∙ ap (λ t. t || (eqb a y && stands_in listed x)) (so_far x y x_in y_in) ∙ sym (said_more lists a y x listed a_in is)

@@ -1,10 +1,16 @@
 -- The graph of a text's parts.
 
 use Rattle.std.proofs.Common.{◌≡◌, ℕ, ◌*◌, ◌<◌, ◌≤◌, zero, suc, Bool, true, false, eqb, ◌||◌, if◌then◌else◌, List, [], ◌∷◌, length, map, get_or, Option, Some, None, slice_get, refl, sym, ap, subst, ◌∙◌, arith}
-use Rattle.graph_theory.specs.Lad.{Vertex}
-use Rattle.graph_theory.specs.Graph.{tabulate, listed_label, listed_of, lists, or_label, either_lists, graph_of}
-use Rattle.lad_reader.specs.Parts.{unlabelled, vertices_from, AreBelow, AllBelow}
-use Rattle.graph_rows.specs.Held.{marked, edge_of_mark, graph_held, stands_in, said, either_said, AreMarks, AreMutual}
+use Rattle.std.proofs.lemmas.List.{length-map}
+use Rattle.graph_theory.specs.Lad.{Vertex, listed_label}
+use Rattle.graph_theory.specs.GraphText.{text_graph}
+use Rattle.graph_theory.specs.Plain.{IsPlain, IsUndirected}
+use Rattle.graph_theory.specs.declared.lad_text.LadKind.{LadKind}
+use Rattle.graph_theory.specs.declared.lad_text.LadKind.TheVariants.{Lad, VertexLabelledLad, DirectedLad, LabelledLad}
+use Rattle.graph_theory.proofs.PlainGraphs.{plain_of}
+use Rattle.graph_theory.specs.Graph.{Graph, tabulate, listed_of, lists, or_label, either_lists, graph_with, graph_of}
+use Rattle.lad_reader.specs.Parts.{unlabelled, with_labels, vertices_from, labelled_from, vertices_by, WritesNoEdgeLabels, AreBelow, AllBelow}
+use Rattle.graph_rows.specs.Held.{marked, edge_of_mark, edge_held, cell, graph_held, stands_in, said, either_said, label_in, listed_cell, AreMarks, AreMutual, AreTurned}
 use Rattle.graph_rows.proofs.Marking.{room_in_row}
 use Rattle.graph_rows.proofs.HeldGraph.{tabulate-same}
 
@@ -61,30 +67,116 @@ either-vertices ls bss a b e = rw (lists-vertices ls bss a b e, lists-vertices l
     by true r = refl
     by false r = refl
 
--- labels, and marks that say what the lists do, hold the graph of the text
-pub graph-held : (labels words : List ℕ) (width : ℕ) (bss : List (List ℕ)) → length labels ≡ length bss → length labels ≤ 64 * width
-    → ((x y : ℕ) → x < 64 * width → y < 64 * width → marked words width x y ≡ either_said bss x y)
-    → graph_held labels words width ≡ graph_of (vertices_from labels bss)
-graph-held labels words width bss e room marks =
+-- ---- vertices with labels of edges
+
+-- each vertex has its label
+labels-labelled : (ls : List ℕ) (bss ess : List (List ℕ)) → length ls ≡ length bss → map (λ (v : Vertex). v.label) (labelled_from ls bss ess) ≡ ls
+labels-labelled [] bss ess e = refl
+labels-labelled (l ∷ ls) [] ess e = absurd (omega arith)
+labels-labelled (l ∷ ls) (bs ∷ bss) [] e = ap (λ (ks : List ℕ). l ∷ ks) (labels-labelled ls bss [] (omega arith))
+labels-labelled (l ∷ ls) (bs ∷ bss) (es ∷ ess) e = ap (λ (ks : List ℕ). l ∷ ks) (labels-labelled ls bss ess (omega arith))
+
+-- a vertex lists what stands in its place
+listed-labelled : (ls : List ℕ) (bss ess : List (List ℕ)) (a : ℕ) → length ls ≡ length bss
+    → listed_of (slice_get (labelled_from ls bss ess) a) ≡ with_labels (get_or bss a []) (get_or ess a [])
+listed-labelled [] [] ess a e = refl
+listed-labelled [] (bs ∷ bss) ess a e = absurd (omega arith)
+listed-labelled (l ∷ ls) [] ess a e = absurd (omega arith)
+listed-labelled (l ∷ ls) (bs ∷ bss) [] zero e = refl
+listed-labelled (l ∷ ls) (bs ∷ bss) [] (suc a) e = listed-labelled ls bss [] a (omega arith)
+listed-labelled (l ∷ ls) (bs ∷ bss) (es ∷ ess) zero e = refl
+listed-labelled (l ∷ ls) (bs ∷ bss) (es ∷ ess) (suc a) e = listed-labelled ls bss ess a (omega arith)
+
+-- the first label of a neighbour that is listed
+listed_label-with : (bs es : List ℕ) (b : ℕ) → listed_label (with_labels bs es) b ≡ edge_held (stands_in bs b) (label_in (with_labels bs es) b)
+listed_label-with [] es b = refl
+listed_label-with (c ∷ bs) [] b = first_or (eqb c b) 0 (listed_label (with_labels bs []) b) (stands_in bs b) (label_in (with_labels bs []) b) (listed_label-with bs [] b)
+  where
+    first_or : (t : Bool) (l : ℕ) (o : Option ℕ) (m : Bool) (k : ℕ) → o ≡ edge_held m k → (if t then Some l else o) ≡ edge_held (t || m) (if t then l else k)
+    first_or true l o m k e = refl
+    first_or false l o m k e = e
+listed_label-with (c ∷ bs) (f ∷ es) b = first_or (eqb c b) f (listed_label (with_labels bs es) b) (stands_in bs b) (label_in (with_labels bs es) b) (listed_label-with bs es b)
+  where
+    first_or : (t : Bool) (l : ℕ) (o : Option ℕ) (m : Bool) (k : ℕ) → o ≡ edge_held m k → (if t then Some l else o) ≡ edge_held (t || m) (if t then l else k)
+    first_or true l o m k e = refl
+    first_or false l o m k e = e
+
+lists-labelled : (ls : List ℕ) (bss ess : List (List ℕ)) (a b : ℕ) → length ls ≡ length bss
+    → lists (labelled_from ls bss ess) a b ≡ edge_held (said bss a b) (listed_cell bss ess a b)
+lists-labelled ls bss ess a b e =
+    ap (λ (es : List (ℕ × ℕ)). listed_label es b) (listed-labelled ls bss ess a e) ∙ listed_label-with (get_or bss a []) (get_or ess a []) b
+
+-- ---- the graph that is made
+
+-- labels, marks and labels of edges that are those of vertices and edges hold their graph
+graph-held_with : (labels words cells : List ℕ) (width : ℕ) (vs : List Vertex) (edges : ℕ → ℕ → Option ℕ) → map (λ (v : Vertex). v.label) vs ≡ labels
+    → ((a b : ℕ) → a < length labels → b < length labels → edge_held (marked words width a b) (cell cells (length labels) a b) ≡ edges a b)
+    → graph_held labels words cells width ≡ graph_with edges vs
+graph-held_with labels words cells width vs edges names same =
     ap (λ (rows : List (List (Option ℕ))). record { labels = labels; rows = rows }) rows_same
-    ∙ ap (λ (n : ℕ). record { labels = labels; rows = table n }) (sym (length-vertices labels bss e))
-    ∙ ap (λ (ks : List ℕ). record { labels = ks; rows = table (length (vertices_from labels bss)) }) (sym (labels-vertices labels bss e))
+    ∙ ap (λ (n : ℕ). record { labels = labels; rows = table n }) (sym sizes)
+    ∙ ap (λ (ks : List ℕ). record { labels = ks; rows = table (length vs) }) (sym names)
   where
     table : ℕ → List (List (Option ℕ))
-    table n = tabulate n (λ a. tabulate n (λ b. either_lists (vertices_from labels bss) a b))
+    table n = tabulate n (λ a. tabulate n (λ b. edges a b))
 
-    rows_same : tabulate (length labels) (λ a. tabulate (length labels) (λ b. edge_of_mark (marked words width a b))) ≡ table (length labels)
-    rows_same = tabulate-same (length labels) _ _ [] (λ a a_in. tabulate-same (length labels) _ _ None (λ b b_in.
-        ap edge_of_mark (marks a b (omega arith) (omega arith)) ∙ sym (either-vertices labels bss a b e)))
+    sizes : length vs ≡ length labels
+    sizes = sym (length-map vs (λ (v : Vertex). v.label)) ∙ ap length names
 
--- and so does what was made for these labels
+    rows_same : tabulate (length labels) (λ a. tabulate (length labels) (λ b. edge_held (marked words width a b) (cell cells (length labels) a b))) ≡ table (length labels)
+    rows_same = tabulate-same (length labels) _ _ [] (λ a a_in. tabulate-same (length labels) _ _ None (λ b b_in. same a b a_in b_in))
+
+-- in a format without directions
 pub graph-made : (labels ls words kept degrees : List ℕ) (n width : ℕ) (bss : List (List ℕ)) → labels ≡ ls → kept ≡ words → length ls ≡ length bss → n ≡ length ls → AreMarks n width words degrees
     → ((x y : ℕ) → x < 64 * width → y < 64 * width → marked words width x y ≡ either_said bss x y)
-    → graph_held labels kept width ≡ graph_of (vertices_from ls bss)
-graph-made labels ls words kept degrees n width bss same put e long marks said =
-    ap (λ (ks : List ℕ). graph_held ks kept width) same
-    ∙ ap (λ (ws : List ℕ). graph_held ls ws width) put
-    ∙ graph-held ls words width bss e (omega (arith, room_in_row n width marks.width_is)) said
+    → graph_held labels kept [] width ≡ graph_of (vertices_from ls bss)
+graph-made labels ls words kept degrees n width bss same put e long marks marks_said =
+    ap (λ (ks : List ℕ). graph_held ks kept [] width) same
+    ∙ ap (λ (ws : List ℕ). graph_held ls ws [] width) put
+    ∙ graph-held_with ls words [] width (vertices_from ls bss) (either_lists (vertices_from ls bss)) (labels-vertices ls bss e)
+    (λ a b a_in b_in.
+    let room = room_in_row n width marks.width_is in
+    ap edge_of_mark (marks_said a b (omega (arith, room)) (omega (arith, room))) ∙ sym (either-vertices ls bss a b e))
+
+-- in one with directions
+pub directed-made : (labels ls words kept degrees : List ℕ) (n width : ℕ) (bss : List (List ℕ)) → labels ≡ ls → kept ≡ words → length ls ≡ length bss → n ≡ length ls → AreMarks n width words degrees
+    → ((x y : ℕ) → x < 64 * width → y < 64 * width → marked words width x y ≡ said bss x y)
+    → graph_held labels kept [] width ≡ graph_with (lists (vertices_from ls bss)) (vertices_from ls bss)
+directed-made labels ls words kept degrees n width bss same put e long marks marks_said =
+    ap (λ (ks : List ℕ). graph_held ks kept [] width) same
+    ∙ ap (λ (ws : List ℕ). graph_held ls ws [] width) put
+    ∙ graph-held_with ls words [] width (vertices_from ls bss) (lists (vertices_from ls bss)) (labels-vertices ls bss e)
+    (λ a b a_in b_in.
+    let room = room_in_row n width marks.width_is in
+    ap edge_of_mark (marks_said a b (omega (arith, room)) (omega (arith, room))) ∙ sym (lists-vertices ls bss a b e))
+
+-- in one with labels of edges
+pub labelled-made : (labels ls words kept degrees cells : List ℕ) (n width : ℕ) (bss ess : List (List ℕ)) → labels ≡ ls → kept ≡ words → length ls ≡ length bss → n ≡ length ls → AreMarks n width words degrees
+    → ((x y : ℕ) → x < 64 * width → y < 64 * width → marked words width x y ≡ said bss x y)
+    → ((x y : ℕ) → x < length bss → y < length bss → cell cells (length bss) x y ≡ listed_cell bss ess x y)
+    → graph_held labels kept cells width ≡ graph_with (lists (labelled_from ls bss ess)) (labelled_from ls bss ess)
+labelled-made labels ls words kept degrees cells n width bss ess same put e long marks marks_said cells_are =
+    ap (λ (ks : List ℕ). graph_held ks kept cells width) same
+    ∙ ap (λ (ws : List ℕ). graph_held ls ws cells width) put
+    ∙ graph-held_with ls words cells width (labelled_from ls bss ess) (lists (labelled_from ls bss ess)) (labels-labelled ls bss ess e)
+    (λ a b a_in b_in.
+    let room = room_in_row n width marks.width_is in
+    ap (λ (m : Bool). edge_held m (cell cells (length ls) a b)) (marks_said a b (omega (arith, room)) (omega (arith, room)))
+    ∙ ap (edge_held (said bss a b)) (ap (λ (k : ℕ). cell cells k a b) e ∙ cells_are a b (omega arith) (omega arith))
+    ∙ sym (lists-labelled ls bss ess a b e))
+
+-- a graph of a format with directions, by its kind
+pub made-directed : (kind : LadKind) (labels ls words kept degrees cells : List ℕ) (n width : ℕ) (bss ess : List (List ℕ)) → (IsUndirected kind → ⊥) → labels ≡ ls → kept ≡ words → length ls ≡ length bss → n ≡ length ls
+    → AreMarks n width words degrees → ((x y : ℕ) → x < 64 * width → y < 64 * width → marked words width x y ≡ said bss x y)
+    → (WritesNoEdgeLabels kind → cells ≡ [])
+    → (kind ≡ LabelledLad → (x y : ℕ) → x < length bss → y < length bss → cell cells (length bss) x y ≡ listed_cell bss ess x y)
+    → graph_held labels kept cells width ≡ text_graph kind (vertices_by kind ls bss ess)
+made-directed Lad labels ls words kept degrees cells n width bss ess apart same put e long marks marks_said none cells_are = absurd (apart tt)
+made-directed VertexLabelledLad labels ls words kept degrees cells n width bss ess apart same put e long marks marks_said none cells_are = absurd (apart tt)
+made-directed DirectedLad labels ls words kept degrees cells n width bss ess apart same put e long marks marks_said none cells_are =
+    ap (λ (cs : List ℕ). graph_held labels kept cs width) (none tt) ∙ directed-made labels ls words kept degrees n width bss same put e long marks marks_said
+made-directed LabelledLad labels ls words kept degrees cells n width bss ess apart same put e long marks marks_said none cells_are =
+    labelled-made labels ls words kept degrees cells n width bss ess same put e long marks marks_said (cells_are refl)
 
 or_turned : (a b : Bool) → (a || b) ≡ (b || a)
 or_turned true true = refl
@@ -100,3 +192,23 @@ mutual_made n width words degrees bss marks both = record {
       let room = room_in_row n width marks.width_is in
       both a b (omega (arith, room)) (omega (arith, room)) ∙ or_turned (said bss a b) (said bss b a) ∙ sym (both b a (omega (arith, room)) (omega (arith, room)));
 }
+
+-- marks of the lists, and of the lists turned round, are turned
+pub turned_made : (n width : ℕ) (words back degrees : List ℕ) (bss : List (List ℕ)) → AreMarks n width back degrees
+    → ((x y : ℕ) → x < 64 * width → y < 64 * width → marked words width x y ≡ said bss x y)
+    → ((x y : ℕ) → x < 64 * width → y < 64 * width → marked back width x y ≡ said bss y x) → AreTurned n width words back degrees
+turned_made n width words back degrees bss marks out in_said = record {
+  marks = marks;
+  each = λ a b a_in b_in.
+      let room = room_in_row n width marks.width_is in
+      in_said a b (omega (arith, room)) (omega (arith, room)) ∙ sym (out b a (omega (arith, room)) (omega (arith, room)));
+}
+
+-- the graph of lists without labels is plain
+pub plain_made : (ls : List ℕ) (bss : List (List ℕ)) (g : Graph) → length ls ≡ length bss → g ≡ graph_of (vertices_from ls bss) → IsPlain g
+plain_made ls bss g e is =
+    subst (λ (h : Graph). IsPlain h) (sym is) (plain_of (vertices_from ls bss) (λ a b l there. of_mark (said bss a b) l (sym (lists-vertices ls bss a b e) ∙ there)))
+  where
+    of_mark : (m : Bool) (l : ℕ) → edge_of_mark m ≡ Some l → l ≡ 0
+    of_mark true l h = let k : 0 ≡ l = cc in sym k
+    of_mark false l h = absurd cc

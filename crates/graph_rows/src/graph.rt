@@ -1,46 +1,76 @@
-//! Graphs as bit rows: an edge is one bit, and a vertex's neighbours are one row of words. (Ullmann 2010.)
+//! Graphs as bit rows: an edge is one bit, and the vertices to which edges lead from one are one row of words. (Ullmann 2010.)
 
-ghost use Rattle.std.specs.Prelude.{◌≡◌, ℕ, ◌+◌, ◌*◌, ◌^◌, ◌<◌, ◌≤◌, ◌==◌, ◌&&◌, ◌||◌, ◌↔◌, not, true, false, length, is_some, Some, IsTrue, IfOk, slice_index};
-ghost use Rattle.graph_theory.specs.Graph.{size as size_of, label as label_of, edge as edge_of, graph_of};
-ghost use Rattle.graph_theory.specs.Neighbours.{degree as degree_of, is_neighbour};
-ghost use Rattle.lad_reader.specs.Parts.{vertices_of, AreBelow, AllBelow};
+ghost use Rattle.std.specs.Prelude.{◌≡◌, ℕ, ◌^◌, ◌<◌, ◌≤◌, ◌↔◌, true, length, is_some, IsTrue, IfOk, slice_index};
+ghost use Rattle.graph_theory.specs.Graph.{size as size_of, label as label_of, edge as edge_of};
+ghost use Rattle.graph_theory.specs.GraphText.{text_graph};
+ghost use Rattle.graph_theory.specs.Plain.{IsPlain, IsUndirected};
+ghost use Rattle.graph_theory.specs.Neighbours.{degree as degree_of, in_degree as in_degree_of, is_neighbour};
+ghost use Rattle.graph_theory.specs.Graph.{graph_of};
+ghost use Rattle.lad_reader.specs.Parts.{vertices_of, vertices_from, AllBelow};
 ghost use Rattle.graph_rows.specs.BitRow.{has, words_for};
-ghost use Rattle.graph_rows.specs.Held.{marked, AreMarks, AreLoops, AddsMark, AddsListed, either_said};
+ghost use Rattle.graph_rows.specs.Held.{cell, AreCells};
 
-use lad_reader::{GraphParts, NeighbourLists};
+use crate::cells::edge_label_cells;
+use crate::marks::{gather_loops, has_bit, is_marked, mark_all, mark_all_in, mark_all_out};
+use lad_reader::{GraphParts, LadKind};
 use std::alloc::{AllocError, Global};
 use std::marker::Model;
 
-/// A graph of at most 8,192 vertices, of which each two have an edge or none.
+/// A graph of at most 8,192 vertices, of which each ordered two have an edge or none, and each edge a label.
+///
+/// Beside a bit row for each vertex a graph with directions has another for the edges that lead in, which costs as much again, and one
+/// with labels of edges four bytes for each two vertices. Other graphs pay for neither.
 #[derive(Drop)]
 pub struct Graph {
     labels: Vec<u32>,
     words: Vec<u64>,
     width: usize,
     degrees: Vec<u16>,
+    back: Vec<u64>,
+    in_degrees: Vec<u16>,
     loops: Vec<u64>,
+    cells: Vec<u32>,
 }
 
 impl Model for Graph {
     ghost use Rattle.graph_theory.specs.Graph.{Graph as TheGraph};
     ghost use Rattle.std.specs.Prelude.{length};
-    ghost use Rattle.graph_rows.specs.Held.{graph_held, AreMarks, AreMutual, AreLoops};
+    ghost use Rattle.graph_rows.specs.Held.{graph_held, AreMarks, AreBack, AreLoops, AreCells};
 
     ghost Value = { TheGraph };
 
-    ghost view = { λ g. graph_held g.labels.items g.words.items g.width };
+    ghost view = { λ g. graph_held g.labels.items g.words.items g.cells.items g.width };
 
-    ghost invariant = { λ g. AreMarks (length g.labels.items) g.width g.words.items g.degrees.items × AreMutual (length g.labels.items) g.width g.words.items × AreLoops (length g.labels.items) g.width g.words.items g.loops.items };
+    ghost invariant = { λ g. AreMarks (length g.labels.items) g.width g.words.items g.degrees.items × AreBack (length g.labels.items) g.width g.words.items g.back.items g.in_degrees.items × AreLoops (length g.labels.items) g.width g.words.items g.loops.items × AreCells (length g.labels.items) g.cells.items };
 }
 
 impl Graph {
-    /// The graph of a text's parts; an edge that one end lists counts for both. Cost: linear in the parts and in the
-    /// words of the rows.
+    /// The graph of a text's parts. Cost: linear in the parts and in the words of the rows; with labels of edges one step for each two
+    /// vertices.
     pub fn new(alloc: Global, parts: &GraphParts) -> Result<Graph, AllocError>
         requires lengths { length parts.now.labels ≡ length parts.now.neighbours }
         requires few { length parts.now.labels ≤ 8192 }
         requires below { AllBelow (length parts.now.labels) parts.now.neighbours }
-        ensures { IfOk result (λ g. g ≡ graph_of (vertices_of parts.now)) }
+        ensures graph { IfOk result (λ g. g ≡ text_graph parts.now.kind (vertices_of parts.now)) }
+        ensures plain { IsUndirected parts.now.kind → IfOk result IsPlain }
+    {
+        match parts.kind {
+            LadKind::Lad => Graph::undirected(alloc, parts),
+            LadKind::VertexLabelledLad => Graph::undirected(alloc, parts),
+            LadKind::DirectedLad => Graph::directed(alloc, parts),
+            LadKind::LabelledLad => Graph::directed(alloc, parts),
+        }
+    }
+
+    /// The graph of parts without directions: an edge that one end lists counts for both.
+    fn undirected(alloc: Global, parts: &GraphParts) -> Result<Graph, AllocError>
+        requires kind { IsUndirected parts.now.kind }
+        requires lengths { length parts.now.labels ≡ length parts.now.neighbours }
+        requires few { length parts.now.labels ≤ 8192 }
+        requires below { AllBelow (length parts.now.labels) parts.now.neighbours }
+        ensures graph { IfOk result
+            (λ g. g ≡ graph_of (vertices_from parts.now.labels parts.now.neighbours)) }
+        ensures plain { IfOk result IsPlain }
     {
         let labels = Vec::from_slice(alloc, parts.labels.as_slice())?;
         let size = labels.len();
@@ -55,7 +85,42 @@ impl Graph {
             words,
             width,
             degrees,
+            back: Vec::new(alloc),
+            in_degrees: Vec::new(alloc),
             loops,
+            cells: Vec::new(alloc),
+        })
+    }
+
+    /// The graph of parts with directions: an edge leads from a vertex to each that it lists.
+    fn directed(alloc: Global, parts: &GraphParts) -> Result<Graph, AllocError>
+        requires lengths { length parts.now.labels ≡ length parts.now.neighbours }
+        requires few { length parts.now.labels ≤ 8192 }
+        requires below { AllBelow (length parts.now.labels) parts.now.neighbours }
+        ensures graph { (IsUndirected parts.now.kind → ⊥)
+            → IfOk result (λ g. g ≡ text_graph parts.now.kind (vertices_of parts.now)) }
+    {
+        let labels = Vec::from_slice(alloc, parts.labels.as_slice())?;
+        let size = labels.len();
+        let width = (size + 63) / 64;
+        let mut words = vec![in alloc; 0u64; size * width]?;
+        let mut degrees = vec![in alloc; 0u16; size]?;
+        let mut back = vec![in alloc; 0u64; size * width]?;
+        let mut in_degrees = vec![in alloc; 0u16; size]?;
+        let mut loops = vec![in alloc; 0u64; width]?;
+        mark_all_out(&mut words, &mut degrees, width, &parts.neighbours);
+        mark_all_in(&mut back, &mut in_degrees, width, &parts.neighbours);
+        gather_loops(&words, width, size, &mut loops);
+        let cells = edge_label_cells(alloc, parts)?;
+        Ok(Graph {
+            labels,
+            words,
+            width,
+            degrees,
+            back,
+            in_degrees,
+            loops,
+            cells,
         })
     }
 
@@ -75,26 +140,36 @@ impl Graph {
         self.labels[usize::from(a)]
     }
 
-    /// The label of the edge from `a` to `b`, or none where no edge leads there. Cost: one word.
+    /// The label of the edge from `a` to `b`, or none where no edge leads there. Cost: one word, and its label.
     pub fn edge(&self, a: u16, b: u16) -> Option<u32>
         requires from { a < size_of self.now }
         requires to { b < size_of self.now }
         ensures { result ≡ edge_of self.now a b }
     {
         if is_marked(&self.words, self.width, usize::from(a), usize::from(b)) {
-            Some(0)
+            Some(cell_of(
+                &self.cells,
+                self.labels.len(),
+                usize::from(a),
+                usize::from(b),
+            ))
         } else {
             None
         }
     }
 
-    /// The label of the edge from `a` to itself, or none. It is kept beside the rows. Cost: one word.
+    /// The label of the edge from `a` to itself, or none. It is kept beside the rows. Cost: one word, and its label.
     pub fn loop_at(&self, a: u16) -> Option<u32>
         requires { a < size_of self.now }
         ensures { result ≡ edge_of self.now a a }
     {
         if has_bit(&self.loops, usize::from(a)) {
-            Some(0)
+            Some(cell_of(
+                &self.cells,
+                self.labels.len(),
+                usize::from(a),
+                usize::from(a),
+            ))
         } else {
             None
         }
@@ -125,12 +200,33 @@ impl Graph {
         self.edge(a, b).is_some()
     }
 
-    /// How many other vertices an edge leads to from `a`. It was counted when the graph was made.
+    /// How many other vertices an edge leads to from `a`, which in a graph without directions are its neighbours. It was counted when
+    /// the graph was made.
     pub fn degree(&self, a: u16) -> u16
         requires { a < size_of self.now }
         ensures { result ≡ degree_of self.now a }
     {
         self.degrees[usize::from(a)]
+    }
+
+    /// How many other vertices an edge leads to from `a`.
+    pub fn out_degree(&self, a: u16) -> u16
+        requires { a < size_of self.now }
+        ensures { result ≡ degree_of self.now a }
+    {
+        self.degree(a)
+    }
+
+    /// How many other vertices an edge leads from to `a`. It was counted when the graph was made.
+    pub fn in_degree(&self, a: u16) -> u16
+        requires { a < size_of self.now }
+        ensures { result ≡ in_degree_of self.now a }
+    {
+        if self.back.is_empty() {
+            self.degrees[usize::from(a)]
+        } else {
+            self.in_degrees[usize::from(a)]
+        }
     }
 
     /// The degrees of all vertices, in order.
@@ -153,27 +249,104 @@ impl Graph {
         &self.words[from..from + self.width]
     }
 
-    /// Each vertex is a neighbour of its neighbours. It changes nothing; the fact is what it is called for.
+    /// The vertices to which an edge leads from `a`, as a bit row.
+    pub fn out_row(&self, a: u16) -> &[u64]
+        requires { a < size_of self.now }
+        ensures long { length result.now ≡ words_for (size_of self.now) }
+        ensures neighbours { (b : ℕ) → has result.now b ≡ is_some (edge_of self.now a b) }
+        ensures within { (b : ℕ) → has result.now b ≡ true → b < size_of self.now }
+    {
+        self.row(a)
+    }
+
+    /// The vertices from which an edge leads to `a`, as a bit row.
+    pub fn in_row(&self, a: u16) -> &[u64]
+        requires { a < size_of self.now }
+        ensures long { length result.now ≡ words_for (size_of self.now) }
+        ensures neighbours { (b : ℕ) → has result.now b ≡ is_some (edge_of self.now b a) }
+        ensures within { (b : ℕ) → has result.now b ≡ true → b < size_of self.now }
+    {
+        let from = usize::from(a) * self.width;
+        if self.back.is_empty() {
+            &self.words[from..from + self.width]
+        } else {
+            &self.back[from..from + self.width]
+        }
+    }
+
+    /// In a graph without directions each vertex is a neighbour of its neighbours. It changes nothing; the fact is what it is called for.
     pub fn neighbours_are_mutual(&self)
+        requires { IsPlain self.now }
         ensures { (a b : ℕ) → is_neighbour self.now a b ≡ is_neighbour self.now b a }
     {
         let _width = self.width;
     }
 
-    /// An edge leads back wherever one leads, and each has the label 0. It changes nothing; the facts are what it is called for.
-    pub fn edges_are_plain(&self)
-        ensures both { (a b : ℕ) → edge_of self.now a b ≡ edge_of self.now b a }
-        ensures zeros { (a b l : ℕ) → edge_of self.now a b ≡ Some l → l ≡ 0 }
-    {
-        let _width = self.width;
-    }
-
-    /// Whether the other graph has the same labels and edges. Cost: the words of the rows.
+    /// Whether the other graph has the same labels and edges. Cost: the words of the rows; with labels of edges one step for each two
+    /// vertices.
     pub fn same(&self, other: &Graph) -> bool
         ensures { IsTrue result ↔ (self.now ≡ other.now) }
     {
-        same_lists(&self.labels, &other.labels, &self.words, &other.words)
+        if self.cells.is_empty() && other.cells.is_empty() {
+            return same_lists(&self.labels, &other.labels, &self.words, &other.words);
+        }
+        if !same_labels(&self.labels, &other.labels) {
+            return false;
+        }
+        self.has_edges_of(other)
     }
+
+    /// Whether each two vertices have the edge that they have in another graph of as many.
+    fn has_edges_of(&self, other: &Graph) -> bool
+        requires { size_of other.now ≡ size_of self.now }
+        ensures { IsTrue result
+            ↔ ((a b : ℕ) → a < size_of self.now → b < size_of self.now
+            → edge_of self.now a b ≡ edge_of other.now a b) }
+    {
+        for a in 0..self.size() {
+            if !self.has_row_of(other, a) {
+                return false;
+            }
+        }
+        true
+    }
+
+    /// Whether `a` has the edges that it has in another graph of as many vertices.
+    fn has_row_of(&self, other: &Graph, a: u16) -> bool
+        requires same { size_of other.now ≡ size_of self.now }
+        requires from { a < size_of self.now }
+        ensures { IsTrue result
+            ↔ ((b : ℕ) → b < size_of self.now → edge_of self.now a b ≡ edge_of other.now a b) }
+    {
+        for b in 0..self.size() {
+            if self.edge(a, b) != other.edge(a, b) {
+                return false;
+            }
+        }
+        true
+    }
+}
+
+/// The label of the edge from `a` to `b` among `n` vertices; 0 where no labels are kept.
+fn cell_of(cells: &[u32], n: usize, a: usize, b: usize) -> u32
+    requires cells { AreCells n cells.now }
+    requires few { n ≤ 8192 }
+    requires from { a < n }
+    requires to { b < n }
+    ensures { result ≡ cell cells.now n a b }
+{
+    if cells.is_empty() {
+        0
+    } else {
+        cells[a * n + b]
+    }
+}
+
+/// Whether labels are the same.
+fn same_labels(labels: &[u32], others: &[u32]) -> bool
+    ensures { IsTrue result ↔ (labels.now ≡ others.now) }
+{
+    labels == others
 }
 
 /// Whether labels are the same, and words are.
@@ -184,93 +357,4 @@ fn same_lists(labels: &[u32], other_labels: &[u32], words: &[u64], other_words: 
     ensures others_fit { (k : ℕ) → slice_index other_words.now k < 2 ^ 64 }
 {
     labels == other_labels && words == other_words
-}
-
-/// Whether the value is in the set that the row holds.
-fn has_bit(row: &[u64], value: usize) -> bool
-    requires { value < 64 * length row.now }
-    ensures { result ≡ has row.now value }
-{
-    (row[value / 64] >> (value % 64)) & 1 == 1
-}
-
-/// Puts the value into the set that the row holds, and says whether it is new there.
-fn set_bit(row: &mut [u64], value: usize) -> bool
-    requires { value < 64 * length row.old }
-    ensures new { result ≡ not (has row.old value) }
-    ensures set { (v : ℕ) → has row.new v ≡ (has row.old v || value == v) }
-{
-    let is_new = !has_bit(row, value);
-    row[value / 64] |= 1 << (value % 64);
-    is_new
-}
-
-/// Whether `b` is marked in the row of `a`.
-fn is_marked(words: &[u64], width: usize, a: usize, b: usize) -> bool
-    requires narrow { width ≤ 128 }
-    requires from { a < 8192 }
-    requires to { b < 8192 }
-    requires within { a * (64 * width) + b < 64 * length words.now }
-    ensures { result ≡ marked words.now width a b }
-{
-    has_bit(words, a * (64 * width) + b)
-}
-
-/// Marks `b` in the row of `a`, and counts it there where it is a new neighbour.
-fn mark(words: &mut [u64], degrees: &mut [u16], width: usize, a: usize, b: usize)
-    requires marks { AreMarks (length degrees.old) width words.old degrees.old }
-    requires from { a < length degrees.old }
-    requires to { b < length degrees.old }
-    ensures marks { AreMarks (length degrees.old) width words.new degrees.new }
-    ensures added { AddsMark width words.old words.new a b }
-{
-    let is_new = set_bit(words, a * (64 * width) + b);
-    if is_new && a != b {
-        degrees[a] += 1;
-    }
-}
-
-/// Marks an edge between `a` and each vertex that it lists.
-fn mark_listed(words: &mut [u64], degrees: &mut [u16], width: usize, a: usize, listed: &[u32])
-    requires marks { AreMarks (length degrees.old) width words.old degrees.old }
-    requires from { a < length degrees.old }
-    requires to { AreBelow (length degrees.old) listed.now }
-    ensures marks { AreMarks (length degrees.old) width words.new degrees.new }
-    ensures added { AddsListed width words.old words.new a listed.now }
-{
-    for b in listed {
-        mark(words, degrees, width, a, *b as usize);
-        mark(words, degrees, width, *b as usize, a);
-    }
-}
-
-/// Marks the edges that the lists say, in rows without marks.
-fn mark_all(words: &mut [u64], degrees: &mut [u16], width: usize, neighbours: &NeighbourLists)
-    requires marks { AreMarks (length degrees.old) width words.old degrees.old }
-    requires empty { (x y : ℕ) → marked words.old width x y ≡ false }
-    requires all { length neighbours.now ≡ length degrees.old }
-    requires to { AllBelow (length degrees.old) neighbours.now }
-    ensures marks { AreMarks (length degrees.old) width words.new degrees.new }
-    ensures said { (x y : ℕ) → x < 64 * width → y < 64 * width
-        → marked words.new width x y ≡ either_said neighbours.now x y }
-{
-    for a in 0..neighbours.len() {
-        mark_listed(words, degrees, width, a, neighbours.of(a));
-    }
-}
-
-/// Puts the vertices that are marked in their own row into an empty row. Cost: one word for each vertex.
-fn gather_loops(words: &[u64], width: usize, size: usize, loops: &mut [u64])
-    requires width_is { width ≡ words_for size }
-    requires few { size ≤ 8192 }
-    requires words_are { length words.now ≡ size * width }
-    requires long { length loops.old ≡ width }
-    requires empty { (v : ℕ) → has loops.old v ≡ false }
-    ensures { AreLoops size width words.now loops.new }
-{
-    for a in 0..size {
-        if is_marked(words, width, a, a) {
-            let _is_new = set_bit(loops, a);
-        }
-    }
 }

@@ -1,19 +1,19 @@
 -- A text reads or has a fault: its words, taken from the first on, are those of a graph until one is refused.
 
 use Rattle.std.specs.Prelude.{◌≡◌, ℕ, zero, suc, ◌+◌, ◌<◌, ◌≤◌, ◌⊎◌, List, [], ◌∷◌, ◌++◌, length, map, Option, Some, None, refl}
-use Rattle.std.proofs.Common.{ap, inl, inr, ◌∙◌, append_assoc, arith, tests}
+use Rattle.std.proofs.Common.{ap, sym, subst, inl, inr, ◌∙◌, append_assoc, length-append, arith, tests}
 use Rattle.std.proofs.lemmas.List.{map-append, append-nil}
 use Rattle.graph_theory.specs.Text.{number_of}
-use Rattle.graph_theory.specs.Lad.{Vertex, label_numbers, listed_numbers, vertex_numbers, all_numbers, text_numbers, HasEdgeLabel, AreListed, IsVertex, AreVertices, Reads}
-use Rattle.graph_theory.specs.LadFault.{Begun, Within, Due, refused_at, first_of, Fault, ReadsOrFault}
-use Rattle.graph_theory.specs.Progress.{IsOpen}
+use Rattle.graph_theory.specs.Lad.{Vertex, label_numbers, edge_label_numbers, listed_numbers, listed_label, vertex_numbers, all_numbers, text_numbers, HasLabel, AreListed, IsVertex, AreVertices, Reads}
+use Rattle.graph_theory.specs.LadFault.{ListBegun, Begun, Within, Due, refused_at, first_of, Fault, ReadsOrFault}
+use Rattle.graph_theory.specs.Progress.{IsOpen, MayFollow}
 use Rattle.graph_theory.specs.declared.lad_text.LadKind.{LadKind}
-use Rattle.graph_theory.specs.declared.lad_text.LadKind.TheVariants.{Lad, VertexLabelledLad}
+use Rattle.graph_theory.specs.declared.lad_text.LadKind.TheVariants.{Lad, VertexLabelledLad, DirectedLad, LabelledLad}
 use Rattle.graph_theory.specs.declared.lad_text.LadCause.{LadCause}
 use Rattle.graph_theory.specs.declared.lad_text.LadCause.TheVariants.{NotNumber, EndsEarly, WordsLeft}
 use Rattle.graph_theory.specs.declared.lad_text.Place.{Place}
-use Rattle.graph_theory.specs.declared.lad_text.Place.TheVariants.{Size, Number, Neighbour, End}
-use Rattle.graph_theory.proofs.Walk.{listed_numbers-more}
+use Rattle.graph_theory.specs.declared.lad_text.Place.TheVariants.{Size, Number, Neighbour, EdgeLabel, End}
+use Rattle.graph_theory.proofs.Listing.{AreListed-none, AreListed-push, listed_numbers-push}
 
 -- After these numbers the words are refused in this place.
 pub record Stops (ws : List (Option ℕ)) (part : List ℕ) (place : Place) (cause : LadCause) : Type 0 where
@@ -34,6 +34,7 @@ ends_early End h = absurd h
 ends_early (Size m) h = refl
 ends_early Number h = refl
 ends_early (Neighbour n) h = refl
+ends_early (EdgeLabel earlier) h = refl
 
 -- Where a word is due, one that is no number is refused as such.
 no_number : (place : Place) → IsOpen place → refused_at place (Some None) ≡ Some NotNumber
@@ -41,6 +42,7 @@ no_number End h = absurd h
 no_number (Size m) h = refl
 no_number Number h = refl
 no_number (Neighbour n) h = refl
+no_number (EdgeLabel earlier) h = refl
 
 -- There is a cause or none.
 none_or_some : (o : Option LadCause) → (o ≡ None) ⊎ ((cause : LadCause) × (o ≡ Some cause))
@@ -65,26 +67,21 @@ neighbour_below n b h = grind (arith, tests)
 pub size_within : (limit n : ℕ) → refused_at (Size limit) (Some (Some n)) ≡ None → n ≤ limit
 size_within limit n h = grind (arith, tests)
 
--- The label of an edge that no format writes.
-no_edge_label : (kind : LadKind) → HasEdgeLabel kind 0
-no_edge_label Lad = refl
-no_edge_label VertexLabelledLad = refl
-
--- The words begin with c neighbours.
-pub record BeginsListed (ws : List (Option ℕ)) (kind : LadKind) (n c : ℕ) : Type 0 where
-  pub listed : List (ℕ × ℕ)
+-- The words begin with c neighbours that may be listed after these.
+pub record BeginsListed (ws : List (Option ℕ)) (kind : LadKind) (n c : ℕ) (es : List (ℕ × ℕ)) : Type 0 where
+  pub more : List (ℕ × ℕ)
   pub rest : List (Option ℕ)
-  pub count : length listed ≡ c
-  pub each : AreListed kind n listed
-  pub split : ws ≡ map Some (listed_numbers kind listed) ++ rest
+  pub count : length more ≡ c
+  pub listed : AreListed kind n (es ++ more)
+  pub split : ws ≡ map Some (listed_numbers kind more) ++ rest
 
--- The words begin with fewer than c neighbours, and the next is refused.
-pub record StopsListed (ws : List (Option ℕ)) (kind : LadKind) (n c : ℕ) : Type 0 where
-  pub listed : List (ℕ × ℕ)
+-- The words stop among c neighbours after these.
+pub record StopsListed (ws : List (Option ℕ)) (kind : LadKind) (n c : ℕ) (es : List (ℕ × ℕ)) : Type 0 where
+  pub list : List ℕ
+  pub place : Place
   pub cause : LadCause
-  pub count : length listed < c
-  pub each : AreListed kind n listed
-  pub stops : Stops ws (listed_numbers kind listed) (Neighbour n) cause
+  pub begun : ListBegun place kind n (length es + c) (listed_numbers kind es ++ list)
+  pub stops : Stops ws list place cause
 
 -- A number in front of numbers.
 split_more : (x : ℕ) (ws more rest : List (Option ℕ)) (xs ys : List ℕ) → ws ≡ Some x ∷ more → more ≡ map Some xs ++ rest → ys ≡ x ∷ xs → ws ≡ map Some ys ++ rest
@@ -102,32 +99,96 @@ Stops-more x ws more xs ys place cause e g s = record { rest = s.rest; split = s
 Stops-now : (ws : List (Option ℕ)) (place : Place) (cause : LadCause) → refused_at place (first_of ws) ≡ Some cause → Stops ws [] place cause
 Stops-now ws place cause h = record { rest = ws; split = refl; refused = h }
 
--- The words begin with as many neighbours as are due, or stop before that.
-pub listed_or_stops : (kind : LadKind) (n c : ℕ) (ws : List (Option ℕ)) → BeginsListed ws kind n c ⊎ StopsListed ws kind n c
-listed_or_stops kind n zero ws = inl (record { listed = []; rest = ws; count = refl; each = tt; split = refl })
-listed_or_stops kind n (suc c) ws =
+-- Numbers in front of those after which the words stop.
+Stops-after : (ws more : List (Option ℕ)) (xs ys zs : List ℕ) (place : Place) (cause : LadCause) → ws ≡ map Some xs ++ more → zs ≡ xs ++ ys → Stops more ys place cause → Stops ws zs place cause
+Stops-after ws more xs ys zs place cause e g s =
+    record { rest = s.rest; split = rw g (split_both ws more s.rest xs ys e s.split); refused = s.refused }
+
+-- What follows one neighbour, in front of which there are others.
+after_one : (kind : LadKind) (n c : ℕ) (es : List (ℕ × ℕ)) (e : ℕ × ℕ) (ws more : List (Option ℕ)) → ws ≡ map Some (e.0 ∷ edge_label_numbers kind e.1) ++ more
+    → BeginsListed more kind n c (es ++ e ∷ []) ⊎ StopsListed more kind n c (es ++ e ∷ []) → BeginsListed ws kind n (suc c) es ⊎ StopsListed ws kind n (suc c) es
+after_one kind n c es e ws more split (inl b) = inl (record {
+  more = e ∷ b.more;
+  rest = b.rest;
+  count = omega (arith, b.count);
+  listed = subst (λ (v : List (ℕ × ℕ)). AreListed kind n v) (append_assoc es (e ∷ []) b.more) b.listed;
+  split = split_both ws more b.rest (e.0 ∷ edge_label_numbers kind e.1) (listed_numbers kind b.more) split b.split;
+})
+after_one kind n c es e ws more split (inr s) =
+    let counts : length (es ++ e ∷ []) + c ≡ length es + suc c = omega (arith, length-append es (e ∷ [])) in
+    let numbers : listed_numbers kind (es ++ e ∷ []) ++ s.list ≡ listed_numbers kind es ++ ((e.0 ∷ edge_label_numbers kind e.1) ++ s.list) =
+    ap (λ (v : List ℕ). v ++ s.list) (listed_numbers-push kind es e) ∙ append_assoc (listed_numbers kind es) (e.0 ∷ edge_label_numbers kind e.1) s.list in
+    inr (record {
+      list = (e.0 ∷ edge_label_numbers kind e.1) ++ s.list;
+      place = s.place;
+      cause = s.cause;
+      begun = subst (λ (v : List ℕ). ListBegun s.place kind n (length es + suc c) v) numbers
+          (subst (λ (k : ℕ). ListBegun s.place kind n k (listed_numbers kind (es ++ e ∷ []) ++ s.list)) counts s.begun);
+      stops = Stops-after ws more (e.0 ∷ edge_label_numbers kind e.1) s.list _ s.place s.cause split refl s.stops;
+    })
+
+-- The words go on with neighbours after these, or stop.
+abbrev Goes : LadKind → ℕ → ℕ → List (ℕ × ℕ) → List (Option ℕ) → Type 0
+Goes kind n c es ws = AreListed kind n es → BeginsListed ws kind n c es ⊎ StopsListed ws kind n c es
+
+-- The words stop at a neighbour.
+stops_neighbour : (kind : LadKind) (n c : ℕ) (es : List (ℕ × ℕ)) (ws : List (Option ℕ)) (cause : LadCause) → AreListed kind n es → refused_at (Neighbour n) (first_of ws) ≡ Some cause
+    → StopsListed ws kind n (suc c) es
+stops_neighbour kind n c es ws cause h refused = record {
+  list = [];
+  place = Neighbour n;
+  cause = cause;
+  begun = (refl, record { some = es; fewer = omega arith; listed = h; numbers = append-nil (listed_numbers kind es) });
+  stops = Stops-now ws (Neighbour n) cause refused;
+}
+
+-- They go on in a format without labels of edges.
+unlabelled_or_stops : (kind : LadKind) (n c : ℕ) (es : List (ℕ × ℕ)) (ws : List (Option ℕ)) → edge_label_numbers kind 0 ≡ [] → ((b : ℕ) → MayFollow kind es b 0)
+    → ((fs : List (ℕ × ℕ)) (vs : List (Option ℕ)) → Goes kind n c fs vs) → Goes kind n (suc c) es ws
+unlabelled_or_stops kind n c es ws none may more h =
     elim (take_word (Neighbour n) ws tt) [
       | inl t ↦
           (let e : ℕ × ℕ = (t.number, 0) in
-          let below : t.number < n = neighbour_below n t.number t.taken in
-          elim (listed_or_stops kind n c t.rest) [
-            | inl b ↦ inl (record {
-              listed = e ∷ b.listed;
-              rest = b.rest;
-              count = omega (arith, b.count);
-              each = (below, no_edge_label kind, b.each);
-              split = split_more t.number ws t.rest b.rest _ _ t.split b.split (listed_numbers-more kind e b.listed);
-            })
-            | inr s ↦ inr (record {
-              listed = e ∷ s.listed;
-              cause = s.cause;
-              count = omega (arith, s.count);
-              each = (below, no_edge_label kind, s.each);
-              stops = Stops-more t.number ws t.rest _ _ (Neighbour n) s.cause t.split (listed_numbers-more kind e s.listed) s.stops;
+          let one : ws ≡ map Some (t.number ∷ edge_label_numbers kind 0) ++ t.rest = rw none t.split in
+          after_one kind n c es e ws t.rest one (more (es ++ e ∷ []) t.rest (AreListed-push kind n es e h (neighbour_below n t.number t.taken) (may t.number))))
+      | inr r ↦ inr (stops_neighbour kind n c es ws r.0 h r.1)
+    ]
+
+-- They go on in the format with labels of edges.
+labelled_or_stops : (n c : ℕ) (es : List (ℕ × ℕ)) (ws : List (Option ℕ)) → ((fs : List (ℕ × ℕ)) (vs : List (Option ℕ)) → Goes LabelledLad n c fs vs) → Goes LabelledLad n (suc c) es ws
+labelled_or_stops n c es ws more h =
+    elim (take_word (Neighbour n) ws tt) [
+      | inl t ↦
+          (let below : t.number < n = neighbour_below n t.number t.taken in
+          elim (take_word (EdgeLabel (listed_label es t.number)) t.rest tt) [
+            | inl u ↦
+                (let e : ℕ × ℕ = (t.number, u.number) in
+                let one : ws ≡ Some t.number ∷ (Some u.number ∷ u.rest) = rw (t.split, u.split) refl in
+                after_one LabelledLad n c es e ws u.rest one (more (es ++ e ∷ []) u.rest (AreListed-push LabelledLad n es e h below u.taken)))
+            | inr r ↦ inr (record {
+              list = t.number ∷ [];
+              place = EdgeLabel (listed_label es t.number);
+              cause = r.0;
+              begun = record { some = es; neighbour = t.number; fewer = omega arith; listed = h; below = below; earlier_is = refl; numbers = refl };
+              stops = Stops-more t.number ws t.rest [] _ (EdgeLabel (listed_label es t.number)) r.0 t.split refl (Stops-now t.rest (EdgeLabel (listed_label es t.number)) r.0 r.1);
             })
           ])
-      | inr r ↦ inr (record { listed = []; cause = r.0; count = omega arith; each = tt; stops = Stops-now ws (Neighbour n) r.0 r.1 })
+      | inr r ↦ inr (stops_neighbour LabelledLad n c es ws r.0 h r.1)
     ]
+
+-- The words begin with as many neighbours as are due, or stop before that.
+pub listed_or_stops : (kind : LadKind) (n c : ℕ) (es : List (ℕ × ℕ)) (ws : List (Option ℕ)) → Goes kind n c es ws
+listed_or_stops kind n zero es ws h = inl (record {
+  more = [];
+  rest = ws;
+  count = refl;
+  listed = subst (λ (v : List (ℕ × ℕ)). AreListed kind n v) (sym (append-nil es)) h;
+  split = refl;
+})
+listed_or_stops Lad n (suc c) es ws h = unlabelled_or_stops Lad n c es ws refl (λ b. refl) (listed_or_stops Lad n c) h
+listed_or_stops VertexLabelledLad n (suc c) es ws h = unlabelled_or_stops VertexLabelledLad n c es ws refl (λ b. refl) (listed_or_stops VertexLabelledLad n c) h
+listed_or_stops DirectedLad n (suc c) es ws h = unlabelled_or_stops DirectedLad n c es ws refl (λ b. refl) (listed_or_stops DirectedLad n c) h
+listed_or_stops LabelledLad n (suc c) es ws h = labelled_or_stops n c es ws (listed_or_stops LabelledLad n c) h
 
 -- The words begin with a number of neighbours and these.
 pub record BeginsCount (ws : List (Option ℕ)) (kind : LadKind) (n : ℕ) : Type 0 where
@@ -148,25 +209,37 @@ pub record StopsCount (ws : List (Option ℕ)) (kind : LadKind) (n label : ℕ) 
 begun_count : (kind : LadKind) (n label : ℕ) → Begun Number kind n (label_numbers kind label ++ [])
 begun_count Lad n label = refl
 begun_count VertexLabelledLad n label = inr (label, refl)
+begun_count DirectedLad n label = refl
+begun_count LabelledLad n label = inr (label, refl)
+
+-- A vertex is begun where its list is.
+pub begun_in_list : (place : Place) (kind : LadKind) (n label count : ℕ) (list : List ℕ) → ListBegun place kind n count list
+    → Begun place kind n (label_numbers kind label ++ count ∷ list)
+begun_in_list (Neighbour m) kind n label count list b = record { label = label; count = count; list = list; begun = b; numbers = refl }
+begun_in_list (EdgeLabel o) kind n label count list b = record { label = label; count = count; list = list; begun = b; numbers = refl }
+begun_in_list (Size m) kind n label count list b = absurd b
+begun_in_list Number kind n label count list b = absurd b
+begun_in_list End kind n label count list b = absurd b
 
 -- The words begin with a number of neighbours and these, or stop before that.
 count_or_stops : (kind : LadKind) (n label : ℕ) (ws : List (Option ℕ)) → BeginsCount ws kind n ⊎ StopsCount ws kind n label
 count_or_stops kind n label ws =
     elim (take_word Number ws tt) [
       | inl t ↦
-          elim (listed_or_stops kind n t.number t.rest) [
+          elim (listed_or_stops kind n t.number [] t.rest (AreListed-none kind n)) [
             | inl b ↦ inl (record {
-              listed = b.listed;
+              listed = b.more;
               rest = b.rest;
-              each = b.each;
-              split = split_more t.number ws t.rest b.rest _ _ t.split b.split (ap (λ (c : ℕ). c ∷ listed_numbers kind b.listed) b.count);
+              each = b.listed;
+              split = split_more t.number ws t.rest b.rest _ _ t.split b.split (ap (λ (c : ℕ). c ∷ listed_numbers kind b.more) b.count);
             })
             | inr s ↦ inr (record {
-              part = t.number ∷ listed_numbers kind s.listed;
-              place = Neighbour n;
+              part = t.number ∷ s.list;
+              place = s.place;
               cause = s.cause;
-              begun = (refl, label, t.number, s.listed, s.count, s.each, refl);
-              stops = Stops-more t.number ws t.rest _ _ (Neighbour n) s.cause t.split refl s.stops;
+              begun = begun_in_list s.place kind n label t.number s.list
+                  (let all : 0 + t.number ≡ t.number = omega arith in subst (λ (k : ℕ). ListBegun s.place kind n k s.list) all s.begun);
+              stops = Stops-more t.number ws t.rest _ _ s.place s.cause t.split refl s.stops;
             })
           ]
       | inr r ↦ inr (record { part = []; place = Number; cause = r.0; begun = begun_count kind n label; stops = Stops-now ws Number r.0 r.1 })
@@ -187,38 +260,56 @@ pub record StopsVertex (ws : List (Option ℕ)) (kind : LadKind) (n : ℕ) : Typ
   pub begun : Begun place kind n part
   pub stops : Stops ws part place cause
 
--- The words begin with a vertex or stop within it.
-vertex_or_stops : (kind : LadKind) (n : ℕ) (ws : List (Option ℕ)) → BeginsVertex ws kind n ⊎ StopsVertex ws kind n
-vertex_or_stops Lad n ws =
-    elim (count_or_stops Lad n 0 ws) [
+-- The words begin with a vertex or stop within it, in a format without labels of vertices.
+from_count : (kind : LadKind) (n : ℕ) (ws : List (Option ℕ)) → HasLabel kind 0 → label_numbers kind 0 ≡ [] → BeginsVertex ws kind n ⊎ StopsVertex ws kind n
+from_count kind n ws label none =
+    elim (count_or_stops kind n 0 ws) [
       | inl b ↦ inl (record {
         vertex = record { label = 0; listed = b.listed };
         rest = b.rest;
-        is_vertex = record { label = refl; listed = b.each };
-        split = b.split;
+        is_vertex = record { label = label; listed = b.each };
+        split = rw none b.split;
       })
-      | inr s ↦ inr (record { part = s.part; place = s.place; cause = s.cause; begun = s.begun; stops = s.stops })
+      | inr s ↦ inr (record {
+        part = s.part;
+        place = s.place;
+        cause = s.cause;
+        begun = subst (λ (v : List ℕ). Begun s.place kind n (v ++ s.part)) none s.begun;
+        stops = s.stops;
+      })
     ]
-vertex_or_stops VertexLabelledLad n ws =
+
+-- The same in a format with them.
+from_label : (kind : LadKind) (n : ℕ) (ws : List (Option ℕ)) → ((l : ℕ) → HasLabel kind l) → ((l : ℕ) → label_numbers kind l ≡ l ∷ []) → Begun Number kind n []
+    → BeginsVertex ws kind n ⊎ StopsVertex ws kind n
+from_label kind n ws label one nothing =
     elim (take_word Number ws tt) [
       | inl t ↦
-          elim (count_or_stops VertexLabelledLad n t.number t.rest) [
+          elim (count_or_stops kind n t.number t.rest) [
             | inl b ↦ inl (record {
               vertex = record { label = t.number; listed = b.listed };
               rest = b.rest;
-              is_vertex = record { label = tt; listed = b.each };
-              split = split_more t.number ws t.rest b.rest (length b.listed ∷ listed_numbers VertexLabelledLad b.listed) _ t.split b.split refl;
+              is_vertex = record { label = label t.number; listed = b.each };
+              split = split_more t.number ws t.rest b.rest (length b.listed ∷ listed_numbers kind b.listed) _ t.split b.split
+                  (ap (λ (v : List ℕ). v ++ length b.listed ∷ listed_numbers kind b.listed) (one t.number));
             })
             | inr s ↦ inr (record {
               part = t.number ∷ s.part;
               place = s.place;
               cause = s.cause;
-              begun = s.begun;
+              begun = subst (λ (v : List ℕ). Begun s.place kind n (v ++ s.part)) (one t.number) s.begun;
               stops = Stops-more t.number ws t.rest _ _ s.place s.cause t.split refl s.stops;
             })
           ]
-      | inr r ↦ inr (record { part = []; place = Number; cause = r.0; begun = inl refl; stops = Stops-now ws Number r.0 r.1 })
+      | inr r ↦ inr (record { part = []; place = Number; cause = r.0; begun = nothing; stops = Stops-now ws Number r.0 r.1 })
     ]
+
+-- The words begin with a vertex or stop within it.
+vertex_or_stops : (kind : LadKind) (n : ℕ) (ws : List (Option ℕ)) → BeginsVertex ws kind n ⊎ StopsVertex ws kind n
+vertex_or_stops Lad n ws = from_count Lad n ws refl refl
+vertex_or_stops VertexLabelledLad n ws = from_label VertexLabelledLad n ws (λ l. tt) (λ l. refl) (inl refl)
+vertex_or_stops DirectedLad n ws = from_count DirectedLad n ws refl refl
+vertex_or_stops LabelledLad n ws = from_label LabelledLad n ws (λ l. tt) (λ l. refl) (inl refl)
 
 -- The words begin with k vertices.
 pub record BeginsVertices (ws : List (Option ℕ)) (kind : LadKind) (n k : ℕ) : Type 0 where
@@ -238,11 +329,6 @@ pub record StopsVertices (ws : List (Option ℕ)) (kind : LadKind) (n k : ℕ) :
   pub each : AreVertices kind n whole
   pub begun : Begun place kind n part
   pub stops : Stops ws (all_numbers kind whole ++ part) place cause
-
--- Numbers in front of those after which the words stop.
-Stops-after : (ws more : List (Option ℕ)) (xs ys zs : List ℕ) (place : Place) (cause : LadCause) → ws ≡ map Some xs ++ more → zs ≡ xs ++ ys → Stops more ys place cause → Stops ws zs place cause
-Stops-after ws more xs ys zs place cause e g s =
-    record { rest = s.rest; split = rw g (split_both ws more s.rest xs ys e s.split); refused = s.refused }
 
 -- The words begin with as many vertices as are due, or stop before that.
 vertices_or_stops : (kind : LadKind) (n k : ℕ) (ws : List (Option ℕ)) → BeginsVertices ws kind n k ⊎ StopsVertices ws kind n k
@@ -278,6 +364,7 @@ due_within (Size m) kind limit before w = absurd w.begun
 due_within End kind limit before w = absurd w.begun
 due_within Number kind limit before w = w
 due_within (Neighbour n) kind limit before w = w
+due_within (EdgeLabel o) kind limit before w = w
 
 -- Where the words stop, the next is the first faulty one.
 fault_of_stops : (ws : List (List ℕ)) (kind : LadKind) (limit : ℕ) (before : List ℕ) (place : Place) (cause : LadCause)

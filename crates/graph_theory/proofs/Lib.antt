@@ -6,6 +6,7 @@ pub mod Counts
 pub mod FallingLists
 pub mod NeighbourCounts
 pub mod PlainTests
+pub mod Listing
 pub mod Walk
 pub mod OneReading
 pub mod Descent
@@ -15,3 +16,4 @@ pub mod NumberWords
 pub mod Steps
 pub mod OneAnswer
 pub mod MappingWords
+pub mod PlainGraphs

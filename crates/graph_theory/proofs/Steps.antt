@@ -4,18 +4,19 @@ use Rattle.std.specs.Prelude.{◌≡◌, ℕ, ◌+◌, ◌<◌, List, [], ◌∷
 use Rattle.std.proofs.Common.{sym, ap, subst, ◌∙◌, append_assoc, length-append, inl, inr, arith}
 use Rattle.std.proofs.lemmas.List.{append-nil}
 use Rattle.graph_theory.specs.Text.{number_of}
-use Rattle.graph_theory.specs.Lad.{Vertex, label_numbers, listed_numbers, vertex_numbers, all_numbers, HasLabel, HasEdgeLabel, AreListed, IsVertex, AreVertices, Reads}
+use Rattle.graph_theory.specs.Lad.{Vertex, label_numbers, edge_label_numbers, listed_numbers, listed_label, vertex_numbers, all_numbers, HasLabel, IsVertex, AreVertices, Reads}
 use Rattle.graph_theory.specs.LadFault.{Begun, Due, refused_at, first_of, Fault, OnWord}
-use Rattle.graph_theory.specs.Progress.{At, Went, StopsAt, WentListed, StopsListed, WentVertex, StopsVertex, WentVertices, StopsVertices}
+use Rattle.graph_theory.specs.Progress.{At, Went, StopsAt, MayFollow, StopsAtLabel, WentListed, StopsListed, WentVertex, StopsVertex, WentVertices, StopsVertices}
 use Rattle.graph_theory.specs.declared.lad_text.LadKind.{LadKind}
-use Rattle.graph_theory.specs.declared.lad_text.LadKind.TheVariants.{Lad, VertexLabelledLad}
+use Rattle.graph_theory.specs.declared.lad_text.LadKind.TheVariants.{Lad, VertexLabelledLad, DirectedLad, LabelledLad}
 use Rattle.graph_theory.specs.declared.lad_text.LadCause.{LadCause}
 use Rattle.graph_theory.specs.declared.lad_text.LadCause.TheVariants.{WordsLeft}
 use Rattle.graph_theory.specs.declared.lad_text.LadFault.{LadFault}
 use Rattle.graph_theory.specs.declared.lad_text.LadFault.TheVariants.{Word, NoMemory}
 use Rattle.graph_theory.specs.declared.lad_text.Place.{Place}
-use Rattle.graph_theory.specs.declared.lad_text.Place.TheVariants.{Size, Number, Neighbour, End}
-use Rattle.graph_theory.proofs.Descent.{split_both, neighbour_below, size_within, due_within}
+use Rattle.graph_theory.specs.declared.lad_text.Place.TheVariants.{Size, Number, Neighbour, EdgeLabel, End}
+use Rattle.graph_theory.proofs.Listing.{AreListed-none, AreListed-push, listed_numbers-push}
+use Rattle.graph_theory.proofs.Descent.{split_both, neighbour_below, size_within, begun_in_list, due_within}
 
 -- A weaker fact of a fault's word.
 pub OnWord-weaker : (e : LadFault) (P Q : ℕ → LadCause → Type 0) → ((w : ℕ) (cause : LadCause) → P w cause → Q w cause) → OnWord e P → OnWord e Q
@@ -44,18 +45,6 @@ StopsAt-same a xs ys place w cause e s = subst (λ (v : List ℕ). StopsAt a v p
 Went-same : (a b : At) (xs ys : List ℕ) → xs ≡ ys → Went a b xs → Went a b ys
 Went-same a b xs ys e h = subst (λ (v : List ℕ). Went a b v) e h
 
--- The numbers of one neighbour more.
-listed_numbers-push : (kind : LadKind) (es : List (ℕ × ℕ)) (e : ℕ × ℕ) → listed_numbers kind es ++ e.0 ∷ [] ≡ listed_numbers kind (es ++ e ∷ [])
-listed_numbers-push Lad [] e = refl
-listed_numbers-push Lad (f ∷ es) e = ap (λ (v : List ℕ). f.0 ∷ v) (listed_numbers-push Lad es e)
-listed_numbers-push VertexLabelledLad [] e = refl
-listed_numbers-push VertexLabelledLad (f ∷ es) e = ap (λ (v : List ℕ). f.0 ∷ v) (listed_numbers-push VertexLabelledLad es e)
-
--- One neighbour more may be listed.
-AreListed-push : (kind : LadKind) (n : ℕ) (es : List (ℕ × ℕ)) (e : ℕ × ℕ) → AreListed kind n es → e.0 < n → HasEdgeLabel kind e.1 → AreListed kind n (es ++ e ∷ [])
-AreListed-push kind n [] e h b l = (b, l, tt)
-AreListed-push kind n (f ∷ es) e h b l = (h.0, h.1, AreListed-push kind n es e h.2 b l)
-
 -- A word that is refused at once.
 pub StopsAt-here : (a : At) (place : Place) (w : ℕ) (cause d : LadCause) → w ≡ a.1 + 1 → d ≡ cause → refused_at place (first_of a.0) ≡ Some cause → StopsAt a [] place w d
 StopsAt-here a place w cause d e f h = record { rest = a.0; left = refl; word = omega arith; refused = rw f h }
@@ -67,28 +56,45 @@ refused_left (x ∷ xs) h = refl
 
 -- No neighbour was taken.
 pub WentListed-none : (kind : LadKind) (size : ℕ) (a : At) → WentListed kind size 0 a a []
-WentListed-none kind size a = record { all = refl; each = tt; words = Went-none a }
+WentListed-none kind size a = record { all = refl; each = AreListed-none kind size; words = Went-none a }
 
--- One neighbour more.
-pub WentListed-more : (kind : LadKind) (size i : ℕ) (a b c : At) (es : List (ℕ × ℕ)) (x l : ℕ) → WentListed kind size i a b es → Went b c (x ∷ [])
-    → refused_at (Neighbour size) (Some (Some x)) ≡ None → HasEdgeLabel kind l → WentListed kind size (i + 1) a c (es ++ (x, l) ∷ [])
-WentListed-more kind size i a b c es x l h k taken label =
+-- One neighbour more, with its edge's label.
+pub WentListed-more : (kind : LadKind) (size i : ℕ) (a b c d : At) (es : List (ℕ × ℕ)) (x l : ℕ) → WentListed kind size i a b es → Went b c (x ∷ [])
+    → refused_at (Neighbour size) (Some (Some x)) ≡ None → Went c d (edge_label_numbers kind l) → MayFollow kind es x l
+    → WentListed kind size (i + 1) a d (es ++ (x, l) ∷ [])
+WentListed-more kind size i a b c d es x l h k taken labelled may =
     let e : ℕ × ℕ = (x, l) in
     record {
       all = omega (arith, length-append es (e ∷ []), h.all);
-      each = AreListed-push kind size es e h.each (neighbour_below size x taken) label;
-      words = Went-same a c _ _ (listed_numbers-push kind es e) (Went-append a b c (listed_numbers kind es) (x ∷ []) h.words k);
+      each = AreListed-push kind size es e h.each (neighbour_below size x taken) may;
+      words = Went-same a d _ _ (sym (listed_numbers-push kind es e))
+          (Went-append a b d (listed_numbers kind es) (x ∷ edge_label_numbers kind l) h.words (Went-append b c d (x ∷ []) (edge_label_numbers kind l) k labelled));
     }
 
 -- The next word is no neighbour.
 pub WentListed-stops : (kind : LadKind) (size due i : ℕ) (a b : At) (es : List (ℕ × ℕ)) (w : ℕ) (cause : LadCause) → WentListed kind size i a b es → i < due
     → StopsAt b [] (Neighbour size) w cause → StopsListed kind size due a w cause
 WentListed-stops kind size due i a b es w cause h l s = record {
-  listed = es;
-  fewer = omega (arith, h.all);
-  each = h.each;
+  list = listed_numbers kind es;
+  place = Neighbour size;
+  begun = (refl, record { some = es; fewer = omega (arith, h.all); listed = h.each; numbers = refl });
   stops = StopsAt-same a _ _ (Neighbour size) w cause (append-nil (listed_numbers kind es)) (StopsAt-after a b (listed_numbers kind es) [] (Neighbour size) w cause h.words s);
 }
+
+-- The word after a neighbour is no label of the edge to it.
+pub WentListed-label_stops : (kind : LadKind) (size due i : ℕ) (a b c : At) (es : List (ℕ × ℕ)) (x w : ℕ) (cause : LadCause) → WentListed kind size i a b es → i < due
+    → Went b c (x ∷ []) → refused_at (Neighbour size) (Some (Some x)) ≡ None → StopsAtLabel kind es x c w cause → StopsListed kind size due a w cause
+WentListed-label_stops Lad size due i a b c es x w cause h l k taken s = absurd s
+WentListed-label_stops VertexLabelledLad size due i a b c es x w cause h l k taken s = absurd s
+WentListed-label_stops DirectedLad size due i a b c es x w cause h l k taken s = absurd s
+WentListed-label_stops LabelledLad size due i a b c es x w cause h l k taken s =
+    record {
+      list = listed_numbers LabelledLad es ++ x ∷ [];
+      place = EdgeLabel (listed_label es x);
+      begun = record { some = es; neighbour = x; fewer = omega (arith, h.all); listed = h.each; below = neighbour_below size x taken; earlier_is = refl; numbers = refl };
+      stops = StopsAt-after a b (listed_numbers LabelledLad es) (x ∷ []) (EdgeLabel (listed_label es x)) w cause h.words
+          (StopsAt-same b _ _ (EdgeLabel (listed_label es x)) w cause refl (StopsAt-after b c (x ∷ []) [] (EdgeLabel (listed_label es x)) w cause k s));
+    }
 
 -- A label, a number of neighbours and these are a vertex.
 pub WentVertex-parts : (kind : LadKind) (size label due : ℕ) (a b c d : At) (es : List (ℕ × ℕ)) → HasLabel kind label → Went a b (label_numbers kind label) → Went b c (due ∷ [])
@@ -103,6 +109,8 @@ WentVertex-parts kind size label due a b c d es l h k s = record {
 begun_none : (kind : LadKind) (n : ℕ) → Begun Number kind n []
 begun_none Lad n = refl
 begun_none VertexLabelledLad n = inl refl
+begun_none DirectedLad n = refl
+begun_none LabelledLad n = inl refl
 
 -- The words stop before a vertex's label.
 pub StopsVertex-label : (kind : LadKind) (size : ℕ) (a : At) (w : ℕ) (cause : LadCause) → StopsAt a [] Number w cause → StopsVertex kind size a w cause
@@ -112,6 +120,8 @@ StopsVertex-label kind size a w cause s = record { part = []; place = Number; be
 begun_label : (kind : LadKind) (n label : ℕ) → Begun Number kind n (label_numbers kind label)
 begun_label Lad n label = refl
 begun_label VertexLabelledLad n label = inr (label, refl)
+begun_label DirectedLad n label = refl
+begun_label LabelledLad n label = inr (label, refl)
 
 -- They stop before its number of neighbours.
 pub StopsVertex-count : (kind : LadKind) (size label : ℕ) (a b : At) (w : ℕ) (cause : LadCause) → Went a b (label_numbers kind label) → StopsAt b [] Number w cause
@@ -127,11 +137,11 @@ StopsVertex-count kind size label a b w cause h s = record {
 pub StopsVertex-listed : (kind : LadKind) (size label due : ℕ) (a b c : At) (w : ℕ) (cause : LadCause) → Went a b (label_numbers kind label) → Went b c (due ∷ [])
     → StopsListed kind size due c w cause → StopsVertex kind size a w cause
 StopsVertex-listed kind size label due a b c w cause h k s = record {
-  part = label_numbers kind label ++ due ∷ listed_numbers kind s.listed;
-  place = Neighbour size;
-  begun = (refl, label, due, s.listed, s.fewer, s.each, refl);
-  stops = StopsAt-after a b (label_numbers kind label) (due ∷ listed_numbers kind s.listed) (Neighbour size) w cause h
-      (StopsAt-after b c (due ∷ []) (listed_numbers kind s.listed) (Neighbour size) w cause k s.stops);
+  part = label_numbers kind label ++ due ∷ s.list;
+  place = s.place;
+  begun = begun_in_list s.place kind size label due s.list s.begun;
+  stops = StopsAt-after a b (label_numbers kind label) (due ∷ s.list) s.place w cause h
+      (StopsAt-after b c (due ∷ []) s.list s.place w cause k s.stops);
 }
 
 -- The numbers of one vertex more.

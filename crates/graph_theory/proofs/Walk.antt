@@ -1,23 +1,26 @@
 -- A text has one first fault: a walk over its words that keeps in mind only what is due next.
 
 use Rattle.std.specs.Prelude.{◌≡◌, ℕ, zero, suc, ◌+◌, ◌-◌, ◌<◌, ◌≤◌, List, [], ◌∷◌, ◌++◌, length, map, Option, Some, None, refl}
-use Rattle.std.proofs.Common.{sym, ap, subst, inl, inr, ◌∙◌, arith, rules, tests}
+use Rattle.std.proofs.Common.{sym, ap, subst, inl, inr, ◌∙◌, append_assoc, arith, rules, tests}
 use Rattle.std.proofs.lemmas.List.{append-nil}
 use Rattle.graph_theory.specs.Text.{number_of}
-use Rattle.graph_theory.specs.Lad.{Vertex, label_numbers, listed_numbers, vertex_numbers, all_numbers, text_numbers, AreListed, IsVertex, AreVertices, Reads}
-use Rattle.graph_theory.specs.LadFault.{Within, Due, refused_at, first_of, Fault, NoFaultOfReading, OneFault}
+use Rattle.graph_theory.specs.Lad.{Vertex, label_numbers, edge_label_numbers, listed_numbers, vertex_numbers, all_numbers, text_numbers, HasEdgeLabel, AreEach, Agree, listed_label, IsVertex, AreVertices, Reads}
+use Rattle.graph_theory.specs.LadFault.{ListBegun, Within, Due, clash, refused_at, first_of, Fault, NoFaultOfReading, OneFault}
 use Rattle.graph_theory.specs.declared.lad_text.LadKind.{LadKind}
-use Rattle.graph_theory.specs.declared.lad_text.LadKind.TheVariants.{Lad, VertexLabelledLad}
+use Rattle.graph_theory.specs.declared.lad_text.LadKind.TheVariants.{Lad, VertexLabelledLad, DirectedLad, LabelledLad}
 use Rattle.graph_theory.specs.declared.lad_text.LadCause.{LadCause}
 use Rattle.graph_theory.specs.declared.lad_text.Place.{Place}
-use Rattle.graph_theory.specs.declared.lad_text.Place.TheVariants.{Size, Number, Neighbour, End}
+use Rattle.graph_theory.specs.declared.lad_text.Place.TheVariants.{Size, Number, Neighbour, EdgeLabel, End}
+use Rattle.graph_theory.proofs.Listing.{clash-agree}
 
--- What the walk waits for; the numbers are the graph's size, the vertices after the present one, and the neighbours after the next one.
+-- What the walk waits for; the numbers are the graph's size, the vertices after the present one, and the neighbours after the next one; the list is
+-- that of the neighbours that the present vertex has listed.
 pub data State : Type 0 where
   at_size : State
   at_label : ℕ → ℕ → State
   at_count : ℕ → ℕ → State
-  at_neighbour : ℕ → ℕ → ℕ → State
+  at_neighbour : ℕ → ℕ → ℕ → List (ℕ × ℕ) → State
+  at_edge_label : ℕ → ℕ → ℕ → List (ℕ × ℕ) → ℕ → State
   at_end : State
 
 -- The state before the last k vertices.
@@ -25,18 +28,28 @@ abbrev pub before_vertices : LadKind → ℕ → ℕ → State
 before_vertices kind n zero = at_end
 before_vertices Lad n (suc k) = at_count n k
 before_vertices VertexLabelledLad n (suc k) = at_label n k
+before_vertices DirectedLad n (suc k) = at_count n k
+before_vertices LabelledLad n (suc k) = at_label n k
 
--- The state before the last c neighbours of a vertex.
-abbrev pub before_neighbours : LadKind → ℕ → ℕ → ℕ → State
-before_neighbours kind n k zero = before_vertices kind n k
-before_neighbours kind n k (suc c) = at_neighbour n k c
+-- The state before the last c neighbours of a vertex, which has listed these.
+abbrev pub before_neighbours : LadKind → ℕ → ℕ → List (ℕ × ℕ) → ℕ → State
+before_neighbours kind n k es zero = before_vertices kind n k
+before_neighbours kind n k es (suc c) = at_neighbour n k c es
+
+-- The state after a neighbour.
+abbrev pub after_neighbour : LadKind → ℕ → ℕ → ℕ → List (ℕ × ℕ) → ℕ → State
+after_neighbour Lad n k c es b = before_neighbours Lad n k (es ++ (b, 0) ∷ []) c
+after_neighbour VertexLabelledLad n k c es b = before_neighbours VertexLabelledLad n k (es ++ (b, 0) ∷ []) c
+after_neighbour DirectedLad n k c es b = before_neighbours DirectedLad n k (es ++ (b, 0) ∷ []) c
+after_neighbour LabelledLad n k c es b = at_edge_label n k c es b
 
 -- The state after a number.
 abbrev pub next : LadKind → State → ℕ → State
 next kind at_size x = before_vertices kind x x
 next kind (at_label n k) x = at_count n k
-next kind (at_count n k) x = before_neighbours kind n k x
-next kind (at_neighbour n k c) x = before_neighbours kind n k c
+next kind (at_count n k) x = before_neighbours kind n k [] x
+next kind (at_neighbour n k c es) x = after_neighbour kind n k c es x
+next kind (at_edge_label n k c es b) x = before_neighbours kind n k (es ++ (b, x) ∷ []) c
 next kind at_end x = at_end
 
 -- What is due in a state.
@@ -44,7 +57,8 @@ abbrev pub place_of : ℕ → State → Place
 place_of limit at_size = Size limit
 place_of limit (at_label n k) = Number
 place_of limit (at_count n k) = Number
-place_of limit (at_neighbour n k c) = Neighbour n
+place_of limit (at_neighbour n k c es) = Neighbour n
+place_of limit (at_edge_label n k c es b) = EdgeLabel (listed_label es b)
 place_of limit at_end = End
 
 -- From a state the walk goes over numbers, each of them what is due, to another state.
@@ -65,27 +79,53 @@ takes_neighbour n b h = search (rules, tests)
 pub takes_size : (limit n : ℕ) → n ≤ limit → refused_at (Size limit) (Some (Some n)) ≡ None
 takes_size limit n h = search (rules, tests)
 
--- No format writes the labels of edges.
-pub listed_numbers-more : (kind : LadKind) (e : ℕ × ℕ) (es : List (ℕ × ℕ)) → listed_numbers kind (e ∷ es) ≡ e.0 ∷ listed_numbers kind es
-listed_numbers-more Lad e es = refl
-listed_numbers-more VertexLabelledLad e es = refl
+-- A pair with the label that no format writes.
+without_label : (f : ℕ × ℕ) → f.1 ≡ 0 → (f.0, 0) ≡ f
+without_label f h = ap (λ (l : ℕ). let p : ℕ × ℕ = (f.0, l) in p) (sym h)
 
--- The walk goes over neighbours.
-pub Walks-listed : (kind : LadKind) (limit n k c j : ℕ) (es : List (ℕ × ℕ)) → j ≡ length es + c → AreListed kind n es
-    → Walks kind limit (before_neighbours kind n k j) (listed_numbers kind es) (before_neighbours kind n k c)
-Walks-listed kind limit n k c j [] e h = ap (before_neighbours kind n k) (let d : j ≡ c = omega arith in d)
-Walks-listed kind limit n k c j (x ∷ es) e h =
-    let d : j ≡ suc (length es + c) = omega arith in
-    subst (λ (i : ℕ). Walks kind limit (before_neighbours kind n k i) (listed_numbers kind (x ∷ es)) (before_neighbours kind n k c)) (sym d)
-    (subst (λ (xs : List ℕ). Walks kind limit (at_neighbour n k (length es + c)) xs (before_neighbours kind n k c)) (sym (listed_numbers-more kind x es))
-    (takes_neighbour n x.0 h.0, Walks-listed kind limit n k c (length es + c) es refl h.2))
+-- After a neighbour in a format without labels of edges.
+walks_unlabelled : (kind : LadKind) (n k c : ℕ) (es : List (ℕ × ℕ)) (f : ℕ × ℕ) → f.1 ≡ 0
+    → before_neighbours kind n k (es ++ (f.0, 0) ∷ []) c ≡ before_neighbours kind n k (es ++ f ∷ []) c
+walks_unlabelled kind n k c es f h = ap (λ (e : ℕ × ℕ). before_neighbours kind n k (es ++ e ∷ []) c) (without_label f h)
+
+-- The walk goes over one neighbour, with its label.
+Walks-one : (kind : LadKind) (limit n k c : ℕ) (es : List (ℕ × ℕ)) (f : ℕ × ℕ) → f.0 < n → HasEdgeLabel kind f.1 → clash (listed_label es f.0) f.1 ≡ None
+    → Walks kind limit (at_neighbour n k c es) (f.0 ∷ edge_label_numbers kind f.1) (before_neighbours kind n k (es ++ f ∷ []) c)
+Walks-one Lad limit n k c es f b l h = (takes_neighbour n f.0 b, walks_unlabelled Lad n k c es f l)
+Walks-one VertexLabelledLad limit n k c es f b l h = (takes_neighbour n f.0 b, walks_unlabelled VertexLabelledLad n k c es f l)
+Walks-one DirectedLad limit n k c es f b l h = (takes_neighbour n f.0 b, walks_unlabelled DirectedLad n k c es f l)
+Walks-one LabelledLad limit n k c es f b l h = (takes_neighbour n f.0 b, (h, refl))
+
+-- The walk goes over neighbours, after others.
+pub Walks-listed : (kind : LadKind) (limit n k c j : ℕ) (es fs : List (ℕ × ℕ)) → j ≡ length fs + c → AreEach kind n fs → Agree (es ++ fs)
+    → Walks kind limit (before_neighbours kind n k es j) (listed_numbers kind fs) (before_neighbours kind n k (es ++ fs) c)
+Walks-listed kind limit n k c j es [] e h a =
+    let d : j ≡ c = omega arith in
+    ap (before_neighbours kind n k es) d ∙ ap (λ (v : List (ℕ × ℕ)). before_neighbours kind n k v c) (sym (append-nil es))
+Walks-listed kind limit n k c j es (f ∷ fs) e h a =
+    let d : j ≡ suc (length fs + c) = omega arith in
+    let joined : (es ++ f ∷ []) ++ fs ≡ es ++ f ∷ fs = append_assoc es (f ∷ []) fs in
+    let rest = Walks-listed kind limit n k c (length fs + c) (es ++ f ∷ []) fs refl h.2 (subst (λ (v : List (ℕ × ℕ)). Agree v) (sym joined) a) in
+    subst (λ (i : ℕ). Walks kind limit (before_neighbours kind n k es i) (listed_numbers kind (f ∷ fs)) (before_neighbours kind n k (es ++ f ∷ fs) c)) (sym d)
+    (Walks-append kind limit (at_neighbour n k (length fs + c) es) (before_neighbours kind n k (es ++ f ∷ []) (length fs + c)) (before_neighbours kind n k (es ++ f ∷ fs) c)
+    (f.0 ∷ edge_label_numbers kind f.1) (listed_numbers kind fs)
+    (Walks-one kind limit n k (length fs + c) es f h.0 h.1 (clash-agree f es fs a))
+    (subst (λ (v : List (ℕ × ℕ)). Walks kind limit (before_neighbours kind n k (es ++ f ∷ []) (length fs + c)) (listed_numbers kind fs) (before_neighbours kind n k v c)) joined rest))
+
+-- The walk goes over a label and a number of neighbours, and on from there.
+Walks-count : (kind : LadKind) (limit n k label count : ℕ) (list : List ℕ) (e : State) → Walks kind limit (before_neighbours kind n k [] count) list e
+    → Walks kind limit (before_vertices kind n (suc k)) (label_numbers kind label ++ count ∷ list) e
+Walks-count Lad limit n k label count list e h = (refl, h)
+Walks-count VertexLabelledLad limit n k label count list e h = (refl, (refl, h))
+Walks-count DirectedLad limit n k label count list e h = (refl, h)
+Walks-count LabelledLad limit n k label count list e h = (refl, (refl, h))
 
 -- The walk goes over a vertex.
 pub Walks-vertex : (kind : LadKind) (limit n k : ℕ) (v : Vertex) → IsVertex kind n v
     → Walks kind limit (before_vertices kind n (suc k)) (vertex_numbers kind v) (before_vertices kind n k)
-Walks-vertex Lad limit n k v h = (refl, Walks-listed Lad limit n k 0 (length v.listed) v.listed (omega arith) h.listed)
-Walks-vertex VertexLabelledLad limit n k v h =
-    (refl, (refl, Walks-listed VertexLabelledLad limit n k 0 (length v.listed) v.listed (omega arith) h.listed))
+Walks-vertex kind limit n k v h =
+    Walks-count kind limit n k v.label (length v.listed) (listed_numbers kind v.listed) (before_vertices kind n k)
+    (Walks-listed kind limit n k 0 (length v.listed) [] v.listed (omega arith) h.listed.each h.listed.agree)
 
 -- The walk goes over vertices.
 pub Walks-vertices : (kind : LadKind) (limit n k j : ℕ) (vs : List Vertex) → j ≡ length vs + k → AreVertices kind n vs
@@ -115,11 +155,81 @@ Walks-within kind limit before place w e h =
           (Walks-vertices kind limit w.size (suc k) w.size w.whole d w.each) (h k d),
     )
 
--- The walk goes over a label, a number of neighbours and fewer neighbours than that.
-pub Walks-part : (kind : LadKind) (limit n k label count i : ℕ) (es : List (ℕ × ℕ)) → count ≡ length es + suc i → AreListed kind n es
-    → Walks kind limit (before_vertices kind n (suc k)) (label_numbers kind label ++ count ∷ listed_numbers kind es) (at_neighbour n k i)
-Walks-part Lad limit n k label count i es e h = (refl, Walks-listed Lad limit n k (suc i) count es e h)
-Walks-part VertexLabelledLad limit n k label count i es e h = (refl, (refl, Walks-listed VertexLabelledLad limit n k (suc i) count es e h))
+-- The walk goes over what stands of a list of neighbours to a state that waits for what is due.
+walks_list : (kind : LadKind) (limit n k count : ℕ) (list : List ℕ) (place : Place) → ListBegun place kind n count list
+    → (e : State) × Walks kind limit (before_neighbours kind n k [] count) list e × (place_of limit e ≡ place)
+walks_list kind limit n k count list (Neighbour m) b =
+    let i : ℕ = count - length b.1.some - 1 in (
+      at_neighbour n k i b.1.some,
+      subst (λ (xs : List ℕ). Walks kind limit (before_neighbours kind n k [] count) xs (at_neighbour n k i b.1.some)) (sym b.1.numbers)
+          (Walks-listed kind limit n k (suc i) count [] b.1.some (omega (arith, b.1.fewer)) b.1.listed.each b.1.listed.agree),
+      ap Neighbour (sym b.0),
+    )
+walks_list LabelledLad limit n k count list (EdgeLabel earlier) b =
+    let i : ℕ = count - length b.some - 1 in (
+      at_edge_label n k i b.some b.neighbour,
+      subst (λ (xs : List ℕ). Walks LabelledLad limit (before_neighbours LabelledLad n k [] count) xs (at_edge_label n k i b.some b.neighbour)) (sym b.numbers)
+          (Walks-append LabelledLad limit (before_neighbours LabelledLad n k [] count) (at_neighbour n k i b.some) (at_edge_label n k i b.some b.neighbour)
+          (listed_numbers LabelledLad b.some) (b.neighbour ∷ [])
+          (Walks-listed LabelledLad limit n k (suc i) count [] b.some (omega (arith, b.fewer)) b.listed.each b.listed.agree)
+          (takes_neighbour n b.neighbour b.below, refl)),
+      ap EdgeLabel (sym b.earlier_is),
+    )
+walks_list Lad limit n k count list (EdgeLabel earlier) b = absurd b
+walks_list VertexLabelledLad limit n k count list (EdgeLabel earlier) b = absurd b
+walks_list DirectedLad limit n k count list (EdgeLabel earlier) b = absurd b
+walks_list kind limit n k count list (Size m) b = absurd b
+walks_list kind limit n k count list Number b = absurd b
+walks_list kind limit n k count list End b = absurd b
+
+-- A vertex of which nothing stands begins with a number.
+begins_with_number : (kind : LadKind) (limit n k : ℕ) → place_of limit (before_vertices kind n (suc k)) ≡ Number
+begins_with_number Lad limit n k = refl
+begins_with_number VertexLabelledLad limit n k = refl
+begins_with_number DirectedLad limit n k = refl
+begins_with_number LabelledLad limit n k = refl
+
+-- The walk to a vertex of which nothing stands.
+walks_begin : (kind : LadKind) (limit : ℕ) (before : List ℕ) (place : Place) (d : Within kind limit before place) → d.part ≡ []
+    → (e : State) × Walks kind limit at_size before e × (place_of limit e ≡ Number)
+walks_begin kind limit before place d none =
+    let j : ℕ = d.size - length d.whole - 1 in (
+      before_vertices kind d.size (suc j),
+      Walks-within kind limit before place d (before_vertices kind d.size (suc j))
+          (λ k e. let same : suc k ≡ suc j = omega arith in
+          subst (λ (xs : List ℕ). Walks kind limit (before_vertices kind d.size (suc k)) xs (before_vertices kind d.size (suc j))) (sym none) (ap (before_vertices kind d.size) same)),
+      begins_with_number kind limit d.size j,
+    )
+
+-- The walk to a vertex of which its label stands.
+walks_label : (kind : LadKind) (limit : ℕ) (before : List ℕ) (place : Place) (d : Within kind limit before place) (label : ℕ)
+    → ((n k : ℕ) → Walks kind limit (before_vertices kind n (suc k)) (label ∷ []) (at_count n k)) → d.part ≡ label ∷ []
+    → (e : State) × Walks kind limit at_size before e × (place_of limit e ≡ Number)
+walks_label kind limit before place d label step one =
+    let j : ℕ = d.size - length d.whole - 1 in (
+      at_count d.size j,
+      Walks-within kind limit before place d (at_count d.size j)
+          (λ k e. let same : k ≡ j = omega arith in
+          subst (λ (xs : List ℕ). Walks kind limit (before_vertices kind d.size (suc k)) xs (at_count d.size j)) (sym one)
+          (subst (λ (v : ℕ). Walks kind limit (before_vertices kind d.size (suc k)) (label ∷ []) (at_count d.size v)) same (step d.size k))),
+      refl,
+    )
+
+-- The walk into a vertex's list.
+walks_into : (kind : LadKind) (limit : ℕ) (before : List ℕ) (place : Place) (d : Within kind limit before place) (label count : ℕ) (list : List ℕ)
+    → ListBegun place kind d.size count list → d.part ≡ label_numbers kind label ++ count ∷ list
+    → (e : State) × Walks kind limit at_size before e × (place_of limit e ≡ place)
+walks_into kind limit before place d label count list begun numbers =
+    let j : ℕ = d.size - length d.whole - 1 in
+    let r = walks_list kind limit d.size j count list place begun in (
+      r.0,
+      Walks-within kind limit before place d r.0
+          (λ k e. let same : j ≡ k = omega arith in
+          subst (λ (xs : List ℕ). Walks kind limit (before_vertices kind d.size (suc k)) xs r.0) (sym numbers)
+          (subst (λ (v : ℕ). Walks kind limit (before_vertices kind d.size (suc v)) (label_numbers kind label ++ count ∷ list) r.0) same
+          (Walks-count kind limit d.size j label count list r.0 r.1))),
+      r.2,
+    )
 
 -- Where numbers are each due and this is due next, the walk goes over them to a state that waits for it.
 pub Walks-due : (kind : LadKind) (limit : ℕ) (before : List ℕ) (place : Place) → Due place kind limit before
@@ -128,44 +238,20 @@ Walks-due kind limit before (Size m) d =
     (at_size, subst (λ (xs : List ℕ). Walks kind limit at_size xs at_size) (sym d.0) refl, ap Size (sym d.1))
 Walks-due kind limit before End d =
     (at_end, subst (λ (xs : List ℕ). Walks kind limit at_size xs at_end) (sym d.3) (Walks-text kind limit d.0 d.1 d.2), refl)
-Walks-due Lad limit before Number d =
-    let j : ℕ = d.size - length d.whole - 1 in (
-      at_count d.size j,
-      Walks-within Lad limit before Number d (at_count d.size j)
-          (λ k e. let same : k ≡ j = omega arith in
-          subst (λ (xs : List ℕ). Walks Lad limit (at_count d.size k) xs (at_count d.size j)) (sym d.begun) (ap (at_count d.size) same)),
-      refl,
-    )
+Walks-due Lad limit before Number d = walks_begin Lad limit before Number d d.begun
 Walks-due VertexLabelledLad limit before Number d =
-    let j : ℕ = d.size - length d.whole - 1 in
     elim d.begun [
-      | inl none ↦ (
-        at_label d.size j,
-        Walks-within VertexLabelledLad limit before Number d (at_label d.size j)
-            (λ k e. let same : k ≡ j = omega arith in
-            subst (λ (xs : List ℕ). Walks VertexLabelledLad limit (at_label d.size k) xs (at_label d.size j)) (sym none) (ap (at_label d.size) same)),
-        refl,
-      )
-      | inr one ↦ (
-        at_count d.size j,
-        Walks-within VertexLabelledLad limit before Number d (at_count d.size j)
-            (λ k e. let same : k ≡ j = omega arith in
-            subst (λ (xs : List ℕ). Walks VertexLabelledLad limit (at_label d.size k) xs (at_count d.size j)) (sym one.1) (refl, ap (at_count d.size) same)),
-        refl,
-      )
+      | inl none ↦ walks_begin VertexLabelledLad limit before Number d none
+      | inr one ↦ walks_label VertexLabelledLad limit before Number d one.0 (λ n k. (refl, refl)) one.1
     ]
-Walks-due kind limit before (Neighbour m) d =
-    let j : ℕ = d.size - length d.whole - 1 in
-    let b = d.begun in
-    let i : ℕ = b.2 - length b.3 - 1 in (
-      at_neighbour d.size j i,
-      Walks-within kind limit before (Neighbour m) d (at_neighbour d.size j i)
-          (λ k e. let same : j ≡ k = omega arith in
-          subst (λ (xs : List ℕ). Walks kind limit (before_vertices kind d.size (suc k)) xs (at_neighbour d.size j i)) (sym b.6)
-          (subst (λ (v : ℕ). Walks kind limit (before_vertices kind d.size (suc k)) (label_numbers kind b.1 ++ b.2 ∷ listed_numbers kind b.3) (at_neighbour d.size v i)) (sym same)
-          (Walks-part kind limit d.size k b.1 b.2 i b.3 (omega (arith, b.4)) b.5))),
-      ap Neighbour (sym b.0),
-    )
+Walks-due DirectedLad limit before Number d = walks_begin DirectedLad limit before Number d d.begun
+Walks-due LabelledLad limit before Number d =
+    elim d.begun [
+      | inl none ↦ walks_begin LabelledLad limit before Number d none
+      | inr one ↦ walks_label LabelledLad limit before Number d one.0 (λ n k. (refl, refl)) one.1
+    ]
+Walks-due kind limit before (Neighbour m) d = walks_into kind limit before (Neighbour m) d d.begun.label d.begun.count d.begun.list d.begun.begun d.begun.numbers
+Walks-due kind limit before (EdgeLabel o) d = walks_into kind limit before (EdgeLabel o) d d.begun.label d.begun.count d.begun.list d.begun.begun d.begun.numbers
 
 -- The first fault told, if there is one.
 abbrev pub told : ℕ → Option LadCause → Option (ℕ × LadCause) → Option (ℕ × LadCause)

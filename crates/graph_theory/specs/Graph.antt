@@ -1,8 +1,8 @@
 -- Graphs: a number of vertices, a label for each, and for each ordered pair of vertices an edge's label or nothing.
 
-use Rattle.std.specs.Prelude.{ℕ, ◌==◌, if◌then◌else◌, List, [], ◌∷◌, length, map, Option, Some, None, slice_index, slice_get}
+use Rattle.std.specs.Prelude.{ℕ, List, [], length, map, Option, Some, None, slice_index, slice_get}
 use Rattle.std.specs.List.{range_with_len}
-use Rattle.graph_theory.specs.Lad.{Vertex}
+use Rattle.graph_theory.specs.Lad.{Vertex, listed_label}
 
 -- Row a says of each vertex b whether an edge leads from a to b, and with which label.
 pub record Graph : Type 0 where
@@ -35,11 +35,6 @@ edge g a b = row_edge (slice_get g.rows a) b
 abbrev pub tabulate : {X : Type 0} → ℕ → (ℕ → X) → List X
 tabulate n f = map f (range_with_len 0 n)
 
--- The label with which b stands in a list of neighbours, or none.
-abbrev pub listed_label : List (ℕ × ℕ) → ℕ → Option ℕ
-listed_label [] b = None
-listed_label (e ∷ es) b = if e.0 == b then Some e.1 else listed_label es b
-
 -- The neighbours that a vertex lists, where there is one.
 abbrev pub listed_of : Option Vertex → List (ℕ × ℕ)
 listed_of None = []
@@ -58,9 +53,13 @@ or_label (Some l) f = Some l
 abbrev pub either_lists : List Vertex → ℕ → ℕ → Option ℕ
 either_lists vs a b = or_label (lists vs a b) (lists vs b a)
 
+-- The graph of these vertices and edges.
+abbrev pub graph_with : (ℕ → ℕ → Option ℕ) → List Vertex → Graph
+graph_with edges vs = record {
+  labels = map (λ v. v.label) vs;
+  rows = tabulate (length vs) (λ a. tabulate (length vs) (λ b. edges a b));
+}
+
 -- The graph of a text in a format without directions.
 abbrev pub graph_of : List Vertex → Graph
-graph_of vs = record {
-  labels = map (λ v. v.label) vs;
-  rows = tabulate (length vs) (λ a. tabulate (length vs) (λ b. either_lists vs a b));
-}
+graph_of vs = graph_with (either_lists vs) vs

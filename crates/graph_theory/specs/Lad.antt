@@ -1,9 +1,9 @@
 -- LAD texts: which words a graph is written by. (C. Solnon, AllDifferent-based filtering for subgraph isomorphism, 2010.)
 
-use Rattle.std.specs.Prelude.{◌≡◌, ℕ, ◌<◌, ◌≤◌, List, [], ◌∷◌, ◌++◌, length, map, Some}
+use Rattle.std.specs.Prelude.{◌≡◌, ℕ, ◌<◌, ◌≤◌, ◌==◌, if◌then◌else◌, List, [], ◌∷◌, ◌++◌, length, map, Option, Some, None}
 use Rattle.graph_theory.specs.Text.{number_of}
 use Rattle.graph_theory.specs.declared.lad_text.LadKind.{LadKind}
-use Rattle.graph_theory.specs.declared.lad_text.LadKind.TheVariants.{Lad, VertexLabelledLad}
+use Rattle.graph_theory.specs.declared.lad_text.LadKind.TheVariants.{Lad, VertexLabelledLad, DirectedLad, LabelledLad}
 
 -- What a text says of a vertex: its label, and the neighbours that it lists, each with the label of the edge to it.
 pub record Vertex : Type 0 where
@@ -14,11 +14,15 @@ pub record Vertex : Type 0 where
 abbrev pub label_numbers : LadKind → ℕ → List ℕ
 label_numbers Lad label = []
 label_numbers VertexLabelledLad label = label ∷ []
+label_numbers DirectedLad label = []
+label_numbers LabelledLad label = label ∷ []
 
 -- The numbers that stand for an edge's label: none in a format without labels of edges.
 abbrev pub edge_label_numbers : LadKind → ℕ → List ℕ
 edge_label_numbers Lad label = []
 edge_label_numbers VertexLabelledLad label = []
+edge_label_numbers DirectedLad label = []
+edge_label_numbers LabelledLad label = label ∷ []
 
 -- The numbers of listed neighbours, each followed by those of its edge's label.
 abbrev pub listed_numbers : LadKind → List (ℕ × ℕ) → List ℕ
@@ -42,16 +46,40 @@ text_numbers kind vs = length vs ∷ all_numbers kind vs
 abbrev pub HasLabel : LadKind → ℕ → Type 0
 HasLabel Lad label = label ≡ 0
 HasLabel VertexLabelledLad label = Unit {0}
+HasLabel DirectedLad label = label ≡ 0
+HasLabel LabelledLad label = Unit {0}
 
 -- Likewise the label of an edge.
 abbrev pub HasEdgeLabel : LadKind → ℕ → Type 0
 HasEdgeLabel Lad label = label ≡ 0
 HasEdgeLabel VertexLabelledLad label = label ≡ 0
+HasEdgeLabel DirectedLad label = label ≡ 0
+HasEdgeLabel LabelledLad label = Unit {0}
 
 -- Each listed neighbour is below n, and its edge has a label that the format can give.
-abbrev pub AreListed : LadKind → ℕ → List (ℕ × ℕ) → Type 0
-AreListed kind n [] = Unit {0}
-AreListed kind n (e ∷ es) = (e.0 < n) × HasEdgeLabel kind e.1 × AreListed kind n es
+abbrev pub AreEach : LadKind → ℕ → List (ℕ × ℕ) → Type 0
+AreEach kind n [] = Unit {0}
+AreEach kind n (e ∷ es) = (e.0 < n) × HasEdgeLabel kind e.1 × AreEach kind n es
+
+-- Where the neighbour of e is listed again, it has the label of e.
+abbrev pub AgreesWith : ℕ × ℕ → List (ℕ × ℕ) → Type 0
+AgreesWith e [] = Unit {0}
+AgreesWith e (f ∷ es) = (f.0 ≡ e.0 → f.1 ≡ e.1) × AgreesWith e es
+
+-- A neighbour that is listed again has the label that it had.
+abbrev pub Agree : List (ℕ × ℕ) → Type 0
+Agree [] = Unit {0}
+Agree (e ∷ es) = AgreesWith e es × Agree es
+
+-- Neighbours as a vertex may list them in a text of n vertices.
+pub record AreListed (kind : LadKind) (n : ℕ) (es : List (ℕ × ℕ)) : Type 0 where
+  pub each : AreEach kind n es
+  pub agree : Agree es
+
+-- The label with which b stands in a list of neighbours, or none.
+abbrev pub listed_label : List (ℕ × ℕ) → ℕ → Option ℕ
+listed_label [] b = None
+listed_label (e ∷ es) b = if e.0 == b then Some e.1 else listed_label es b
 
 -- A vertex as it may stand in a text of n vertices.
 pub record IsVertex (kind : LadKind) (n : ℕ) (v : Vertex) : Type 0 where

@@ -1,23 +1,61 @@
 -- The first faulty word of a text that is not LAD, and why.
 
-use Rattle.std.specs.Prelude.{◌≡◌, ℕ, ◌+◌, ◌<◌, ◌≤◌, nat_lt, ◌⊎◌, if◌then◌else◌, List, [], ◌∷◌, ◌++◌, length, map, Option, Some, None}
+use Rattle.std.specs.Prelude.{◌≡◌, ℕ, ◌+◌, ◌<◌, ◌≤◌, ◌==◌, nat_lt, ◌⊎◌, if◌then◌else◌, List, [], ◌∷◌, ◌++◌, length, map, Option, Some, None}
 use Rattle.graph_theory.specs.Text.{number_of}
-use Rattle.graph_theory.specs.Lad.{Vertex, label_numbers, listed_numbers, all_numbers, text_numbers, AreListed, AreVertices, Reads}
+use Rattle.graph_theory.specs.Lad.{Vertex, label_numbers, listed_numbers, listed_label, all_numbers, text_numbers, AreListed, AreVertices, Reads}
 use Rattle.graph_theory.specs.declared.lad_text.LadKind.{LadKind}
-use Rattle.graph_theory.specs.declared.lad_text.LadKind.TheVariants.{Lad, VertexLabelledLad}
+use Rattle.graph_theory.specs.declared.lad_text.LadKind.TheVariants.{Lad, VertexLabelledLad, DirectedLad, LabelledLad}
 use Rattle.graph_theory.specs.declared.lad_text.LadCause.{LadCause}
-use Rattle.graph_theory.specs.declared.lad_text.LadCause.TheVariants.{NotNumber, TooMany, EndsEarly, NoSuchVertex, WordsLeft}
+use Rattle.graph_theory.specs.declared.lad_text.LadCause.TheVariants.{NotNumber, TooMany, EndsEarly, NoSuchVertex, LabelClash, WordsLeft}
 use Rattle.graph_theory.specs.declared.lad_text.LadFault.{LadFault}
 use Rattle.graph_theory.specs.declared.lad_text.LadFault.TheVariants.{Word, NoMemory}
 use Rattle.graph_theory.specs.declared.lad_text.Place.{Place}
-use Rattle.graph_theory.specs.declared.lad_text.Place.TheVariants.{Size, Number, Neighbour, End}
+use Rattle.graph_theory.specs.declared.lad_text.Place.TheVariants.{Size, Number, Neighbour, EdgeLabel, End}
+
+-- Fewer neighbours than are due, in a graph of n vertices, and their numbers.
+pub record BegunList (kind : LadKind) (n count : ℕ) (list : List ℕ) : Type 0 where
+  pub some : List (ℕ × ℕ)
+  pub fewer : length some < count
+  pub listed : AreListed kind n some
+  pub numbers : list ≡ listed_numbers kind some
+
+-- Fewer neighbours than are due, and one more without its edge's label, which is due; `earlier` is the label that it had before in the list.
+pub record BegunEdge (kind : LadKind) (earlier : Option ℕ) (n count : ℕ) (list : List ℕ) : Type 0 where
+  pub some : List (ℕ × ℕ)
+  pub neighbour : ℕ
+  pub fewer : length some < count
+  pub listed : AreListed kind n some
+  pub below : neighbour < n
+  pub earlier_is : earlier ≡ listed_label some neighbour
+  pub numbers : list ≡ listed_numbers kind some ++ neighbour ∷ []
+
+-- What stands of a list of neighbours before this place. Only one format writes labels of edges.
+abbrev pub ListBegun : Place → LadKind → ℕ → ℕ → List ℕ → Type 0
+ListBegun (Neighbour m) kind n count list = (m ≡ n) × BegunList kind n count list
+ListBegun (EdgeLabel earlier) LabelledLad n count list = BegunEdge LabelledLad earlier n count list
+ListBegun (EdgeLabel earlier) Lad n count list = ⊥
+ListBegun (EdgeLabel earlier) VertexLabelledLad n count list = ⊥
+ListBegun (EdgeLabel earlier) DirectedLad n count list = ⊥
+ListBegun (Size m) kind n count list = ⊥
+ListBegun Number kind n count list = ⊥
+ListBegun End kind n count list = ⊥
+
+-- A vertex begun up to a place in its list: its label, how many neighbours it lists, and what stands of these.
+pub record InList (place : Place) (kind : LadKind) (n : ℕ) (part : List ℕ) : Type 0 where
+  pub label : ℕ
+  pub count : ℕ
+  pub list : List ℕ
+  pub begun : ListBegun place kind n count list
+  pub numbers : part ≡ label_numbers kind label ++ count ∷ list
 
 -- What stands of a vertex before this place, in a text of n vertices.
 abbrev pub Begun : Place → LadKind → ℕ → List ℕ → Type 0
-Begun (Neighbour m) kind n part = (m ≡ n) × (label : ℕ) × (count : ℕ) × (some : List (ℕ × ℕ)) × (length some < count) × AreListed kind n some
-    × (part ≡ label_numbers kind label ++ count ∷ listed_numbers kind some)
+Begun (Neighbour m) kind n part = InList (Neighbour m) kind n part
+Begun (EdgeLabel earlier) kind n part = InList (EdgeLabel earlier) kind n part
 Begun Number Lad n part = part ≡ []
 Begun Number VertexLabelledLad n part = (part ≡ []) ⊎ ((label : ℕ) × (part ≡ label ∷ []))
+Begun Number DirectedLad n part = part ≡ []
+Begun Number LabelledLad n part = (part ≡ []) ⊎ ((label : ℕ) × (part ≡ label ∷ []))
 Begun (Size m) kind n part = ⊥
 Begun End kind n part = ⊥
 
@@ -38,6 +76,12 @@ Due (Size most) kind limit before = (before ≡ []) × (most ≡ limit)
 Due End kind limit before = (vs : List Vertex) × (length vs ≤ limit) × AreVertices kind (length vs) vs × (before ≡ text_numbers kind vs)
 Due Number kind limit before = Within kind limit before Number
 Due (Neighbour n) kind limit before = Within kind limit before (Neighbour n)
+Due (EdgeLabel earlier) kind limit before = Within kind limit before (EdgeLabel earlier)
+
+-- The cause for which the label of an edge is refused, or none: it has another one already.
+abbrev pub clash : Option ℕ → ℕ → Option LadCause
+clash None label = None
+clash (Some earlier) label = if earlier == label then None else Some LabelClash
 
 -- The cause for which a place refuses what stands there, or none. None: the text has ended; Some None: a word that is no number; Some (Some n): the number n.
 abbrev pub refused_at : Place → Option (Option ℕ) → Option LadCause
@@ -47,6 +91,7 @@ refused_at place None = Some EndsEarly
 refused_at place (Some None) = Some NotNumber
 refused_at (Size most) (Some (Some n)) = if nat_lt most n then Some TooMany else None
 refused_at (Neighbour n) (Some (Some b)) = if nat_lt b n then None else Some NoSuchVertex
+refused_at (EdgeLabel earlier) (Some (Some label)) = clash earlier label
 refused_at Number (Some (Some n)) = None
 
 -- The first word, where there is one.

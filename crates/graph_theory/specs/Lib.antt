@@ -10,3 +10,4 @@ pub mod PlainSteps
 pub mod Neighbours
 pub mod NeighbourLaws
 pub mod GraphText
+pub mod Plain

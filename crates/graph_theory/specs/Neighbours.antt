@@ -22,6 +22,14 @@ is_neighbour g a b = not (a == b) && is_some (edge g a b)
 abbrev pub degree : Graph → ℕ → ℕ
 degree g a = count (is_neighbour g a) (size g)
 
+-- Vertex b is an in-neighbour of a where it is another vertex and an edge leads from b to a.
+abbrev pub is_in_neighbour : Graph → ℕ → ℕ → Bool
+is_in_neighbour g a b = not (a == b) && is_some (edge g b a)
+
+-- The number of in-neighbours.
+abbrev pub in_degree : Graph → ℕ → ℕ
+in_degree g a = count (is_in_neighbour g a) (size g)
+
 -- The number of vertices that are neighbours of both.
 abbrev pub common : Graph → ℕ → ℕ → ℕ
 common g a b = count (λ c. is_neighbour g a c && is_neighbour g b c) (size g)

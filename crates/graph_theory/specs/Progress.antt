@@ -1,12 +1,13 @@
 -- How far a reader has come among the words of a text: what its calls went over, and where they stop.
 
-use Rattle.std.specs.Prelude.{◌≡◌, ℕ, ◌+◌, ◌<◌, List, ◌++◌, length, map, Option, Some}
-use Rattle.graph_theory.specs.Lad.{Vertex, listed_numbers, vertex_numbers, all_numbers, AreListed, IsVertex, AreVertices}
-use Rattle.graph_theory.specs.LadFault.{Begun, refused_at, first_of}
+use Rattle.std.specs.Prelude.{◌≡◌, ℕ, ◌+◌, ◌<◌, List, [], ◌++◌, length, map, Option, Some, None}
+use Rattle.graph_theory.specs.Lad.{Vertex, listed_numbers, listed_label, vertex_numbers, all_numbers, AreListed, IsVertex, AreVertices}
+use Rattle.graph_theory.specs.LadFault.{ListBegun, Begun, clash, refused_at, first_of}
 use Rattle.graph_theory.specs.declared.lad_text.LadKind.{LadKind}
+use Rattle.graph_theory.specs.declared.lad_text.LadKind.TheVariants.{Lad, VertexLabelledLad, DirectedLad, LabelledLad}
 use Rattle.graph_theory.specs.declared.lad_text.LadCause.{LadCause}
 use Rattle.graph_theory.specs.declared.lad_text.Place.{Place}
-use Rattle.graph_theory.specs.declared.lad_text.Place.TheVariants.{Size, Number, Neighbour, End}
+use Rattle.graph_theory.specs.declared.lad_text.Place.TheVariants.{Size, Number, Neighbour, EdgeLabel, End}
 
 -- The words that are left, each as the number that it writes, and how many were taken.
 abbrev pub At : Type 0
@@ -18,6 +19,7 @@ IsOpen End = ⊥
 IsOpen (Size limit) = Unit {0}
 IsOpen Number = Unit {0}
 IsOpen (Neighbour n) = Unit {0}
+IsOpen (EdgeLabel earlier) = Unit {0}
 
 -- The words from old to new are these numbers.
 pub record Went (old new : At) (numbers : List ℕ) : Type 0 where
@@ -37,12 +39,26 @@ pub record WentListed (kind : LadKind) (size due : ℕ) (old new : At) (listed :
   pub each : AreListed kind size listed
   pub words : Went old new (listed_numbers kind listed)
 
+-- The label that the edge to b may have after these neighbours.
+abbrev pub MayFollow : LadKind → List (ℕ × ℕ) → ℕ → ℕ → Type 0
+MayFollow Lad listed b label = label ≡ 0
+MayFollow VertexLabelledLad listed b label = label ≡ 0
+MayFollow DirectedLad listed b label = label ≡ 0
+MayFollow LabelledLad listed b label = clash (listed_label listed b) label ≡ None
+
+-- The words stop at the label of the edge to b, after these neighbours.
+abbrev pub StopsAtLabel : LadKind → List (ℕ × ℕ) → ℕ → At → ℕ → LadCause → Type 0
+StopsAtLabel Lad listed b old w cause = ⊥
+StopsAtLabel VertexLabelledLad listed b old w cause = ⊥
+StopsAtLabel DirectedLad listed b old w cause = ⊥
+StopsAtLabel LabelledLad listed b old w cause = StopsAt old [] (EdgeLabel (listed_label listed b)) w cause
+
 -- The words stop being listed neighbours before as many as are due.
 pub record StopsListed (kind : LadKind) (size due : ℕ) (old : At) (w : ℕ) (cause : LadCause) : Type 0 where
-  pub listed : List (ℕ × ℕ)
-  pub fewer : length listed < due
-  pub each : AreListed kind size listed
-  pub stops : StopsAt old (listed_numbers kind listed) (Neighbour size) w cause
+  pub list : List ℕ
+  pub place : Place
+  pub begun : ListBegun place kind size due list
+  pub stops : StopsAt old list place w cause
 
 -- The words from old to new are this vertex.
 pub record WentVertex (kind : LadKind) (size : ℕ) (old new : At) (v : Vertex) : Type 0 where

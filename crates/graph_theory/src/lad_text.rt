@@ -1,5 +1,5 @@
-//! LAD texts (C. Solnon, "AllDifferent-based filtering for subgraph isomorphism", 2010), with this project's format
-//! that has a label before each vertex.
+//! LAD texts (C. Solnon, "AllDifferent-based filtering for subgraph isomorphism", 2010), with this project's formats
+//! that have labels of vertices, directions, and labels of edges.
 ghost use Rattle.std.specs.Prelude.{◌≡◌, Some};
 ghost use Rattle.graph_theory.specs.LadFault.{refused_at, TextLaws};
 
@@ -12,6 +12,10 @@ pub enum LadKind {
     Lad,
     /// The same, with each vertex's label before its number of neighbours.
     VertexLabelledLad,
+    /// As the first, but a listed neighbour is an edge from the vertex to that neighbour alone.
+    DirectedLad,
+    /// The same with each vertex's label before its number of neighbours, and after each neighbour the label of the edge to it.
+    LabelledLad,
 }
 
 /// Why a word of a text is refused.
@@ -25,6 +29,8 @@ pub enum LadCause {
     EndsEarly,
     /// A neighbour is no vertex of the graph.
     NoSuchVertex,
+    /// The label of an edge that the same vertex listed before with another label.
+    LabelClash,
     /// A word follows the last one due.
     WordsLeft,
 }
@@ -67,6 +73,8 @@ pub enum Place {
     Number,
     /// A neighbour, in a graph of this many vertices.
     Neighbour(u32),
+    /// The label of an edge, with the label that the same vertex gave the same neighbour before.
+    EdgeLabel(Option<u32>),
     /// Nothing more.
     End,
 }
@@ -79,6 +87,8 @@ pub fn refusal(due: Place, number: u32) -> Option<LadCause>
         Place::Size(most) => (number > most).then_some(LadCause::TooMany),
         Place::Number => None,
         Place::Neighbour(size) => (number >= size).then_some(LadCause::NoSuchVertex),
+        Place::EdgeLabel(None) => None,
+        Place::EdgeLabel(Some(label)) => (label != number).then_some(LadCause::LabelClash),
         Place::End => Some(LadCause::WordsLeft),
     }
 }

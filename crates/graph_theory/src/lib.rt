@@ -12,6 +12,7 @@ pub mod listed_graph;
 pub mod mapping_text;
 pub mod neighbours;
 pub mod path;
+pub mod plain;
 pub mod plain_lad;
 pub mod plain_mapping;
 #[cfg(test)]

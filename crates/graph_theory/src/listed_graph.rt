@@ -2,35 +2,39 @@
 //! and serves as the reference for every faster body.
 
 ghost use Rattle.std.specs.Prelude.{◌≡◌, ◌<◌, ◌^◌, length, map};
-ghost use Rattle.graph_theory.specs.Graph.{size, label as label_of, edge as edge_of, listed_label as listed_label_of, lists as lists_of, either_lists, graph_of};
+ghost use Rattle.graph_theory.specs.Graph.{size, label as label_of, edge as edge_of, lists as lists_of, either_lists};
+ghost use Rattle.graph_theory.specs.GraphText.{text_edge as text_edge_of, text_graph};
 
-use crate::plain_lad::ListedVertex;
+use crate::lad_text::LadKind;
+use crate::plain_lad::{ListedVertex, listed_label};
 use std::marker::Model;
 
-/// A graph as its text lists it; an edge that one end lists counts for both.
+/// A graph as its text lists it; in a format without directions an edge that one end lists counts for both.
 #[derive(Drop)]
 pub struct ListedGraph {
+    kind: LadKind,
     vertices: Vec<ListedVertex>,
 }
 
 impl Model for ListedGraph {
     ghost use Rattle.std.specs.Prelude.{◌^◌, ◌<◌, length};
-    ghost use Rattle.graph_theory.specs.Graph.{Graph, graph_of};
+    ghost use Rattle.graph_theory.specs.Graph.{Graph};
+    ghost use Rattle.graph_theory.specs.GraphText.{text_graph};
 
     ghost Value = { Graph };
 
-    ghost view = { λ g. graph_of g.vertices.items };
+    ghost view = { λ g. text_graph g.kind g.vertices.items };
 
     ghost invariant = { λ g. length g.vertices.items < 2 ^ 32 };
 }
 
 impl ListedGraph {
-    /// The graph of these vertices, of which there are fewer than 2^32.
-    pub fn new(vertices: Vec<ListedVertex>) -> ListedGraph
+    /// The graph of these vertices in a format; there are fewer than 2^32 of them.
+    pub fn new(kind: LadKind, vertices: Vec<ListedVertex>) -> ListedGraph
         requires { length vertices.items < 2 ^ 32 }
-        ensures { result ≡ graph_of vertices.items }
+        ensures { result ≡ text_graph kind vertices.items }
     {
-        ListedGraph { vertices }
+        ListedGraph { kind, vertices }
     }
 
     /// The number of vertices.
@@ -46,7 +50,7 @@ impl ListedGraph {
         requires { a < size self.now }
         ensures { result ≡ label_of self.now a }
     {
-        label_among(&self.vertices, a)
+        label_among(self.kind, &self.vertices, a)
     }
 
     /// The label of the edge from `a` to `b`, or none. It costs the length of both lists.
@@ -55,14 +59,14 @@ impl ListedGraph {
         requires to { b < size self.now }
         ensures { result ≡ edge_of self.now a b }
     {
-        edge_among(&self.vertices, a, b)
+        edge_among(self.kind, &self.vertices, a, b)
     }
 }
 
 /// The label of vertex `a`.
-fn label_among(vertices: &[ListedVertex], a: usize) -> u32
+fn label_among(kind: LadKind, vertices: &[ListedVertex], a: usize) -> u32
     requires { a < length vertices.now }
-    ensures { result ≡ label_of (graph_of vertices.now) a }
+    ensures { result ≡ label_of (text_graph kind vertices.now) a }
 {
     vertices[a].label()
 }
@@ -76,7 +80,7 @@ fn lists(vertices: &[ListedVertex], a: usize, b: usize) -> Option<u32>
 }
 
 /// The label of the edge that one of the ends lists.
-fn edge_among(vertices: &[ListedVertex], a: usize, b: usize) -> Option<u32>
+fn either(vertices: &[ListedVertex], a: usize, b: usize) -> Option<u32>
     requires from { a < length vertices.now }
     requires to { b < length vertices.now }
     ensures { result ≡ either_lists vertices.now a b }
@@ -87,14 +91,14 @@ fn edge_among(vertices: &[ListedVertex], a: usize, b: usize) -> Option<u32>
     }
 }
 
-/// The label with which `b` stands in a list of neighbours.
-fn listed_label(listed: &[(u32, u32)], b: usize) -> Option<u32>
-    ensures { result ≡ listed_label_of listed.now b }
+/// The label of the edge from `a` to `b` in a format.
+fn edge_among(kind: LadKind, vertices: &[ListedVertex], a: usize, b: usize) -> Option<u32>
+    requires from { a < length vertices.now }
+    requires to { b < length vertices.now }
+    ensures { result ≡ text_edge_of kind vertices.now a b }
 {
-    for entry in listed {
-        if entry.0 as usize == b {
-            return Some(entry.1);
-        }
+    match kind {
+        LadKind::Lad | LadKind::VertexLabelledLad => either(vertices, a, b),
+        LadKind::DirectedLad | LadKind::LabelledLad => lists(vertices, a, b),
     }
-    None
 }

@@ -1,9 +1,9 @@
 //! A LAD text read plainly, for reference: all its words are made numbers first, and then these are gone over.
 ghost use Rattle.std.specs.Prelude.{◌≡◌, ℕ, ◌+◌, ◌≤◌, List, [], ◌∷◌, length, map, drop, Some, None, IfOk, IfErr, MatchResult};
 ghost use Rattle.graph_theory.specs.Text.{words, number_of};
-ghost use Rattle.graph_theory.specs.Lad.{Vertex, HasLabel, HasEdgeLabel, label_numbers, Reads};
+ghost use Rattle.graph_theory.specs.Lad.{Vertex, HasLabel, label_numbers, edge_label_numbers, listed_label as listed_label_of, Reads};
 ghost use Rattle.graph_theory.specs.LadFault.{refused_at, Fault, OnWord};
-ghost use Rattle.graph_theory.specs.Progress.{At, IsOpen, Went, StopsAt, WentListed, StopsListed, WentVertex, StopsVertex, WentVertices, StopsVertices};
+ghost use Rattle.graph_theory.specs.Progress.{At, IsOpen, Went, StopsAt, MayFollow, StopsAtLabel, WentListed, StopsListed, WentVertex, StopsVertex, WentVertices, StopsVertices};
 
 use crate::lad_text::{LadCause, LadFault, LadKind, Place, refusal, text_laws};
 use crate::text_words::numbers_in;
@@ -106,12 +106,36 @@ impl<'a> NumbersLeft<'a> {
     }
 }
 
-/// The label of an edge in the formats, which write none.
-fn edge_label(kind: LadKind) -> u32
-    ensures { HasEdgeLabel kind result }
+/// The label with which `b` stands in a list of neighbours. Cost: the length of the list.
+pub(crate) fn listed_label(listed: &[(u32, u32)], b: usize) -> Option<u32>
+    ensures { result ≡ listed_label_of listed.now b }
+{
+    for entry in listed {
+        if entry.0 as usize == b {
+            return Some(entry.1);
+        }
+    }
+    None
+}
+
+/// Reads the label of the edge to a neighbour, which comes after these, where the format has one.
+fn read_edge_label(
+    left: &mut NumbersLeft,
+    kind: LadKind,
+    listed: &[(u32, u32)],
+    neighbour: u32,
+) -> Result<u32, LadFault>
+    ensures found { IfOk result
+        (λ label. MayFollow kind listed.now neighbour label
+        × Went left.old left.new (edge_label_numbers kind label)) }
+    ensures fault { IfErr result
+        (λ e. OnWord e (StopsAtLabel kind listed.now neighbour left.old)) }
 {
     match kind {
-        LadKind::Lad | LadKind::VertexLabelledLad => 0,
+        LadKind::Lad | LadKind::VertexLabelledLad | LadKind::DirectedLad => Ok(0),
+        LadKind::LabelledLad => {
+            left.take(Place::EdgeLabel(listed_label(listed, neighbour as usize)))
+        }
     }
 }
 
@@ -130,7 +154,8 @@ fn read_listed(
     let mut listed = Vec::new(alloc);
     for _i in 0..due {
         let neighbour = left.take(Place::Neighbour(size))?;
-        listed.push((neighbour, edge_label(kind)))?;
+        let label = read_edge_label(left, kind, &listed, neighbour)?;
+        listed.push((neighbour, label))?;
     }
     Ok(listed)
 }
@@ -142,8 +167,8 @@ fn read_label(left: &mut NumbersLeft, kind: LadKind) -> Result<u32, LadFault>
     ensures fault { IfErr result (λ e. OnWord e (StopsAt left.old [] Place.Number)) }
 {
     match kind {
-        LadKind::Lad => Ok(0),
-        LadKind::VertexLabelledLad => left.take(Place::Number),
+        LadKind::Lad | LadKind::DirectedLad => Ok(0),
+        LadKind::VertexLabelledLad | LadKind::LabelledLad => left.take(Place::Number),
     }
 }
 

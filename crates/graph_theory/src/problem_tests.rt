@@ -17,7 +17,11 @@ fn problem(
 ) -> Result<ListedProblem, LadFault> {
     let pattern = vertices_in(alloc, pattern, kind, 1024)?;
     let target = vertices_in(alloc, target, kind, 8192)?;
-    Ok(ListedProblem::new(ListedGraph::new(pattern), ListedGraph::new(target), induced))
+    Ok(ListedProblem::new(
+        ListedGraph::new(kind, pattern),
+        ListedGraph::new(kind, target),
+        induced,
+    ))
 }
 
 /// Whether the mapping embeds, and whether no mapping does.
@@ -41,9 +45,11 @@ fn decides_worked_pairs(rt: HostRuntime) -> Result<(), Fail> {
     let alloc = rt.alloc();
     let lad = LadKind::Lad;
     let labelled = LadKind::VertexLabelledLad;
+    let directed = LadKind::DirectedLad;
+    let edges = LadKind::LabelledLad;
     let triangle: &[u8] = b"3\n2 1 2\n2 0 2\n2 0 1\n";
     let path: &[u8] = b"3\n1 1\n2 0 2\n1 1\n";
-    let rows: [(&str, LadKind, &[u8], &[u8], bool, &[u32], &str); 14] = [
+    let rows: [(&str, LadKind, &[u8], &[u8], bool, &[u32], &str); 22] = [
         (
             "nothing into nothing",
             lad,
@@ -169,6 +175,78 @@ fn decides_worked_pairs(rt: HostRuntime) -> Result<(), Fail> {
             false,
             &[1, 0],
             "true false",
+        ),
+        (
+            "a cycle into one that does not close",
+            directed,
+            b"3\n1 1\n1 2\n1 0\n",
+            b"3\n2 1 2\n1 2\n0\n",
+            false,
+            &[0, 1, 2],
+            "false true",
+        ),
+        (
+            "edges that lead out into edges that lead in",
+            directed,
+            b"3\n2 1 2\n0\n0\n",
+            b"3\n0\n1 0\n1 0\n",
+            false,
+            &[0, 1, 2],
+            "false true",
+        ),
+        (
+            "an edge the other way round",
+            directed,
+            b"2\n1 1\n0\n",
+            b"2\n0\n1 0\n",
+            false,
+            &[1, 0],
+            "true false",
+        ),
+        (
+            "induced, there is an edge back",
+            directed,
+            b"2\n1 1\n0\n",
+            b"2\n1 1\n1 0\n",
+            true,
+            &[0, 1],
+            "false true",
+        ),
+        (
+            "labels of vertices and edges lead",
+            edges,
+            b"2\n5 1 1 7\n6 0\n",
+            b"2\n6 0\n5 1 0 7\n",
+            false,
+            &[1, 0],
+            "true false",
+        ),
+        (
+            "another label of the edge",
+            edges,
+            b"2\n5 1 1 7\n6 0\n",
+            b"2\n6 0\n5 1 0 8\n",
+            false,
+            &[1, 0],
+            "false true",
+        ),
+        (
+            "a loop with another label",
+            edges,
+            b"1\n0 1 0 7\n",
+            b"1\n0 1 0 8\n",
+            false,
+            &[0],
+            "false true",
+        ),
+        (
+            "induced, an edge of some label between the images",
+            edges,
+            b"2\n0 0\n0 0\n",
+            b"2\n0 1 1 7\n0 0\n",
+            true,
+            &[0, 1],
+            "false true",
         ),
     ];
     for (name, kind, pattern, target, induced, map, want) in rows {

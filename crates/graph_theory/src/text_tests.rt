@@ -43,8 +43,10 @@ fn shown_mapping(alloc: Global, reading: Result<Vec<u32>, MapFault>) -> Result<S
 fn reads_lad_texts(rt: HostRuntime) -> Result<(), Fail> {
     let lad = LadKind::Lad;
     let labelled = LadKind::VertexLabelledLad;
+    let directed = LadKind::DirectedLad;
+    let edges = LadKind::LabelledLad;
     let alloc = rt.alloc();
-    let rows: [(&str, &[u8], LadKind, u32, &str); 27] = [
+    let rows: [(&str, &[u8], LadKind, u32, &str); 39] = [
         (
             "one end lists the edge",
             b"2\n1 1\n0\n",
@@ -173,6 +175,90 @@ fn reads_lad_texts(rt: HostRuntime) -> Result<(), Fail> {
             lad,
             1024,
             "word 1: NotNumber",
+        ),
+        (
+            "a list in one direction",
+            b"2\n1 1\n0\n",
+            directed,
+            1024,
+            "0[(1, 0)] 0[] ",
+        ),
+        (
+            "a neighbour that is none, with directions",
+            b"2\n1 2\n0\n",
+            directed,
+            1024,
+            "word 3: NoSuchVertex",
+        ),
+        (
+            "labels of vertices and edges",
+            b"2\n5 1 1 7\n6 0\n",
+            edges,
+            1024,
+            "5[(1, 7)] 6[] ",
+        ),
+        (
+            "the edge back has another label",
+            b"2 0 1 1 7 0 1 0 8",
+            edges,
+            1024,
+            "0[(1, 7)] 0[(0, 8)] ",
+        ),
+        (
+            "a pair again with its label",
+            b"2 0 2 1 7 1 07 0 0",
+            edges,
+            1024,
+            "0[(1, 7), (1, 7)] 0[] ",
+        ),
+        (
+            "a pair again with another label",
+            b"2\n0 2 1 7 1 8\n0 0\n",
+            edges,
+            1024,
+            "word 7: LabelClash",
+        ),
+        (
+            "again after other neighbours",
+            b"3 0 3 1 7 2 8 1 8 0 0 0 0",
+            edges,
+            1024,
+            "word 9: LabelClash",
+        ),
+        (
+            "a loop again with another label",
+            b"1 0 2 0 1 0 2",
+            edges,
+            1024,
+            "word 7: LabelClash",
+        ),
+        (
+            "the greatest label of an edge",
+            b"1 0 1 0 4294967295",
+            edges,
+            1024,
+            "0[(0, 4294967295)] ",
+        ),
+        (
+            "a label of an edge too large",
+            b"1 0 1 0 4294967296",
+            edges,
+            1024,
+            "word 5: NotNumber",
+        ),
+        (
+            "no label of an edge",
+            b"2 0 1 1",
+            edges,
+            1024,
+            "word 5: EndsEarly",
+        ),
+        (
+            "no vertex before its label is looked at",
+            b"1 0 1 1 x",
+            edges,
+            1024,
+            "word 4: NoSuchVertex",
         ),
     ];
     for (name, text, kind, limit, expected) in rows {

@@ -1,1 +1,2 @@
+pub mod LabelledParts
 pub mod VertexParts

@@ -1,19 +1,45 @@
 -- The vertices of a graph's parts, one after another.
 
-use Rattle.std.specs.Prelude.{◌≡◌, ℕ, ◌≤◌, List, [], ◌∷◌, ◌++◌, length, map, Result, Ok, Err, IfOk, refl}
-use Rattle.std.proofs.Common.{ap, subst, arith}
+use Rattle.std.specs.Prelude.{◌≡◌, ℕ, ◌+◌, ◌≤◌, List, [], ◌∷◌, ◌++◌, length, map, Option, Some, None, Result, Ok, Err, IfOk, refl}
+use Rattle.std.proofs.Common.{ap, sym, subst, arith}
 use Rattle.std.proofs.lemmas.List.{map-append}
-use Rattle.graph_theory.specs.Lad.{Vertex, AreListed, HasEdgeLabel, AreVertices, Reads}
+use Rattle.graph_theory.specs.Lad.{Vertex, edge_label_numbers, AreEach, AreVertices, Reads}
+use Rattle.graph_theory.specs.LadFault.{refused_at}
+use Rattle.graph_theory.specs.Progress.{At, Went, MayFollow, WentListed}
 use Rattle.graph_theory.specs.declared.lad_text.LadKind.{LadKind}
-use Rattle.graph_theory.specs.declared.lad_text.LadKind.TheVariants.{Lad, VertexLabelledLad}
+use Rattle.graph_theory.specs.declared.lad_text.LadKind.TheVariants.{Lad, VertexLabelledLad, DirectedLad, LabelledLad}
 use Rattle.graph_theory.specs.declared.lad_text.LadFault.{LadFault}
+use Rattle.graph_theory.specs.declared.lad_text.Place.TheVariants.{Neighbour}
+use Rattle.graph_theory.proofs.Steps.{Went-none, WentListed-more}
 use Rattle.lad_reader.specs.declared.parts.GraphParts.{GraphParts}
-use Rattle.lad_reader.specs.Parts.{unlabelled, vertices_from, vertices_of, AreBelow, AllBelow}
+use Rattle.lad_reader.specs.Parts.{unlabelled, vertices_from, labelled_from, vertices_by, vertices_of, WritesNoEdgeLabels, AreBelow, AllBelow}
+use Rattle.lad_reader.proofs.LabelledParts.{length-labelled_from, AllBelow-labelled}
 
--- The label that no format writes.
-pub no_edge_label : (kind : LadKind) → HasEdgeLabel kind 0
-no_edge_label Lad = refl
-no_edge_label VertexLabelledLad = refl
+-- A format without labels of edges writes none, and gives each the label 0.
+unlabelled_numbers : (kind : LadKind) → WritesNoEdgeLabels kind → edge_label_numbers kind 0 ≡ []
+unlabelled_numbers Lad none = refl
+unlabelled_numbers VertexLabelledLad none = refl
+unlabelled_numbers DirectedLad none = refl
+unlabelled_numbers LabelledLad none = absurd none
+
+unlabelled_follows : (kind : LadKind) (es : List (ℕ × ℕ)) (b : ℕ) → WritesNoEdgeLabels kind → MayFollow kind es b 0
+unlabelled_follows Lad es b none = refl
+unlabelled_follows VertexLabelledLad es b none = refl
+unlabelled_follows DirectedLad es b none = refl
+unlabelled_follows LabelledLad es b none = absurd none
+
+-- So a neighbour more is a word more.
+pub unlabelled_more : (kind : LadKind) (size i : ℕ) (a b c : At) (es : List (ℕ × ℕ)) (x : ℕ) → WritesNoEdgeLabels kind → WentListed kind size i a b es → Went b c (x ∷ [])
+    → refused_at (Neighbour size) (Some (Some x)) ≡ None → WentListed kind size (i + 1) a c (es ++ (x, 0) ∷ [])
+unlabelled_more kind size i a b c es x none h k taken =
+    WentListed-more kind size i a b c c es x 0 h k taken (subst (λ (v : List ℕ). Went c c v) (sym (unlabelled_numbers kind none)) (Went-none c)) (unlabelled_follows kind es x none)
+
+-- Its vertices are those without labels of edges.
+pub vertices_by-unlabelled : (kind : LadKind) (ls : List ℕ) (bss ess : List (List ℕ)) → WritesNoEdgeLabels kind → vertices_by kind ls bss ess ≡ vertices_from ls bss
+vertices_by-unlabelled Lad ls bss ess none = refl
+vertices_by-unlabelled VertexLabelledLad ls bss ess none = refl
+vertices_by-unlabelled DirectedLad ls bss ess none = refl
+vertices_by-unlabelled LabelledLad ls bss ess none = absurd none
 
 -- One neighbour more.
 pub unlabelled-push : (bs : List ℕ) (b : ℕ) → map unlabelled (bs ++ b ∷ []) ≡ map unlabelled bs ++ unlabelled b ∷ []
@@ -34,7 +60,7 @@ length-vertices_from (l ∷ ls) [] e = absurd (omega arith)
 length-vertices_from (l ∷ ls) (bs ∷ bss) e = let h = length-vertices_from ls bss (omega arith) in omega arith
 
 -- Neighbours that may be listed in a text of n are below n.
-AreBelow-listed : (kind : LadKind) (n : ℕ) (bs : List ℕ) → AreListed kind n (map unlabelled bs) → AreBelow n bs
+AreBelow-listed : (kind : LadKind) (n : ℕ) (bs : List ℕ) → AreEach kind n (map unlabelled bs) → AreBelow n bs
 AreBelow-listed kind n [] h = tt
 AreBelow-listed kind n (b ∷ bs) h = (h.0, AreBelow-listed kind n bs h.2)
 
@@ -42,19 +68,33 @@ AreBelow-listed kind n (b ∷ bs) h = (h.0, AreBelow-listed kind n bs h.2)
 pub AllBelow-vertices : (kind : LadKind) (n : ℕ) (ls : List ℕ) (bss : List (List ℕ)) → length ls ≡ length bss → AreVertices kind n (vertices_from ls bss) → AllBelow n bss
 AllBelow-vertices kind n ls [] e h = tt
 AllBelow-vertices kind n [] (bs ∷ bss) e h = absurd (omega arith)
-AllBelow-vertices kind n (l ∷ ls) (bs ∷ bss) e h = (AreBelow-listed kind n bs h.0.listed, AllBelow-vertices kind n ls bss (omega arith) h.1)
+AllBelow-vertices kind n (l ∷ ls) (bs ∷ bss) e h = (AreBelow-listed kind n bs h.0.listed.each, AllBelow-vertices kind n ls bss (omega arith) h.1)
+
+-- There is a vertex for each label, in each format.
+length-vertices_by : (kind : LadKind) (ls : List ℕ) (bss ess : List (List ℕ)) → length ls ≡ length bss → length (vertices_by kind ls bss ess) ≡ length ls
+length-vertices_by Lad ls bss ess e = length-vertices_from ls bss e
+length-vertices_by VertexLabelledLad ls bss ess e = length-vertices_from ls bss e
+length-vertices_by DirectedLad ls bss ess e = length-vertices_from ls bss e
+length-vertices_by LabelledLad ls bss ess e = length-labelled_from ls bss ess e
+
+-- And their neighbours are below n.
+AllBelow-vertices_by : (own kind : LadKind) (n : ℕ) (ls : List ℕ) (bss ess : List (List ℕ)) → length ls ≡ length bss → AreVertices kind n (vertices_by own ls bss ess) → AllBelow n bss
+AllBelow-vertices_by Lad kind n ls bss ess e h = AllBelow-vertices kind n ls bss e h
+AllBelow-vertices_by VertexLabelledLad kind n ls bss ess e h = AllBelow-vertices kind n ls bss e h
+AllBelow-vertices_by DirectedLad kind n ls bss ess e h = AllBelow-vertices kind n ls bss e h
+AllBelow-vertices_by LabelledLad kind n ls bss ess e h = AllBelow-labelled kind n ls bss ess e h
 
 -- What was read is within the limit.
 pub few_parts : (ws : List (List ℕ)) (kind : LadKind) (most : ℕ) (r : Result GraphParts LadFault) → IfOk r (λ p. length p.labels ≡ length p.neighbours)
     → IfOk r (λ p. Reads ws kind most (vertices_of p)) → IfOk r (λ p. length p.labels ≤ most)
-few_parts ws kind most (Ok p) e h = let l = length-vertices_from p.labels p.neighbours e in omega (arith, h.few)
+few_parts ws kind most (Ok p) e h = let l = length-vertices_by p.kind p.labels p.neighbours p.edge_labels e in omega (arith, h.few)
 few_parts ws kind most (Err d) e h = tt
 
 -- Each neighbour that was read is a vertex.
 pub parts_below : (ws : List (List ℕ)) (kind : LadKind) (most : ℕ) (r : Result GraphParts LadFault) → IfOk r (λ p. length p.labels ≡ length p.neighbours)
     → IfOk r (λ p. Reads ws kind most (vertices_of p)) → IfOk r (λ p. AllBelow (length p.labels) p.neighbours)
 parts_below ws kind most (Ok p) e h =
-    let l = length-vertices_from p.labels p.neighbours e in
-    AllBelow-vertices kind (length p.labels) p.labels p.neighbours e
-    (subst (λ (n : ℕ). AreVertices kind n (vertices_from p.labels p.neighbours)) l h.each)
+    let l = length-vertices_by p.kind p.labels p.neighbours p.edge_labels e in
+    AllBelow-vertices_by p.kind kind (length p.labels) p.labels p.neighbours p.edge_labels e
+    (subst (λ (n : ℕ). AreVertices kind n (vertices_by p.kind p.labels p.neighbours p.edge_labels)) l h.each)
 parts_below ws kind most (Err d) e h = tt

@@ -1,7 +1,9 @@
 //! The parts of a graph as its text lists them.
 
-ghost use Rattle.std.specs.Prelude.{◌≡◌, ◌<◌, length, map, slice_get, Some};
+ghost use Rattle.std.specs.Prelude.{◌≡◌, ◌<◌, [], length, map, slice_get, slice_index_or, Some};
 
+use graph_theory::lad_text::LadKind;
+use std::alloc::Global;
 use std::marker::Model;
 
 /// The labels of a graph's vertices, in order.
@@ -72,11 +74,58 @@ impl NeighbourLists {
     }
 }
 
-/// What a graph's text says: a label for each vertex, 0 where the text has none, and the neighbours that it lists.
+/// The labels of the edges to the neighbours that each vertex lists, in the same order.
+#[derive(Drop)]
+pub struct EdgeLabels {
+    lists: Vec<Vec<u32>>,
+}
+
+impl Model for EdgeLabels {
+    ghost use Rattle.std.specs.Prelude.{ℕ, List, map};
+
+    ghost Value = { List (List ℕ) };
+
+    ghost view = { λ n. map (λ es. es.items) n.lists.items };
+}
+
+impl EdgeLabels {
+    /// No labels, as in a format that writes none. It takes no memory.
+    pub fn none(alloc: Global) -> EdgeLabels
+        ensures { result ≡ [] }
+    {
+        EdgeLabels {
+            lists: Vec::new(alloc),
+        }
+    }
+
+    /// The lists of this vector. It takes no memory.
+    pub fn from_vec(lists: Vec<Vec<u32>>) -> EdgeLabels
+        ensures { result ≡ map (λ es. es.items) lists.items }
+    {
+        EdgeLabels { lists }
+    }
+
+    /// The labels of the edges from a vertex, none where it has no list.
+    pub fn of(&self, a: usize) -> &[u32]
+        ensures { result.now ≡ slice_index_or self.now a [] }
+    {
+        match self.lists.get(a) {
+            Some(list) => list,
+            None => &[],
+        }
+    }
+}
+
+/// What a graph's text says: its format, a label for each vertex, 0 where the text has none, the neighbours that it lists, and the
+/// labels of the edges to these, which are 0 where none are given.
 #[derive(Drop)]
 pub struct GraphParts {
+    /// The format.
+    pub kind: LadKind,
     /// The labels.
     pub labels: Labels,
     /// The neighbours.
     pub neighbours: NeighbourLists,
+    /// The labels of the edges to them; they count in a format with such labels alone.
+    pub edge_labels: EdgeLabels,
 }

@@ -1,6 +1,6 @@
 //! The reader on worked texts, and beside the plain reader.
 
-use crate::parts::{GraphParts, Labels, NeighbourLists};
+use crate::parts::{EdgeLabels, GraphParts, Labels, NeighbourLists};
 use crate::read_lad;
 use graph_theory::lad_text::{LadFault, LadKind};
 use graph_theory::plain_lad::{ListedVertex, vertices_in};
@@ -17,7 +17,12 @@ fn shown_parts(alloc: Global, reading: Result<GraphParts, LadFault>) -> Result<S
                 let Some(label) = parts.labels.as_slice().get(a) else {
                     break;
                 };
-                text.push_str(format!(in alloc; "{label}{listed:?} ")?.as_str())?;
+                text.push_str(format!(in alloc; "{label}{listed:?}")?.as_str())?;
+                let edges = parts.edge_labels.of(a);
+                if parts.kind == LadKind::LabelledLad {
+                    text.push_str(format!(in alloc; "{edges:?}")?.as_str())?;
+                }
+                text.push_str(" ")?;
             }
             Ok(text)
         }
@@ -29,6 +34,7 @@ fn shown_parts(alloc: Global, reading: Result<GraphParts, LadFault>) -> Result<S
 fn shown_vertices(
     alloc: Global,
     reading: Result<Vec<ListedVertex>, LadFault>,
+    kind: LadKind,
 ) -> Result<String, AllocError> {
     match reading {
         Ok(vertices) => {
@@ -36,11 +42,18 @@ fn shown_vertices(
             for v in &vertices {
                 let label = v.label();
                 let mut neighbours = Vec::new(alloc);
+                let mut labels = Vec::new(alloc);
                 for listed in v.listed() {
                     neighbours.push(listed.0)?;
+                    labels.push(listed.1)?;
                 }
                 let listed = neighbours.as_slice();
-                text.push_str(format!(in alloc; "{label}{listed:?} ")?.as_str())?;
+                text.push_str(format!(in alloc; "{label}{listed:?}")?.as_str())?;
+                if kind == LadKind::LabelledLad {
+                    let edges = labels.as_slice();
+                    text.push_str(format!(in alloc; "{edges:?}")?.as_str())?;
+                }
+                text.push_str(" ")?;
             }
             Ok(text)
         }
@@ -53,7 +66,7 @@ fn reads_worked_texts(rt: HostRuntime) -> Result<(), Fail> {
     let lad = LadKind::Lad;
     let labelled = LadKind::VertexLabelledLad;
     let alloc = rt.alloc();
-    let rows: [(&str, &[u8], LadKind, u32, &str); 20] = [
+    let rows: [(&str, &[u8], LadKind, u32, &str); 24] = [
         (
             "one end lists the edge",
             b"2\n1 1\n0\n",
@@ -182,11 +195,39 @@ fn reads_worked_texts(rt: HostRuntime) -> Result<(), Fail> {
             1024,
             "Word { word: 1, cause: NotNumber }",
         ),
+        (
+            "a list in one direction",
+            b"2\n1 1\n0\n",
+            LadKind::DirectedLad,
+            1024,
+            "0[1] 0[] ",
+        ),
+        (
+            "labels of vertices and edges",
+            b"2\n5 1 1 7\n6 0\n",
+            LadKind::LabelledLad,
+            1024,
+            "5[1][7] 6[][] ",
+        ),
+        (
+            "a pair again with another label",
+            b"3 0 3 1 7 2 8 1 8 0 0 0 0",
+            LadKind::LabelledLad,
+            1024,
+            "Word { word: 9, cause: LabelClash }",
+        ),
+        (
+            "another vertex lists the same one with another label",
+            b"2 0 2 1 7 0 8 0 2 1 9 1 9",
+            LadKind::LabelledLad,
+            1024,
+            "0[1, 0][7, 8] 0[1, 1][9, 9] ",
+        ),
     ];
     for (name, text, kind, limit, expected) in rows {
         let shown = shown_parts(alloc, read_lad(alloc, text, kind, limit))?;
         assert_eq!(rt; shown.as_str(), expected, "{name}");
-        let plain = shown_vertices(alloc, vertices_in(alloc, text, kind, limit))?;
+        let plain = shown_vertices(alloc, vertices_in(alloc, text, kind, limit), kind)?;
         assert_eq!(rt; shown.as_str(), plain.as_str(), "{name}, read plainly");
     }
     Ok(())
@@ -216,11 +257,13 @@ fn answers_each_front_of_a_text(rt: HostRuntime) -> Result<(), Fail> {
 fn keeps_parts(rt: HostRuntime) -> Result<(), Fail> {
     let alloc = rt.alloc();
     let parts = GraphParts {
+        kind: LadKind::VertexLabelledLad,
         labels: Labels::from_vec(Vec::from_slice(alloc, &[7, 0])?),
         neighbours: NeighbourLists::from_vec(vec![in alloc;
             Vec::from_slice(alloc, &[1, 1])?,
             Vec::new(alloc),
         ]?),
+        edge_labels: EdgeLabels::none(alloc),
     };
     assert_eq!(rt; shown_parts(alloc, Ok(parts))?.as_str(), "7[1, 1] 0[] ");
     Ok(())

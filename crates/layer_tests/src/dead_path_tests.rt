@@ -2,6 +2,7 @@
 
 ghost use Rattle.std.specs.Prelude.{◌≡◌, ℕ, ◌<◌, ◌≤◌, [], ◌∷◌, List, IfSome, IfOk};
 ghost use Rattle.graph_theory.specs.Graph.{size};
+ghost use Rattle.graph_theory.specs.Plain.{IsPlain, ArePlain};
 ghost use Rattle.nogood_book.specs.Rows.{AreInRange};
 ghost use Rattle.propagation.specs.Recording.{changes_of, set_at};
 ghost use Rattle.dead_theory.specs.Changes.{AreInProblem};
@@ -83,7 +84,8 @@ const TWO_APART: &[u8] = b"2 0 0";
 
 /// Two vertices without an edge.
 fn two(alloc: Global) -> Option<Graph>
-    ensures { IfSome result (λ g. size g ≡ 2) }
+    ensures size { IfSome result (λ g. size g ≡ 2) }
+    ensures plain { IfSome result IsPlain }
 {
     let Ok(parts) = read_lad(alloc, TWO_APART, LadKind::Lad, 1024) else {
         return None;
@@ -101,6 +103,7 @@ fn two(alloc: Global) -> Option<Graph>
 fn two_into_two(alloc: Global) -> Option<Problem>
     ensures pattern { IfSome result (λ q. size q.pattern ≡ 2) }
     ensures target { IfSome result (λ q. size q.target ≡ 2) }
+    ensures plain { IfSome result ArePlain }
 {
     let pattern = two(alloc)?;
     let target = two(alloc)?;
@@ -122,6 +125,7 @@ fn journal_of(
     short: Option<Place>,
     end: PathEnd,
 ) -> Result<Journal, AllocError>
+    requires plain { ArePlain q.now }
     requires pattern { size q.now.pattern ≡ 2 }
     requires target { size q.now.target ≡ 2 }
     requires in_problem { AreInProblem q.now (changes_of numbers.now entries.now) }

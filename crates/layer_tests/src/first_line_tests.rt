@@ -1,7 +1,8 @@
 //! Worked first domains: the lines to the letter, and what the checker says of a log of them.
 
-ghost use Rattle.std.specs.Prelude.{◌≡◌};
+ghost use Rattle.std.specs.Prelude.{◌≡◌, IfSome};
 ghost use Rattle.graph_theory.specs.Graph.{size};
+ghost use Rattle.graph_theory.specs.Plain.{ArePlain};
 
 use first_lines::{FirstLines, Units};
 use graph_rows::Problem;
@@ -22,7 +23,9 @@ const FIRST_WITH_LOOP: &[u8] = b"2 2 0 1 1 0";
 const SECOND_WITH_LOOP: &[u8] = b"2 1 1 2 0 1";
 
 /// The problem of two texts, in the plain kind.
-fn problem(alloc: Global, pattern: &[u8], target: &[u8]) -> Option<Problem> {
+fn problem(alloc: Global, pattern: &[u8], target: &[u8]) -> Option<Problem>
+    ensures { IfSome result ArePlain }
+{
     let (pattern, target) = (graph(alloc, pattern)?, graph(alloc, target)?);
     Some(Problem::new(pattern, target, false))
 }
@@ -86,7 +89,9 @@ fn are_taken(
     count: u16,
     head: &[u8],
     text: &[u8],
-) -> Result<bool, AllocError> {
+) -> Result<bool, AllocError>
+    requires { ArePlain q.now }
+{
     let encoding = Encoding::new(alloc, q)?;
     let log = log_of(alloc, head, text, b"q\n")?;
     let is_taken = matches!(judged(alloc, &encoding, &log), Verdict::Undecided);
@@ -101,7 +106,9 @@ fn are_enough(
     head: &[u8],
     text: &[u8],
     end: &[u8],
-) -> Result<bool, AllocError> {
+) -> Result<bool, AllocError>
+    requires { ArePlain q.now }
+{
     let encoding = Encoding::new(alloc, q)?;
     let log = log_of(alloc, head, text, end)?;
     let is_refuted = matches!(judged(alloc, &encoding, &log), Verdict::Unsatisfiable);
@@ -172,7 +179,9 @@ fn nothing_is_made_where_all_values_are_there(rt: HostRuntime) -> Result<(), Fai
 }
 
 /// Whether nothing is made for the first vertex without a log.
-fn is_nothing(alloc: Global, q: &Problem) -> Result<bool, AllocError> {
+fn is_nothing(alloc: Global, q: &Problem) -> Result<bool, AllocError>
+    requires { ArePlain q.now }
+{
     if q.pattern().size() == 0 {
         return Ok(false);
     }

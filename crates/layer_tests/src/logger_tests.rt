@@ -1,5 +1,8 @@
 //! Loggers of an edge into an edge, which are told nothing.
 
+ghost use Rattle.std.specs.Prelude.{IfSome};
+ghost use Rattle.graph_theory.specs.Plain.{ArePlain};
+
 use graph_rows::Problem;
 use pb_encoding::Encoding;
 use proof_logger::ProofLogger;
@@ -9,7 +12,9 @@ use std::alloc::{AllocError, Global};
 use std::test::Fail;
 
 /// An edge into an edge.
-fn edge_into_edge(alloc: Global) -> Option<Problem> {
+fn edge_into_edge(alloc: Global) -> Option<Problem>
+    ensures { IfSome result ArePlain }
+{
     let (pattern, target) = (graph(alloc, EDGE)?, graph(alloc, EDGE)?);
     Some(Problem::new(pattern, target, false))
 }

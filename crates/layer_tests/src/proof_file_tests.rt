@@ -1,5 +1,8 @@
 //! A vertex with a loop into two vertices of which the second has one: the files to the letter, with each call failing in turn.
 
+ghost use Rattle.std.specs.Prelude.{IfSome};
+ghost use Rattle.graph_theory.specs.Plain.{ArePlain};
+
 use graph_rows::Problem;
 use log_theory::Profile;
 use outer_io::{MemoryFiles, MemoryPart};
@@ -10,7 +13,9 @@ use std::test::Fail;
 use worked_examples::{Example, first_wrong};
 
 /// The problem.
-fn problem(alloc: Global) -> Option<Problem> {
+fn problem(alloc: Global) -> Option<Problem>
+    ensures { IfSome result ArePlain }
+{
     let pattern = graph(alloc, b"1 1 0")?;
     let target = graph(alloc, b"2 0 1 1")?;
     Some(Problem::new(pattern, target, false))

@@ -1,7 +1,8 @@
 //! The lines of small problems to the letter, and a checker that takes them.
 
-ghost use Rattle.std.specs.Prelude.{◌≡◌, ◌<◌, true};
+ghost use Rattle.std.specs.Prelude.{◌≡◌, ◌<◌, true, IfSome};
 ghost use Rattle.graph_theory.specs.Graph.{size};
+ghost use Rattle.graph_theory.specs.Plain.{ArePlain};
 
 use graph_rows::Problem;
 use journals::Journal;
@@ -18,7 +19,9 @@ use std::test::Fail;
 const FOUR: &[u8] = b"4 3 1 2 3 3 0 2 3 3 0 1 3 3 0 1 2";
 
 /// The problem of two texts.
-fn problem(alloc: Global, pattern: &[u8], target: &[u8], induced: bool) -> Option<Problem> {
+fn problem(alloc: Global, pattern: &[u8], target: &[u8], induced: bool) -> Option<Problem>
+    ensures { IfSome result ArePlain }
+{
     let pattern = graph(alloc, pattern)?;
     let target = graph(alloc, target)?;
     Some(Problem::new(pattern, target, induced))
@@ -131,7 +134,9 @@ fn is_this(
     r: u16,
     head: &[u8],
     text: &[u8],
-) -> Result<bool, AllocError> {
+) -> Result<bool, AllocError>
+    requires { ArePlain q.now }
+{
     let lines = Encoding::new(alloc, q)?;
     let mut journal = Journal::new(alloc, 1);
     made_alone(alloc, q, &lines, &mut journal, p, t, r)?;
@@ -203,7 +208,9 @@ p 1.6 6 11 + 3 * 15 + 19 + 1.2 + 1.4 + ;
 ";
 
 /// Whether the lines of a problem for 0 and 2 at 0 and at 2 are these, with one table for both, and a checker takes them.
-fn are_these(alloc: Global, q: &Problem, head: &[u8], text: &[u8]) -> Result<bool, AllocError> {
+fn are_these(alloc: Global, q: &Problem, head: &[u8], text: &[u8]) -> Result<bool, AllocError>
+    requires { ArePlain q.now }
+{
     let lines = Encoding::new(alloc, q)?;
     let mut spreads = PairNames::new(alloc);
     let mut journal = Journal::new(alloc, 1);
@@ -257,7 +264,9 @@ fn are_named(
     asked: &[((u16, u16, u16), u64)],
     head: &[u8],
     text: &[u8],
-) -> Result<bool, AllocError> {
+) -> Result<bool, AllocError>
+    requires { ArePlain q.now }
+{
     let lines = Encoding::new(alloc, q)?;
     let mut made = RowLines::new(alloc);
     let mut journal = Journal::new(alloc, 1);
@@ -293,7 +302,9 @@ fn each_line_is_made_once(rt: HostRuntime) -> Result<(), Fail> {
 }
 
 /// Whether the answer for 0 at 2 and 1 is this line of the encoding, and nothing is made.
-fn is_there(alloc: Global, q: &Problem, number: u64) -> Result<bool, AllocError> {
+fn is_there(alloc: Global, q: &Problem, number: u64) -> Result<bool, AllocError>
+    requires { ArePlain q.now }
+{
     let lines = Encoding::new(alloc, q)?;
     let mut made = RowLines::new(alloc);
     let mut journal = Journal::new(alloc, 1);

@@ -1,6 +1,7 @@
 //! Worked rows of consistent values.
 
 ghost use Rattle.std.specs.Prelude.{◌≡◌, ◌<◌, IsTrue};
+ghost use Rattle.graph_theory.specs.Plain.{ArePlain};
 ghost use Rattle.graph_theory.specs.Graph.{size};
 
 use crate::problems::problem;
@@ -33,7 +34,9 @@ struct Worked {
 }
 
 /// The values of `r` that go together with `t` of `p`, as one word, where rows were made at another vertex before.
-fn row(alloc: Global, q: &Problem, p: u16, r: u16, t: u16) -> Option<u64> {
+fn row(alloc: Global, q: &Problem, p: u16, r: u16, t: u16) -> Option<u64>
+    requires { ArePlain q.now }
+{
     if !are_two(q, p, r) || t >= q.target().size() {
         return None;
     }
@@ -178,7 +181,9 @@ fn first_neighbour(rows: &PairRows, q: &Problem, t: u16) -> Option<u16>
 }
 
 /// Whether this is so of two vertices and a value.
-fn is_near(alloc: Global, q: &Problem, near: &Near) -> Option<bool> {
+fn is_near(alloc: Global, q: &Problem, near: &Near) -> Option<bool>
+    requires { ArePlain q.now }
+{
     let ((p, r), t) = (near.vertices, near.value);
     if !are_two(q, p, r) || t >= q.target().size() {
         return None;

@@ -1,6 +1,7 @@
 //! Whole searches on worked problems, by workers over books.
 
 ghost use Rattle.std.specs.Prelude.{◌≡◌, [], IfOk};
+ghost use Rattle.graph_theory.specs.Plain.{ArePlain};
 ghost use Rattle.nogood_book.specs.Seats.{IsSeatOf};
 ghost use Rattle.propagation.specs.Propagation.{IsOf};
 ghost use Rattle.restart_search.specs.Searching.{AtRest};
@@ -177,7 +178,9 @@ fn search<'a>(
 }
 
 /// The same, with the kinds of pairs.
-fn search_for(alloc: Global, q: &Problem, budget: u32, rows: u16) -> Result<End, AllocError> {
+fn search_for(alloc: Global, q: &Problem, budget: u32, rows: u16) -> Result<End, AllocError>
+    requires { ArePlain q.now }
+{
     let kinds = PairKinds::new(alloc, q)?;
     search(alloc, q, &kinds, budget, rows)
 }

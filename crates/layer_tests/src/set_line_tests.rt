@@ -2,6 +2,7 @@
 
 ghost use Rattle.std.specs.Prelude.{◌≡◌, ◌<◌, length, IfSome};
 ghost use Rattle.graph_theory.specs.Graph.{size};
+ghost use Rattle.graph_theory.specs.Plain.{IsPlain, ArePlain};
 ghost use Rattle.dead_paths.specs.Lines.{AreVertices};
 
 use dead_paths::LineMaker;
@@ -18,7 +19,8 @@ const TWO_APART: &[u8] = b"2 0 0";
 
 /// Two vertices without an edge.
 fn two(alloc: Global) -> Option<Graph>
-    ensures { IfSome result (λ g. size g ≡ 2) }
+    ensures size { IfSome result (λ g. size g ≡ 2) }
+    ensures plain { IfSome result IsPlain }
 {
     let Ok(parts) = read_lad(alloc, TWO_APART, LadKind::Lad, 1024) else {
         return None;
@@ -36,6 +38,7 @@ fn two(alloc: Global) -> Option<Graph>
 fn two_into_two(alloc: Global) -> Option<Problem>
     ensures pattern { IfSome result (λ q. size q.pattern ≡ 2) }
     ensures target { IfSome result (λ q. size q.target ≡ 2) }
+    ensures plain { IfSome result ArePlain }
 {
     let pattern = two(alloc)?;
     let target = two(alloc)?;
@@ -62,6 +65,7 @@ fn ask<M: LineMaker>(
 
 /// The journal where the set of both vertices is asked for, that of the first alone, and that of both in the other order.
 fn asked(alloc: Global, q: &Problem) -> Result<Journal, AllocError>
+    requires plain { ArePlain q.now }
     requires pattern { size q.now.pattern ≡ 2 }
     requires target { size q.now.target ≡ 2 }
 {

@@ -2,17 +2,13 @@
 use Rattle.std.proofs.Common.{◌≡◌, ℕ, ◌<◌, ◌≤◌, ◌==◌, ◌&&◌, not, Bool, true, false, is_some, List, Option, Some, None, Result, Ok, Err, OnOk, IfOk, refl, sym, ap, subst, ◌∙◌}
 use Rattle.std.proofs.lemmas.Bool.{true≢false, eq-eqb, ne_eqb}
 use Rattle.std.specs.declared.alloc.AllocError.{AllocError}
-use Rattle.graph_theory.specs.Graph.{Graph, edge}
+use Rattle.graph_theory.specs.Graph.{edge}
+use Rattle.graph_theory.specs.Plain.{IsPlain}
 use Rattle.graph_theory.specs.Embedding.{Problem, Matches}
 use Rattle.graph_theory.specs.Neighbours.{common}
 use Rattle.search_theory.specs.Consistency.{AreConsistent}
 use Rattle.domain_bits.specs.BitRows.{has}
 use Rattle.needed_values.specs.Consistent.{agree, edges_agree, Leaves, AllConsistent, Shares, AllShare}
-
--- Edges stand both ways, with label 0.
-pub record ArePlain (g : Graph) : Type 0 where
-  pub both : (a b : ℕ) → edge g a b ≡ edge g b a
-  pub zeros : (a b l : ℕ) → edge g a b ≡ Some l → l ≡ 0
 
 matched : (induced : Bool) (e f : Option ℕ) → ((l : ℕ) → e ≡ Some l → l ≡ 0) → ((l : ℕ) → f ≡ Some l → l ≡ 0) → agree (is_some e) induced (is_some f) ≡ true → Matches induced e f
 matched false None f e0 f0 h = tt
@@ -31,7 +27,7 @@ agreed true None None m = refl
 agreed true None (Some k) m = absurd cc
 agreed true (Some l) f m = ap is_some m.0
 
-module _ (q : Problem) (pattern : ArePlain q.pattern) (target : ArePlain q.target) (p t r u : ℕ) where
+module _ (q : Problem) (pattern : IsPlain q.pattern) (target : IsPlain q.target) (p t r u : ℕ) where
   pub consistent : (t ≡ u → ⊥) → edges_agree q p t r u ≡ true → common q.pattern p r ≤ common q.target t u → AreConsistent q p t r u
   consistent apart agrees shared =
       let out = matched q.induced (edge q.pattern p r) (edge q.target t u) (pattern.zeros p r) (target.zeros t u) agrees in
@@ -56,7 +52,7 @@ not_true false h = refl
 not_true true h = absurd cc
 
 -- What is left after edges, then without t, then by shared neighbours.
-module _ (q : Problem) (pattern : ArePlain q.pattern) (target : ArePlain q.target) (p t r : ℕ) (old near mid new : List ℕ) (near_is : (u : ℕ) → has near u ≡ (has old u && edges_agree q p t r u))
+module _ (q : Problem) (pattern : IsPlain q.pattern) (target : IsPlain q.target) (p t r : ℕ) (old near mid new : List ℕ) (near_is : (u : ℕ) → has near u ≡ (has old u && edges_agree q p t r u))
     (mid_is : (u : ℕ) → has mid u ≡ (has near u && not (t == u))) where
   mid_parts : (u : ℕ) → has mid u ≡ true → (has old u ≡ true) × (edges_agree q p t r u ≡ true) × (t ≡ u → ⊥)
   mid_parts u h =

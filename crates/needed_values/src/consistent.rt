@@ -2,6 +2,7 @@
 
 ghost use Rattle.std.specs.Prelude.{◌≡◌, ℕ, ◌<◌, ◌&&◌, not, ◌==◌, true, false, length, IfOk, OnOk};
 ghost use Rattle.graph_theory.specs.Graph.{size};
+ghost use Rattle.graph_theory.specs.Plain.{ArePlain};
 ghost use Rattle.domain_bits.specs.BitRows.{has, words_for};
 ghost use Rattle.needed_values.specs.Consistent.{edges_agree, Leaves, AllConsistent, Shares, AllShare};
 
@@ -65,9 +66,9 @@ fn keep_sharing(
     Ok(true)
 }
 
-/// Keeps of a row of values of `r` those that are consistent with `p` at `t`, as far as is quickly told, and tells whether all that are left
-/// are. Cost: a few steps for each word; where `p` and `r` share neighbours and `t` has at most 12, also one for each value, and for each
-/// neighbour of a neighbour of `t`.
+/// Keeps of a row of values of `r` those that are consistent with `p` at `t`, as far as is quickly told on graphs without directions, and
+/// tells whether all that are left are. Cost: a few steps for each word; where `p` and `r` share neighbours and `t` has at most 12, also
+/// one for each value, and for each neighbour of a neighbour of `t`.
 pub fn keep_consistent(
     alloc: Global,
     q: &Problem,
@@ -77,6 +78,7 @@ pub fn keep_consistent(
     row: &mut [u64],
     counts: &mut [u16],
 ) -> Result<bool, AllocError>
+    requires plain { ArePlain q.now }
     requires p_in { p < size q.now.pattern }
     requires t_in { t < size q.now.target }
     requires r_in { r < size q.now.pattern }
@@ -87,8 +89,6 @@ pub fn keep_consistent(
     ensures leaves { OnOk result (Leaves q.now p t r row.old row.new) }
     ensures all { IfOk result (λ b. AllConsistent b q.now p t r row.new) }
 {
-    q.pattern().edges_are_plain();
-    q.target().edges_are_plain();
     keep_near(q, p, t, r, row);
     unset_bit(row, usize::from(t));
     keep_sharing(alloc, q, p, t, r, row, counts)

@@ -3,6 +3,7 @@
 use Rattle.std.specs.Prelude.{◌≡◌, ℕ, ◌*◌, ◌≤◌, List}
 use Rattle.graph_theory.specs.Graph.{Graph, size}
 use Rattle.graph_theory.specs.Embedding.{Problem}
+use Rattle.graph_theory.specs.Plain.{IsPlain}
 use Rattle.graph_rows.specs.BitRow.{words_for}
 use Rattle.pair_rows.specs.declared.kinds.PairKind.{PairKind}
 use Rattle.pair_rows.specs.Kinds.{AreKinds}
@@ -24,3 +25,4 @@ pub record Shaped (q : Problem) (vertices width : ℕ) (kinds : List PairKind) (
   pub width_is : width ≡ words_for (size q.target)
   pub classed : AreKinds q kinds places (size q.pattern * size q.pattern)
   pub counted_is : counted ≡ q.target
+  pub plain : IsPlain q.target

@@ -4,6 +4,7 @@ ghost use Rattle.std.specs.Prelude.{◌≡◌, ℕ, ◌+◌, ◌*◌, ◌^◌, �
 ghost use Rattle.graph_theory.specs.Graph.{size, edge};
 ghost use Rattle.graph_theory.specs.Neighbours.{common, is_neighbour};
 ghost use Rattle.graph_theory.specs.Embedding.{Matches};
+ghost use Rattle.graph_theory.specs.Plain.{IsPlain};
 ghost use Rattle.graph_rows.specs.BitRow.{has, words_for};
 ghost use Rattle.pair_rows.specs.Kinds.{kind_of, Joins, RowIs, HasRow, AreKinds, KindsStay, WordsStay};
 
@@ -139,6 +140,7 @@ pub(crate) fn fill_block(
     first: usize,
     pool: &mut [u64],
 )
+    requires plain { IsPlain q.now.target }
     requires width_is { width ≡ words_for (size q.now.target) }
     requires t_in { t < size q.now.target }
     requires few { size q.now.target ≤ 8192 }
@@ -159,6 +161,7 @@ pub(crate) fn fill_block(
 
 /// Makes the row of a kind at `t`.
 fn fill_row(q: &Problem, kind: &PairKind, t: u16, counts: &[u16], row: &mut [u64])
+    requires plain { IsPlain q.now.target }
     requires t_in { t < size q.now.target }
     requires counts_long { length counts.now ≡ size q.now.target }
     requires counted { (u : ℕ) → u < size q.now.target → (t ≡ u → ⊥)
@@ -189,6 +192,7 @@ pub(crate) fn asks_nothing(q: &Problem, kind: &PairKind) -> bool
 
 /// Whether a pair of the kind is asked nothing but distinct images without an edge, in the induced kind.
 pub(crate) fn asks_no_edge(q: &Problem, kind: &PairKind) -> bool
+    requires { IsPlain q.now.target }
     ensures { IsTrue result → (t u : ℕ)
         → Joins q.now kind.now t u ↔ ((t ≡ u → ⊥) × (is_neighbour q.now.target t u ≡ false)) }
 {
@@ -199,6 +203,7 @@ pub(crate) fn asks_no_edge(q: &Problem, kind: &PairKind) -> bool
 /// Makes the row of a kind with an edge: its values are among the neighbours of `t`, of which each is tested. Cost: one step for each
 /// neighbour and for each word of a row.
 fn fill_near(q: &Problem, kind: &PairKind, t: u16, counts: &[u16], row: &mut [u64])
+    requires plain { IsPlain q.now.target }
     requires edge { (is_some kind.now.out || is_some kind.now.back) ≡ true }
     requires t_in { t < size q.now.target }
     requires counts_long { length counts.now ≡ size q.now.target }
@@ -223,6 +228,7 @@ fn fill_near(q: &Problem, kind: &PairKind, t: u16, counts: &[u16], row: &mut [u6
 /// Makes the row of a kind without edges, by whole words. Cost: three steps for each word, and one for each count where the kind
 /// shares neighbours.
 fn fill_apart(q: &Problem, kind: &PairKind, t: u16, counts: &[u16], row: &mut [u64])
+    requires plain { IsPlain q.now.target }
     requires none { (is_some kind.now.out || is_some kind.now.back) ≡ false }
     requires t_in { t < size q.now.target }
     requires counts_long { length counts.now ≡ size q.now.target }

@@ -3,6 +3,7 @@
 ghost use Rattle.std.specs.Prelude.{◌≡◌, ℕ, ◌<◌, ◌↔◌, true, false, length, is_some, IsTrue, IfOk, IfSome};
 ghost use Rattle.graph_theory.specs.Graph.{size};
 ghost use Rattle.graph_theory.specs.Neighbours.{is_neighbour};
+ghost use Rattle.graph_theory.specs.Plain.{IsPlain};
 ghost use Rattle.graph_rows.specs.BitRow.{words_for};
 ghost use Rattle.graph_rows.specs.Held.{stands_in};
 ghost use Rattle.search_theory.specs.Consistency.{AreConsistent};
@@ -39,9 +40,10 @@ impl<'a> Model for PairKinds<'a> {
 }
 
 impl<'a> PairKinds<'a> {
-    /// The kinds of a problem's pairs. Cost: one step for each pattern pair, for each kind, and in the induced kind for each word of the
-    /// target's rows.
+    /// The kinds of the pairs of a problem whose target has no directions. Cost: one step for each pattern pair, for each kind, and in
+    /// the induced kind for each word of the target's rows.
     pub fn new(alloc: Global, problem: &'a Problem) -> Result<PairKinds<'a>, AllocError>
+        requires { IsPlain problem.entry.now.target }
         ensures { IfOk result (λ k. k.problem ≡ problem.entry.now) }
     {
         let vertices = usize::from(problem.pattern().size());

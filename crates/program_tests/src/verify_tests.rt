@@ -37,7 +37,7 @@ fn first_wrong<R: Threads + Sync>(
     Ok(None)
 }
 
-static VERIFIED: [Verified; 19] = [
+static VERIFIED: [Verified; 25] = [
     Verified {
         line: "subgraph verify p t m",
         pattern: EDGE,
@@ -208,6 +208,60 @@ static VERIFIED: [Verified; 19] = [
         status: 4,
         out: "",
         err: "pattern: word 2: NotNumber\n",
+    },
+    Verified {
+        line: "subgraph verify p t m --format labelledlad",
+        pattern: "2\n5 1 1 7\n6 0\n",
+        target: "2\n6 0\n5 1 0 7\n",
+        mapping: "yes\n0 -> 1\n1 -> 0\n",
+        status: 0,
+        out: "embedding\n",
+        err: "",
+    },
+    Verified {
+        line: "subgraph verify p t m --format labelledlad",
+        pattern: "2\n5 1 1 7\n6 0\n",
+        target: "2\n6 0\n5 1 0 8\n",
+        mapping: "yes\n0 -> 1\n1 -> 0\n",
+        status: 7,
+        out: "",
+        err: "mapping: not an embedding\n",
+    },
+    Verified {
+        line: "subgraph verify p t m --format labelledlad",
+        pattern: "2\n0 2 1 7 1 8\n0 0\n",
+        target: "2\n6 0\n5 1 0 8\n",
+        mapping: "yes\n",
+        status: 4,
+        out: "",
+        err: "pattern: word 7: LabelClash\n",
+    },
+    Verified {
+        line: "subgraph verify p t m --format directedlad",
+        pattern: "2\n1 1\n0\n",
+        target: "2\n0\n1 0\n",
+        mapping: "yes\n0 -> 1\n1 -> 0\n",
+        status: 0,
+        out: "embedding\n",
+        err: "",
+    },
+    Verified {
+        line: "subgraph verify p t m --format directedlad",
+        pattern: "2\n1 1\n0\n",
+        target: "2\n0\n1 0\n",
+        mapping: "yes\n0 -> 0\n1 -> 1\n",
+        status: 7,
+        out: "",
+        err: "mapping: not an embedding\n",
+    },
+    Verified {
+        line: "subgraph verify p t m --induced --format directedlad",
+        pattern: "2\n1 1\n0\n",
+        target: "2\n1 1\n1 0\n",
+        mapping: "yes\n0 -> 0\n1 -> 1\n",
+        status: 7,
+        out: "",
+        err: "mapping: not an embedding\n",
     },
 ];
 

@@ -1,10 +1,11 @@
 //! Worked problems and the texts of their encodings.
 
-ghost use Rattle.std.specs.Prelude.{◌≡◌, ◌<◌};
+ghost use Rattle.std.specs.Prelude.{◌≡◌, ◌<◌, ◌≤◌, IfSome};
 ghost use Rattle.graph_theory.specs.Graph.{size};
+ghost use Rattle.graph_theory.specs.Plain.{IsPlain, ArePlain};
 ghost use Rattle.encoding_theory.specs.Pairs.{is_edge_pair as is_edge, is_non_edge_pair as is_non_edge};
 
-use graph_rows::Problem;
+use graph_rows::{Graph, Problem};
 use lad_reader::LadKind;
 use outer_io::MemorySink;
 use pb_encoding::Encoding;
@@ -15,21 +16,37 @@ use worked_examples::{Example, first_wrong};
 
 const SECOND_WITH_LOOP: &[u8] = b"2 0 1 1";
 
+/// The graph of a text, with labels of vertices or without.
+fn graph_by(alloc: Global, text: &[u8], labelled: bool) -> Option<Graph>
+    ensures few { IfSome result (λ g. size g ≤ 64) }
+    ensures plain { IfSome result IsPlain }
+{
+    if labelled {
+        graph_in(alloc, text, LadKind::VertexLabelledLad)
+    } else {
+        graph_in(alloc, text, LadKind::Lad)
+    }
+}
+
 /// The problem of two texts.
 fn problem(
     alloc: Global,
     pattern: &[u8],
     target: &[u8],
-    kind: LadKind,
+    labelled: bool,
     induced: bool,
-) -> Option<Problem> {
-    let pattern = graph_in(alloc, pattern, kind)?;
-    let target = graph_in(alloc, target, kind)?;
+) -> Option<Problem>
+    ensures { IfSome result ArePlain }
+{
+    let pattern = graph_by(alloc, pattern, labelled)?;
+    let target = graph_by(alloc, target, labelled)?;
     Some(Problem::new(pattern, target, induced))
 }
 
 /// Whether this is the text of the encoding of a problem.
-fn is_text(alloc: Global, q: &Problem, text: &str) -> Result<bool, AllocError> {
+fn is_text(alloc: Global, q: &Problem, text: &str) -> Result<bool, AllocError>
+    requires { ArePlain q.now }
+{
     let encoding = Encoding::new(alloc, q)?;
     let mut sink = MemorySink::new(alloc, 4096, Vec::new(alloc))?;
     Ok(encoding.write(alloc, &mut sink).is_ok() && sink.bytes() == text.as_bytes())
@@ -88,7 +105,7 @@ const TWO_INTO_EDGE: &str = "* #variable= 4 #constraint= 10
 -1 x4 >= 0 ;
 ";
 
-const PLAIN: LadKind = LadKind::Lad;
+const PLAIN: bool = false;
 
 /// Two graphs, whether the copy is to be induced, and the text of the encoding.
 struct Encoded {
@@ -183,7 +200,7 @@ const LABELLED_EDGE: &str = "* #variable= 4 #constraint= 12
 #[test]
 fn refuses_other_labels(rt: HostRuntime) -> Result<(), Fail> {
     let edge = b"2 1 1 1 2 1 0";
-    let q = problem(rt.alloc(), edge, edge, LadKind::VertexLabelledLad, false);
+    let q = problem(rt.alloc(), edge, edge, true, false);
     let q = q.ok_or("no problem")?;
     assert!(rt; is_text(rt.alloc(), &q, LABELLED_EDGE)?);
     Ok(())

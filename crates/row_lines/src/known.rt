@@ -75,8 +75,9 @@ impl<'a, 'b> Known<'a, 'b> {
     {
         let pattern = self.q.pattern();
         let target = self.q.target();
-        pattern.edges_are_plain();
-        target.edges_are_plain();
+        let _vertices = pattern.size();
+        let _targets = target.size();
+        self.lines.graphs_are_plain();
     }
 
     /// Whether `m` is a neighbour of both.

@@ -8,7 +8,8 @@ use Rattle.graph_theory.specs.Neighbours.{count, is_neighbour, degree, common}
 use Rattle.proof_theory.specs.Forms.{Form, Holds}
 use Rattle.proof_theory.proofs.Sorting.{value-sorted, value-append}
 use Rattle.encoding_theory.specs.Variables.{variable}
-use Rattle.encoding_theory.specs.Pairs.{is_compatible, IsPlain}
+use Rattle.graph_theory.specs.Plain.{IsPlain}
+use Rattle.encoding_theory.specs.Pairs.{is_compatible}
 use Rattle.encoding_theory.specs.Encoding.{terms_where, pair_form}
 use Rattle.encoding_theory.proofs.FormMeanings.{value_up, value_down}
 use Rattle.encoding_theory.proofs.PairTests.{plain_laws}

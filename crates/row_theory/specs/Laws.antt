@@ -8,7 +8,8 @@ use Rattle.log_theory.specs.declared.step.Name.{Name}
 use Rattle.log_theory.specs.declared.step.Ref.{Ref}
 use Rattle.log_theory.specs.declared.step.Step.TheVariants.{P, U}
 use Rattle.log_theory.specs.Lookups.{Lookup, makes}
-use Rattle.encoding_theory.specs.Pairs.{IsPlain, is_edge_pair, is_non_edge_pair}
+use Rattle.graph_theory.specs.Plain.{IsPlain}
+use Rattle.encoding_theory.specs.Pairs.{is_edge_pair, is_non_edge_pair}
 use Rattle.encoding_theory.specs.Encoding.{at_most_target, pair_form}
 use Rattle.forcing_theory.specs.Sums.{IsSmall}
 use Rattle.reason_theory.specs.Reasons.{ForcesBeside}

@@ -1,7 +1,8 @@
 -- What the graphs of texts are.
 use Rattle.std.specs.Prelude.{◌≡◌, ℕ, List}
 use Rattle.graph_theory.specs.Text.{words}
-use Rattle.graph_theory.specs.Graph.{Graph, graph_of}
+use Rattle.graph_theory.specs.Graph.{Graph}
+use Rattle.graph_theory.specs.GraphText.{text_graph}
 use Rattle.graph_theory.specs.Lad.{Vertex, Reads}
 use Rattle.graph_theory.specs.declared.lad_text.LadKind.{LadKind}
 
@@ -9,4 +10,4 @@ use Rattle.graph_theory.specs.declared.lad_text.LadKind.{LadKind}
 pub record IsGraphOf (text : List ℕ) (kind : LadKind) (most : ℕ) (g : Graph) : Type 0 where
   pub vertices : List Vertex
   pub reads : Reads (words text) kind most vertices
-  pub same : g ≡ graph_of vertices
+  pub same : g ≡ text_graph kind vertices

@@ -4,6 +4,7 @@
 
 ghost use Rattle.std.specs.Prelude.{◌≡◌, ◌≤◌, IfSome};
 ghost use Rattle.graph_theory.specs.Graph.{size};
+ghost use Rattle.graph_theory.specs.Plain.{IsPlain, IsUndirected};
 ghost use Rattle.graph_theory.specs.declared.lad_text.LadKind.TheVariants.{Lad};
 ghost use Rattle.sample_graphs.specs.Samples.{IsGraphOf};
 
@@ -30,6 +31,7 @@ pub const APART: &[u8] = b"2 0 0";
 pub fn graph_in(alloc: Global, text: &[u8], kind: LadKind) -> Option<Graph>
     ensures few { IfSome result (λ g. size g ≤ 64) }
     ensures read { IfSome result (IsGraphOf text.now kind 64) }
+    ensures plain { IsUndirected kind → IfSome result IsPlain }
 {
     let Ok(parts) = read_lad(alloc, text, kind, 64) else {
         return None;
@@ -47,6 +49,7 @@ pub fn graph_in(alloc: Global, text: &[u8], kind: LadKind) -> Option<Graph>
 pub fn graph(alloc: Global, text: &[u8]) -> Option<Graph>
     ensures few { IfSome result (λ g. size g ≤ 64) }
     ensures read { IfSome result (IsGraphOf text.now Lad 64) }
+    ensures plain { IfSome result IsPlain }
 {
     graph_in(alloc, text, LadKind::Lad)
 }
@@ -55,6 +58,7 @@ pub fn graph(alloc: Global, text: &[u8]) -> Option<Graph>
 pub fn graph_of_size(alloc: Global, text: &[u8], vertices: u16) -> Option<Graph>
     ensures exact { IfSome result (λ g. size g ≡ vertices) }
     ensures read { IfSome result (IsGraphOf text.now Lad 64) }
+    ensures plain { IfSome result IsPlain }
 {
     let graph = graph(alloc, text)?;
     if graph.size() != vertices {

@@ -6,7 +6,7 @@ ghost use Rattle.fail_account.specs.Examples.{triangle, four_cycle, triangle_int
 
 use fail_account::{Account, luby};
 use graph_rows::{Graph, Problem};
-use lad_reader::{GraphParts, Labels, NeighbourLists};
+use lad_reader::{EdgeLabels, GraphParts, Labels, LadKind, NeighbourLists};
 use std::alloc::{AllocError, Global};
 use std::test::Fail;
 
@@ -25,8 +25,10 @@ fn triangle_graph(alloc: Global) -> Result<Graph, AllocError>
     lists.push_reserved(two(alloc, 0, 2)?);
     lists.push_reserved(two(alloc, 0, 1)?);
     let parts = GraphParts {
+        kind: LadKind::Lad,
         labels: Labels::from_vec(Vec::from_slice(alloc, &[0, 0, 0])?),
         neighbours: NeighbourLists::from_vec(lists),
+        edge_labels: EdgeLabels::none(alloc),
     };
     Graph::new(alloc, &parts)
 }
@@ -40,8 +42,10 @@ fn four_cycle_graph(alloc: Global) -> Result<Graph, AllocError>
     lists.push_reserved(two(alloc, 1, 3)?);
     lists.push_reserved(two(alloc, 0, 2)?);
     let parts = GraphParts {
+        kind: LadKind::Lad,
         labels: Labels::from_vec(Vec::from_slice(alloc, &[0, 0, 0, 0])?),
         neighbours: NeighbourLists::from_vec(lists),
+        edge_labels: EdgeLabels::none(alloc),
     };
     Graph::new(alloc, &parts)
 }

@@ -61,7 +61,7 @@ fn listed_text(alloc: Global, text: &[u8], kind: LadKind) -> Option<ListedGraph>
         return None;
     };
     if vertices.len() < 8192 {
-        Some(ListedGraph::new(vertices))
+        Some(ListedGraph::new(kind, vertices))
     } else {
         None
     }

@@ -3,7 +3,7 @@
 use Rattle.std.specs.Prelude.{ℕ, List, [], ◌∷◌, ◌++◌, codes}
 use Rattle.std.specs.Fmt.{decimal}
 use Rattle.graph_theory.specs.declared.lad_text.LadCause.{LadCause}
-use Rattle.graph_theory.specs.declared.lad_text.LadCause.TheVariants.{NotNumber, TooMany, EndsEarly, NoSuchVertex, WordsLeft}
+use Rattle.graph_theory.specs.declared.lad_text.LadCause.TheVariants.{NotNumber, TooMany, EndsEarly, NoSuchVertex, LabelClash, WordsLeft}
 use Rattle.log_theory.specs.declared.opb.OpbCause.{OpbCause}
 use Rattle.log_theory.specs.declared.opb.OpbCause.TheVariants as opb
 use Rattle.log_theory.specs.declared.step.Cause.{Cause}
@@ -59,6 +59,7 @@ cause_text NotNumber = codes "NotNumber"
 cause_text TooMany = codes "TooMany"
 cause_text EndsEarly = codes "EndsEarly"
 cause_text NoSuchVertex = codes "NoSuchVertex"
+cause_text LabelClash = codes "LabelClash"
 cause_text WordsLeft = codes "WordsLeft"
 
 -- What a cause of an encoding's line is called.

@@ -169,6 +169,7 @@ fn run_encode<F: Files, O: Sink, E: Sink>(
     out: &mut O,
     err: &mut E,
 ) -> u8
+    requires { line.IsEncodeInRange asked.now }
     ensures ran { (accounts : List TheAccount)
         → Ran (TheCommand.Encode asked.now) (outcome result accounts
         (disk F.tells F.content F.faults F.fault_at files.old files.new)

@@ -47,6 +47,7 @@ fn cause_name(cause: LadCause) -> &'static [u8]
         LadCause::TooMany => b"TooMany",
         LadCause::EndsEarly => b"EndsEarly",
         LadCause::NoSuchVertex => b"NoSuchVertex",
+        LadCause::LabelClash => b"LabelClash",
         LadCause::WordsLeft => b"WordsLeft",
     }
 }

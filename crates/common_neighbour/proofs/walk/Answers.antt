@@ -18,7 +18,7 @@ count_neighbours-requires-clause-room c =
 pub loop-c-preserved : goal.loop-c-preserved
 loop-c-preserved c = record {
   counted = walked_next c.args.graph.now c.row-near.result.now c.loop-c.counts c.count_neighbours.new.counts c.args.t c.loop-c.c c.next_member-c-in-loop-c.result
-      c.neighbours_are_mutual.ensures c.row-near.ensures.neighbours (c.loop-c.invariant.member c.loop-c-test.true)
+      c.row-near.ensures.neighbours (c.loop-c.invariant.member c.loop-c-test.true)
       c.next_member-c-in-loop-c.ensures.low c.next_member-c-in-loop-c.ensures.none c.loop-c.invariant.counted c.count_neighbours.ensures;
   within = c.next_member-c-in-loop-c.ensures.high;
   member = c.next_member-c-in-loop-c.ensures.member;

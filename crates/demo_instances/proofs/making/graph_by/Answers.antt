@@ -15,12 +15,15 @@ loop-a-preserved g c =
     (ap items_of c.in_ok-push.ensures.items ∙ map-append (λ (v : Vec ℕ Global). v.items) c.loop-a.lists.items (c.in_ok-list.list ∷ []))
     c.in_ok-list.ensures c.loop-a.invariant
 
-pub returns : goal.returns
-returns g c =
+pub returns-clause-made : goal.returns-clause-made
+returns-clause-made g c =
     let n = c.args.size in
     let pair = g.P.Pairs.pair c.args.pairs.now in
     let all : c.loop-a.a ≡ n = omega arith in
     let lists = subst (λ (m : ℕ). ListsPairs n m pair (items_of c.loop-a.lists.items)) all c.loop-a.invariant in
     let zeros : c.in_ok-labels.labels.items ≡ replicate c.args.size 0 = search rules in
     made-ok c.new.result n pair c.from_vec.result c.from_vec-2.result (c.from_vec.ensures ∙ zeros)
-    (subst (ListsPairs n n pair) (sym c.from_vec-2.ensures) lists) c.new.ensures
+    (subst (ListsPairs n n pair) (sym c.from_vec-2.ensures) lists) c.new.ensures.graph
+
+pub returns-clause-plain : goal.returns-clause-plain
+returns-clause-plain g c = c.new.ensures.plain tt

@@ -2,28 +2,28 @@ use Rattle.std.proofs.Common.{◌≡◌, [], map, arith}
 use Rattle.std.proofs.lemmas.Result.{err_from_is_err_and}
 use Rattle.graph_theory.specs.Progress.{StopsAt, StopsListed}
 use Rattle.graph_theory.specs.declared.lad_text.Place.TheVariants.{Neighbour}
-use Rattle.graph_theory.proofs.Steps.{OnWord-weaker, WentListed-more, WentListed-stops}
+use Rattle.graph_theory.proofs.Steps.{OnWord-weaker, WentListed-stops}
 use Rattle.lad_reader.specs.Parts.{unlabelled}
-use Rattle.lad_reader.proofs.VertexParts.{no_edge_label, unlabelled-push}
+use Rattle.lad_reader.proofs.VertexParts.{unlabelled_more, unlabelled-push}
 use Rattle.lad_reader.proofs.reader.read_neighbours.Goals as goal
 
 pub returns-in_err-neighbour-clause-fault : goal.returns-in_err-neighbour-clause-fault
-returns-in_err-neighbour-clause-fault c = λ kind.
+returns-in_err-neighbour-clause-fault c = λ kind none.
     let a = c.args in
     let l = c.loop-i in
     let p = err_from_is_err_and c.from_residual.result c.from_residual.ensures.1 in
     rw (p.1, p.2) (OnWord-weaker _ (StopsAt l.words [] (Neighbour a.size)) (StopsListed kind a.size a.due a.words.now)
-    (λ w cause s. WentListed-stops kind a.size a.due l._i a.words.now l.words (map unlabelled l.neighbours.items) w cause (l.invariant kind) (omega arith) s)
+    (λ w cause s. WentListed-stops kind a.size a.due l._i a.words.now l.words (map unlabelled l.neighbours.items) w cause (l.invariant kind none) (omega arith) s)
     c.in_err-neighbour.ensures.err)
 
 pub loop-i-preserved : goal.loop-i-preserved
-loop-i-preserved c = λ kind.
+loop-i-preserved c = λ kind none.
     let a = c.args in
     let l = c.loop-i in
     let b = c.in_ok-neighbour.neighbour in
     let taken = c.in_ok-neighbour.ensures.ok in
     rw (c.in_ok-push.ensures.items, unlabelled-push l.neighbours.items b)
-    (WentListed-more kind a.size l._i a.words.now l.words c.take.new.self (map unlabelled l.neighbours.items) b 0 (l.invariant kind) taken.0 taken.1 (no_edge_label kind))
+    (unlabelled_more kind a.size l._i a.words.now l.words c.take.new.self (map unlabelled l.neighbours.items) b none (l.invariant kind none) taken.0 taken.1)
 
 pub returns-clause-found : goal.returns-clause-found
-returns-clause-found c = λ kind. let e : c.args.due ≡ c.loop-i._i = omega arith in rw e (c.loop-i.invariant kind)
+returns-clause-found c = λ kind none. let e : c.args.due ≡ c.loop-i._i = omega arith in rw e (c.loop-i.invariant kind none)

@@ -34,7 +34,7 @@ returns-in_err-finish-clause-fault c =
     let start = c.new-words.ensures in
     let size = c.in_ok-size in
     let p = err_from_is_err_and c.from_residual-in_err-finish.result c.from_residual-in_err-finish.ensures.1 in
-    rw (p.1, p.2) (OnWord-weaker _ (StopsAt c.read_vertices.new.words [] End) (Fault ws c.args.kind c.args.most)
-    (λ w cause s. Fault-end ws c.args.kind c.args.most size.size c.new-words.result c.take.new.self c.read_vertices.new.words (vertices_of c.in_ok-parts.parts) w cause
+    rw (p.1, p.2) (OnWord-weaker _ (StopsAt c.read_parts.new.words [] End) (Fault ws c.args.kind c.args.most)
+    (λ w cause s. Fault-end ws c.args.kind c.args.most size.size c.new-words.result c.take.new.self c.read_parts.new.words (vertices_of c.in_ok-parts.parts) w cause
     (ap (λ (a : At). a.0) start) (ap (λ (a : At). a.1) start) size.ensures.ok.0 size.ensures.ok.1 c.in_ok-parts.ensures.found s)
     c.in_err-finish.ensures.err)

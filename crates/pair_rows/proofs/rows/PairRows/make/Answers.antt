@@ -14,6 +14,9 @@ returns-then-is_owner-clause-made c =
     subst (λ (x : Rows). IsMade x c.args.t) c.self.view_is
     (owns_made c.self.inside.block_of.items c.self.inside.owners.items c.args.t (omega (arith, t_in, c.self.invariant.block_of_are)) ∙ owned)
 
+pub fill_block-requires-clause-plain : goal.fill_block-requires-clause-plain
+fill_block-requires-clause-plain c = c.kinds.invariant.0.plain
+
 pub fill_block-requires-clause-room : goal.fill_block-requires-clause-room
 fill_block-requires-clause-room c =
     let held = subst (λ (x : Shape). Held x.problem x.vertices x.width x.kinds x.places c.self.inside.block_of.items c.self.inside.owners.items c.self.inside.counts.items c.self.inside.pool.items

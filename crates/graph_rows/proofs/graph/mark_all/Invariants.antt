@@ -1,9 +1,0 @@
-use Rattle.std.proofs.Common.{◌≡◌, ℕ, ◌*◌, ◌<◌, take, length}
-use Rattle.graph_rows.specs.Held.{AreMarks, marked, either_said}
-use Rattle.graph_rows.proofs.graph.mark_all.Given as goal
-
-abbrev pub invariant-loop-a : goal.invariant-loop-a
-invariant-loop-a l = record {
-  marks : AreMarks (length l.degrees) l.width l.words l.degrees;
-  said : (x y : ℕ) → x < 64 * l.width → y < 64 * l.width → marked l.words l.width x y ≡ either_said (take l.a l.neighbours) x y;
-}

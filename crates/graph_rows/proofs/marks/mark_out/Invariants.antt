@@ -1,0 +1,9 @@
+use Rattle.std.proofs.Common.{take, length}
+use Rattle.graph_rows.specs.Held.{AreMarks, AddsOut}
+use Rattle.graph_rows.proofs.marks.mark_out.Given as goal
+
+abbrev pub invariant-loop-b : goal.invariant-loop-b
+invariant-loop-b l = record {
+  marks : AreMarks (length l.degrees) l.width l.words l.degrees;
+  added : AddsOut l.width l.fn.words l.words l.a (take l.b-index l.listed);
+}

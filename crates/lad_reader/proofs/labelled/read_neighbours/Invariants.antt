@@ -1,0 +1,13 @@
+use Rattle.std.proofs.Common.{◌≡◌, length}
+use Rattle.graph_theory.specs.Progress.{WentListed}
+use Rattle.graph_theory.specs.declared.lad_text.LadKind.TheVariants.{LabelledLad}
+use Rattle.lad_reader.specs.Parts.{with_labels}
+use Rattle.lad_reader.specs.Given.{AreGiven}
+use Rattle.lad_reader.proofs.labelled.read_neighbours.Given as goal
+
+abbrev pub invariant-loop-i : goal.invariant-loop-i
+invariant-loop-i l = record {
+  went : WentListed LabelledLad l.size l._i l.fn.words l.words (with_labels l.neighbours.items l.edges.items);
+  given : AreGiven l.size l.stamp l.stamps l.labels (with_labels l.neighbours.items l.edges.items);
+  lengths : length l.neighbours.items ≡ length l.edges.items;
+}
