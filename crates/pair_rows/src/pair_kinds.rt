@@ -43,7 +43,7 @@ impl<'a> PairKinds<'a> {
     /// The kinds of the pairs of a problem whose target has no directions. Cost: one step for each pattern pair, for each kind, and in
     /// the induced kind for each word of the target's rows.
     pub fn new(alloc: Global, problem: &'a Problem) -> Result<PairKinds<'a>, AllocError>
-        requires { IsPlain problem.entry.now.target }
+        requires { IsPlain problem.now.target }
         ensures { IfOk result (λ k. k.problem ≡ problem.entry.now) }
     {
         let vertices = usize::from(problem.pattern().size());
