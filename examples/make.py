@@ -64,6 +64,20 @@ def of_calls(path: Path) -> Graph:
     return Graph(edges, labels=labels)
 
 
+def directed_text(path: Path) -> str:
+    """The calls of lines `CALLER CALLED` as they are, in the format `directedlad`; functions are numbered as they are first named."""
+    places: Dict[str, int] = {}
+    called: Dict[int, List[int]] = {}
+    for line in path.read_text().splitlines():
+        words = line.partition("#")[0].split()
+        if not words:
+            continue
+        caller, callee = (places.setdefault(it, len(places)) for it in words)
+        called.setdefault(caller, []).append(callee)
+    lists = [called.get(at, []) for at in range(len(places))]
+    return "".join(f"{' '.join(map(str, row))}\n" for row in [[len(lists)], *([len(it), *it] for it in lists)])
+
+
 def ball() -> Graph:
     """Twelve pentagons and twenty hexagons: the icosahedron with its corners cut off."""
     import networkx
@@ -142,6 +156,8 @@ def main(asked: List[str]) -> None:
         for stem, graph in sorted(graphs.items()):
             write(graph, HERE / name, stem)
         picture(HERE / name, *shown[name], graphs)
+        for path in sorted((HERE / name).glob("*.calls")):
+            (HERE / name / f"{path.stem}-directed.lad").write_text(directed_text(path))
 
 
 if __name__ == "__main__":
