@@ -1,5 +1,7 @@
 //! Lines of logs, read and written.
 
+ghost use Rattle.log_theory.specs.LogText.{IsStep};
+
 use log_theory::{Profile, Step};
 use outer_io::MemorySink;
 use proof_log::{StepFault, plain, read_step, write_step};
@@ -13,7 +15,9 @@ fn is_written_as(
     profile: Profile,
     step: &Step,
     line: &[u8],
-) -> Result<bool, AllocError> {
+) -> Result<bool, AllocError>
+    requires { IsStep step.now }
+{
     let mut sink = MemorySink::new(alloc, 256, Vec::new(alloc))?;
     let done = write_step(profile, step, &mut sink);
     Ok(done.is_ok() && sink.bytes().strip_suffix(b"\n") == Some(line))

@@ -1,9 +1,10 @@
 -- The logs of answers.
 
-use Rattle.std.specs.Prelude.{◌≡◌, ℕ, true, List, Option, Some, is_some, refl}
+use Rattle.std.specs.Prelude.{◌≡◌, ℕ, true, List, [], ◌∷◌, Option, Some, is_some, refl}
 use Rattle.std.proofs.Common.{subst, ap, sym}
 use Rattle.graph_theory.specs.Embedding.{Problem}
 use Rattle.log_theory.specs.declared.profile.Profile.{Profile}
+use Rattle.log_theory.specs.declared.step.Step.{Step}
 use Rattle.log_theory.specs.declared.step.Verdict.TheVariants.{Satisfiable}
 use Rattle.log_theory.specs.Profiles.{log_profile}
 use Rattle.merged_log.specs.Profiles.{in_profile}
@@ -46,11 +47,16 @@ stops_of_answer stops a f q prove names d asked same holds right stopped = recor
   stopped = stopped;
 }
 
+-- The steps behind the first.
+abbrev behind : List Step → List Step
+behind [] = []
+behind (s ∷ ss) = ss
+
 -- The log of a finding begins with a head.
 told : (profile : Profile) (q : Problem) (f : Finding) → log_profile (in_profile profile (log_text (steps_of q f))) ≡ Some profile
-told profile q (found.Embedding map) = profile_told profile _
-told profile q (found.Refutation parts) = profile_told profile _
-told profile q found.Nothing = profile_told profile _
+told profile q (found.Embedding map) = profile_told profile (behind (steps_of q (found.Embedding map)))
+told profile q (found.Refutation parts) = profile_told profile (behind (steps_of q (found.Refutation parts)))
+told profile q found.Nothing = profile_told profile (behind (steps_of q found.Nothing))
 
 -- The files hold a proof of what was found.
 held_of : (f : Finding) (q : Problem) (names : ProveWords) (d : Disk) → AreWhole (files_of names d) (texts names.profile q f) → IsAccepted names.profile q f

@@ -1,20 +1,20 @@
 -- What is told of an end says what the end says.
 
-use Rattle.std.specs.Prelude.{◌≡◌, ℕ, Bool, IsTrue, List, Option, Result, Ok, Err, refl}
+use Rattle.std.specs.Prelude.{◌≡◌, ℕ, Bool, IsTrue, List, Option, Result, Ok, Err, IfErr, refl}
 use Rattle.std.proofs.Common.{arith, subst, sym, inl, inr, ◌∙◌}
-use Rattle.graph_theory.specs.Embedding.{Problem}
+use Rattle.graph_theory.specs.Embedding.{Problem, Embeds}
 use Rattle.search_theory.specs.Account.{Account}
 use Rattle.outer_io.specs.Faults.{Use}
 use Rattle.command_line.specs.declared.commands.SolveWords.{SolveWords}
 use Rattle.command_line.specs.declared.commands.VerifyWords.{VerifyWords}
-use Rattle.subgraph_cli.specs.Disk.{Disk, disk, KeepsFiles, KeepsAllBut, IsUntouched}
+use Rattle.subgraph_cli.specs.Disk.{Disk, disk, IsReadingOf, KeepsFiles, KeepsAllBut, IsUntouched}
 use Rattle.subgraph_cli.specs.Deciding.{IsRight, AreKept, Shows, decision_of, answer_text, LeavingSays, TellingSays, IsOfWriting}
 use Rattle.subgraph_cli.specs.Proving.{IsWritingOfProof, IsFaultOfSolve}
 use Rattle.subgraph_cli.specs.Streams.{Stream, IsAsBefore}
 use Rattle.subgraph_cli.specs.Questions.{Asks, AskSays, IsFaultOfTwo}
 use Rattle.subgraph_cli.specs.Stops.{HasCause, IsOfFiles, SparesOutput}
 use Rattle.subgraph_cli.specs.Solving.{IsAnswer, IsWritten, SolveSays}
-use Rattle.subgraph_cli.specs.Verifying.{MappingSays, VerifySays}
+use Rattle.subgraph_cli.specs.Verifying.{HoldsMapping, MappingSays, IsFaultOfThree, IsBad, VerifySays}
 use Rattle.subgraph_cli.specs.declared.deciding.Answer.{Answer}
 use Rattle.subgraph_cli.specs.declared.deciding.Answer.TheVariants as answer
 use Rattle.subgraph_cli.specs.declared.stop.Role.TheVariants.{Pattern, Target, Mapping, Encoding, Log}
@@ -121,6 +121,15 @@ writing_cause OutputFault w d cause asks = tt
 writing_cause (Refused role fault) w d cause asks = tt
 writing_cause NoMemory w d cause asks = tt
 
+-- Telling an answer stops for the output alone.
+pub telling_cause : (r : Result Decision Stop) (a : Answer) (out : Stream) (blame : Disk → Type 0) (d : Disk)
+    → TellingSays r a out → IfErr r (λ (s : Stop). HasCause s blame d)
+telling_cause (Ok decision) a out blame d says = tt
+telling_cause (Err OutputFault) a out blame d says = tt
+telling_cause (Err NoMemory) a out blame d says = absurd says
+telling_cause (Err FilesFault) a out blame d says = absurd says
+telling_cause (Err (Refused role fault)) a out blame d says = absurd says
+
 -- An answer that is right, shown and told is the answer of the decision that it is told as.
 answers_with : (a : Answer) (q : Problem) (w : SolveWords) (accounts : List Account) (held : List ℕ → Option (List ℕ)) (logged : Bool)
     → IsRight a q logged → AreKept a q w accounts → Shows a w.prove held q → IsAnswer (decision_of a) q w accounts held (answer_text a)
@@ -158,3 +167,19 @@ mapping_stops (Refused Pattern fault) q w p t m out of_files says asks = let e :
 mapping_stops (Refused Target fault) q w p t m out of_files says asks = let e : Target ≡ Mapping = says.0 in cc
 mapping_stops (Refused Encoding fault) q w p t m out of_files says asks = let e : Encoding ≡ Mapping = says.0 in cc
 mapping_stops (Refused Log fault) q w p t m out of_files says asks = let e : Log ≡ Mapping = says.0 in cc
+
+-- A cause of reading the mapping is one of a verify, where the graphs' files ask a problem.
+pub mapping_cause : (s : Stop) (w : VerifyWords) (d : Disk) → HasCause s (IsReadingOf w.mapping) d
+    → (IsTrue d.tells → (q : Problem) × Asks (d.content w.pattern) (d.content w.target) w.format w.induced q) → HasCause s (IsFaultOfThree w) d
+mapping_cause FilesFault w d cause asks = record { rose = cause.rose; of_one = inr (cause.of_one, asks) }
+mapping_cause OutputFault w d cause asks = tt
+mapping_cause (Refused role fault) w d cause asks = tt
+mapping_cause NoMemory w d cause asks = tt
+
+-- The mapping that is loaded is that of the third file, before a run as after the graphs were read.
+pub mapping_held : (held before : Option (List ℕ)) (m : List ℕ) → held ≡ before → HoldsMapping held m → HoldsMapping before m
+mapping_held held before m same holds = subst (λ (o : Option (List ℕ)). HoldsMapping o m) same holds
+
+-- A mapping that is no embedding is bad.
+pub is_bad : (q : Problem) (m : List ℕ) (w : VerifyWords) (p t c : Option (List ℕ)) → Asks p t w.format w.induced q → HoldsMapping c m → (Embeds q m → ⊥) → IsBad w p t c
+is_bad q m w p t c asks holds none = record { problem = q; map = m; asks = record { problem_is = asks; mapping_is = holds }; no_embedding = none }
