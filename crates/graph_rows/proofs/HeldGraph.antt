@@ -115,7 +115,7 @@ edge-held_from_past labels words cells width a b past =
 -- ---- the rows of the edges that lead in
 
 -- their marks are the edges that lead in
-turned_edge : (labels words cells back degrees : List ℕ) (width : ℕ) (a b : ℕ) → AreTurned (length labels) width words back degrees → a < length labels → b < length labels
+pub turned_edge : (labels words cells back degrees : List ℕ) (width : ℕ) (a b : ℕ) → AreTurned (length labels) width words back degrees → a < length labels → b < length labels
     → marked back width a b ≡ is_some (edge (graph_held labels words cells width) b a)
 turned_edge labels words cells back degrees width a b turned a_in b_in =
     turned.each a b a_in b_in ∙ sym (is_some-mark (marked words width b a) (cell cells (length labels) b a)) ∙ ap is_some (sym (edge-held labels words cells width b a b_in a_in))
@@ -157,7 +157,7 @@ edges_mutual labels words cells width turns a b = by (cases_lt a (length labels)
     by (inr past) (inl b_in) = ap is_some (edge-held_from_past labels words cells width a b past ∙ sym (edge-held_past labels words cells width b a b_in past))
     by (inr past) (inr out) = ap is_some (edge-held_from_past labels words cells width a b past ∙ sym (edge-held_from_past labels words cells width b a out))
 
-mutual_in : (labels words cells : List ℕ) (width : ℕ) (g : Graph) → graph_held labels words cells width ≡ g → AreMutual (length labels) width words
+pub mutual_in : (labels words cells : List ℕ) (width : ℕ) (g : Graph) → graph_held labels words cells width ≡ g → AreMutual (length labels) width words
     → (a b : ℕ) → is_some (edge g a b) ≡ is_some (edge g b a)
 mutual_in labels words cells width g is turns a b =
     ap (λ (h : Graph). is_some (edge h a b)) (sym is) ∙ edges_mutual labels words cells width turns a b ∙ ap (λ (h : Graph). is_some (edge h b a)) is

@@ -7,3 +7,4 @@ pub mod Parts
 pub mod LabelCells
 pub mod SameGraphs
 pub mod MappingPut
+pub mod Reversing

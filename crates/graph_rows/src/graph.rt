@@ -6,12 +6,14 @@ ghost use Rattle.graph_theory.specs.GraphText.{text_graph};
 ghost use Rattle.graph_theory.specs.Plain.{IsPlain, IsUndirected};
 ghost use Rattle.graph_theory.specs.Neighbours.{degree as degree_of, in_degree as in_degree_of, is_neighbour};
 ghost use Rattle.graph_theory.specs.Graph.{graph_of};
+ghost use Rattle.graph_theory.specs.Reversed.{turned, IsMutual};
 ghost use Rattle.lad_reader.specs.Parts.{vertices_of, vertices_from, AllBelow};
 ghost use Rattle.graph_rows.specs.BitRow.{has, words_for};
 ghost use Rattle.graph_rows.specs.Held.{cell, AreCells};
 
 use crate::cells::edge_label_cells;
 use crate::marks::{gather_loops, has_bit, is_marked, mark_all, mark_all_in, mark_all_out};
+use graph_theory::direction::Direction;
 use lad_reader::{GraphParts, LadKind};
 use std::alloc::{AllocError, Global};
 use std::marker::Model;
@@ -271,6 +273,89 @@ impl Graph {
             &self.words[from..from + self.width]
         } else {
             &self.back[from..from + self.width]
+        }
+    }
+
+    /// Whether edges are known to stand both ways, since no rows are kept of those that lead in. A graph with directions whose edges all
+    /// have one back is not told apart from others. Cost: two steps.
+    pub fn is_mutual(&self) -> bool
+        ensures { IsTrue result → IsMutual self.now }
+    {
+        self.back.is_empty()
+    }
+
+    /// The row of `a` in the graph turned in this direction: `row` or `in_row`.
+    pub fn row_by(&self, direction: Direction, a: u16) -> &[u64]
+        requires { a < size_of self.now }
+        ensures long { length result.now ≡ words_for (size_of self.now) }
+        ensures neighbours { (b : ℕ)
+            → has result.now b ≡ is_some (edge_of (turned direction self.now) a b) }
+        ensures within { (b : ℕ) → has result.now b ≡ true → b < size_of self.now }
+    {
+        match direction {
+            Direction::Out => self.row(a),
+            Direction::In => self.in_row(a),
+        }
+    }
+
+    /// The vertices from which an edge leads to `a` in the graph turned in this direction: `in_row` or `row`.
+    pub fn in_row_by(&self, direction: Direction, a: u16) -> &[u64]
+        requires { a < size_of self.now }
+        ensures long { length result.now ≡ words_for (size_of self.now) }
+        ensures neighbours { (b : ℕ)
+            → has result.now b ≡ is_some (edge_of (turned direction self.now) b a) }
+        ensures within { (b : ℕ) → has result.now b ≡ true → b < size_of self.now }
+    {
+        match direction {
+            Direction::Out => self.in_row(a),
+            Direction::In => self.row(a),
+        }
+    }
+
+    /// The degree of `a` in the graph turned in this direction: `degree` or `in_degree`.
+    pub fn degree_by(&self, direction: Direction, a: u16) -> u16
+        requires { a < size_of self.now }
+        ensures { result ≡ degree_of (turned direction self.now) a }
+    {
+        match direction {
+            Direction::Out => self.degree(a),
+            Direction::In => self.in_degree(a),
+        }
+    }
+
+    /// How many other vertices an edge leads from to `a` in the graph turned in this direction: `in_degree` or `degree`.
+    pub fn in_degree_by(&self, direction: Direction, a: u16) -> u16
+        requires { a < size_of self.now }
+        ensures { result ≡ in_degree_of (turned direction self.now) a }
+    {
+        match direction {
+            Direction::Out => self.in_degree(a),
+            Direction::In => self.degree(a),
+        }
+    }
+
+    /// The degrees of all vertices in the graph turned in this direction, in order.
+    pub fn degrees_by(&self, direction: Direction) -> &[u16]
+        ensures long { length result.now ≡ size_of self.now }
+        ensures degrees { (a : ℕ) → a < size_of self.now
+            → slice_index result.now a ≡ degree_of (turned direction self.now) a }
+    {
+        match direction {
+            Direction::Out => self.degrees(),
+            Direction::In => self.all_in_degrees(),
+        }
+    }
+
+    /// How many other vertices an edge leads from to each vertex, in order.
+    fn all_in_degrees(&self) -> &[u16]
+        ensures long { length result.now ≡ size_of self.now }
+        ensures degrees { (a : ℕ) → a < size_of self.now
+            → slice_index result.now a ≡ in_degree_of self.now a }
+    {
+        if self.back.is_empty() {
+            &self.degrees
+        } else {
+            &self.in_degrees
         }
     }
 

@@ -4,6 +4,7 @@
 ghost use Rattle.std.specs.Prelude.{◌≡◌, ◌<◌, ◌≤◌, ◌↔◌, ℕ, IsTrue, length, slice_index};
 ghost use Rattle.graph_theory.specs.Graph.{size};
 ghost use Rattle.graph_theory.specs.Embedding.{Embeds, Allowed, Compatible, Matches};
+ghost use Rattle.graph_theory.specs.Reversed.{AreMutual};
 ghost use Rattle.graph_rows.specs.Fitting.{Fits, FitsFirst};
 
 use crate::graph::Graph;
@@ -65,6 +66,13 @@ impl Problem {
         ensures { result ≡ self.now.induced }
     {
         self.induced
+    }
+
+    /// Whether edges are known to stand both ways in both graphs. Cost: four steps.
+    pub fn is_mutual(&self) -> bool
+        ensures { IsTrue result → AreMutual self.now }
+    {
+        self.pattern.is_mutual() && self.target.is_mutual()
     }
 
     /// Whether pattern vertex `p` may go to `t`, as far as label and loop tell. Cost: two words.

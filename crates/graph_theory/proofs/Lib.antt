@@ -17,3 +17,4 @@ pub mod Steps
 pub mod OneAnswer
 pub mod MappingWords
 pub mod PlainGraphs
+pub mod ReversedGraphs

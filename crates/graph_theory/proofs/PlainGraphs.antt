@@ -1,11 +1,10 @@
 -- The graph of a text without directions has each edge both ways, with label 0.
 
-use Rattle.std.proofs.Common.{◌≡◌, ℕ, ◌<◌, ◌≤◌, zero, suc, Bool, true, false, if◌then◌else◌, eqb, List, [], ◌∷◌, length, Option, Some, None, slice_get, refl, sym, subst, ◌∙◌, inl, inr, ◌⊎◌}
+use Rattle.std.proofs.Common.{◌≡◌, ℕ, ◌<◌, ◌≤◌, zero, suc, Bool, true, false, if◌then◌else◌, eqb, List, [], ◌∷◌, length, Option, Some, None, refl, sym, subst, ◌∙◌, inl, inr, ◌⊎◌}
 use Rattle.std.proofs.lemmas.Bool.{cases_lt}
 use Rattle.graph_theory.specs.Lad.{Vertex, HasEdgeLabel, AreEach, AreVertices, listed_label}
-use Rattle.graph_theory.specs.Graph.{Graph, edge, listed_of, lists, or_label, either_lists, graph_of}
-use Rattle.graph_theory.specs.GraphText.{ReadsGraph}
-use Rattle.graph_theory.specs.Plain.{IsPlain, IsUndirected, UndirectedIsPlain}
+use Rattle.graph_theory.specs.Graph.{Graph, edge, lists, or_label, either_lists, graph_of}
+use Rattle.graph_theory.specs.Plain.{IsPlain, UndirectedIsPlain}
 use Rattle.graph_theory.specs.declared.lad_text.LadKind.{LadKind}
 use Rattle.graph_theory.specs.declared.lad_text.LadKind.TheVariants.{Lad, VertexLabelledLad, DirectedLad, LabelledLad}
 use Rattle.graph_theory.proofs.Tables.{edge-graph_with, edge-graph_with_from, edge-graph_with_to}

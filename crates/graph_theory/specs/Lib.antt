@@ -11,3 +11,4 @@ pub mod Neighbours
 pub mod NeighbourLaws
 pub mod GraphText
 pub mod Plain
+pub mod Reversed

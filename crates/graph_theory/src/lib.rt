@@ -6,6 +6,7 @@
 //! faster body above. It knows nothing of bit rows, domains or search.
 #![tactic(auto)]
 
+pub mod direction;
 pub mod embedding;
 pub mod lad_text;
 pub mod listed_graph;

@@ -4,6 +4,7 @@
 ghost use Rattle.std.specs.Prelude.{◌≡◌, ℕ, ◌*◌, ◌<◌, ◌≤◌, ◌↔◌, true, length, map, IsTrue, IfOk, IfSome, slice_index};
 ghost use Rattle.graph_theory.specs.Graph.{size};
 ghost use Rattle.graph_theory.specs.Neighbours.{degree, sequence, IsKeptBy};
+ghost use Rattle.graph_theory.specs.Reversed.{turned_problem};
 ghost use Rattle.graph_rows.specs.BitRow.{has, words_for};
 ghost use Rattle.nds_filter.specs.Sequences.{sequences, sequence_at};
 ghost use Rattle.nds_filter.specs.Kept.{KeptRow, row_at, AreFirsts, RowsStay, AreKept};
@@ -12,15 +13,56 @@ use crate::sequences::{SequenceAnswer, Sequences, compare};
 use bit_rows::{fill_below, next_member, unset_bit};
 use degree_filter::keep_degrees;
 use graph_rows::Problem;
+use graph_theory::direction::Direction;
 use std::alloc::{AllocError, Global};
 use std::marker::Model;
 
-/// The target vertices whose sequences keep those of pattern vertices. Contracts see the problem.
+/// A problem, and the direction in which its edges are followed. Contracts see the problem of the graphs that are turned so.
+#[derive(Drop)]
+struct Turned<'a> {
+    problem: &'a Problem,
+    direction: Direction,
+}
+
+impl<'a> Model for Turned<'a> {
+    ghost use Rattle.graph_theory.specs.Embedding.{Problem as TheProblem};
+    ghost use Rattle.graph_theory.specs.Reversed.{turned_problem};
+
+    ghost Value = { TheProblem };
+
+    ghost view = { λ q. turned_problem q.direction q.problem.now };
+}
+
+impl<'a> Turned<'a> {
+    /// The number of target vertices.
+    fn target_size(&self) -> u16
+        ensures size { result ≡ size self.now.target }
+        ensures few { result ≤ 8192 }
+    {
+        self.problem.target().size()
+    }
+
+    /// Keeps of a row of target vertices those with as many neighbours as `p`, at least.
+    fn keep_degrees(&self, p: u16, row: &mut [u64])
+        requires p_in { p < size self.now.pattern }
+        requires long { length row.old ≡ words_for (size self.now.target) }
+        requires within { (t : ℕ) → has row.old t ≡ true → t < size self.now.target }
+        ensures right { (t : ℕ) → has row.new t ≡ true → (has row.old t ≡ true)
+            × (degree self.now.pattern p ≤ degree self.now.target t) }
+        ensures complete { (t : ℕ) → has row.old t ≡ true
+            → degree self.now.pattern p ≤ degree self.now.target t → has row.new t ≡ true }
+    {
+        keep_degrees(self.problem, self.direction, p, row);
+    }
+}
+
+/// The target vertices whose sequences keep those of pattern vertices, in one direction. Contracts see the problem of the graphs that are
+/// turned so.
 ///
 /// `classes[p]` is the class of `p`, and `rows` has a row for each class.
 #[derive(Drop)]
 pub struct KeptRows<'a> {
-    problem: &'a Problem,
+    turned: Turned<'a>,
     classes: Vec<usize>,
     rows: Vec<Vec<u64>>,
 }
@@ -33,28 +75,34 @@ impl<'a> Model for KeptRows<'a> {
 
     ghost Value = { TheProblem };
 
-    ghost view = { λ k. k.problem.now };
+    ghost view = { λ k. k.turned };
 
-    ghost invariant = { λ k. AreKept k.problem.now k.classes.items (map (λ row. row.items) k.rows.items) (size_of k.problem.now.pattern) };
+    ghost invariant = { λ k. AreKept k.turned k.classes.items (map (λ row. row.items) k.rows.items) (size_of k.turned.pattern) };
 }
 
 impl<'a> KeptRows<'a> {
-    /// The rows of a problem. Cost: that of the sequences of both graphs; for each pattern vertex a comparison with the first vertex of each
-    /// class; and for each class one step for each target vertex, and the comparison of two sequences for each with as many neighbours.
-    pub fn new(alloc: Global, problem: &'a Problem) -> Result<KeptRows<'a>, AllocError>
-        ensures { IfOk result (λ k. k ≡ problem.entry.now) }
+    /// The rows of a problem in a direction. Cost: that of the sequences of both graphs; for each pattern vertex a comparison with the first
+    /// vertex of each class; and for each class one step for each target vertex, and the comparison of two sequences for each with as many
+    /// neighbours.
+    pub fn new(
+        alloc: Global,
+        problem: &'a Problem,
+        direction: Direction,
+    ) -> Result<KeptRows<'a>, AllocError>
+        ensures { IfOk result (λ k. k ≡ turned_problem direction problem.entry.now) }
     {
-        let ps = Sequences::new(alloc, problem.pattern())?;
-        let ts = Sequences::new(alloc, problem.target())?;
+        let ps = Sequences::new(alloc, problem.pattern(), direction)?;
+        let ts = Sequences::new(alloc, problem.target(), direction)?;
+        let turned = Turned { problem, direction };
         let mut classes = Vec::new(alloc);
         let mut firsts = Vec::new(alloc);
         let mut rows = Vec::new(alloc);
         for p in 0..problem.pattern().size() {
-            let class = class_of(alloc, problem, &ps, &ts, p, &mut firsts, &mut rows)?;
+            let class = class_of(alloc, &turned, &ps, &ts, p, &mut firsts, &mut rows)?;
             classes.push(class)?;
         }
         Ok(KeptRows {
-            problem,
+            turned,
             classes,
             rows,
         })
@@ -81,7 +129,7 @@ impl<'a> KeptRows<'a> {
 /// The class of `p`; a new one, with its row, where no vertex before had its sequence.
 fn class_of(
     alloc: Global,
-    q: &Problem,
+    q: &Turned,
     ps: &Sequences,
     ts: &Sequences,
     p: u16,
@@ -133,7 +181,7 @@ fn find_class(ps: &Sequences, firsts: &[u16], p: u16) -> Option<usize>
 /// The row of `p`.
 fn kept_row(
     alloc: Global,
-    q: &Problem,
+    q: &Turned,
     ps: &Sequences,
     ts: &Sequences,
     p: u16,
@@ -143,22 +191,22 @@ fn kept_row(
     requires target { ts.now ≡ sequences q.now.target }
     ensures { IfOk result (λ row. KeptRow q.now p row.items) }
 {
-    let width = (usize::from(q.target().size()) + 63) / 64;
+    let width = (usize::from(q.target_size()) + 63) / 64;
     let mut row = vec![in alloc; 0u64; width]?;
     fill_kept(q, ps, ts, p, &mut row);
     Ok(row)
 }
 
 /// Writes the row of `p`: of the target vertices with as many neighbours those whose sequences keep its own.
-fn fill_kept(q: &Problem, ps: &Sequences, ts: &Sequences, p: u16, row: &mut [u64])
+fn fill_kept(q: &Turned, ps: &Sequences, ts: &Sequences, p: u16, row: &mut [u64])
     requires p_in { p < size q.now.pattern }
     requires pattern { ps.now ≡ sequences q.now.pattern }
     requires target { ts.now ≡ sequences q.now.target }
     requires long { length row.old ≡ words_for (size q.now.target) }
     ensures { KeptRow q.now p row.new }
 {
-    fill_below(row, usize::from(q.target().size()));
-    keep_degrees(q, p, row);
+    fill_below(row, usize::from(q.target_size()));
+    q.keep_degrees(p, row);
     keep_sequences(ps.of(p), ts, row);
 }
 

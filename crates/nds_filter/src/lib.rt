@@ -4,7 +4,8 @@
 //! neighbours to neighbours, so the image's sequence goes on as long and is nowhere less (S. Zampelli, Y. Deville,
 //! C. Solnon, "Solving subgraph isomorphism problems with constraint programming", 2010). Sequences are made once for
 //! each graph, and two of them are compared without memory. The layer above takes for each pattern vertex the row of the
-//! values that are kept; vertices of equal sequences share it.
+//! values that are kept; vertices of equal sequences share it. All this is done in one direction of the edges, against which neighbours are
+//! those from which an edge leads; where edges stand both ways one direction is enough.
 #![tactic(auto)]
 
 mod kept;

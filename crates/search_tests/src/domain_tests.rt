@@ -1,7 +1,11 @@
 //! Domains of a few values.
 
+ghost use Rattle.std.specs.Prelude.{◌≡◌, length};
+
 use domain_bits::{Domains, WordTrail, and_into, and_not_into, count_ones, or_into};
+use std::alloc::{AllocError, Global};
 use std::test::Fail;
+use worked_examples::{Example, first_wrong};
 
 #[test]
 fn removals_enter_the_trail_and_are_undone(rt: HostRuntime) -> Result<(), Fail> {
@@ -115,5 +119,114 @@ fn kernels_combine_rows(rt: HostRuntime) -> Result<(), Fail> {
     and_not_into(&mut row, &[1, 0, 4]);
     assert_eq!(rt; row.as_slice(), [0b1000, 3, 11].as_slice());
     assert_eq!(rt; count_ones(&row), 6);
+    Ok(())
+}
+
+/// An operation on whole rows.
+#[derive(Clone, Copy)]
+enum Kernel {
+    And,
+    AndNot,
+    Or,
+}
+
+impl Kernel {
+    /// Changes a row by another.
+    fn change(self, into: &mut [u64], from: &[u64])
+        requires { length into.old ≡ length from.now }
+    {
+        match self {
+            Kernel::And => and_into(into, from),
+            Kernel::AndNot => and_not_into(into, from),
+            Kernel::Or => or_into(into, from),
+        }
+    }
+
+    /// What it makes of one word by another.
+    fn changed(self, into: u64, from: u64) -> u64 {
+        match self {
+            Kernel::And => into & from,
+            Kernel::AndNot => into & !from,
+            Kernel::Or => into | from,
+        }
+    }
+
+    /// Whether it made these words of two rows, one by one.
+    fn has_made(self, row: &[u64], into: &[u64], from: &[u64]) -> bool {
+        if into.len() != row.len() || from.len() != row.len() {
+            return false;
+        }
+        for i in 0..row.len() {
+            if row[i] != self.changed(into[i], from[i]) {
+                return false;
+            }
+        }
+        true
+    }
+}
+
+/// Two rows of as many words, and an operation.
+struct Changed(Kernel, &'static [u64], &'static [u64]);
+
+impl<R> Example<R> for Changed {
+    fn holds(&self, _rt: &R, alloc: Global) -> Result<bool, AllocError> {
+        let Changed(kernel, into, from) = *self;
+        if into.len() != from.len() {
+            return Ok(false);
+        }
+        let mut row = Vec::from_slice(alloc, into)?;
+        kernel.change(&mut row, from);
+        Ok(kernel.has_made(&row, into, from))
+    }
+}
+
+const FOUR: &[u64] = &[0xf0f1, 0xff02, 0x3c33, 0x0ff4];
+
+const BY_FOUR: &[u64] = &[0xff0f, 0x0f0e, 0x5a5d, 0xa5ac];
+
+const FIVE: &[u64] = &[0xf0f1, 0xff02, 0x3c33, 0x0ff4, 0xc3c5];
+
+const BY_FIVE: &[u64] = &[0xff0f, 0x0f0e, 0x5a5d, 0xa5ac, 0x996b];
+
+const NINE: &[u64] = &[
+    0xf0f1,
+    0xff02,
+    0x3c33,
+    0x0ff4,
+    0xc3c5,
+    u64::MAX,
+    0,
+    1 << 63,
+    0x6996,
+];
+
+const BY_NINE: &[u64] = &[
+    0xff0f,
+    0x0f0e,
+    0x5a5d,
+    0xa5ac,
+    0x996b,
+    7,
+    9,
+    u64::MAX,
+    0x3cc3,
+];
+
+// Rows of one block of words, of one and a rest, and of two and a rest.
+static CHANGED: [Changed; 9] = [
+    Changed(Kernel::And, FOUR, BY_FOUR),
+    Changed(Kernel::And, FIVE, BY_FIVE),
+    Changed(Kernel::And, NINE, BY_NINE),
+    Changed(Kernel::AndNot, FOUR, BY_FOUR),
+    Changed(Kernel::AndNot, FIVE, BY_FIVE),
+    Changed(Kernel::AndNot, NINE, BY_NINE),
+    Changed(Kernel::Or, FOUR, BY_FOUR),
+    Changed(Kernel::Or, FIVE, BY_FIVE),
+    Changed(Kernel::Or, NINE, BY_NINE),
+];
+
+#[test]
+fn kernels_take_four_words_at_a_time(rt: HostRuntime) -> Result<(), Fail> {
+    assert_eq!(rt; first_wrong(&rt, rt.alloc(), &CHANGED)?, None);
     Ok(())
 }

@@ -1,12 +1,15 @@
 //! Worked first domains.
 
-ghost use Rattle.std.specs.Prelude.{◌<◌};
+ghost use Rattle.std.specs.Prelude.{◌≡◌, ◌<◌, IfSome};
 ghost use Rattle.graph_theory.specs.Graph.{size};
+ghost use Rattle.nds_filter.specs.Sequences.{sequences};
 
-use first_rows::{fill_first, is_first};
-use graph_rows::Problem;
-use nds_filter::{KeptRows, Sequences};
-use sample_graphs::{PATH, TRIANGLE, graph};
+use first_rows::{FirstRows, fill_first, is_first};
+use graph_rows::{Graph, Problem};
+use graph_theory::direction::Direction;
+use lad_reader::LadKind;
+use nds_filter::Sequences;
+use sample_graphs::{PATH, TRIANGLE, graph_in};
 use std::alloc::{AllocError, Global};
 use std::test::Fail;
 use worked_examples::{Example, first_wrong};
@@ -15,47 +18,73 @@ const LOOP: &[u8] = b"1 1 0";
 
 const POINT_AND_LOOP: &[u8] = b"2 0 1 1";
 
+/// Edges round three vertices.
+const ROUND: &[u8] = b"3 1 1 1 2 1 0";
+
+/// Edges from each of three vertices to the next.
+const ALONG: &[u8] = b"3 1 1 1 2 0";
+
+/// Edges from each of three vertices to all that come later.
+const RANKED: &[u8] = b"3 2 1 2 1 2 0";
+
+/// Edges from the first of three vertices to the others.
+const FORK: &[u8] = b"3 2 1 2 0 0";
+
+/// Edges from the other two to the first.
+const MEET: &[u8] = b"3 0 1 0 1 0";
+
 /// The first domain of `p`, as one word, and whether it has what the test of single values lets through.
-fn first(
-    alloc: Global,
-    pattern: &[u8],
-    target: &[u8],
-    induced: bool,
-    p: u16,
-) -> Option<(u64, bool)> {
-    let q = Problem::new(graph(alloc, pattern)?, graph(alloc, target)?, induced);
-    let Ok(kept) = KeptRows::new(alloc, &q) else {
+fn first(alloc: Global, q: &Problem, p: u16) -> Option<(u64, bool)> {
+    let Ok(kept) = FirstRows::new(alloc, q) else {
         return None;
     };
     if p >= q.pattern().size() || q.target().size() == 0 || q.target().size() > 64 {
         return None;
     }
     let mut row = [u64::MAX];
-    fill_first(&q, &kept, p, &mut row);
-    Some((row[0], row[0] == first_by_values(alloc, &q, p)?))
+    fill_first(q, &kept, p, &mut row);
+    Some((row[0], row[0] == first_by_values(alloc, q, p)?))
+}
+
+/// The sequences of a graph along its edges.
+fn along_edges(alloc: Global, graph: &Graph) -> Option<Sequences>
+    ensures { IfSome result (λ s. s ≡ sequences graph.now) }
+{
+    Sequences::new(alloc, graph, Direction::Out).ok()
 }
 
 /// The same word, made value by value.
 fn first_by_values(alloc: Global, q: &Problem, p: u16) -> Option<u64>
     requires { p < size q.now.pattern }
 {
-    let Ok(ps) = Sequences::new(alloc, q.pattern()) else {
-        return None;
-    };
-    let Ok(ts) = Sequences::new(alloc, q.target()) else {
-        return None;
-    };
+    let ps = along_edges(alloc, q.pattern())?;
+    let ts = along_edges(alloc, q.target())?;
+    let in_ps = Sequences::new(alloc, q.pattern(), Direction::In).ok()?;
+    let in_ts = Sequences::new(alloc, q.target(), Direction::In).ok()?;
     let mut word = 0;
     for t in 0..q.target().size() {
-        if t < 64 && is_first(q, &ps, &ts, p, t) {
+        if t < 64 && is_first(q, &ps, &ts, &in_ps, &in_ts, p, t) {
             word |= 1 << t;
         }
     }
     Some(word)
 }
 
-/// Two texts, a pattern vertex, and its first domain as one word.
+/// The problem of two texts, with directions or without.
+fn problem(alloc: Global, row: &FirstRow) -> Option<Problem> {
+    let kind = if row.directed {
+        LadKind::DirectedLad
+    } else {
+        LadKind::Lad
+    };
+    let pattern = graph_in(alloc, row.pattern, kind)?;
+    let target = graph_in(alloc, row.target, kind)?;
+    Some(Problem::new(pattern, target, row.induced))
+}
+
+/// Two texts, with directions or without, a pattern vertex, and its first domain as one word.
 struct FirstRow {
+    directed: bool,
     pattern: &'static [u8],
     target: &'static [u8],
     induced: bool,
@@ -65,13 +94,16 @@ struct FirstRow {
 
 impl<R> Example<R> for FirstRow {
     fn holds(&self, _rt: &R, alloc: Global) -> Result<bool, AllocError> {
-        let found = first(alloc, self.pattern, self.target, self.induced, self.vertex);
-        Ok(found == Some((self.row, true)))
+        match problem(alloc, self) {
+            Some(q) => Ok(first(alloc, &q, self.vertex) == Some((self.row, true))),
+            None => Ok(false),
+        }
     }
 }
 
-static FIRST_ROWS: [FirstRow; 6] = [
+static FIRST_ROWS: [FirstRow; 10] = [
     FirstRow {
+        directed: false,
         pattern: PATH,
         target: TRIANGLE,
         induced: false,
@@ -79,6 +111,7 @@ static FIRST_ROWS: [FirstRow; 6] = [
         row: 0b111,
     },
     FirstRow {
+        directed: false,
         pattern: TRIANGLE,
         target: PATH,
         induced: false,
@@ -86,6 +119,7 @@ static FIRST_ROWS: [FirstRow; 6] = [
         row: 0,
     },
     FirstRow {
+        directed: false,
         pattern: PATH,
         target: PATH,
         induced: true,
@@ -93,6 +127,7 @@ static FIRST_ROWS: [FirstRow; 6] = [
         row: 0b010,
     },
     FirstRow {
+        directed: false,
         pattern: LOOP,
         target: POINT_AND_LOOP,
         induced: false,
@@ -100,6 +135,7 @@ static FIRST_ROWS: [FirstRow; 6] = [
         row: 0b10,
     },
     FirstRow {
+        directed: false,
         pattern: b"1 0",
         target: POINT_AND_LOOP,
         induced: true,
@@ -107,11 +143,44 @@ static FIRST_ROWS: [FirstRow; 6] = [
         row: 0b01,
     },
     FirstRow {
+        directed: false,
         pattern: b"1 0",
         target: POINT_AND_LOOP,
         induced: false,
         vertex: 0,
         row: 0b11,
+    },
+    FirstRow {
+        directed: true,
+        pattern: ROUND,
+        target: RANKED,
+        induced: false,
+        vertex: 0,
+        row: 0,
+    },
+    FirstRow {
+        directed: true,
+        pattern: ALONG,
+        target: RANKED,
+        induced: false,
+        vertex: 1,
+        row: 0b010,
+    },
+    FirstRow {
+        directed: true,
+        pattern: FORK,
+        target: MEET,
+        induced: false,
+        vertex: 0,
+        row: 0,
+    },
+    FirstRow {
+        directed: true,
+        pattern: FORK,
+        target: MEET,
+        induced: false,
+        vertex: 1,
+        row: 0b001,
     },
 ];
 

@@ -13,6 +13,8 @@ mod counting_tests;
 #[cfg(test)]
 mod degree_tests;
 #[cfg(test)]
+mod direction_tests;
+#[cfg(test)]
 mod domain_tests;
 #[cfg(test)]
 mod first_row_tests;

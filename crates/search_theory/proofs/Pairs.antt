@@ -2,9 +2,12 @@
 
 use Rattle.std.proofs.Common.{◌≡◌, ℕ, ◌<◌, ◌≤◌, List, slice_index, subst, sym, ◌⊎◌, inl, inr}
 use Rattle.std.proofs.lemmas.Bool.{cases_eq}
-use Rattle.graph_theory.specs.Graph.{size, edge}
+use Rattle.graph_theory.specs.Graph.{Graph, size, edge}
 use Rattle.graph_theory.specs.Neighbours.{degree, common, sequence, IsKeptBy}
 use Rattle.graph_theory.proofs.NeighbourCounts.{degree_is_kept, sequence_is_kept, shared_are_kept, shared_is_symmetric}
+use Rattle.graph_theory.specs.Plain.{ArePlain}
+use Rattle.graph_theory.specs.Reversed.{reversed, reversed_problem, AreMutual}
+use Rattle.graph_theory.proofs.ReversedGraphs.{embeds_reversed, degree-mutual, sequence-mutual, common-mutual, mutual_of_plain}
 use Rattle.search_theory.specs.Consistency.{IsFirstValue, AreConsistent}
 use Rattle.graph_theory.specs.Embedding.{Problem, Embeds, Allowed, Compatible, Pairwise, Matches}
 
@@ -42,27 +45,70 @@ together_of q m p t r u e p_in r_in apart p_is r_is =
       back = e.edges r p r_in p_in;
     }))
 
--- so each image is in its vertex's first domain
+-- so each image is in its vertex's first domain: an embedding is one of the reversed graphs too
 pub first_value_of : (q : Problem) (m : List ℕ) (p t : ℕ) → Embeds q m → p < size q.pattern → slice_index m p ≡ t → IsFirstValue q p t
-first_value_of q m p t e p_in is = record {
-  alone = alone_of q m p t e p_in is;
-  degree = subst (λ (u : ℕ). degree q.pattern p ≤ degree q.target u) is (degree_is_kept q m p e p_in);
-  sequence = subst (λ (u : ℕ). IsKeptBy (sequence q.pattern p) (sequence q.target u)) is (sequence_is_kept q m p e p_in);
-}
+first_value_of q m p t e p_in is = subst (λ (u : ℕ). IsFirstValue q p u) is (record {
+  alone = record { label_is = e.labels p p_in; loop_is = e.edges p p p_in p_in };
+  in_degree = degree_is_kept (reversed_problem q) m p (embeds_reversed q m e) p_in;
+  degree = degree_is_kept q m p e p_in;
+  in_sequence = sequence_is_kept (reversed_problem q) m p (embeds_reversed q m e) p_in;
+  sequence = sequence_is_kept q m p e p_in;
+})
 
 -- and two images are consistent
 pub consistent_of : (q : Problem) (m : List ℕ) (p t r u : ℕ) → Embeds q m → p < size q.pattern → r < size q.pattern → (p ≡ r → ⊥)
     → slice_index m p ≡ t → slice_index m r ≡ u → AreConsistent q p t r u
 consistent_of q m p t r u e p_in r_in apart p_is r_is = record {
   pair = together_of q m p t r u e p_in r_in apart p_is r_is;
-  shared = subst (λ (v : ℕ). common q.pattern p r ≤ common q.target v u) p_is
-      (subst (λ (v : ℕ). common q.pattern p r ≤ common q.target (slice_index m p) v) r_is (shared_are_kept q m p r e p_in r_in));
+  shared = shared_of q e p_in r_in;
+  in_shared = shared_of (reversed_problem q) (embeds_reversed q m e) p_in r_in;
 }
+  where
+    shared_of : (w : Problem) → Embeds w m → p < size w.pattern → r < size w.pattern → common w.pattern p r ≤ common w.target t u
+    shared_of w h w_p w_r =
+        subst (λ (v : ℕ). common w.pattern p r ≤ common w.target v u) p_is
+        (subst (λ (v : ℕ). common w.pattern p r ≤ common w.target (slice_index m p) v) r_is (shared_are_kept w m p r h w_p w_r))
 
 -- that two pairs are consistent does not depend on their order
 pub consistent_other : (q : Problem) (p t r u : ℕ) → AreConsistent q p t r u → AreConsistent q r u p t
 consistent_other q p t r u c = record {
   pair = record { apart = λ same. c.pair.apart (sym same); out = c.pair.back; back = c.pair.out };
-  shared = subst (λ (n : ℕ). n ≤ common q.target u t) (shared_is_symmetric q.pattern p r)
-      (subst (λ (n : ℕ). common q.pattern p r ≤ n) (shared_is_symmetric q.target t u) c.shared);
+  shared = other q.pattern q.target c.shared;
+  in_shared = other (reversed q.pattern) (reversed q.target) c.in_shared;
 }
+  where
+    other : (g h : Graph) → common g p r ≤ common h t u → common g r p ≤ common h u t
+    other g h le =
+        subst (λ (n : ℕ). n ≤ common h u t) (shared_is_symmetric g p r) (subst (λ (n : ℕ). common g p r ≤ n) (shared_is_symmetric h t u) le)
+
+-- ---- graphs whose edges stand both ways: what is asked of one direction is enough
+
+pub mutual_first_value : (q : Problem) (p t : ℕ) → AreMutual q → p < size q.pattern → t < size q.target
+    → Allowed q p t → degree q.pattern p ≤ degree q.target t → IsKeptBy (sequence q.pattern p) (sequence q.target t) → IsFirstValue q p t
+mutual_first_value q p t ways p_in t_in alone degrees sequences = record {
+  alone = alone;
+  in_degree = rw (degree-mutual q.pattern p ways.pattern_mutual p_in, degree-mutual q.target t ways.target_mutual t_in) degrees;
+  degree = degrees;
+  in_sequence = rw (sequence-mutual q.pattern p ways.pattern_mutual p_in, sequence-mutual q.target t ways.target_mutual t_in) sequences;
+  sequence = sequences;
+}
+
+pub mutual_consistent : (q : Problem) (p t r u : ℕ) → AreMutual q → p < size q.pattern → t < size q.target → r < size q.pattern → u < size q.target
+    → Compatible q p t r u → common q.pattern p r ≤ common q.target t u → AreConsistent q p t r u
+mutual_consistent q p t r u ways p_in t_in r_in u_in pair shared = record {
+  pair = pair;
+  shared = shared;
+  in_shared = rw (common-mutual q.pattern p r ways.pattern_mutual p_in r_in, common-mutual q.target t u ways.target_mutual t_in u_in) shared;
+}
+
+-- plain graphs are such
+pub are_mutual : (q : Problem) → ArePlain q → AreMutual q
+are_mutual q plain = record { pattern_mutual = mutual_of_plain q.pattern plain.pattern_plain; target_mutual = mutual_of_plain q.target plain.target_plain }
+
+pub plain_first_value : (q : Problem) (p t : ℕ) → ArePlain q → p < size q.pattern → t < size q.target
+    → Allowed q p t → degree q.pattern p ≤ degree q.target t → IsKeptBy (sequence q.pattern p) (sequence q.target t) → IsFirstValue q p t
+plain_first_value q p t plain p_in t_in alone degrees sequences = mutual_first_value q p t (are_mutual q plain) p_in t_in alone degrees sequences
+
+pub plain_consistent : (q : Problem) (p t r u : ℕ) → ArePlain q → p < size q.pattern → t < size q.target → r < size q.pattern → u < size q.target
+    → Compatible q p t r u → common q.pattern p r ≤ common q.target t u → AreConsistent q p t r u
+plain_consistent q p t r u plain p_in t_in r_in u_in pair shared = mutual_consistent q p t r u (are_mutual q plain) p_in t_in r_in u_in pair shared

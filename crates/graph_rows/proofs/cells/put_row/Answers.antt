@@ -1,4 +1,4 @@
-use Rattle.std.proofs.Common.{◌≡◌, ◌-◌, ◌<◌, ℕ, suc, length, get_or, arith}
+use Rattle.std.proofs.Common.{◌≡◌, ◌-◌, ◌<◌, suc, length, get_or, arith}
 use Rattle.graph_rows.proofs.Parts.{below_at}
 use Rattle.graph_rows.proofs.Places.{place_within}
 use Rattle.graph_rows.proofs.LabelCells.{puts_none, puts_more}

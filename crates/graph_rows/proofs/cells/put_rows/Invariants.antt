@@ -1,4 +1,3 @@
-use Rattle.std.proofs.Common.{◌≡◌, ◌*◌, length}
 use Rattle.graph_rows.proofs.LabelCells.{CellsBelow}
 use Rattle.graph_rows.proofs.cells.put_rows.Given as goal
 

@@ -1,6 +1,5 @@
 use Rattle.std.proofs.Common.{◌<◌, nat_lt, arith, ap, sym, ◌∙◌}
 use Rattle.std.proofs.lemmas.Bool.{ltb-true}
-use Rattle.graph_theory.specs.Graph.{size}
 use Rattle.nds_filter.proofs.Keeping.{sequences_long, kept_made}
 use Rattle.nds_filter.proofs.kept.fill_kept.Goals as goal
 
@@ -14,8 +13,7 @@ keep_sequences-requires-clause-within c = λ t h.
       arith,
       below,
       c.from.ensures,
-      c.size.ensures.size,
-      ap size c.target.ensures.target,
+      c.target_size.ensures.size,
       sequences_long c.args.q.now.target c.args.ts.now c.requires.target,
     )
 
@@ -23,5 +21,5 @@ pub returns : goal.returns
 returns c =
     kept_made c.args.q.now c.args.p c.args.ps.now c.args.ts.now c.of.result.now c.fill_below.new.row c.keep_degrees.new.row c.keep_sequences.new.row
     c.requires.pattern c.requires.target c.requires.p_in c.of.ensures.list (omega (arith, c.requires.long))
-    (λ t. c.fill_below.ensures t ∙ ap (nat_lt t) (c.from.ensures ∙ c.size.ensures.size ∙ ap size c.target.ensures.target))
+    (λ t. c.fill_below.ensures t ∙ ap (nat_lt t) (c.from.ensures ∙ c.target_size.ensures.size))
     c.keep_degrees.ensures.right c.keep_degrees.ensures.complete c.keep_sequences.ensures.right c.keep_sequences.ensures.complete
