@@ -63,10 +63,10 @@ kept_by_itself ps i = by_test (nat_lt i (length ps)) (nat_lt (slice_index ps i) 
 
 -- each vertex of the four-cycle may be the image of one of the triangle
 first_value : (t : ℕ) → t < 4 → IsFirstValue triangle_into_four_cycle 0 t
-first_value zero h = record { alone = record { label_is = refl; loop_is = tt }; degree = omega arith; sequence = kept_by_itself (2 ∷ 2 ∷ []) }
-first_value (suc zero) h = record { alone = record { label_is = refl; loop_is = tt }; degree = omega arith; sequence = kept_by_itself (2 ∷ 2 ∷ []) }
-first_value (suc (suc zero)) h = record { alone = record { label_is = refl; loop_is = tt }; degree = omega arith; sequence = kept_by_itself (2 ∷ 2 ∷ []) }
-first_value (suc (suc (suc zero))) h = record { alone = record { label_is = refl; loop_is = tt }; degree = omega arith; sequence = kept_by_itself (2 ∷ 2 ∷ []) }
+first_value zero h = record { alone = record { label_is = refl; loop_is = tt }; in_degree = omega arith; degree = omega arith; in_sequence = kept_by_itself (2 ∷ 2 ∷ []); sequence = kept_by_itself (2 ∷ 2 ∷ []) }
+first_value (suc zero) h = record { alone = record { label_is = refl; loop_is = tt }; in_degree = omega arith; degree = omega arith; in_sequence = kept_by_itself (2 ∷ 2 ∷ []); sequence = kept_by_itself (2 ∷ 2 ∷ []) }
+first_value (suc (suc zero)) h = record { alone = record { label_is = refl; loop_is = tt }; in_degree = omega arith; degree = omega arith; in_sequence = kept_by_itself (2 ∷ 2 ∷ []); sequence = kept_by_itself (2 ∷ 2 ∷ []) }
+first_value (suc (suc (suc zero))) h = record { alone = record { label_is = refl; loop_is = tt }; in_degree = omega arith; degree = omega arith; in_sequence = kept_by_itself (2 ∷ 2 ∷ []); sequence = kept_by_itself (2 ∷ 2 ∷ []) }
 first_value (suc (suc (suc (suc t)))) h = absurd (omega arith)
 
 -- a value above those that were tried is none of them

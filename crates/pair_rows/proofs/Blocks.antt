@@ -1,6 +1,6 @@
 -- Blocks of rows, and what a row says of its pair.
 
-use Rattle.std.proofs.Common.{◌≡◌, ℕ, ◌+◌, ◌*◌, ◌<◌, ◌≤◌, true, false, List, ◌++◌, length, take, drop, get_or, set, replicate, refl, sym, ap, ◌∙◌, subst, arith, inl, inr, ◌⊎◌, Some, zero-add}
+use Rattle.std.proofs.Common.{◌≡◌, ℕ, ◌+◌, ◌*◌, ◌<◌, ◌≤◌, Bool, true, false, List, ◌++◌, length, take, drop, get_or, set, replicate, refl, sym, ap, ◌∙◌, subst, arith, inl, inr, ◌⊎◌, Some, zero-add}
 use Rattle.std.specs.Prelude.{slice_get, slice_index_or}
 use Rattle.std.proofs.lemmas.Bool.{cases_eq, cases_order, eqb-true, eq-eqb}
 use Rattle.std.proofs.lemmas.List.{get_or-set_same, get_or-set_other, length-set, get_or_read, take-append-le, get_or-replicate, length-replicate}
@@ -22,10 +22,10 @@ use Rattle.pair_rows.proofs.Rowing.{next_row, row_same, part_same}
 
 -- values that join in a pair's kind are consistent, and the other way round
 pub consistent_joins : (q : Problem) (p r t u : ℕ) → Joins q (kind_of q p r) t u → AreConsistent q p t r u
-consistent_joins q p r t u j = record { pair = record { apart = j.apart; out = j.out; back = j.back }; shared = j.shared }
+consistent_joins q p r t u j = record { pair = record { apart = j.apart; out = j.out; back = j.back }; shared = j.shared; in_shared = j.in_shared }
 
 pub joins_consistent : (q : Problem) (p r t u : ℕ) → AreConsistent q p t r u → Joins q (kind_of q p r) t u
-joins_consistent q p r t u c = record { apart = c.pair.apart; out = c.pair.out; back = c.pair.back; shared = c.shared }
+joins_consistent q p r t u c = record { apart = c.pair.apart; out = c.pair.out; back = c.pair.back; shared = c.shared; in_shared = c.in_shared }
 
 -- a vertex whose rows are made owns its block
 pub owns_made : (block_of owners : List ℕ) (t : ℕ) → t < length block_of → slice_index_or (made_in block_of owners) t false ≡ owns block_of owners t
@@ -40,11 +40,11 @@ pub record RowGiven (q : Problem) (p r t from width : ℕ) (words : List ℕ) : 
 pub row_within : (blocks kinds width block place : ℕ) → block < blocks → place < kinds → (block * kinds + place) * width + width ≤ blocks * kinds * width
 row_within blocks kinds width block place b_in p_in = next_row (block * kinds + place) (blocks * kinds) width (place_within blocks kinds block place b_in p_in)
 
-pub row_given : (q : Problem) (vertices width : ℕ) (kinds : List PairKind) (places block_of owners counts pool : List ℕ) (counted : Graph)
-    → Held q vertices width kinds places block_of owners counts pool counted → (rows : Rows) → record { problem = q; made = made_in block_of owners } ≡ rows
+pub row_given : (q : Problem) (vertices width : ℕ) (kinds : List PairKind) (places block_of owners counts in_counts pool : List ℕ) (both_ways : Bool)
+    → Held q vertices width kinds places block_of owners counts in_counts pool both_ways → (rows : Rows) → record { problem = q; made = made_in block_of owners } ≡ rows
     → (p r t : ℕ) → p < size rows.problem.pattern → r < size rows.problem.pattern → (p ≡ r → ⊥) → t < size rows.problem.target → IsMade rows t
     → RowGiven rows.problem p r t ((get_or block_of t 0 * length kinds + get_or places (p * vertices + r) 0) * width) width pool
-row_given q vertices width kinds places block_of owners counts pool counted held rows is =
+row_given q vertices width kinds places block_of owners counts in_counts pool both_ways held rows is =
     subst (λ (x : Rows). (p r t : ℕ) → p < size x.problem.pattern → r < size x.problem.pattern → (p ≡ r → ⊥) → t < size x.problem.target → IsMade x t
     → RowGiven x.problem p r t ((get_or block_of t 0 * length kinds + get_or places (p * vertices + r) 0) * width) width pool) is given
   where
@@ -62,12 +62,12 @@ row_given q vertices width kinds places block_of owners counts pool counted held
         }
 
 -- the same where the parts are read one by one
-pub row_read : (q : Problem) (vertices width : ℕ) (kinds : List PairKind) (places block_of owners counts pool : List ℕ) (counted : Graph)
-    → Held q vertices width kinds places block_of owners counts pool counted → (rows : Rows) → record { problem = q; made = made_in block_of owners } ≡ rows
+pub row_read : (q : Problem) (vertices width : ℕ) (kinds : List PairKind) (places block_of owners counts in_counts pool : List ℕ) (both_ways : Bool)
+    → Held q vertices width kinds places block_of owners counts in_counts pool both_ways → (rows : Rows) → record { problem = q; made = made_in block_of owners } ≡ rows
     → (p r t : ℕ) → p < size rows.problem.pattern → r < size rows.problem.pattern → (p ≡ r → ⊥) → t < size rows.problem.target → IsMade rows t
     → (i j s place block len : ℕ) (words : List ℕ) → i ≡ p → j ≡ r → s ≡ t → place ≡ get_or places (i * vertices + j) place → block ≡ get_or block_of s block
     → len ≡ length kinds → words ≡ pool → RowGiven rows.problem p r t ((block * len + place) * width) width words
-row_read q vertices width kinds places block_of owners counts pool counted held rows is p r t p_in r_in apart t_in made i j s place block len words i_is j_is s_is place_is block_is len_is words_is =
+row_read q vertices width kinds places block_of owners counts in_counts pool both_ways held rows is p r t p_in r_in apart t_in made i j s place block len words i_is j_is s_is place_is block_is len_is words_is =
     let same : q ≡ rows.problem = ap (λ (x : Rows). x.problem) is in
     let p_below : p < size q.pattern = subst (λ (x : Problem). p < size x.pattern) (sym same) p_in in
     let r_below : r < size q.pattern = subst (λ (x : Problem). r < size x.pattern) (sym same) r_in in
@@ -79,14 +79,14 @@ row_read q vertices width kinds places block_of owners counts pool counted held 
     let place_at : place ≡ get_or places (p * vertices + r) 0 = get_or_read places (i * vertices + j) place inside place_is 0 ∙ ap (λ n. get_or places n 0) number in
     let s_in : s < length block_of = omega (arith, held.block_of_are) in
     let block_at : block ≡ get_or block_of t 0 = get_or_read block_of s block s_in block_is 0 ∙ ap (λ n. get_or block_of n 0) s_is in
-    rw (place_at, block_at, len_is, words_is) (row_given q vertices width kinds places block_of owners counts pool counted held rows is p r t p_in r_in apart t_in made)
+    rw (place_at, block_at, len_is, words_is) (row_given q vertices width kinds places block_of owners counts in_counts pool both_ways held rows is p r t p_in r_in apart t_in made)
 
 -- the kind of a pair, where the parts are read one by one
-pub kind_read : (q : Problem) (vertices width : ℕ) (kinds : List PairKind) (places : List ℕ) (counted : Graph)
-    → Shaped q vertices width kinds places counted → (problem : Problem) → q ≡ problem
+pub kind_read : (q : Problem) (vertices width : ℕ) (kinds : List PairKind) (places : List ℕ) (counted in_counted : Graph) (both_ways : Bool)
+    → Shaped q vertices width kinds places counted in_counted both_ways → (problem : Problem) → q ≡ problem
     → (p r : ℕ) → p < size problem.pattern → r < size problem.pattern → (p ≡ r → ⊥)
     → (i j place : ℕ) (kind : PairKind) → i ≡ p → j ≡ r → place ≡ get_or places (i * vertices + j) place → kind ≡ get_or kinds place kind → kind ≡ kind_of problem p r
-kind_read q vertices width kinds places counted held problem same p r p_in r_in apart i j place kind i_is j_is place_is kind_is =
+kind_read q vertices width kinds places counted in_counted both_ways held problem same p r p_in r_in apart i j place kind i_is j_is place_is kind_is =
     let p_below : p < size q.pattern = subst (λ (x : Problem). p < size x.pattern) (sym same) p_in in
     let r_below : r < size q.pattern = subst (λ (x : Problem). r < size x.pattern) (sym same) r_in in
     let number : i * vertices + j ≡ p * size q.pattern + r = rw (i_is, j_is, held.vertices_are) refl in
@@ -101,10 +101,10 @@ pub block_within : (blocks kinds width block : ℕ) → block < blocks → (bloc
 block_within blocks kinds width block b_in =
     mul-le-mul_right {m = block * kinds + kinds} {n = blocks * kinds} width (next_row block blocks kinds b_in)
 
-pub room_given : (q : Problem) (vertices width : ℕ) (kinds : List PairKind) (places block_of owners counts pool : List ℕ) (counted : Graph)
-    → Held q vertices width kinds places block_of owners counts pool counted → (block len : ℕ) (ks : List PairKind) (words : List ℕ) → block < length owners
+pub room_given : (q : Problem) (vertices width : ℕ) (kinds : List PairKind) (places block_of owners counts in_counts pool : List ℕ) (both_ways : Bool)
+    → Held q vertices width kinds places block_of owners counts in_counts pool both_ways → (block len : ℕ) (ks : List PairKind) (words : List ℕ) → block < length owners
     → len ≡ length kinds → ks ≡ kinds → words ≡ pool → (block * len + length ks) * width ≤ length words
-room_given q vertices width kinds places block_of owners counts pool counted held block len ks words b_in len_is ks_is words_is =
+room_given q vertices width kinds places block_of owners counts in_counts pool both_ways held block len ks words b_in len_is ks_is words_is =
     rw (len_is, ks_is, words_is) (omega (arith, held.pool_is, block_within (length owners) (length kinds) width block b_in))
 
 -- a list that takes the place of another of its length
@@ -155,19 +155,19 @@ other_block kinds width block b i old new stay ne i_in =
         inr (omega arith)
 
 -- the rows after a vertex has taken a block
-pub held_more : (q : Problem) (vertices width : ℕ) (kinds : List PairKind) (places block_of owners counts pool : List ℕ) (counted : Graph)
-    → Held q vertices width kinds places block_of owners counts pool counted → (t block : ℕ) (counts' pool' : List ℕ) → t < size q.target → block < length owners
-    → length counts' ≡ length counts → length pool' ≡ length pool → ((i : ℕ) → HasRow q kinds width t i (drop ((block * length kinds + i) * width) pool'))
+pub held_more : (q : Problem) (vertices width : ℕ) (kinds : List PairKind) (places block_of owners counts in_counts pool : List ℕ) (both_ways : Bool)
+    → Held q vertices width kinds places block_of owners counts in_counts pool both_ways → (t block : ℕ) (counts' in_counts' pool' : List ℕ) → t < size q.target → block < length owners
+    → length counts' ≡ length counts → length in_counts' ≡ length in_counts → length pool' ≡ length pool → ((i : ℕ) → HasRow q kinds width t i (drop ((block * length kinds + i) * width) pool'))
     → WordsStay (block * length kinds * width) ((block * length kinds + length kinds) * width) pool pool'
-    → Held q vertices width kinds places (set block_of t block) (set owners block t) counts' pool' counted
-held_more q vertices width kinds places block_of owners counts pool counted held t block counts' pool' t_in b_in counts_long pool_long made stay = record {
+    → Held q vertices width kinds places (set block_of t block) (set owners block t) counts' in_counts' pool' both_ways
+held_more q vertices width kinds places block_of owners counts in_counts pool both_ways held t block counts' in_counts' pool' t_in b_in counts_long in_counts_long pool_long made stay = record {
   few_pattern = held.few_pattern;
   few_target = held.few_target;
   vertices_are = held.vertices_are;
   width_is = held.width_is;
   classed = held.classed;
   counts_are = counts_long ∙ held.counts_are;
-  counted_is = held.counted_is;
+  in_counts_are = λ told. in_counts_long ∙ held.in_counts_are told;
   block_of_are = length-set block_of t block ∙ held.block_of_are;
   owners_few = omega (arith, length-set owners block t, held.owners_few);
   owners_some = λ some. omega (arith, length-set owners block t, b_in);
@@ -217,17 +217,17 @@ made_taken block_of owners s t block same t_in b_in =
     (owns_made (set block_of t block) (set owners block t) t (omega (arith, length-set block_of t block)) ∙ owns_taken block_of owners t block t_in b_in)
 
 -- the rows before any is made: each block has an owner that is no target vertex
-pub held_none : (q : Problem) (vertices width : ℕ) (kinds : List PairKind) (places : List ℕ) (counted : Graph) → Shaped q vertices width kinds places counted
-    → (n blocks : ℕ) (block_of owners counts pool : List ℕ) → block_of ≡ replicate n 0 → owners ≡ replicate blocks 65535 → n ≡ size q.target → blocks ≤ n → (0 < n → 0 < blocks)
-    → length counts ≡ n → length pool ≡ blocks * (length kinds * width) → Held q vertices width kinds places block_of owners counts pool counted
-held_none q vertices width kinds places counted shaped n blocks block_of owners counts pool block_of_is owners_is n_is few some counts_long pool_long = record {
+pub held_none : (q : Problem) (vertices width : ℕ) (kinds : List PairKind) (places : List ℕ) (counted in_counted : Graph) (both_ways : Bool) → Shaped q vertices width kinds places counted in_counted both_ways
+    → (n blocks : ℕ) (block_of owners counts in_counts pool : List ℕ) → block_of ≡ replicate n 0 → owners ≡ replicate blocks 65535 → n ≡ size q.target → blocks ≤ n → (0 < n → 0 < blocks)
+    → length counts ≡ n → (both_ways ≡ false → length in_counts ≡ n) → length pool ≡ blocks * (length kinds * width) → Held q vertices width kinds places block_of owners counts in_counts pool both_ways
+held_none q vertices width kinds places counted in_counted both_ways shaped n blocks block_of owners counts in_counts pool block_of_is owners_is n_is few some counts_long in_counts_long pool_long = record {
   few_pattern = shaped.few_pattern;
   few_target = shaped.few_target;
   vertices_are = shaped.vertices_are;
   width_is = shaped.width_is;
   classed = shaped.classed;
   counts_are = counts_long ∙ n_is;
-  counted_is = shaped.counted_is;
+  in_counts_are = λ told. in_counts_long told ∙ n_is;
   block_of_are = block_of_long ∙ n_is;
   owners_few = omega (arith, owners_long);
   owners_some = λ more. omega (arith, owners_long, some (omega arith));

@@ -1,25 +1,15 @@
 -- Rows of kinds with an edge, and of kinds without.
 
-use Rattle.std.proofs.Common.{◌≡◌, ℕ, ◌<◌, ◌≤◌, Bool, true, false, ◌==◌, nat_lt, ◌&&◌, ◌||◌, not, is_some, List, Option, Some, None, get_or, refl, sym, ap, ◌∙◌, subst, arith, inl, inr, ◌⊎◌}
+use Rattle.std.proofs.Common.{◌≡◌, ◌↔◌, ℕ, ◌<◌, ◌≤◌, Bool, true, false, ◌==◌, nat_lt, ◌&&◌, ◌||◌, not, is_some, List, Option, Some, None, get_or, refl, sym, ap, ◌∙◌, subst, arith, inl, inr, ◌⊎◌}
 use Rattle.std.proofs.lemmas.Bool.{cases_lt, eq-eqb, ne_eqb, lt-ltb, le-ltb, ltb-true, false≢true, and_parts}
-use Rattle.graph_theory.specs.Graph.{Graph, size, edge}
+use Rattle.graph_theory.specs.Graph.{size, edge}
 use Rattle.graph_theory.specs.Embedding.{Problem, KeepsEdge, Matches}
 use Rattle.graph_theory.specs.Neighbours.{is_neighbour, common}
+use Rattle.graph_theory.specs.Reversed.{reversed, IsMutual, MutualShared}
 use Rattle.graph_rows.specs.BitRow.{has}
 use Rattle.pair_rows.specs.declared.kinds.PairKind.{PairKind}
-use Rattle.pair_rows.specs.Kinds.{Joins, RowIs}
+use Rattle.pair_rows.specs.Kinds.{Joins, RowIs, Shares, HasNoEdge, AreShared}
 use Rattle.bit_rows.proofs.Filled.{FilledBelow}
-
--- neighbours both ways
-abbrev pub BothWays : Graph → Type 0
-BothWays g = (a b : ℕ) → is_neighbour g a b ≡ is_neighbour g b a
-
--- where vertices are neighbours both ways, two of them have an edge one way exactly where they have one the other way
-pub edge_back : (g : Graph) (t u : ℕ) → BothWays g → (t ≡ u → ⊥) → is_some (edge g t u) ≡ is_some (edge g u t)
-edge_back g t u turns ne =
-    let there : is_neighbour g t u ≡ is_some (edge g t u) = rw (ne_eqb t u ne) refl in
-    let here : is_neighbour g u t ≡ is_some (edge g u t) = rw (ne_eqb u t (λ e. ne (sym e))) refl in
-    sym there ∙ turns t u ∙ here
 
 -- an edge of the pattern is kept
 kept_edge : (induced : Bool) (e f : Option ℕ) → Matches induced e f → is_some e ≡ true → is_some f ≡ true
@@ -27,20 +17,17 @@ kept_edge induced None f m h = absurd (false≢true h)
 kept_edge false (Some l) f m h = ap is_some m
 kept_edge true (Some l) f m h = ap is_some m.0
 
--- what joins in a kind with an edge is a neighbour
-pub joins_near : (q : Problem) (k : PairKind) (t u : ℕ) → BothWays q.target → (is_some k.out || is_some k.back) ≡ true → Joins q k t u → is_some (edge q.target t u) ≡ true
-joins_near q k t u turns some j = by (is_some k.out) refl
-  where
-    by : (b : Bool) → is_some k.out ≡ b → is_some (edge q.target t u) ≡ true
-    by true e = kept_edge q.induced k.out (edge q.target t u) j.out e
-    by false e =
-        let back : is_some k.back ≡ true = ap (λ (b : Bool). b || is_some k.back) (sym e) ∙ some in
-        edge_back q.target t u turns j.apart ∙ kept_edge q.induced k.back (edge q.target u t) j.back back
+-- what joins in a kind with an edge out has an edge from t
+pub joins_out : (q : Problem) (k : PairKind) (t u : ℕ) → is_some k.out ≡ true → Joins q k t u → is_some (edge q.target t u) ≡ true
+joins_out q k t u some j = kept_edge q.induced k.out (edge q.target t u) j.out some
 
--- what is no member of the row of t does not join
-pub apart_joins_not : (q : Problem) (k : PairKind) (near : List ℕ) (t u : ℕ) → BothWays q.target → (is_some k.out || is_some k.back) ≡ true
-    → ((b : ℕ) → has near b ≡ is_some (edge q.target t b)) → has near u ≡ false → Joins q k t u → ⊥
-apart_joins_not q k near t u turns some is none j = false≢true (sym none ∙ is u ∙ joins_near q k t u turns some j)
+-- and in one with an edge back alone an edge to it
+pub joins_back : (q : Problem) (k : PairKind) (t u : ℕ) → (is_some k.out || is_some k.back) ≡ true → is_some k.out ≡ false → Joins q k t u → is_some (edge q.target u t) ≡ true
+joins_back q k t u some none j = kept_edge q.induced k.back (edge q.target u t) j.back (ap (λ (b : Bool). b || is_some k.back) (sym none) ∙ some)
+
+-- what is no member of a row of all that join does not join
+pub apart_joins_not : (q : Problem) (k : PairKind) (near : List ℕ) (t u : ℕ) → ((v : ℕ) → Joins q k t v → has near v ≡ true) → has near u ≡ false → Joins q k t u → ⊥
+apart_joins_not q k near t u all none j = false≢true (sym none ∙ all u j)
 
 -- values that have not the property are passed over
 pub filled_skip : (P : ℕ → Type 0) (n m : ℕ) (row : List ℕ) → FilledBelow P n row → n ≤ m → ((v : ℕ) → n ≤ v → v < m → P v → ⊥) → FilledBelow P m row
@@ -54,19 +41,14 @@ filled_skip P n m row filled le none = record {
     by v v_in p (inr more) = absurd (none v more v_in p)
 
 -- the row is whole once all members have been tested
-pub near_whole : (q : Problem) (k : PairKind) (near row : List ℕ) (t n : ℕ) → BothWays q.target → (is_some k.out || is_some k.back) ≡ true
-    → ((b : ℕ) → has near b ≡ is_some (edge q.target t b)) → ((b : ℕ) → has near b ≡ true → b < size q.target) → size q.target ≤ n
-    → FilledBelow (Joins q k t) n row → RowIs q k t row
-near_whole q k near row t n turns some is within all filled = record {
-  right = λ u h. let f = filled.right u h in (within u (is u ∙ joins_near q k t u turns some f.1), f.1);
+pub near_whole : (q : Problem) (k : PairKind) (near row : List ℕ) (t n : ℕ) → ((v : ℕ) → Joins q k t v → has near v ≡ true)
+    → ((b : ℕ) → has near b ≡ true → b < size q.target) → size q.target ≤ n → FilledBelow (Joins q k t) n row → RowIs q k t row
+near_whole q k near row t n near_is within all filled = record {
+  right = λ u h. let f = filled.right u h in (within u (near_is u f.1), f.1);
   complete = λ u u_in j. filled.complete u (omega (arith, all)) j;
 }
 
 -- ---- kinds without edges
-
--- whether u joins t in such a kind
-abbrev pub joins_apart : Bool → Option ℕ → List ℕ → ℕ → ℕ → ℕ → ℕ → Bool
-joins_apart induced e counts shared n t u = ((nat_lt u n && not (induced && is_some e)) && not (nat_lt (get_or counts u 0) shared)) && not (t == u)
 
 none_of : (a b : Bool) → (a || b) ≡ false → (a ≡ false) × (b ≡ false)
 none_of true b h = absurd (false≢true (sym h))
@@ -91,47 +73,208 @@ brings_none false e f none m = refl
 brings_none true e None none m = refl
 brings_none true e (Some l) none m = absurd (false≢true (sym none ∙ ap is_some m.1))
 
-all_of : (a b c d : Bool) → a ≡ true → b ≡ false → c ≡ false → d ≡ false → (((a && not b) && not c) && not d) ≡ true
-all_of a b c d ha hb hc hd = rw (ha, hb, hc, hd) refl
-
-each_of : (a b c d : Bool) → (((a && not b) && not c) && not d) ≡ true → (a ≡ true) × (b ≡ false) × (c ≡ false) × (d ≡ false)
-each_of true false false false h = (refl, refl, refl, refl)
-each_of true false false true h = absurd (false≢true h)
-each_of true false true d h = absurd (false≢true h)
-each_of true true c d h = absurd (false≢true h)
-each_of false b c d h = absurd (false≢true h)
-
-pub apart_whole : (q : Problem) (k : PairKind) (counts row : List ℕ) (t : ℕ) → BothWays q.target → (is_some k.out || is_some k.back) ≡ false
-    → ((u : ℕ) → u < size q.target → (t ≡ u → ⊥) → get_or counts u 0 ≡ common q.target t u)
-    → ((u : ℕ) → has row u ≡ joins_apart q.induced (edge q.target t u) counts k.shared (size q.target) t u) → RowIs q k t row
-apart_whole q k counts row t turns none counted is = record {
-  right = λ u h. found u (each_of (nat_lt u (size q.target)) (q.induced && is_some (edge q.target t u)) (nat_lt (get_or counts u 0) k.shared) (t == u) (sym (is u) ∙ h));
+-- the steps by which the row of such a kind is made leave what joins
+pub apart_whole : (q : Problem) (k : PairKind) (first free shared row : List ℕ) (t : ℕ) → (is_some k.out || is_some k.back) ≡ false
+    → ((u : ℕ) → has first u ≡ nat_lt u (size q.target))
+    → ((u : ℕ) → has free u ≡ true → (has first u ≡ true) × HasNoEdge q t u) → ((u : ℕ) → has first u ≡ true → HasNoEdge q t u → has free u ≡ true)
+    → ((u : ℕ) → has shared u ≡ true → (has free u ≡ true) × ((t ≡ u → ⊥) → Shares q k t u)) → ((u : ℕ) → has free u ≡ true → (t ≡ u → ⊥) → Shares q k t u → has shared u ≡ true)
+    → ((u : ℕ) → has row u ≡ (has shared u && not (t == u))) → RowIs q k t row
+apart_whole q k first free shared row t none below free_right free_complete shared_right shared_complete cut = record {
+  right = λ u h. found u (both_of (has shared u) (t == u) (sym (cut u) ∙ h));
   complete = λ u u_in j.
-      let edges = none_of (is_some k.out) (is_some k.back) none in
-      is u ∙ all_of (nat_lt u (size q.target)) (q.induced && is_some (edge q.target t u)) (nat_lt (get_or counts u 0) k.shared) (t == u)
-      (lt-ltb u (size q.target) u_in) (brings_none q.induced k.out (edge q.target t u) edges.0 j.out)
-      (le-ltb (get_or counts u 0) k.shared (omega (arith, counted u u_in j.apart, j.shared))) (ne_eqb t u j.apart);
+      cut u
+      ∙ to_both (has shared u) (t == u)
+      (shared_complete u
+      (free_complete u (below u ∙ lt-ltb u (size q.target) u_in)
+      (record { out = brings_none q.induced k.out (edge q.target t u) edges.0 j.out; back = brings_none q.induced k.back (edge q.target u t) edges.1 j.back }))
+      j.apart (record { shared = j.shared; in_shared = j.in_shared })) (ne_eqb t u j.apart);
 }
   where
-    found : (u : ℕ) → (nat_lt u (size q.target) ≡ true) × ((q.induced && is_some (edge q.target t u)) ≡ false) × (nat_lt (get_or counts u 0) k.shared ≡ false) × ((t == u) ≡ false)
-        → (u < size q.target) × Joins q k t u
-    found u f =
-        let edges = none_of (is_some k.out) (is_some k.back) none in
-        let u_in : u < size q.target = ltb-true u (size q.target) f.0 in
-        let ne : t ≡ u → ⊥ = λ e. false≢true (sym f.3 ∙ eq-eqb t u e) in (
-          u_in,
+    edges : (is_some k.out ≡ false) × (is_some k.back ≡ false)
+    edges = none_of (is_some k.out) (is_some k.back) none
+
+    both_of : (a b : Bool) → (a && not b) ≡ true → (a ≡ true) × (b ≡ false)
+    both_of true false h = (refl, refl)
+    both_of true true h = absurd (false≢true h)
+    both_of false b h = absurd (false≢true h)
+
+    to_both : (a b : Bool) → a ≡ true → b ≡ false → (a && not b) ≡ true
+    to_both a b x y = rw (x, y) refl
+
+    found : (u : ℕ) → (has shared u ≡ true) × ((t == u) ≡ false) → (u < size q.target) × Joins q k t u
+    found u h =
+        let ne : t ≡ u → ⊥ = λ e. false≢true (sym h.1 ∙ eq-eqb t u e) in
+        let kept = shared_right u h.0 in
+        let alone = free_right u kept.0 in
+        let enough = kept.1 ne in (
+          ltb-true u (size q.target) (sym (below u) ∙ alone.0),
           record {
             apart = ne;
-            out = matches_none q.induced k.out (edge q.target t u) edges.0 f.1;
-            back = matches_none q.induced k.back (edge q.target u t) edges.1 (ap (λ (b : Bool). q.induced && b) (sym (edge_back q.target t u turns ne)) ∙ f.1);
-            shared = reaches u u_in ne f.2 (cases_lt (get_or counts u 0) k.shared);
+            out = matches_none q.induced k.out (edge q.target t u) edges.0 alone.1.out;
+            back = matches_none q.induced k.back (edge q.target u t) edges.1 alone.1.back;
+            shared = enough.shared;
+            in_shared = enough.in_shared;
           },
         )
-      where
-        reaches : (u : ℕ) → u < size q.target → (t ≡ u → ⊥) → nat_lt (get_or counts u 0) k.shared ≡ false
-            → (get_or counts u 0 < k.shared) ⊎ (k.shared ≤ get_or counts u 0) → k.shared ≤ common q.target t u
-        reaches u u_in ne h (inl less) = absurd (false≢true (sym h ∙ lt-ltb (get_or counts u 0) k.shared less))
-        reaches u u_in ne h (inr more) = omega (arith, counted u u_in ne)
+
+-- ---- the steps
+
+left_of : (a b : Bool) → (a && not b) ≡ true → (a ≡ true) × (b ≡ false)
+left_of true false h = (refl, refl)
+left_of true true h = absurd (false≢true h)
+left_of false b h = absurd (false≢true h)
+
+left_by : (a b : Bool) → a ≡ true → b ≡ false → (a && not b) ≡ true
+left_by a b x y = rw (x, y) refl
+
+second_of : (i b : Bool) → i ≡ true → (i && b) ≡ false → b ≡ false
+second_of true b e h = h
+second_of false b e h = absurd (false≢true e)
+
+-- taken out are the vertices of the row of t, and where edges stand both ways those are all
+pub mutual_right : (q : Problem) (t : ℕ) (old new out : List ℕ) → IsMutual q.target → t < size q.target → ((u : ℕ) → has old u ≡ true → u < size q.target)
+    → ((u : ℕ) → has out u ≡ is_some (edge q.target t u)) → ((u : ℕ) → has new u ≡ (has old u && not (has out u))) → (u : ℕ) → has new u ≡ true
+    → (has old u ≡ true) × HasNoEdge q t u
+mutual_right q t old new out ways t_in within row cut u h =
+    let left = left_of (has old u) (has out u) (sym (cut u) ∙ h) in
+    let none : is_some (edge q.target t u) ≡ false = sym (row u) ∙ left.1 in (
+      left.0,
+      record {
+        out = never q.induced (is_some (edge q.target t u)) none;
+        back = never q.induced (is_some (edge q.target u t)) (ways.both u t (within u left.0) t_in ∙ none);
+      },
+    )
+  where
+    never : (a b : Bool) → b ≡ false → (a && b) ≡ false
+    never true b e = e
+    never false b e = refl
+
+pub mutual_complete : (q : Problem) (t : ℕ) (old new out : List ℕ) → q.induced ≡ true
+    → ((u : ℕ) → has out u ≡ is_some (edge q.target t u)) → ((u : ℕ) → has new u ≡ (has old u && not (has out u))) → (u : ℕ) → has old u ≡ true → HasNoEdge q t u → has new u ≡ true
+mutual_complete q t old new out induced row cut u h none =
+    cut u ∙ left_by (has old u) (has out u) h (row u ∙ second_of q.induced (is_some (edge q.target t u)) induced none.out)
+
+-- else those of the row of the edges that lead in too
+pub turned_right : (q : Problem) (t : ℕ) (old now new out back : List ℕ)
+    → ((u : ℕ) → has out u ≡ is_some (edge q.target t u)) → ((u : ℕ) → has back u ≡ is_some (edge q.target u t))
+    → ((u : ℕ) → has now u ≡ (has old u && not (has out u))) → ((u : ℕ) → has new u ≡ (has now u && not (has back u))) → (u : ℕ) → has new u ≡ true
+    → (has old u ≡ true) × HasNoEdge q t u
+turned_right q t old now new out back row in_row cut in_cut u h =
+    let last = left_of (has now u) (has back u) (sym (in_cut u) ∙ h) in
+    let left = left_of (has old u) (has out u) (sym (cut u) ∙ last.0) in (
+      left.0,
+      record {
+        out = never q.induced (is_some (edge q.target t u)) (sym (row u) ∙ left.1);
+        back = never q.induced (is_some (edge q.target u t)) (sym (in_row u) ∙ last.1);
+      },
+    )
+  where
+    never : (a b : Bool) → b ≡ false → (a && b) ≡ false
+    never true b e = e
+    never false b e = refl
+
+pub turned_complete : (q : Problem) (t : ℕ) (old now new out back : List ℕ) → q.induced ≡ true
+    → ((u : ℕ) → has out u ≡ is_some (edge q.target t u)) → ((u : ℕ) → has back u ≡ is_some (edge q.target u t))
+    → ((u : ℕ) → has now u ≡ (has old u && not (has out u))) → ((u : ℕ) → has new u ≡ (has now u && not (has back u))) → (u : ℕ) → has old u ≡ true → HasNoEdge q t u
+    → has new u ≡ true
+turned_complete q t old now new out back induced row in_row cut in_cut u h none =
+    in_cut u
+    ∙ left_by (has now u) (has back u) (mutual_complete q t old now out induced row cut u h none)
+    (in_row u ∙ second_of q.induced (is_some (edge q.target u t)) induced none.back)
+
+-- a count that is kept is not too small
+pub enough_of : (counts : List ℕ) (least u : ℕ) → not (nat_lt (get_or counts u 0) least) ≡ true → least ≤ get_or counts u 0
+enough_of counts least u h = by (cases_lt (get_or counts u 0) least)
+  where
+    by : (get_or counts u 0 < least) ⊎ (least ≤ get_or counts u 0) → least ≤ get_or counts u 0
+    by (inl less) = absurd (false≢true (ap not (sym (lt-ltb (get_or counts u 0) least less)) ∙ h))
+    by (inr more) = more
+
+pub kept_by : (counts : List ℕ) (least u : ℕ) → least ≤ get_or counts u 0 → nat_lt (get_or counts u 0) least ≡ false
+kept_by counts least u le = le-ltb (get_or counts u 0) least le
+
+-- counted out, with no more asked for back, where edges stand both ways
+pub shared_mutual : (q : Problem) (k : PairKind) (t : ℕ) (old new counts back : List ℕ) (both_ways : Bool) → AreShared q.target t counts back both_ways → both_ways ≡ true
+    → MutualShared → t < size q.target → k.in_shared ≤ k.shared → ((u : ℕ) → has old u ≡ true → u < size q.target)
+    → ((u : ℕ) → has new u ≡ (has old u && not (nat_lt (get_or counts u 0) k.shared))) → (u : ℕ) → has new u ≡ true
+    → (has old u ≡ true) × ((t ≡ u → ⊥) → Shares q k t u)
+shared_mutual q k t old new counts back both_ways are told law t_in less within cut u h =
+    let left = left_of (has old u) (nat_lt (get_or counts u 0) k.shared) (sym (cut u) ∙ h) in
+    let enough : k.shared ≤ get_or counts u 0 = enough_of counts k.shared u (ap not left.1) in
+    let u_in : u < size q.target = within u left.0 in (
+      left.0,
+      λ (ne : t ≡ u → ⊥).
+          let counted = are.counted u u_in ne in
+          let same : common (reversed q.target) t u ≡ common q.target t u = law q.target t u (are.both told) t_in u_in in
+          record { shared = omega (arith, enough, counted); in_shared = omega (arith, enough, counted, same, less) },
+    )
+
+-- counted in both directions
+pub shared_right : (q : Problem) (k : PairKind) (t : ℕ) (old now new counts back : List ℕ) (both_ways : Bool) → AreShared q.target t counts back both_ways
+    → ((u : ℕ) → has old u ≡ true → u < size q.target)
+    → ((u : ℕ) → has now u ≡ (has old u && not (nat_lt (get_or counts u 0) k.shared)))
+    → ((u : ℕ) → has new u ≡ (has now u && not (nat_lt (get_or back u 0) k.in_shared))) → (u : ℕ) → has new u ≡ true
+    → (has old u ≡ true) × ((t ≡ u → ⊥) → Shares q k t u)
+shared_right q k t old now new counts back both_ways are within cut in_cut u h =
+    let last = left_of (has now u) (nat_lt (get_or back u 0) k.in_shared) (sym (in_cut u) ∙ h) in
+    let left = left_of (has old u) (nat_lt (get_or counts u 0) k.shared) (sym (cut u) ∙ last.0) in
+    let enough : k.shared ≤ get_or counts u 0 = enough_of counts k.shared u (ap not left.1) in
+    let in_enough : k.in_shared ≤ get_or back u 0 = enough_of back k.in_shared u (ap not last.1) in
+    let u_in : u < size q.target = within u left.0 in (
+      left.0,
+      λ (ne : t ≡ u → ⊥).
+          let counted = are.counted u u_in ne in
+          let in_counted = are.back_counted u u_in ne in
+          record { shared = omega (arith, enough, counted); in_shared = omega (arith, in_enough, in_counted) },
+    )
+
+pub shared_kept : (q : Problem) (k : PairKind) (t : ℕ) (old new counts back : List ℕ) (both_ways : Bool) → AreShared q.target t counts back both_ways
+    → ((u : ℕ) → has old u ≡ true → u < size q.target)
+    → ((u : ℕ) → has new u ≡ (has old u && not (nat_lt (get_or counts u 0) k.shared))) → (u : ℕ) → has old u ≡ true → (t ≡ u → ⊥) → Shares q k t u → has new u ≡ true
+shared_kept q k t old new counts back both_ways are within cut u h ne enough =
+    let counted = are.counted u (within u h) ne in
+    cut u ∙ left_by (has old u) (nat_lt (get_or counts u 0) k.shared) h (kept_by counts k.shared u (omega (arith, counted, enough.shared)))
+
+pub shared_complete : (q : Problem) (k : PairKind) (t : ℕ) (old now new counts back : List ℕ) (both_ways : Bool) → AreShared q.target t counts back both_ways
+    → ((u : ℕ) → has old u ≡ true → u < size q.target)
+    → ((u : ℕ) → has now u ≡ (has old u && not (nat_lt (get_or counts u 0) k.shared)))
+    → ((u : ℕ) → has new u ≡ (has now u && not (nat_lt (get_or back u 0) k.in_shared))) → (u : ℕ) → has old u ≡ true → (t ≡ u → ⊥) → Shares q k t u → has new u ≡ true
+shared_complete q k t old now new counts back both_ways are within cut in_cut u h ne enough =
+    let in_counted = are.back_counted u (within u h) ne in
+    in_cut u
+    ∙ left_by (has now u) (nat_lt (get_or back u 0) k.in_shared) (shared_kept q k t old now counts back both_ways are within cut u h ne enough)
+    (kept_by back k.in_shared u (omega (arith, in_counted, enough.in_shared)))
+
+-- what is kept of a row of vertices are vertices
+pub still_within : (n : ℕ) (old new : List ℕ) (f : ℕ → Bool) → ((u : ℕ) → has old u ≡ true → u < n) → ((u : ℕ) → has new u ≡ (has old u && f u)) → (u : ℕ) → has new u ≡ true → u < n
+still_within n old new f within cut u h = within u ((and_parts (has old u) (f u) (sym (cut u) ∙ h)).0)
+
+-- a kind that asks for distinct images without an edge alone, where edges stand both ways
+pub bare_joins : (q : Problem) (k : PairKind) (t u : ℕ) → q.induced ≡ true → IsMutual q.target → (is_some k.out || is_some k.back) ≡ false → (k.shared ≡ 0) × (k.in_shared ≡ 0)
+    → t < size q.target → u < size q.target → Joins q k t u ↔ ((t ≡ u → ⊥) × (is_neighbour q.target t u ≡ false))
+bare_joins q k t u induced ways none shared t_in u_in = (
+  (λ (j : Joins q k t u). (j.apart, ap (λ (b : Bool). not (t == u) && b) (second_of q.induced (is_some (edge q.target t u)) induced (brings_none q.induced k.out (edge q.target t u) edges.0 j.out)) ∙ never (not (t == u)))),
+  (λ (h : (t ≡ u → ⊥) × (is_neighbour q.target t u ≡ false)).
+      let apart : is_some (edge q.target t u) ≡ false = sym (ap (λ (b : Bool). not b && is_some (edge q.target t u)) (ne_eqb t u h.0)) ∙ h.1 in
+      record {
+        apart = h.0;
+        out = matches_none q.induced k.out (edge q.target t u) edges.0 (within q.induced (is_some (edge q.target t u)) apart);
+        back = matches_none q.induced k.back (edge q.target u t) edges.1 (within q.induced (is_some (edge q.target u t)) (ways.both u t u_in t_in ∙ apart));
+        shared = omega (arith, shared.0);
+        in_shared = omega (arith, shared.1);
+      }),
+)
+  where
+    edges : (is_some k.out ≡ false) × (is_some k.back ≡ false)
+    edges = none_of (is_some k.out) (is_some k.back) none
+
+    never : (a : Bool) → (a && false) ≡ false
+    never true = refl
+    never false = refl
+
+    within : (a b : Bool) → b ≡ false → (a && b) ≡ false
+    within true b e = e
+    within false b e = refl
 
 -- a row of vertices is within the counts
 pub row_in_counts : (row : List ℕ) (n m : ℕ) (f : ℕ → Bool) → n ≡ m → ((u : ℕ) → has row u ≡ (nat_lt u n && f u)) → (u : ℕ) → has row u ≡ true → u < m

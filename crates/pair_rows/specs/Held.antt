@@ -1,7 +1,7 @@
 -- How rows are held: blocks of rows, of which each belongs to one target vertex.
 
-use Rattle.std.specs.Prelude.{◌≡◌, ℕ, ◌+◌, ◌*◌, ◌<◌, ◌≤◌, ◌==◌, Bool, true, List, length, drop, slice_index}
-use Rattle.graph_theory.specs.Graph.{Graph, size, tabulate}
+use Rattle.std.specs.Prelude.{◌≡◌, ℕ, ◌+◌, ◌*◌, ◌<◌, ◌≤◌, ◌==◌, Bool, true, false, List, length, drop, slice_index}
+use Rattle.graph_theory.specs.Graph.{size, tabulate}
 use Rattle.graph_theory.specs.Embedding.{Problem}
 use Rattle.graph_rows.specs.BitRow.{words_for}
 use Rattle.pair_rows.specs.declared.kinds.PairKind.{PairKind}
@@ -16,14 +16,14 @@ abbrev pub made_in : List ℕ → List ℕ → List Bool
 made_in block_of owners = tabulate (length block_of) (owns block_of owners)
 
 -- The rows of a problem: where the block of t is its own, it has the row of each kind at t.
-pub record Held (q : Problem) (vertices width : ℕ) (kinds : List PairKind) (places block_of owners : List ℕ) (counts pool : List ℕ) (counted : Graph) : Type 0 where
+pub record Held (q : Problem) (vertices width : ℕ) (kinds : List PairKind) (places block_of owners : List ℕ) (counts in_counts pool : List ℕ) (both_ways : Bool) : Type 0 where
   pub few_pattern : size q.pattern ≤ 1024
   pub few_target : size q.target ≤ 8192
   pub vertices_are : vertices ≡ size q.pattern
   pub width_is : width ≡ words_for (size q.target)
   pub classed : AreKinds q kinds places (size q.pattern * size q.pattern)
   pub counts_are : length counts ≡ size q.target
-  pub counted_is : counted ≡ q.target
+  pub in_counts_are : both_ways ≡ false → length in_counts ≡ size q.target
   pub block_of_are : length block_of ≡ size q.target
   pub owners_few : length owners ≤ size q.target
   pub owners_some : 0 < size q.target → 0 < length owners

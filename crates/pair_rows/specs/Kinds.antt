@@ -1,15 +1,21 @@
 -- Kinds of pairs of pattern vertices, and the rows that belong to them.
 
-use Rattle.std.specs.Prelude.{◌≡◌, ℕ, ◌+◌, ◌*◌, ◌<◌, ◌≤◌, true, ◌⊎◌, List, Some, length, take, slice_get, slice_index}
-use Rattle.graph_theory.specs.Graph.{size, edge}
+use Rattle.std.specs.Prelude.{◌≡◌, ℕ, ◌+◌, ◌*◌, ◌<◌, ◌≤◌, Bool, true, false, ◌&&◌, is_some, ◌⊎◌, List, Some, length, take, slice_get, slice_index}
+use Rattle.graph_theory.specs.Graph.{Graph, size, edge}
 use Rattle.graph_theory.specs.Embedding.{Problem, Matches}
 use Rattle.graph_theory.specs.Neighbours.{common}
+use Rattle.graph_theory.specs.Reversed.{reversed, IsMutual}
 use Rattle.graph_rows.specs.BitRow.{has}
 use Rattle.pair_rows.specs.declared.kinds.PairKind.{PairKind}
 
--- The edges between two pattern vertices, and how many neighbours they share.
+-- The edges between two pattern vertices, and how many neighbours they share in each direction.
 abbrev pub kind_of : Problem → ℕ → ℕ → PairKind
-kind_of q p r = record { out = edge q.pattern p r; back = edge q.pattern r p; shared = common q.pattern p r }
+kind_of q p r = record {
+  out = edge q.pattern p r;
+  back = edge q.pattern r p;
+  shared = common q.pattern p r;
+  in_shared = common (reversed q.pattern) p r;
+}
 
 -- Target vertices t and u give a pair of this kind what it asks.
 pub record Joins (q : Problem) (k : PairKind) (t u : ℕ) : Type 0 where
@@ -17,6 +23,25 @@ pub record Joins (q : Problem) (k : PairKind) (t u : ℕ) : Type 0 where
   pub out : Matches q.induced k.out (edge q.target t u)
   pub back : Matches q.induced k.back (edge q.target u t)
   pub shared : k.shared ≤ common q.target t u
+  pub in_shared : k.in_shared ≤ common (reversed q.target) t u
+
+-- They share as many neighbours as it asks for, in each direction.
+pub record Shares (q : Problem) (k : PairKind) (t u : ℕ) : Type 0 where
+  pub shared : k.shared ≤ common q.target t u
+  pub in_shared : k.in_shared ≤ common (reversed q.target) t u
+
+-- In the induced kind no edge leads from one of them to the other.
+pub record HasNoEdge (q : Problem) (t u : ℕ) : Type 0 where
+  pub out : (q.induced && is_some (edge q.target t u)) ≡ false
+  pub back : (q.induced && is_some (edge q.target u t)) ≡ false
+
+-- The counts are those of the neighbours that the others share with t, in each direction; where it is said so, edges stand both ways.
+pub record AreShared (g : Graph) (t : ℕ) (counts back : List ℕ) (both_ways : Bool) : Type 0 where
+  pub long : length counts ≡ size g
+  pub back_long : length back ≡ size g
+  pub counted : (u : ℕ) → u < size g → (t ≡ u → ⊥) → slice_index counts u ≡ common g t u
+  pub back_counted : (u : ℕ) → u < size g → (t ≡ u → ⊥) → slice_index back u ≡ common (reversed g) t u
+  pub both : both_ways ≡ true → IsMutual g
 
 -- The row holds the u that join t in a pair of this kind.
 pub record RowIs (q : Problem) (k : PairKind) (t : ℕ) (row : List ℕ) : Type 0 where

@@ -1,14 +1,15 @@
 -- The kinds of a problem's pairs, as what holds their rows sees them.
 
-use Rattle.std.specs.Prelude.{◌≡◌, ℕ, ◌*◌, ◌≤◌, List}
+use Rattle.std.specs.Prelude.{◌≡◌, ℕ, ◌*◌, ◌≤◌, Bool, true, List}
 use Rattle.graph_theory.specs.Graph.{Graph, size}
 use Rattle.graph_theory.specs.Embedding.{Problem}
-use Rattle.graph_theory.specs.Plain.{IsPlain}
+use Rattle.graph_theory.specs.Reversed.{reversed, IsMutual}
 use Rattle.graph_rows.specs.BitRow.{words_for}
 use Rattle.pair_rows.specs.declared.kinds.PairKind.{PairKind}
 use Rattle.pair_rows.specs.Kinds.{AreKinds}
 
--- The problem, how many vertices its pattern has and how many words a row, the kinds, the place of each pair's kind, and the graph whose shared neighbours are counted.
+-- The problem, how many vertices its pattern has and how many words a row, the kinds, the place of each pair's kind, the
+-- graphs whose shared neighbours are counted, and whether edges of the target are known to stand both ways.
 pub record Shape : Type 0 where
   pub problem : Problem
   pub vertices : ℕ
@@ -16,13 +17,16 @@ pub record Shape : Type 0 where
   pub kinds : List PairKind
   pub places : List ℕ
   pub counted : Graph
+  pub in_counted : Graph
+  pub both_ways : Bool
 
 -- They are those of the problem.
-pub record Shaped (q : Problem) (vertices width : ℕ) (kinds : List PairKind) (places : List ℕ) (counted : Graph) : Type 0 where
+pub record Shaped (q : Problem) (vertices width : ℕ) (kinds : List PairKind) (places : List ℕ) (counted in_counted : Graph) (both_ways : Bool) : Type 0 where
   pub few_pattern : size q.pattern ≤ 1024
   pub few_target : size q.target ≤ 8192
   pub vertices_are : vertices ≡ size q.pattern
   pub width_is : width ≡ words_for (size q.target)
   pub classed : AreKinds q kinds places (size q.pattern * size q.pattern)
   pub counted_is : counted ≡ q.target
-  pub plain : IsPlain q.target
+  pub in_counted_is : in_counted ≡ reversed q.target
+  pub both : both_ways ≡ true → IsMutual q.target

@@ -4,14 +4,15 @@ ghost use Rattle.std.specs.Prelude.{◌≡◌, ℕ, ◌+◌, ◌*◌, ◌^◌, �
 ghost use Rattle.graph_theory.specs.Graph.{size, edge};
 ghost use Rattle.graph_theory.specs.Neighbours.{common, is_neighbour};
 ghost use Rattle.graph_theory.specs.Embedding.{Matches};
-ghost use Rattle.graph_theory.specs.Plain.{IsPlain};
+ghost use Rattle.graph_theory.specs.Reversed.{reversed, IsMutual};
 ghost use Rattle.graph_rows.specs.BitRow.{has, words_for};
-ghost use Rattle.pair_rows.specs.Kinds.{kind_of, Joins, RowIs, HasRow, AreKinds, KindsStay, WordsStay};
+ghost use Rattle.pair_rows.specs.Kinds.{kind_of, Joins, Shares, HasNoEdge, AreShared, RowIs, HasRow, AreKinds, KindsStay, WordsStay};
 
 use bit_rows::{clear, fill_below, keep_counted, next_member, set_bit, unset_bit};
 use common_neighbour::Counts;
 use domain_bits::and_not_into;
 use graph_rows::Problem;
+use graph_theory::direction::{Direction, reversed_laws};
 use std::alloc::{AllocError, Global};
 
 /// What two pattern vertices ask of their images.
@@ -21,8 +22,21 @@ pub(crate) struct PairKind {
     pub(crate) out: Option<u32>,
     /// The label of the edge back, or none.
     pub(crate) back: Option<u32>,
-    /// How many neighbours they share.
+    /// How many vertices edges lead to from both.
     pub(crate) shared: u16,
+    /// How many vertices edges lead from to both. (Without directions as many.)
+    pub(crate) in_shared: u16,
+}
+
+/// How many neighbours a target vertex shares with each other one.
+#[derive(Clone, Copy)]
+pub(crate) struct SharedCounts<'a> {
+    /// How many vertices edges lead to from both.
+    pub(crate) out: &'a [u16],
+    /// How many vertices edges lead from to both; where edges stand both ways these are the same counts.
+    pub(crate) back: &'a [u16],
+    /// Whether edges are known to stand both ways.
+    pub(crate) both_ways: bool,
 }
 
 /// The kinds that occur, and for each two vertices the place of their kind among them, pair after pair. Cost: one step
@@ -32,11 +46,12 @@ pub(crate) fn classify(alloc: Global, q: &Problem) -> Result<(Vec<PairKind>, Vec
     ensures classes { IfOk result
         (λ c. AreKinds q.now c.0.items c.1.items (size q.now.pattern * size q.now.pattern)) }
 {
-    let counts = Counts::new(alloc, q.pattern())?;
+    let counts = Counts::new(alloc, q.pattern(), Direction::Out)?;
+    let in_counts = Counts::new(alloc, q.pattern(), Direction::In)?;
     let mut kinds = Vec::new(alloc);
     let mut places = Vec::new(alloc);
     for p in 0..q.pattern().size() {
-        classify_from(q, &counts, p, &mut kinds, &mut places)?;
+        classify_from(q, &counts, &in_counts, p, &mut kinds, &mut places)?;
     }
     Ok((kinds, places))
 }
@@ -45,19 +60,21 @@ pub(crate) fn classify(alloc: Global, q: &Problem) -> Result<(Vec<PairKind>, Vec
 fn classify_from(
     q: &Problem,
     counts: &Counts,
+    in_counts: &Counts,
     p: u16,
     kinds: &mut Vec<PairKind>,
     places: &mut Vec<u32>,
 ) -> Result<(), AllocError>
     requires few { size q.now.pattern ≤ 1024 }
     requires same { counts.now ≡ q.now.pattern }
+    requires in_same { in_counts.now ≡ reversed q.now.pattern }
     requires p_in { p < size q.now.pattern }
     requires before { AreKinds q.now kinds.old.items places.old.items (p * size q.now.pattern) }
     ensures { IfOk result
         (λ _. AreKinds q.now kinds.new.items places.new.items ((p + 1) * size q.now.pattern)) }
 {
     for r in 0..q.pattern().size() {
-        let place = place_for(q, counts, p, r, kinds)?;
+        let place = place_for(q, counts, in_counts, p, r, kinds)?;
         places.push(place)?;
     }
     Ok(())
@@ -67,11 +84,13 @@ fn classify_from(
 fn place_for(
     q: &Problem,
     counts: &Counts,
+    in_counts: &Counts,
     p: u16,
     r: u16,
     kinds: &mut Vec<PairKind>,
 ) -> Result<u32, AllocError>
     requires same { counts.now ≡ q.now.pattern }
+    requires in_same { in_counts.now ≡ reversed q.now.pattern }
     requires p_in { p < size q.now.pattern }
     requires r_in { r < size q.now.pattern }
     requires few { length kinds.old.items < 2 ^ 32 }
@@ -83,21 +102,41 @@ fn place_for(
     if p == r {
         return Ok(0);
     }
-    place_of(kinds, pair_kind(q, counts, p, r))
+    place_of(kinds, pair_kind(q, counts, in_counts, p, r))
 }
 
 /// The kind of a pair.
-fn pair_kind(q: &Problem, counts: &Counts, p: u16, r: u16) -> PairKind
+fn pair_kind(q: &Problem, counts: &Counts, in_counts: &Counts, p: u16, r: u16) -> PairKind
     requires same { counts.now ≡ q.now.pattern }
+    requires in_same { in_counts.now ≡ reversed q.now.pattern }
     requires p_in { p < size q.now.pattern }
     requires r_in { r < size q.now.pattern }
     requires apart { p ≡ r → ⊥ }
     ensures { result ≡ kind_of q.now p r }
 {
+    let shared = counts.count(p, r);
     PairKind {
         out: q.pattern().edge(p, r),
         back: q.pattern().edge(r, p),
-        shared: counts.count(p, r),
+        shared,
+        in_shared: in_shared(q, in_counts, p, r, shared),
+    }
+}
+
+/// How many vertices edges lead from to both, where edges lead to so many from both: nothing is counted where edges stand both ways.
+fn in_shared(q: &Problem, in_counts: &Counts, p: u16, r: u16, shared: u16) -> u16
+    requires in_same { in_counts.now ≡ reversed q.now.pattern }
+    requires p_in { p < size q.now.pattern }
+    requires r_in { r < size q.now.pattern }
+    requires apart { p ≡ r → ⊥ }
+    requires counted { shared ≡ common q.now.pattern p r }
+    ensures { result ≡ common (reversed q.now.pattern) p r }
+{
+    reversed_laws();
+    if q.pattern().is_mutual() {
+        shared
+    } else {
+        in_counts.count(p, r)
     }
 }
 
@@ -130,23 +169,22 @@ fn find_kind(kinds: &[PairKind], kind: PairKind) -> Option<u32>
 }
 
 /// Makes the rows of all kinds at `t`, one after another from row `first` on; the other rows stay. Cost: for each kind one step for
-/// each word of a row, and one for each neighbour of `t` where the kind has an edge; else, where it shares neighbours, one for each count.
+/// each word of a row, and one for each neighbour of `t` in a direction that the kind has an edge in; else, where it shares neighbours, one
+/// for each count.
 pub(crate) fn fill_block(
     q: &Problem,
     kinds: &[PairKind],
     t: u16,
-    counts: &[u16],
+    counts: &SharedCounts<'_>,
     width: usize,
     first: usize,
     pool: &mut [u64],
 )
-    requires plain { IsPlain q.now.target }
     requires width_is { width ≡ words_for (size q.now.target) }
     requires t_in { t < size q.now.target }
     requires few { size q.now.target ≤ 8192 }
-    requires counts_long { length counts.now ≡ size q.now.target }
-    requires counted { (u : ℕ) → u < size q.now.target → (t ≡ u → ⊥)
-        → slice_index counts.now u ≡ common q.now.target t u }
+    requires counted { AreShared q.now.target t counts.now.out.now counts.now.back.now
+        counts.now.both_ways }
     requires room { (first + length kinds.now) * width ≤ length pool.old }
     ensures rows { (i : ℕ)
         → HasRow q.now kinds.now width t i (drop ((first + i) * width) pool.new) }
@@ -160,12 +198,10 @@ pub(crate) fn fill_block(
 }
 
 /// Makes the row of a kind at `t`.
-fn fill_row(q: &Problem, kind: &PairKind, t: u16, counts: &[u16], row: &mut [u64])
-    requires plain { IsPlain q.now.target }
+fn fill_row(q: &Problem, kind: &PairKind, t: u16, counts: &SharedCounts<'_>, row: &mut [u64])
     requires t_in { t < size q.now.target }
-    requires counts_long { length counts.now ≡ size q.now.target }
-    requires counted { (u : ℕ) → u < size q.now.target → (t ≡ u → ⊥)
-        → slice_index counts.now u ≡ common q.now.target t u }
+    requires counted { AreShared q.now.target t counts.now.out.now counts.now.back.now
+        counts.now.both_ways }
     requires long { length row.old ≡ words_for (size q.now.target) }
     ensures { RowIs q.now kind.now t row.new }
 {
@@ -183,90 +219,136 @@ fn has_edge(kind: &PairKind) -> bool
     kind.out.is_some() || kind.back.is_some()
 }
 
+/// Whether a pair of the kind shares no neighbour, in either direction.
+fn shares_none(kind: &PairKind) -> bool
+    ensures { IsTrue result → (kind.now.shared ≡ 0) × (kind.now.in_shared ≡ 0) }
+{
+    kind.shared == 0 && kind.in_shared == 0
+}
+
 /// Whether a pair of the kind is asked nothing but distinct images.
 pub(crate) fn asks_nothing(q: &Problem, kind: &PairKind) -> bool
     ensures { IsTrue result → (t u : ℕ) → (t ≡ u → ⊥) → Joins q.now kind.now t u }
 {
-    !q.induced() && !has_edge(kind) && kind.shared == 0
+    !q.induced() && !has_edge(kind) && shares_none(kind)
 }
 
-/// Whether a pair of the kind is asked nothing but distinct images without an edge, in the induced kind.
-pub(crate) fn asks_no_edge(q: &Problem, kind: &PairKind) -> bool
-    requires { IsPlain q.now.target }
-    ensures { IsTrue result → (t u : ℕ)
+/// Whether a pair of the kind is asked nothing but distinct images without an edge, in the induced kind, and edges are known to stand
+/// both ways.
+pub(crate) fn asks_no_edge(q: &Problem, kind: &PairKind, both_ways: bool) -> bool
+    requires { IsTrue both_ways → IsMutual q.now.target }
+    ensures { IsTrue result → (t u : ℕ) → t < size q.now.target → u < size q.now.target
         → Joins q.now kind.now t u ↔ ((t ≡ u → ⊥) × (is_neighbour q.now.target t u ≡ false)) }
 {
-    q.target().neighbours_are_mutual();
-    q.induced() && !has_edge(kind) && kind.shared == 0
+    both_ways && q.induced() && !has_edge(kind) && shares_none(kind)
 }
 
-/// Makes the row of a kind with an edge: its values are among the neighbours of `t`, of which each is tested. Cost: one step for each
-/// neighbour and for each word of a row.
-fn fill_near(q: &Problem, kind: &PairKind, t: u16, counts: &[u16], row: &mut [u64])
-    requires plain { IsPlain q.now.target }
+/// Makes the row of a kind with an edge: its values are among the neighbours of `t` in the direction of an edge of the kind, of which each
+/// is tested. Cost: one step for each of them and for each word of a row.
+fn fill_near(q: &Problem, kind: &PairKind, t: u16, counts: &SharedCounts<'_>, row: &mut [u64])
     requires edge { (is_some kind.now.out || is_some kind.now.back) ≡ true }
     requires t_in { t < size q.now.target }
-    requires counts_long { length counts.now ≡ size q.now.target }
-    requires counted { (u : ℕ) → u < size q.now.target → (t ≡ u → ⊥)
-        → slice_index counts.now u ≡ common q.now.target t u }
+    requires counted { AreShared q.now.target t counts.now.out.now counts.now.back.now
+        counts.now.both_ways }
     requires long { length row.old ≡ words_for (size q.now.target) }
     ensures { RowIs q.now kind.now t row.new }
 {
-    let target = q.target();
-    target.neighbours_are_mutual();
-    let near = target.row(t);
+    let _size = q.target().size();
+    let near = near_row(q, kind, t);
     clear(row);
     let mut u = next_member(near, 0);
     while u < 64 * near.len() {
-        if joins(q, kind, t, u as u16, counts[u]) {
+        if joins(q, kind, t, u as u16, counts.out[u], counts.back[u]) {
             set_bit(row, u);
         }
         u = next_member(near, u + 1);
     }
 }
 
+/// The vertices among which are all that join `t` in a kind with an edge: those to which edges lead from `t`, or where the kind has an
+/// edge back alone those from which edges lead to it.
+fn near_row<'a>(q: &'a Problem, kind: &PairKind, t: u16) -> &'a [u64]
+    requires edge { (is_some kind.now.out || is_some kind.now.back) ≡ true }
+    requires t_in { t < size q.now.target }
+    ensures long { length result.now ≡ words_for (size q.now.target) }
+    ensures near { (u : ℕ) → Joins q.now kind.now t u → has result.now u ≡ true }
+    ensures within { (u : ℕ) → has result.now u ≡ true → u < size q.now.target }
+{
+    if kind.out.is_some() {
+        q.target().row(t)
+    } else {
+        q.target().in_row(t)
+    }
+}
+
 /// Makes the row of a kind without edges, by whole words. Cost: three steps for each word, and one for each count where the kind
 /// shares neighbours.
-fn fill_apart(q: &Problem, kind: &PairKind, t: u16, counts: &[u16], row: &mut [u64])
-    requires plain { IsPlain q.now.target }
+fn fill_apart(q: &Problem, kind: &PairKind, t: u16, counts: &SharedCounts<'_>, row: &mut [u64])
     requires none { (is_some kind.now.out || is_some kind.now.back) ≡ false }
     requires t_in { t < size q.now.target }
-    requires counts_long { length counts.now ≡ size q.now.target }
-    requires counted { (u : ℕ) → u < size q.now.target → (t ≡ u → ⊥)
-        → slice_index counts.now u ≡ common q.now.target t u }
+    requires counted { AreShared q.now.target t counts.now.out.now counts.now.back.now
+        counts.now.both_ways }
     requires long { length row.old ≡ words_for (size q.now.target) }
     ensures { RowIs q.now kind.now t row.new }
 {
-    let target = q.target();
-    target.neighbours_are_mutual();
-    fill_below(row, usize::from(target.size()));
-    take_neighbours(q, t, row);
-    keep_counted(row, counts, kind.shared);
+    fill_below(row, usize::from(q.target().size()));
+    take_neighbours(q, t, counts.both_ways, row);
+    keep_shared(q, kind, t, counts, row);
     unset_bit(row, usize::from(t));
 }
 
-/// In the induced kind takes out of the row the vertices to which an edge leads from `t`. Cost: one step for each word.
-fn take_neighbours(q: &Problem, t: u16, row: &mut [u64])
+/// In the induced kind takes out of the row the vertices with an edge from or to `t`. Cost: one step for each word, and another where
+/// edges are not known to stand both ways.
+fn take_neighbours(q: &Problem, t: u16, both_ways: bool, row: &mut [u64])
+    requires both { IsTrue both_ways → IsMutual q.now.target }
     requires t_in { t < size q.now.target }
     requires long { length row.old ≡ words_for (size q.now.target) }
-    ensures { (u : ℕ)
-        → has row.new u ≡ (has row.old u
-        && not (q.now.induced && is_some (edge q.now.target t u))) }
+    requires within { (u : ℕ) → has row.old u ≡ true → u < size q.now.target }
+    ensures right { (u : ℕ) → has row.new u ≡ true
+        → (has row.old u ≡ true) × HasNoEdge q.now t u }
+    ensures complete { (u : ℕ) → has row.old u ≡ true → HasNoEdge q.now t u
+        → has row.new u ≡ true }
 {
     if q.induced() {
         and_not_into(row, q.target().row(t));
+        if !both_ways {
+            and_not_into(row, q.target().in_row(t));
+        }
+    }
+}
+
+/// Keeps of the row, beside `t` itself, the vertices that share as many neighbours with `t` as the kind asks for. Cost: one step for each
+/// count where the kind shares neighbours, and another where it asks for more in the other direction.
+fn keep_shared(q: &Problem, kind: &PairKind, t: u16, counts: &SharedCounts<'_>, row: &mut [u64])
+    requires t_in { t < size q.now.target }
+    requires counted { AreShared q.now.target t counts.now.out.now counts.now.back.now
+        counts.now.both_ways }
+    requires long { length row.old ≡ words_for (size q.now.target) }
+    requires within { (u : ℕ) → has row.old u ≡ true → u < size q.now.target }
+    ensures right { (u : ℕ) → has row.new u ≡ true
+        → (has row.old u ≡ true) × ((t ≡ u → ⊥) → Shares q.now kind.now t u) }
+    ensures complete { (u : ℕ) → has row.old u ≡ true → (t ≡ u → ⊥)
+        → Shares q.now kind.now t u → has row.new u ≡ true }
+{
+    reversed_laws();
+    let _size = q.target().size();
+    keep_counted(row, counts.out, kind.shared);
+    if !counts.both_ways || kind.in_shared > kind.shared {
+        keep_counted(row, counts.back, kind.in_shared);
     }
 }
 
 /// Whether `t` and `u` give a pair of the kind what it asks, where they share so many neighbours.
-fn joins(q: &Problem, kind: &PairKind, t: u16, u: u16, shared: u16) -> bool
+fn joins(q: &Problem, kind: &PairKind, t: u16, u: u16, shared: u16, in_shared: u16) -> bool
     requires t_in { t < size q.now.target }
     requires u_in { u < size q.now.target }
     requires counted { (t ≡ u → ⊥) → shared ≡ common q.now.target t u }
+    requires in_counted { (t ≡ u → ⊥) → in_shared ≡ common (reversed q.now.target) t u }
     ensures { IsTrue result ↔ Joins q.now kind.now t u }
 {
     t != u
         && kind.shared <= shared
+        && kind.in_shared <= in_shared
         && matches(q.induced(), kind.out, q.target().edge(t, u))
         && matches(q.induced(), kind.back, q.target().edge(u, t))
 }

@@ -1,6 +1,6 @@
 //! Rows of consistent values: which values of one vertex go together with a value of another.
 //!
-//! A pair of pattern vertices is of a kind: its edges in both directions, and how many neighbours it shares. There are
+//! A pair of pattern vertices is of a kind: its edges in both directions, and how many neighbours it shares in each. There are
 //! few kinds, and for each kind and each target vertex t there is one bit row of the u that go together with t. The
 //! layer above cuts a domain by one row at each assignment, and knows of a row only that it holds exactly the consistent
 //! values. Rows are made for all kinds at a target vertex when it is first needed, into memory that was taken before.

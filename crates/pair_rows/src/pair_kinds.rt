@@ -3,7 +3,6 @@
 ghost use Rattle.std.specs.Prelude.{◌≡◌, ℕ, ◌<◌, ◌↔◌, true, false, length, is_some, IsTrue, IfOk, IfSome};
 ghost use Rattle.graph_theory.specs.Graph.{size};
 ghost use Rattle.graph_theory.specs.Neighbours.{is_neighbour};
-ghost use Rattle.graph_theory.specs.Plain.{IsPlain};
 ghost use Rattle.graph_rows.specs.BitRow.{words_for};
 ghost use Rattle.graph_rows.specs.Held.{stands_in};
 ghost use Rattle.search_theory.specs.Consistency.{AreConsistent};
@@ -13,6 +12,7 @@ use crate::kinds::{PairKind, asks_no_edge, asks_nothing, classify};
 use crate::near::NearLists;
 use common_neighbour::Counts;
 use graph_rows::Problem;
+use graph_theory::direction::Direction;
 use std::alloc::{AllocError, Global};
 use std::marker::Model;
 
@@ -25,6 +25,8 @@ pub struct PairKinds<'a> {
     pub(crate) kinds: Vec<PairKind>,
     pub(crate) places: Vec<u32>,
     pub(crate) sharing: Counts<'a>,
+    pub(crate) in_sharing: Counts<'a>,
+    pub(crate) both_ways: bool,
     near: NearLists<'a>,
 }
 
@@ -34,22 +36,23 @@ impl<'a> Model for PairKinds<'a> {
 
     ghost Value = { Shape };
 
-    ghost view = { λ k. record { problem = k.problem.now; vertices = k.vertices; width = k.width; kinds = k.kinds.items; places = k.places.items; counted = k.sharing } };
+    ghost view = { λ k. record { problem = k.problem.now; vertices = k.vertices; width = k.width; kinds = k.kinds.items; places = k.places.items; counted = k.sharing; in_counted = k.in_sharing; both_ways = k.both_ways } };
 
-    ghost invariant = { λ k. Shaped k.problem.now k.vertices k.width k.kinds.items k.places.items k.sharing × (k.near ≡ k.problem.now) };
+    ghost invariant = { λ k. Shaped k.problem.now k.vertices k.width k.kinds.items k.places.items k.sharing k.in_sharing k.both_ways × (k.near ≡ k.problem.now) };
 }
 
 impl<'a> PairKinds<'a> {
-    /// The kinds of the pairs of a problem whose target has no directions. Cost: one step for each pattern pair, for each kind, and in
-    /// the induced kind for each word of the target's rows.
+    /// The kinds of the pairs of a problem. Cost: one step for each pattern pair, for each kind, and in the induced kind for each word of
+    /// the target's rows.
     pub fn new(alloc: Global, problem: &'a Problem) -> Result<PairKinds<'a>, AllocError>
-        requires { IsPlain problem.now.target }
         ensures { IfOk result (λ k. k.problem ≡ problem.entry.now) }
     {
         let vertices = usize::from(problem.pattern().size());
         let (kinds, places) = classify(alloc, problem)?;
         let width = (usize::from(problem.target().size()) + 63) / 64;
-        let sharing = Counts::new(alloc, problem.target())?;
+        let sharing = Counts::new(alloc, problem.target(), Direction::Out)?;
+        let in_sharing = Counts::new(alloc, problem.target(), Direction::In)?;
+        let both_ways = problem.target().is_mutual();
         let near = NearLists::new(alloc, problem)?;
         Ok(PairKinds {
             problem,
@@ -58,6 +61,8 @@ impl<'a> PairKinds<'a> {
             kinds,
             places,
             sharing,
+            in_sharing,
+            both_ways,
             near,
         })
     }
@@ -74,18 +79,23 @@ impl<'a> PairKinds<'a> {
         asks_nothing(self.problem, &self.kinds[self.places[pair] as usize])
     }
 
-    /// Whether `p` and `r` are asked nothing but distinct images without an edge: the copy is to be an induced one, no edge leads from one
-    /// to the other in either direction, and they share no neighbour. Cost: two steps.
+    /// Whether `p` and `r` are asked nothing but distinct images without an edge: the copy is to be an induced one, the target's edges are
+    /// known to stand both ways, no edge leads from `p` or `r` to the other, and they share no neighbour. Cost: two steps.
     pub fn is_bare(&self, p: u16, r: u16) -> bool
         requires p_in { p < size self.now.problem.pattern }
         requires r_in { r < size self.now.problem.pattern }
         requires apart { p ≡ r → ⊥ }
         ensures { IsTrue result → (t u : ℕ)
+            → t < size self.now.problem.target → u < size self.now.problem.target
             → AreConsistent self.now.problem p t r u
             ↔ ((t ≡ u → ⊥) × (is_neighbour self.now.problem.target t u ≡ false)) }
     {
         let pair = usize::from(p) * self.vertices + usize::from(r);
-        asks_no_edge(self.problem, &self.kinds[self.places[pair] as usize])
+        asks_no_edge(
+            self.problem,
+            &self.kinds[self.places[pair] as usize],
+            self.both_ways,
+        )
     }
 
     /// The neighbours of `t`, rising, where they are listed: in the induced kind, for a vertex with less than twice as many as a row has

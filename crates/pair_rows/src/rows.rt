@@ -2,16 +2,19 @@
 
 ghost use Rattle.std.specs.Prelude.{◌≡◌, ℕ, ◌<◌, ◌≤◌, ◌==◌, ◌↔◌, true, false, length, is_some, IsTrue, IfOk, IfSome, slice_index};
 ghost use Rattle.graph_theory.specs.Graph.{size};
-ghost use Rattle.graph_theory.specs.Neighbours.{is_neighbour};
+ghost use Rattle.graph_theory.specs.Neighbours.{common, is_neighbour};
+ghost use Rattle.graph_theory.specs.Reversed.{reversed};
 ghost use Rattle.graph_rows.specs.BitRow.{has, words_for};
 ghost use Rattle.graph_rows.specs.Held.{stands_in};
 ghost use Rattle.search_theory.specs.Consistency.{AreConsistent};
 ghost use Rattle.pair_rows.specs.Rows.{IsMade};
 ghost use Rattle.pair_rows.specs.Near.{is_listed};
 ghost use Rattle.pair_rows.specs.Held.{owns};
+ghost use Rattle.pair_rows.specs.Kinds.{AreShared};
 
-use crate::kinds::fill_block;
+use crate::kinds::{SharedCounts, fill_block};
 use crate::pair_kinds::PairKinds;
+use graph_theory::direction::reversed_laws;
 use std::alloc::{AllocError, Global};
 use std::marker::Model;
 
@@ -32,6 +35,7 @@ pub struct PairRows<'a> {
     owners: Vec<u16>,
     used: usize,
     counts: Vec<u16>,
+    in_counts: Vec<u16>,
     pool: Vec<u64>,
 }
 
@@ -43,7 +47,7 @@ impl<'a> Model for PairRows<'a> {
 
     ghost view = { λ r. record { problem = r.kinds.now.problem; made = made_in r.block_of.items r.owners.items } };
 
-    ghost invariant = { λ r. Held r.kinds.now.problem r.kinds.now.vertices r.kinds.now.width r.kinds.now.kinds r.kinds.now.places r.block_of.items r.owners.items r.counts.items r.pool.items r.kinds.now.counted };
+    ghost invariant = { λ r. Held r.kinds.now.problem r.kinds.now.vertices r.kinds.now.width r.kinds.now.kinds r.kinds.now.places r.block_of.items r.owners.items r.counts.items r.in_counts.items r.pool.items r.kinds.now.both_ways };
 }
 
 impl<'a> PairRows<'a> {
@@ -62,6 +66,7 @@ impl<'a> PairRows<'a> {
         let block_of = vec![in alloc; 0u32; size]?;
         let owners = vec![in alloc; NO_OWNER; blocks]?;
         let counts = vec![in alloc; 0u16; size]?;
+        let in_counts = vec![in alloc; 0u16; in_counts_for(kinds, size)]?;
         let pool = vec![in alloc; 0u64; blocks * block]?;
         Ok(PairRows {
             kinds,
@@ -69,14 +74,16 @@ impl<'a> PairRows<'a> {
             owners,
             used: 0,
             counts,
+            in_counts,
             pool,
         })
     }
 
     /// Makes the rows at `t`, unless they are made. They take the next free block; where there is none they take the last, and
     /// the vertex that had it has its rows no longer. It takes no memory. Cost where they are made already: two steps; else the counts
-    /// of `t`, and for each kind one step for each word of a row, with one for each neighbour of `t` where the kind has an edge, or for each
-    /// target vertex where it has none and shares neighbours.
+    /// of `t`, in both directions unless the target's edges are known to stand both ways, and for each kind one step for each word of a row,
+    /// with one for each neighbour of `t` in a direction that the kind has an edge in, or for each target vertex where it has none and
+    /// shares neighbours.
     pub fn make(&mut self, t: u16)
         requires t_in { t < size self.old.problem.target }
         ensures problem { self.new.problem ≡ self.old.problem }
@@ -87,12 +94,13 @@ impl<'a> PairRows<'a> {
             return;
         }
         let block = next_block(self.used, self.owners.len());
-        kinds.sharing.fill_counts(t, &mut self.counts);
+        count_shared(kinds, t, &mut self.counts, &mut self.in_counts);
+        let counts = shared_counts(kinds, t, &self.counts, &self.in_counts);
         fill_block(
             kinds.problem,
             &kinds.kinds,
             t,
-            &self.counts,
+            &counts,
             kinds.width,
             block * kinds.kinds.len(),
             &mut self.pool,
@@ -138,6 +146,7 @@ impl<'a> PairRows<'a> {
         requires r_in { r < size self.now.problem.pattern }
         requires apart { p ≡ r → ⊥ }
         ensures { IsTrue result → (t u : ℕ)
+            → t < size self.now.problem.target → u < size self.now.problem.target
             → AreConsistent self.now.problem p t r u
             ↔ ((t ≡ u → ⊥) × (is_neighbour self.now.problem.target t u ≡ false)) }
     {
@@ -154,6 +163,57 @@ impl<'a> PairRows<'a> {
             (λ us. (u : ℕ) → stands_in us.now u ≡ true → u < size self.now.problem.target) }
     {
         self.kinds.neighbours(t)
+    }
+}
+
+/// How many counts are kept of shared neighbours against the direction of edges: none where edges are known to stand both ways.
+fn in_counts_for(kinds: &PairKinds, size: usize) -> usize
+    ensures { kinds.now.both_ways ≡ false → result ≡ size }
+{
+    if kinds.both_ways { 0 } else { size }
+}
+
+/// Counts how many neighbours the other target vertices share with `t`, in both directions unless edges are known to stand both ways.
+fn count_shared(kinds: &PairKinds, t: u16, counts: &mut [u16], in_counts: &mut [u16])
+    requires t_in { t < size kinds.now.problem.target }
+    requires long { length counts.old ≡ size kinds.now.problem.target }
+    requires in_long { kinds.now.both_ways ≡ false
+        → length in_counts.old ≡ size kinds.now.problem.target }
+    ensures counted { (u : ℕ) → u < size kinds.now.problem.target → (t ≡ u → ⊥)
+        → slice_index counts.new u ≡ common kinds.now.problem.target t u }
+    ensures in_counted { kinds.now.both_ways ≡ false → (u : ℕ)
+        → u < size kinds.now.problem.target → (t ≡ u → ⊥)
+        → slice_index in_counts.new u ≡ common (reversed kinds.now.problem.target) t u }
+{
+    kinds.sharing.fill_counts(t, counts);
+    if !kinds.both_ways {
+        kinds.in_sharing.fill_counts(t, in_counts);
+    }
+}
+
+/// The counts in both directions, which are the same where edges are known to stand both ways.
+fn shared_counts<'a>(
+    kinds: &PairKinds,
+    t: u16,
+    counts: &'a [u16],
+    in_counts: &'a [u16],
+) -> SharedCounts<'a>
+    requires t_in { t < size kinds.now.problem.target }
+    requires long { length counts.now ≡ size kinds.now.problem.target }
+    requires in_long { kinds.now.both_ways ≡ false
+        → length in_counts.now ≡ size kinds.now.problem.target }
+    requires counted { (u : ℕ) → u < size kinds.now.problem.target → (t ≡ u → ⊥)
+        → slice_index counts.now u ≡ common kinds.now.problem.target t u }
+    requires in_counted { kinds.now.both_ways ≡ false → (u : ℕ)
+        → u < size kinds.now.problem.target → (t ≡ u → ⊥)
+        → slice_index in_counts.now u ≡ common (reversed kinds.now.problem.target) t u }
+    ensures { AreShared kinds.now.problem.target t result.out.now result.back.now result.both_ways }
+{
+    reversed_laws();
+    SharedCounts {
+        out: counts,
+        back: if kinds.both_ways { counts } else { in_counts },
+        both_ways: kinds.both_ways,
     }
 }
 

@@ -1,6 +1,6 @@
 -- Which guesses are among the changes that are told.
 
-use Rattle.std.proofs.Common.{◌≡◌, ℕ, List, [], ◌∷◌, Option, Some, None, sym, subst, ◌⊎◌, inl, inr}
+use Rattle.std.proofs.Common.{◌≡◌, ℕ, List, ◌∷◌, Option, Some, None, sym, subst, inl, inr}
 use Rattle.propagation.specs.declared.change.Cause.TheVariants as cause
 use Rattle.propagation.specs.Recording.{Change, LeftOne, LeftOthers, Took, MayTake, KeepsSame, IsAmong, HasGuess, NoNewGuess}
 

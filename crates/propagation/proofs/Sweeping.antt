@@ -10,6 +10,7 @@ use Rattle.search_theory.specs.Claims.{Single, Inside}
 use Rattle.search_theory.proofs.Pairs.{consistent_of}
 use Rattle.domain_bits.specs.Removals.{State, in_domain}
 use Rattle.domain_bits.specs.Changes.{Keeps}
+use Rattle.domain_bits.proofs.Sizes.{in_below}
 use Rattle.propagation.specs.Propagation.{Narrows, waits_at, waiting_count, work, HasValue, HasTwo, IsSame, Shrinks, Rests, NotesSize, Swept, Settling}
 use Rattle.propagation.proofs.Waiting.{flag_other, flag_here, count_raised, count_raised_again, single_moved, single_same}
 
@@ -107,10 +108,15 @@ images_pass q old p t r keeps p_in r_in other s row m e h =
     row (slice_index m r) (consistent_of q m p t r (slice_index m r) e p_in r_in other (s.only (slice_index m p) (h p p_in)) refl) (e.values r r_in)
 
 -- what is kept of a row of what is consistent is consistent
-pub kept_swept : (q : Problem) (old new : State) (p t r : ℕ) (keeps : ℕ → Bool) → Keeps old new r keeps
-    → ((u : ℕ) → keeps u ≡ true → AreConsistent q p t r u) → Swept true q new p t r
-kept_swept q old new p t r keeps k row = λ u other h. row u (second (in_domain old r u) (keeps u) (sym (k.kept u) ∙ h))
+pub kept_swept : (q : Problem) (old new : State) (p t r : ℕ) (keeps : ℕ → Bool) → old.values ≡ size q.target → Keeps old new r keeps
+    → ((u : ℕ) → u < size q.target → keeps u ≡ true → AreConsistent q p t r u) → Swept true q new p t r
+kept_swept q old new p t r keeps values k row = λ u other h.
+    row u (subst (λ (n : ℕ). u < n) values (in_below old r u (first (in_domain old r u) (keeps u) (sym (k.kept u) ∙ h)))) (second (in_domain old r u) (keeps u) (sym (k.kept u) ∙ h))
   where
+    first : (a b : Bool) → (a && b) ≡ true → a ≡ true
+    first true b h = refl
+    first false b h = cc
+
     second : (a b : Bool) → (a && b) ≡ true → b ≡ true
     second true b h = h
     second false b h = cc

@@ -77,9 +77,9 @@ stands_at (u ∷ us) (suc i) i_in = ap (λ (b : Bool). (u == get_or us i 0) || b
     second false = refl
 
 -- what is left is what goes together with p at t
-pub left_right : (q : Problem) (p t r : ℕ) (near : List ℕ) → ((u : ℕ) → AreConsistent q p t r u ↔ ((t ≡ u → ⊥) × (stands_in near u ≡ false)))
-    → (u : ℕ) → is_left t near u ≡ true → AreConsistent q p t r u
-left_right q p t r near asked u h = (asked u).1 (λ e. first (u == t) (not (stands_in near u)) h (eq-eqb u t (sym e)), second (not (u == t)) (stands_in near u) h)
+pub left_right : (q : Problem) (p t r : ℕ) (near : List ℕ) → ((u : ℕ) → u < size q.target → AreConsistent q p t r u ↔ ((t ≡ u → ⊥) × (stands_in near u ≡ false)))
+    → (u : ℕ) → u < size q.target → is_left t near u ≡ true → AreConsistent q p t r u
+left_right q p t r near asked u u_in h = (asked u u_in).1 (λ e. first (u == t) (not (stands_in near u)) h (eq-eqb u t (sym e)), second (not (u == t)) (stands_in near u) h)
   where
     first : (a b : Bool) → (not a && b) ≡ true → a ≡ true → ⊥
     first true b h e = cc
@@ -90,8 +90,8 @@ left_right q p t r near asked u h = (asked u).1 (λ e. first (u == t) (not (stan
     second true false h = refl
     second false b h = cc
 
-pub left_complete : (q : Problem) (p t r : ℕ) (near : List ℕ) → ((u : ℕ) → AreConsistent q p t r u ↔ ((t ≡ u → ⊥) × (stands_in near u ≡ false)))
+pub left_complete : (q : Problem) (p t r : ℕ) (near : List ℕ) → ((u : ℕ) → u < size q.target → AreConsistent q p t r u ↔ ((t ≡ u → ⊥) × (stands_in near u ≡ false)))
     → (u : ℕ) → AreConsistent q p t r u → u < size q.target → is_left t near u ≡ true
 left_complete q p t r near asked u consistent u_in =
-    let both = (asked u).0 consistent in
+    let both = (asked u u_in).0 consistent in
     ap (λ (b : Bool). not b && not (stands_in near u)) (ne_eqb u t (λ e. both.0 (sym e))) ∙ ap not both.1

@@ -2,7 +2,7 @@
 
 use Rattle.std.proofs.Common.{◌≡◌, ℕ, ◌<◌, ◌≤◌, Bool, true, false, ltb, List, [], ◌∷◌, ◌++◌, length, take, drop, cond, Result, Ok, Err, Option, Some, None, refl, sym, ap, ◌∙◌, subst, arith, length-append, ◌⊎◌, inl, inr}
 use Rattle.std.proofs.lemmas.Bool.{cases_lt, lt-ltb, ltb-true, true≢false}
-use Rattle.std.proofs.lemmas.List.{append-nil, get_or_append_left, take-append-le, take-append-drop, take-take, take_all, length-take-le}
+use Rattle.std.proofs.lemmas.List.{append-nil, take-append-le, take-append-drop, take-take, take_all, length-take-le}
 use Rattle.std.specs.Result.{IfErr}
 use Rattle.graph_theory.specs.Embedding.{Problem}
 use Rattle.domain_bits.specs.Removals.{State, in_domain, full, undone}

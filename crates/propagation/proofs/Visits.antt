@@ -108,7 +108,7 @@ gone_inconsistent q old new p t r keeps values k complete x u here gone =
 -- a domain of which the consistent values are kept
 pub sweeps_narrowed : (answer : Bool) (q : Problem) (old new : State) (before after : List Bool) (p t r : ℕ) (keeps : ℕ → Bool) → old.values ≡ size q.target → p < size q.pattern → r < size q.pattern → (p ≡ r → ⊥)
     → r < length before → Single (in_domain old) p t → changes.Keeps old new r keeps → NotesSize answer new before after r → length new.removed ≤ new.vertices * new.values
-    → ((u : ℕ) → keeps u ≡ true → AreConsistent q p t r u) → ((u : ℕ) → AreConsistent q p t r u → u < size q.target → keeps u ≡ true)
+    → ((u : ℕ) → u < size q.target → keeps u ≡ true → AreConsistent q p t r u) → ((u : ℕ) → AreConsistent q p t r u → u < size q.target → keeps u ≡ true)
     → (waits_at before r ≡ true) ⊎ ((u : ℕ) → Single (in_domain old) r u → ⊥) → Sweeps answer q old before new after p t r
 sweeps_narrowed answer q old new before after p t r keeps values p_in r_in other flag s k notes bounded right complete undecided = record {
   narrows = narrows;
@@ -122,7 +122,7 @@ sweeps_narrowed answer q old new before after p t r keeps values p_in r_in other
     narrows = narrows_keeps q old new r keeps k (images_pass q old p t r keeps p_in r_in other s complete)
 
     by_answer : (b : Bool) → NotesSize b new before after r → Swept b q new p t r
-    by_answer true n = kept_swept q old new p t r keeps k right
+    by_answer true n = kept_swept q old new p t r keeps values k right
     by_answer false n = n.0
 
 -- a domain from which t was taken, where p and r are asked nothing but distinct images
@@ -132,8 +132,8 @@ pub sweeps_taken : (answer : Bool) (q : Problem) (old new : State) (before after
     → (waits_at before r ≡ true) ⊎ ((u : ℕ) → Single (in_domain old) r u → ⊥) → Sweeps answer q old before new after p t r
 sweeps_taken answer q old new before after p t r values p_in r_in other flag s k taken bounded free undecided = by_taken taken
   where
-    right : (u : ℕ) → not (u == t) ≡ true → AreConsistent q p t r u
-    right u passes = free t u (λ same. not_both (u == t) (passed (u == t) passes) (eq-eqb u t (sym same)))
+    right : (u : ℕ) → u < size q.target → not (u == t) ≡ true → AreConsistent q p t r u
+    right u u_in passes = free t u (λ same. not_both (u == t) (passed (u == t) passes) (eq-eqb u t (sym same)))
       where
         passed : (b : Bool) → not b ≡ true → b ≡ false
         passed true h = cc
@@ -146,7 +146,7 @@ sweeps_taken answer q old new before after p t r values p_in r_in other flag s k
     by_taken (inr (here, notes)) = sweeps_narrowed answer q old new before after p t r (λ v. not (v == t)) values p_in r_in other flag s k notes bounded right complete undecided
     by_taken (inl (told, same, flags)) = record {
       narrows = narrows_keeps q old new r (λ v. not (v == t)) k (images_pass q old p t r (λ v. not (v == t)) p_in r_in other s complete);
-      swept = subst (λ (b : Bool). Swept b q new p t r) (sym told) (kept_swept q old new p t r (λ v. not (v == t)) k right);
+      swept = subst (λ (b : Bool). Swept b q new p t r) (sym told) (kept_swept q old new p t r (λ v. not (v == t)) values k right);
       own = λ v. k.shrinks.others p v other;
       gone = gone_inconsistent q old new p t r (λ v. not (v == t)) values k complete;
       shrinks = λ _. shrinks_same q old new before after same flags bounded;

@@ -131,7 +131,7 @@ fn near_alone<'a>(rows: &'a PairRows, p: u16, t: u16, r: u16) -> Option<&'a [u16
     requires r_in { r < size rows.now.problem.pattern }
     requires apart { p ≡ r → ⊥ }
     ensures asked { IfSome result
-        (λ us. (u : ℕ) → AreConsistent rows.now.problem p t r u
+        (λ us. (u : ℕ) → u < size rows.now.problem.target → AreConsistent rows.now.problem p t r u
         ↔ ((t ≡ u → ⊥) × (stands_in us.now u ≡ false))) }
     ensures within { IfSome result
         (λ us. (u : ℕ) → stands_in us.now u ≡ true → u < size rows.now.problem.target) }

@@ -5,19 +5,19 @@ use Rattle.std.proofs.lemmas.Bool.{cases_eq}
 use Rattle.graph_theory.specs.Graph.{size}
 use Rattle.graph_theory.specs.Embedding.{Problem}
 use Rattle.search_theory.specs.Claims.{Single, Quiet}
-use Rattle.graph_theory.specs.Neighbours.{degree}
 use Rattle.domain_bits.specs.Removals.{State, in_domain, size_of}
 use Rattle.sparse_set.specs.Removals as sparse
 use Rattle.propagation.specs.Propagation.{IsOf, LeavesPast}
 use Rattle.propagation.proofs.Walking.{Lists, each_number}
 use Rattle.propagation.proofs.Past.{past_single, no_member_past}
+use Rattle.restart_search.specs.Degrees.{either_degree}
 use Rattle.restart_search.specs.Searching.{IsBest, IsNextBest, IsUndecided, ComesFirst}
 
 -- ---- the order
 
 -- what comes before a vertex that comes before another comes before that one
 comes_on : (q : Problem) (d : State) (s p r : ℕ) → ComesFirst q d p r → ComesFirst q d s p → ComesFirst q d s r
-comes_on q d s p r h k = by_sizes (size_of d s) (size_of d p) (size_of d r) (degree q.pattern s) (degree q.pattern p) (degree q.pattern r) h k
+comes_on q d s p r h k = by_sizes (size_of d s) (size_of d p) (size_of d r) (either_degree q.pattern s) (either_degree q.pattern p) (either_degree q.pattern r) h k
   where
     by_sizes : (a b c x y z : ℕ) → (b < c) ⊎ ((b ≡ c) × ((z < y) ⊎ ((y ≡ z) × (p < r)))) → (a < b) ⊎ ((a ≡ b) × ((y < x) ⊎ ((x ≡ y) × (s < p))))
         → (a < c) ⊎ ((a ≡ c) × ((z < x) ⊎ ((x ≡ z) × (s < r))))

@@ -4,6 +4,7 @@ pub mod Closing
 pub mod Beginning
 pub mod Steps
 pub mod Choosing
+pub mod EitherWay
 pub mod Moments
 pub mod Positions
 pub mod Publishing

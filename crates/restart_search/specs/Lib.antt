@@ -4,3 +4,4 @@ pub mod Sharing
 pub mod Logging
 pub mod Positions
 pub mod Working
+pub mod Degrees

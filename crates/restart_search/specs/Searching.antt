@@ -7,7 +7,6 @@ use Rattle.search_theory.specs.Claims.{NoneInside, Single, Stands, Pins, Quiet}
 use Rattle.search_theory.specs.Consistency.{IsFirstValue}
 use Rattle.search_theory.specs.Bounds.{enough}
 use Rattle.search_theory.specs.Account.{Account, path, Honest, Spends}
-use Rattle.graph_theory.specs.Neighbours.{degree}
 use Rattle.domain_bits.specs.Removals.{State, in_domain, size_of, undone}
 use Rattle.sparse_set.specs.Removals as sparse
 use Rattle.all_different.specs.Prefixes.{Balanced}
@@ -23,6 +22,7 @@ use Rattle.worker_gate.specs.Answers.{AnswerView, NoteView}
 use Rattle.nogood_book.specs.declared.row.Row.{Row}
 use Rattle.propagation.specs.Acting.{AreActedOn}
 use Rattle.restart_search.specs.Acting.{Acting}
+use Rattle.restart_search.specs.Degrees.{either_degree}
 use Rattle.restart_search.specs.Sharing.{RowsInForce, KeepsUp}
 use Rattle.restart_search.specs.Logging.{IsTold}
 use Rattle.restart_search.specs.declared.root.Rooted.{Rooted}
@@ -125,9 +125,9 @@ Leaves NoMemory P = Unit {0}
 abbrev pub IsUndecided : State → ℕ → Type 0
 IsUndecided d p = (p < d.vertices) × ((t : ℕ) → Single (in_domain d) p t → ⊥)
 
--- Vertex p comes before r: its domain is smaller, or as large and its degree greater, or these are alike and its number is less.
+-- Vertex p comes before r: its domain is smaller, or as large and its neighbours in either direction more, or these are alike and its number is less.
 abbrev pub ComesFirst : Problem → State → ℕ → ℕ → Type 0
-ComesFirst q d p r = (size_of d p < size_of d r) ⊎ ((size_of d p ≡ size_of d r) × ((degree q.pattern r < degree q.pattern p) ⊎ ((degree q.pattern p ≡ degree q.pattern r) × (p < r))))
+ComesFirst q d p r = (size_of d p < size_of d r) ⊎ ((size_of d p ≡ size_of d r) × ((either_degree q.pattern r < either_degree q.pattern p) ⊎ ((either_degree q.pattern p ≡ either_degree q.pattern r) × (p < r))))
 
 -- Vertex p is undecided, and no undecided vertex comes before it.
 pub record IsFirstUndecided (q : Problem) (d : State) (p : ℕ) : Type 0 where

@@ -10,6 +10,7 @@
 //! 2019).
 #![tactic(auto)]
 
+mod degrees;
 pub mod outcome;
 pub mod position;
 mod restarting;

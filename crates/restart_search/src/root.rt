@@ -13,9 +13,8 @@ ghost use Rattle.propagation.specs.Telling.{Fails, IsEmptied, Tells, TellsOn};
 ghost use Rattle.restart_search.specs.Searching.{Begins, Roots, RootSays};
 
 use domain_bits::{Domains, Trail};
-use first_rows::fill_first;
+use first_rows::{FirstRows, fill_first};
 use graph_rows::Problem;
-use nds_filter::KeptRows;
 use pair_rows::PairKinds;
 use propagation::{Failure, Filters, Recorder, narrow_first, propagate};
 use sparse_set::SparseSet;
@@ -36,7 +35,7 @@ pub enum Rooted<T: Trail, R: Recorder> {
 #[derive(Drop)]
 struct FirstRoom<'a> {
     /// What is kept of the problem's vertices for `fill_first`.
-    kept: KeptRows<'a>,
+    kept: FirstRows<'a>,
     /// The row that a first domain is written to.
     row: Vec<u64>,
 }
@@ -44,7 +43,7 @@ struct FirstRoom<'a> {
 /// Leaves each vertex its first domain; fails where one is empty. Cost: for each vertex that of `fill_first`, and the values that leave.
 fn begin<T: Trail, R: Recorder>(
     q: &Problem,
-    kept: &KeptRows,
+    kept: &FirstRows,
     d: &mut Domains<T>,
     waiting: &mut [bool],
     told: &mut R,
@@ -98,7 +97,7 @@ fn settle_root<T: Trail, R: Recorder>(
 }
 
 /// The first domains and what follows from them, with at most so many words of rows of pairs; all changes are told. Cost: that of
-/// `KeptRows::new`, for each vertex that of `fill_first`, and the propagation.
+/// `FirstRows::new`, for each vertex that of `fill_first`, and the propagation.
 pub fn root<T: Trail, R: Recorder>(
     alloc: Global,
     q: &Problem,
@@ -137,7 +136,7 @@ fn take_root<T: Trail, R: Recorder>(
     let mut waiting = vec![in alloc; false; usize::from(vertices)]?;
     let mut undecided = SparseSet::new(alloc, vertices)?;
     let row = vec![in alloc; 0u64; (usize::from(values) + 63) / 64]?;
-    let kept = KeptRows::new(alloc, q)?;
+    let kept = FirstRows::new(alloc, q)?;
     let mut first = FirstRoom { kept, row };
     let mut filters = Filters::new(alloc, q, kinds, most)?;
     match settle_root(

@@ -1,4 +1,4 @@
-//! The choice of a value among those that are untried: biased to the values of great degree in the target, or uniform.
+//! The choice of a value among those that are untried: biased to the values of many neighbours in the target, or uniform.
 //!
 //! The bias sends all workers into the same values first, where they refute the same before they have read of each other. So every other
 //! worker gives all values the same weight: two workers beside each other begin apart, and what each publishes is new to the other.
@@ -12,6 +12,7 @@ ghost use Rattle.domain_bits.specs.BitRows.{has, words_for};
 ghost use Rattle.domain_bits.specs.Removals.{in_domain};
 ghost use Rattle.search_theory.specs.Account.{path, NotAmong};
 
+use crate::degrees::either_degree;
 use biased_choice::Chooser;
 use domain_bits::{Domains, Trail, and_not_into};
 use fail_account::Account;
@@ -19,8 +20,8 @@ use graph_rows::Problem;
 use std::alloc::{AllocError, Global};
 use std::marker::Model;
 
-/// What a worker chooses values with: the degree that it weighs each target vertex by, and its stream of words. Contracts see how many
-/// target vertices there are.
+/// What a worker chooses values with: the degree that it weighs each target vertex by, which is the number of its neighbours in either
+/// direction, and its stream of words. Contracts see how many target vertices there are.
 #[derive(Drop)]
 pub struct ValueChoice {
     degrees: Vec<u16>,
@@ -45,8 +46,8 @@ fn weighed(worker: u8, degree: u16) -> u16
 
 impl ValueChoice {
     /// The choice of the worker of this number, from 1, whose stream is that of the seed after as many jumps as there are workers before
-    /// it: biased where the number is odd, and uniform where it is even. Cost: one step for each target vertex, and for each jump some
-    /// hundred.
+    /// it: biased where the number is odd, and uniform where it is even. Cost: one step for each target vertex, where edges are not known to
+    /// stand both ways one for each word of a row, and for each jump some hundred.
     pub fn new(alloc: Global, q: &Problem, seed: u64, worker: u8) -> Result<ValueChoice, AllocError>
         requires { 1 ≤ worker }
         ensures { IfOk result (λ v. v ≡ size q.now.target) }
@@ -54,7 +55,7 @@ impl ValueChoice {
         let target = q.target();
         let mut degrees = Vec::new(alloc);
         for t in 0..target.size() {
-            degrees.push(weighed(worker, target.degree(t)))?;
+            degrees.push(weighed(worker, either_degree(target, t)))?;
         }
         let chooser = Chooser::new(seed, u32::from(worker));
         Ok(ValueChoice { degrees, chooser })

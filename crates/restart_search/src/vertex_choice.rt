@@ -1,4 +1,4 @@
-//! The choice of the vertex to guess a value for: the smallest domain first, and the greatest degree among equals.
+//! The choice of the vertex to guess a value for: the smallest domain first, and the most neighbours in either direction among equals.
 
 ghost use Rattle.std.specs.Prelude.{◌≡◌, ℕ, ◌<◌, true, false, None, IfSome, IfNone};
 ghost use Rattle.graph_theory.specs.Graph.{size};
@@ -9,13 +9,14 @@ ghost use Rattle.search_theory.specs.Claims.{Single, Quiet};
 ghost use Rattle.propagation.specs.Propagation.{IsOf, LeavesPast};
 ghost use Rattle.restart_search.specs.Searching.{AtRest, IsBest, IsFirstUndecided, IsNextBest, ComesFirst, IsUndecided};
 
+use crate::degrees::either_degree;
 use domain_bits::{Domains, Trail};
 use fail_account::Account;
 use graph_rows::Problem;
 use sparse_set::SparseSet;
 
-/// The vertex with the smallest domain of more than one value; of these the one of the greatest degree, and then the
-/// least. Cost: one step for each vertex that is not past.
+/// The vertex with the smallest domain of more than one value; of these the one of the most neighbours in either direction, and then
+/// the least. Cost: one step for each vertex that is not past.
 fn smallest<T: Trail>(q: &Problem, d: &Domains<T>, undecided: &SparseSet) -> Option<u16>
     requires is_of { IsOf q.now d.now }
     requires quiet { Quiet q.now (in_domain d.now) }
@@ -59,7 +60,8 @@ fn first_of<T: Trail>(q: &Problem, d: &Domains<T>, p: u16, best: Option<u16>) ->
     }
 }
 
-/// Whether `p` has a smaller domain than `r`, or an equal one and a greater degree, or these alike and the lesser number.
+/// Whether `p` has a smaller domain than `r`, or an equal one and more neighbours in either direction, or these alike and the lesser
+/// number.
 fn comes_first<T: Trail>(q: &Problem, d: &Domains<T>, p: u16, r: u16) -> bool
     requires is_of { IsOf q.now d.now }
     requires p_in { p < size q.now.pattern }
@@ -72,8 +74,8 @@ fn comes_first<T: Trail>(q: &Problem, d: &Domains<T>, p: u16, r: u16) -> bool
     if size != least {
         return size < least;
     }
-    let degree = q.pattern().degree(p);
-    let greatest = q.pattern().degree(r);
+    let degree = either_degree(q.pattern(), p);
+    let greatest = either_degree(q.pattern(), r);
     degree > greatest || (degree == greatest && p < r)
 }
 

@@ -1,4 +1,4 @@
-use Rattle.std.proofs.Common.{◌≡◌, ℕ, ◌-◌, ◌*◌, ◌<◌, ◌≤◌, true, length}
+use Rattle.std.proofs.Common.{◌≡◌, ◌-◌, ◌*◌, ◌<◌, ◌≤◌, true, length}
 use Rattle.graph_theory.specs.Embedding.{Allowed}
 use Rattle.graph_rows.specs.BitRow.{has}
 use Rattle.bit_rows.proofs.Sifted.{SiftedBelow}

@@ -1,6 +1,5 @@
-use Rattle.std.proofs.Common.{◌≡◌, ◌+◌, refl, ap, arith}
+use Rattle.std.proofs.Common.{◌+◌, refl, arith}
 use Rattle.std.proofs.lemmas.Bool.{iff_false}
-use Rattle.graph_theory.specs.Graph.{size}
 use Rattle.bit_rows.proofs.Filled.{FilledBelow, filled_more, filled_same}
 use Rattle.pair_rows.specs.Kinds.{Joins}
 use Rattle.pair_rows.proofs.ByWords.{apart_joins_not, filled_skip, near_whole}
@@ -9,7 +8,6 @@ use Rattle.pair_rows.proofs.kinds.fill_near.Goals.{then-joins, else-joins}
 
 pub loop-u-preserved : goal.loop-u-preserved
 loop-u-preserved c =
-    let same : c.target-target.result.now ≡ c.args.q.now.target = c.target-target.ensures.target in
     let here : FilledBelow (Joins c.args.q.now c.args.kind.now c.args.t) (c.loop-u.u + 1) c.if-joins.row =
     (elim c.if-joins.branch [
       | then-joins w ↦ filled_more (Joins c.args.q.now c.args.kind.now c.args.t) c.loop-u.u c.loop-u.u c.loop-u.row _ c.if-joins.row c.loop-u.invariant.filled w.row-is
@@ -19,15 +17,13 @@ loop-u-preserved c =
     ]) in
     record {
       filled = filled_skip (Joins c.args.q.now c.args.kind.now c.args.t) (c.loop-u.u + 1) c.next_member-u-in-loop-u.result c.if-joins.row here c.next_member-u-in-loop-u.ensures.low
-          (λ v low high. apart_joins_not c.args.q.now c.args.kind.now c.row-near.result.now c.args.t v (rw (← same) c.neighbours_are_mutual.ensures) c.requires.edge
-          (rw (← same) c.row-near.ensures.neighbours) (c.next_member-u-in-loop-u.ensures.none v low high));
+          (λ v low high. apart_joins_not c.args.q.now c.args.kind.now c.near_row-near.result.now c.args.t v c.near_row-near.ensures.near
+          (c.next_member-u-in-loop-u.ensures.none v low high));
       within = c.next_member-u-in-loop-u.ensures.high;
       member = c.next_member-u-in-loop-u.ensures.member;
     }
 
 pub returns : goal.returns
 returns c =
-    let same : c.target-target.result.now ≡ c.args.q.now.target = c.target-target.ensures.target in
-    near_whole c.args.q.now c.args.kind.now c.row-near.result.now c.loop-u.row c.args.t c.loop-u.u (rw (← same) c.neighbours_are_mutual.ensures) c.requires.edge
-    (rw (← same) c.row-near.ensures.neighbours) (rw (← same) c.row-near.ensures.within)
-    (omega (arith, ap size same, c.row-near.ensures.long, c.loop-u-test.false)) c.loop-u.invariant.filled
+    near_whole c.args.q.now c.args.kind.now c.near_row-near.result.now c.loop-u.row c.args.t c.loop-u.u c.near_row-near.ensures.near c.near_row-near.ensures.within
+    (omega (arith, c.near_row-near.ensures.long, c.loop-u-test.false)) c.loop-u.invariant.filled

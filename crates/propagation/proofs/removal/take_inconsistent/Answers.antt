@@ -16,4 +16,4 @@ returns-in-Some g c =
 pub returns-in-None : goal.returns-in-None
 returns-in-None g c =
     sweeps_narrowed _ _ _ _ _ _ _ _ _ _ c.requires.is_of.values_is c.requires.p_in c.requires.r_in c.requires.apart (omega (arith, c.requires.long, c.requires.r_in)) c.requires.single
-    c.narrow.ensures.keeps c.narrow.ensures.notes c.narrow.ensures.bounded c.row.ensures.right c.row.ensures.complete c.requires.undecided
+    c.narrow.ensures.keeps c.narrow.ensures.notes c.narrow.ensures.bounded (λ u u_in h. c.row.ensures.right u h) c.row.ensures.complete c.requires.undecided

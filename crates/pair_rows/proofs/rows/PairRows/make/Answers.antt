@@ -14,42 +14,41 @@ returns-then-is_owner-clause-made c =
     subst (λ (x : Rows). IsMade x c.args.t) c.self.view_is
     (owns_made c.self.inside.block_of.items c.self.inside.owners.items c.args.t (omega (arith, t_in, c.self.invariant.block_of_are)) ∙ owned)
 
-pub fill_block-requires-clause-plain : goal.fill_block-requires-clause-plain
-fill_block-requires-clause-plain c = c.kinds.invariant.0.plain
-
 pub fill_block-requires-clause-room : goal.fill_block-requires-clause-room
 fill_block-requires-clause-room c =
-    let held = subst (λ (x : Shape). Held x.problem x.vertices x.width x.kinds x.places c.self.inside.block_of.items c.self.inside.owners.items c.self.inside.counts.items c.self.inside.pool.items
-    x.counted) (sym c.kinds.view_is) c.self.invariant in
+    let held = subst (λ (x : Shape). Held x.problem x.vertices x.width x.kinds x.places c.self.inside.block_of.items c.self.inside.owners.items c.self.inside.counts.items c.self.inside.in_counts.items c.self.inside.pool.items
+    x.both_ways) (sym c.kinds.view_is) c.self.invariant in
     room_given c.kinds.inside.problem.now c.kinds.inside.vertices c.kinds.inside.width c.kinds.inside.kinds.items c.kinds.inside.places.items c.self.inside.block_of.items
-    c.self.inside.owners.items c.self.inside.counts.items c.self.inside.pool.items c.kinds.inside.sharing held c.next_block-block.result c.len-2.result c.deref-3.result.now
-    c.deref_mut-2.result.now (omega (arith, c.next_block-block.ensures, c.len.ensures, c.self.inside.owners.ok)) (omega (arith, c.len-2.ensures, c.kinds.inside.kinds.ok))
-    c.deref-3.ensures.value c.deref_mut-2.ensures.value
+    c.self.inside.owners.items c.self.inside.counts.items c.self.inside.in_counts.items c.self.inside.pool.items c.kinds.inside.both_ways held c.next_block-block.result c.len-2.result c.deref-5.result.now
+    c.deref_mut-3.result.now (omega (arith, c.next_block-block.ensures, c.len.ensures, c.self.inside.owners.ok)) (omega (arith, c.len-2.ensures, c.kinds.inside.kinds.ok))
+    c.deref-5.ensures.value c.deref_mut-3.ensures.value
 
 pub invariant_of-self : goal.invariant_of-self
 invariant_of-self c =
     let f = c.self.inside in
     let k = c.kinds.inside in
-    let held = subst (λ (x : Shape). Held x.problem x.vertices x.width x.kinds x.places f.block_of.items f.owners.items f.counts.items f.pool.items x.counted) (sym c.kinds.view_is) c.self.invariant in
+    let held = subst (λ (x : Shape). Held x.problem x.vertices x.width x.kinds x.places f.block_of.items f.owners.items f.counts.items f.in_counts.items f.pool.items x.both_ways) (sym c.kinds.view_is) c.self.invariant in
     let t_at : c.args.t < size f.kinds.now.problem.target = subst (λ (x : Rows). c.args.t < size x.problem.target) (sym c.self.view_is) c.requires.t_in in
     let t_in : c.args.t < size k.problem.now.target = subst (λ (x : Shape). c.args.t < size x.problem.target) (sym c.kinds.view_is) t_at in
     let b_in : c.next_block-block.result < length f.owners.items = omega (arith, c.next_block-block.ensures, c.len.ensures, f.owners.ok) in
-    let counts_long : length c.fill_counts.new.counts ≡ length f.counts.items = c.fill_counts.auto.counts ∙ ap length c.deref_mut.ensures.value in
-    let pool_long : length c.fill_block.new.pool ≡ length f.pool.items = c.fill_block.auto.pool ∙ ap length c.deref_mut-2.ensures.value in
+    let counts_long : length c.count_shared.new.counts ≡ length f.counts.items = c.count_shared.auto.counts ∙ ap length c.deref_mut.ensures.value in
+    let in_counts_long : length c.count_shared.new.in_counts ≡ length f.in_counts.items = c.count_shared.auto.in_counts ∙ ap length c.deref_mut-2.ensures.value in
+    let pool_long : length c.fill_block.new.pool ≡ length f.pool.items = c.fill_block.auto.pool ∙ ap length c.deref_mut-3.ensures.value in
     let len_is : c.len-2.result ≡ length k.kinds.items = omega (arith, c.len-2.ensures, k.kinds.ok) in
     rw (
       c.from.ensures,
-      whole_after f.counts.len f.counts.items c.fill_counts.new.counts (omega (arith, f.counts.ok)) counts_long,
+      whole_after f.counts.len f.counts.items c.count_shared.new.counts (omega (arith, f.counts.ok)) counts_long,
+      whole_after f.in_counts.len f.in_counts.items c.count_shared.new.in_counts (omega (arith, f.in_counts.ok)) in_counts_long,
       whole_after f.pool.len f.pool.items c.fill_block.new.pool (omega (arith, f.pool.ok)) pool_long,
     )
     (subst (λ (x : Shape). Held x.problem x.vertices x.width x.kinds x.places (set f.block_of.items c.args.t c.next_block-block.result) (set f.owners.items c.next_block-block.result c.args.t)
-    c.fill_counts.new.counts c.fill_block.new.pool x.counted) c.kinds.view_is
-    (held_more k.problem.now k.vertices k.width k.kinds.items k.places.items f.block_of.items f.owners.items f.counts.items f.pool.items k.sharing held c.args.t
-    c.next_block-block.result c.fill_counts.new.counts c.fill_block.new.pool t_in b_in counts_long pool_long
-    (λ i. row_named k.problem.now k.width c.args.t i c.next_block-block.result c.len-2.result c.deref-3.result.now k.kinds.items c.fill_block.new.pool c.deref-3.ensures.value len_is
+    c.count_shared.new.counts c.count_shared.new.in_counts c.fill_block.new.pool x.both_ways) c.kinds.view_is
+    (held_more k.problem.now k.vertices k.width k.kinds.items k.places.items f.block_of.items f.owners.items f.counts.items f.in_counts.items f.pool.items k.both_ways held c.args.t
+    c.next_block-block.result c.count_shared.new.counts c.count_shared.new.in_counts c.fill_block.new.pool t_in b_in counts_long in_counts_long pool_long
+    (λ i. row_named k.problem.now k.width c.args.t i c.next_block-block.result c.len-2.result c.deref-5.result.now k.kinds.items c.fill_block.new.pool c.deref-5.ensures.value len_is
     (c.fill_block.ensures.rows i))
-    (stay_named k.width c.next_block-block.result c.len-2.result c.deref-3.result.now k.kinds.items c.deref_mut-2.result.now f.pool.items c.fill_block.new.pool c.deref-3.ensures.value len_is
-    c.deref_mut-2.ensures.value c.fill_block.ensures.others)))
+    (stay_named k.width c.next_block-block.result c.len-2.result c.deref-5.result.now k.kinds.items c.deref_mut-3.result.now f.pool.items c.fill_block.new.pool c.deref-5.ensures.value len_is
+    c.deref_mut-3.ensures.value c.fill_block.ensures.others)))
 
 pub returns-clause-made : goal.returns-clause-made
 returns-clause-made c =
