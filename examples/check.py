@@ -1,5 +1,5 @@
 #!/usr/bin/env python3
-"""Compares each answer in the pages of the examples, of the formats and of Python with what the program prints today.
+"""Compares each answer in README and in the pages of the examples, of the formats and of Python with what the program prints today.
 
     examples/check.py [--program PROGRAM] [--write] [PAGE ..]
 
@@ -24,7 +24,9 @@ TOP = Path(__file__).resolve().parent.parent
 INDENT = "    "
 COMMAND = f"{INDENT}$ "
 #: Further pages with commands.
-PAGES = ("docs/FORMATS.md", "python/README.md")
+PAGES = ("README.md", "docs/FORMATS.md", "python/README.md")
+#: Behind these words stands a file that the command writes.
+WRITTEN = ("--prove", "--log")
 LIBRARIES = {".smi": "rdkit", ".gml": "networkx", ".graphml": "networkx"}
 
 
@@ -50,7 +52,10 @@ def answer(command: str, program: str, folder: str) -> Tuple[Optional[str], str]
         split[0] = sys.executable
     else:
         return None, "it is no command of this repository"
-    split = [os.path.join(folder, it) if os.path.exists(os.path.join(folder, it)) else it for it in split]
+    for at, word in enumerate(split):
+        inside = os.path.join(folder, word)
+        if os.path.exists(inside) or (at > 0 and split[at - 1] in WRITTEN):
+            split[at] = inside
     environment = {**os.environ, "PYTHONPATH": str(TOP / "python"), "SUBGRAPH_PROGRAM": program}
     done = subprocess.run(split, cwd=TOP, env=environment, capture_output=True, text=True, timeout=120)
     if found:

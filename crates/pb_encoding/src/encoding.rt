@@ -3,7 +3,6 @@
 
 ghost use Rattle.std.specs.Prelude.{◌≡◌, ◌<◌, ◌≤◌, ◌+◌, ◌-◌, ◌*◌, ◌^◌, true, length, slice_get, is_some, IfOk, IfSome, Some};
 ghost use Rattle.graph_theory.specs.Graph.{size};
-ghost use Rattle.graph_theory.specs.Plain.{ArePlain};
 ghost use Rattle.encoding_theory.specs.Variables.{variables as variables_of};
 ghost use Rattle.encoding_theory.specs.Pairs.{is_edge_pair, is_non_edge_pair};
 ghost use Rattle.encoding_theory.specs.Encoding.{encoding as encoding_of, at_least as at_least_form, at_most as at_most_form, at_most_target as at_most_target_form, is_refused, refusal, pair_form};
@@ -31,14 +30,13 @@ pub struct Encoding<'a> {
 
 impl<'a> Model for Encoding<'a> {
     ghost use Rattle.graph_theory.specs.Embedding.{Problem as TheProblem};
-    ghost use Rattle.graph_theory.specs.Plain.{ArePlain};
     ghost use Rattle.pb_encoding.specs.Numbers.{IsKept};
 
     ghost Value = { TheProblem };
 
     ghost view = { λ e. e.problem.now };
 
-    ghost invariant = { λ e. IsKept e.problem.now e.vertices e.targets e.refused.items e.edges.items e.non_edges.items × ArePlain e.problem.now };
+    ghost invariant = { λ e. IsKept e.problem.now e.vertices e.targets e.refused.items e.edges.items e.non_edges.items };
 }
 
 /// The number of a line: so many lines before its group, so many pairs before its own with a line for each target
@@ -63,10 +61,9 @@ fn lines_of(pairs: &[u32], targets: u32) -> u64
 }
 
 impl<'a> Encoding<'a> {
-    /// The encoding of a problem of graphs without directions. Cost: one test for each pair of a pattern vertex and a target vertex, and
-    /// two for each pair of pattern vertices.
+    /// The encoding of a problem. Cost: one test for each pair of a pattern vertex and a target vertex, and two for each
+    /// pair of pattern vertices.
     pub fn new(alloc: Global, q: &'a Problem) -> Result<Encoding<'a>, AllocError>
-        requires { ArePlain q.now }
         ensures { IfOk result (λ e. e ≡ q.now) }
     {
         let vertices = u32::from(q.pattern().size());
@@ -82,13 +79,6 @@ impl<'a> Encoding<'a> {
             edges,
             non_edges,
         })
-    }
-
-    /// The problem's graphs have no directions. It changes nothing; the fact is what it is called for.
-    pub fn graphs_are_plain(&self)
-        ensures { ArePlain self.now }
-    {
-        let _targets = self.targets;
     }
 
     /// The number of variables.
@@ -152,8 +142,8 @@ impl<'a> Encoding<'a> {
         }
     }
 
-    /// The number of the line of `p` and `r`, two vertices with an edge between them, where `p` goes to `t`. Cost:
-    /// logarithmic.
+    /// The number of the line of `p` and `r`, two vertices with an edge between them in either direction, where `p` goes
+    /// to `t`. Cost: logarithmic.
     pub fn edge(&self, p: u16, r: u16, t: u16) -> u64
         requires p_in { p < size self.now.pattern }
         requires r_in { r < size self.now.pattern }

@@ -18,7 +18,8 @@ pub(crate) fn is_refused(q: &Problem, p: u16, t: u16) -> bool
     !q.allowed(p, t)
 }
 
-/// Whether `u` is right for `r` where `p` goes to `t`. Cost: four words.
+/// Whether `u` is right for `r` where `p` goes to `t`. Cost: four words, and with labels of edges those of two edges and
+/// their images.
 pub(crate) fn is_compatible(q: &Problem, p: u16, t: u16, r: u16, u: u16) -> bool
     requires p_in { p < size q.now.pattern }
     requires t_in { t < size q.now.target }
@@ -30,7 +31,7 @@ pub(crate) fn is_compatible(q: &Problem, p: u16, t: u16, r: u16, u: u16) -> bool
     q.compatible(p, t, r, u)
 }
 
-/// Whether the two vertices have an edge between them. Cost: two words.
+/// Whether the two vertices have an edge between them, in either direction. Cost: two words.
 pub(crate) fn is_edge_pair(q: &Problem, p: u16, r: u16) -> bool
     requires p_in { p < size q.now.pattern }
     requires r_in { r < size q.now.pattern }

@@ -1,7 +1,8 @@
 //! The terms of a line, and the constraint that they make.
 
-ghost use Rattle.std.specs.Prelude.{◌≡◌, ◌<◌, ◌≤◌, ◌+◌, ◌*◌, ◌^◌, ◌++◌, ◌∷◌, [], ℕ, ℤ, true, is_some, pos, negsuc, unsigned_abs, IfOk, OnOk};
-ghost use Rattle.graph_theory.specs.Graph.{size, edge};
+ghost use Rattle.std.specs.Prelude.{◌≡◌, ◌<◌, ◌≤◌, ◌+◌, ◌*◌, ◌^◌, ◌++◌, ◌∷◌, [], ℕ, ℤ, true, false, length, pos, negsuc, unsigned_abs, IfOk, OnOk};
+ghost use Rattle.graph_theory.specs.Graph.{size};
+ghost use Rattle.graph_rows.specs.BitRow.{has, words_for};
 ghost use Rattle.proof_theory.specs.Forms.{form_of, size as size_of_terms};
 ghost use Rattle.encoding_theory.specs.Variables.{variable as variable_of, when};
 ghost use Rattle.encoding_theory.specs.Pairs.{is_compatible as is_compatible_pair};
@@ -73,21 +74,28 @@ fn target_terms(alloc: Global, q: &Problem, t: u16) -> Result<Vec<Term>, AllocEr
     Ok(out)
 }
 
-/// The variables of `r` at the places that are right where `p` goes to `t`, of two vertices with an edge: such a place is a neighbour of `t`.
-/// Cost: four words for each neighbour of `t`, and one for each word of its row.
-fn push_beside(out: &mut Vec<Term>, q: &Problem, p: u16, r: u16, t: u16) -> Result<(), AllocError>
+/// The variables of `r` at the places that are right where `p` goes to `t`, where each of these is a member of the row. Cost: one test for
+/// each member, and one step for each word.
+fn push_among(
+    out: &mut Vec<Term>,
+    q: &Problem,
+    p: u16,
+    r: u16,
+    t: u16,
+    near: &[u64],
+) -> Result<(), AllocError>
     requires p_in { p < size q.now.pattern }
     requires r_in { r < size q.now.pattern }
     requires t_in { t < size q.now.target }
-    requires beside { is_some (edge q.now.pattern p r) ≡ true }
+    requires targets { size q.now.target ≤ 8192 }
+    requires long { length near.now ≡ words_for (size q.now.target) }
+    requires within { (u : ℕ) → has near.now u ≡ true → u < size q.now.target }
+    requires all { (u : ℕ) → has near.now u ≡ false → is_compatible_pair q.now p t r u ≡ false }
     ensures { OnOk result
         (out.new.items ≡ out.old.items
         ++ terms_where (pos 1) (is_compatible_pair q.now p t r) (variable_of q.now r)
         (size q.now.target)) }
 {
-    let target = q.target();
-    let _size = target.size();
-    let near = target.row(t);
     let mut u = next_member(near, 0);
     while u < 64 * near.len() {
         let passes = is_compatible(q, p, t, r, u as u16);
@@ -97,7 +105,7 @@ fn push_beside(out: &mut Vec<Term>, q: &Problem, p: u16, r: u16, t: u16) -> Resu
     Ok(())
 }
 
-/// The same for any two vertices. Cost: four words for each target vertex.
+/// The same without a row. Cost: one test for each target vertex.
 fn push_anywhere(out: &mut Vec<Term>, q: &Problem, p: u16, r: u16, t: u16) -> Result<(), AllocError>
     requires p_in { p < size q.now.pattern }
     requires r_in { r < size q.now.pattern }
@@ -114,8 +122,9 @@ fn push_anywhere(out: &mut Vec<Term>, q: &Problem, p: u16, r: u16, t: u16) -> Re
     Ok(())
 }
 
-/// The variables of `r` at the places that are right where `p` goes to `t`. Cost: that of the walk over the neighbours of `t` where the two
-/// vertices have an edge, else four words for each target vertex.
+/// The variables of `r` at the places that are right where `p` goes to `t`. Where an edge leads from `p` to `r` such a place is one to which
+/// an edge leads from `t`, and where one leads back it is one from which an edge leads to `t`. Cost: one test for each of these where the two
+/// vertices have an edge, else one for each target vertex.
 fn push_compatible(
     out: &mut Vec<Term>,
     q: &Problem,
@@ -131,8 +140,12 @@ fn push_compatible(
         ++ terms_where (pos 1) (is_compatible_pair q.now p t r) (variable_of q.now r)
         (size q.now.target)) }
 {
-    if q.pattern().has_edge(p, r) {
-        push_beside(out, q, p, r, t)
+    let pattern = q.pattern();
+    let target = q.target();
+    if pattern.has_edge(p, r) {
+        push_among(out, q, p, r, t, target.row(t))
+    } else if pattern.has_edge(r, p) {
+        push_among(out, q, p, r, t, target.in_row(t))
     } else {
         push_anywhere(out, q, p, r, t)
     }

@@ -1,11 +1,10 @@
 //! Worked problems and the texts of their encodings.
 
-ghost use Rattle.std.specs.Prelude.{◌≡◌, ◌<◌, ◌≤◌, IfSome};
+ghost use Rattle.std.specs.Prelude.{◌≡◌, ◌<◌};
 ghost use Rattle.graph_theory.specs.Graph.{size};
-ghost use Rattle.graph_theory.specs.Plain.{IsPlain, ArePlain};
 ghost use Rattle.encoding_theory.specs.Pairs.{is_edge_pair as is_edge, is_non_edge_pair as is_non_edge};
 
-use graph_rows::{Graph, Problem};
+use graph_rows::Problem;
 use lad_reader::LadKind;
 use outer_io::MemorySink;
 use pb_encoding::Encoding;
@@ -16,37 +15,21 @@ use worked_examples::{Example, first_wrong};
 
 const SECOND_WITH_LOOP: &[u8] = b"2 0 1 1";
 
-/// The graph of a text, with labels of vertices or without.
-fn graph_by(alloc: Global, text: &[u8], labelled: bool) -> Option<Graph>
-    ensures few { IfSome result (λ g. size g ≤ 64) }
-    ensures plain { IfSome result IsPlain }
-{
-    if labelled {
-        graph_in(alloc, text, LadKind::VertexLabelledLad)
-    } else {
-        graph_in(alloc, text, LadKind::Lad)
-    }
-}
-
-/// The problem of two texts.
+/// The problem of two texts of this kind.
 fn problem(
     alloc: Global,
     pattern: &[u8],
     target: &[u8],
-    labelled: bool,
+    kind: LadKind,
     induced: bool,
-) -> Option<Problem>
-    ensures { IfSome result ArePlain }
-{
-    let pattern = graph_by(alloc, pattern, labelled)?;
-    let target = graph_by(alloc, target, labelled)?;
+) -> Option<Problem> {
+    let pattern = graph_in(alloc, pattern, kind)?;
+    let target = graph_in(alloc, target, kind)?;
     Some(Problem::new(pattern, target, induced))
 }
 
 /// Whether this is the text of the encoding of a problem.
-fn is_text(alloc: Global, q: &Problem, text: &str) -> Result<bool, AllocError>
-    requires { ArePlain q.now }
-{
+fn is_text(alloc: Global, q: &Problem, text: &str) -> Result<bool, AllocError> {
     let encoding = Encoding::new(alloc, q)?;
     let mut sink = MemorySink::new(alloc, 4096, Vec::new(alloc))?;
     Ok(encoding.write(alloc, &mut sink).is_ok() && sink.bytes() == text.as_bytes())
@@ -105,10 +88,72 @@ const TWO_INTO_EDGE: &str = "* #variable= 4 #constraint= 10
 -1 x4 >= 0 ;
 ";
 
-const PLAIN: bool = false;
+const ONE_WAY: &str = "* #variable= 4 #constraint= 10
++1 x1 +1 x2 >= 1 ;
+-1 x1 -1 x2 >= -1 ;
++1 x3 +1 x4 >= 1 ;
+-1 x3 -1 x4 >= -1 ;
+-1 x1 -1 x3 >= -1 ;
+-1 x2 -1 x4 >= -1 ;
+-1 x1 +1 x4 >= 0 ;
+-1 x2 >= 0 ;
+-1 x3 >= 0 ;
++1 x1 -1 x4 >= 0 ;
+";
 
-/// Two graphs, whether the copy is to be induced, and the text of the encoding.
+const INDUCED_ONE_WAY: &str = "* #variable= 6 #constraint= 13
++1 x1 +1 x2 +1 x3 >= 1 ;
+-1 x1 -1 x2 -1 x3 >= -1 ;
++1 x4 +1 x5 +1 x6 >= 1 ;
+-1 x4 -1 x5 -1 x6 >= -1 ;
+-1 x1 -1 x4 >= -1 ;
+-1 x2 -1 x5 >= -1 ;
+-1 x3 -1 x6 >= -1 ;
+-1 x1 +1 x6 >= 0 ;
+-1 x2 >= 0 ;
+-1 x3 >= 0 ;
+-1 x4 >= 0 ;
+-1 x5 >= 0 ;
++1 x1 -1 x6 >= 0 ;
+";
+
+const INDUCED_APART: &str = "* #variable= 6 #constraint= 13
++1 x1 +1 x2 +1 x3 >= 1 ;
+-1 x1 -1 x2 -1 x3 >= -1 ;
++1 x4 +1 x5 +1 x6 >= 1 ;
+-1 x4 -1 x5 -1 x6 >= -1 ;
+-1 x1 -1 x4 >= -1 ;
+-1 x2 -1 x5 >= -1 ;
+-1 x3 -1 x6 >= -1 ;
+-1 x1 +1 x6 >= 0 ;
+-1 x2 +1 x6 >= 0 ;
+-1 x3 +1 x4 +1 x5 >= 0 ;
++1 x3 -1 x4 >= 0 ;
++1 x3 -1 x5 >= 0 ;
++1 x1 +1 x2 -1 x6 >= 0 ;
+";
+
+const LABELS_OF_EDGES: &str = "* #variable= 6 #constraint= 15
++1 x1 +1 x2 +1 x3 >= 1 ;
+-1 x1 -1 x2 -1 x3 >= -1 ;
++1 x4 +1 x5 +1 x6 >= 1 ;
+-1 x4 -1 x5 -1 x6 >= -1 ;
+-1 x1 -1 x4 >= -1 ;
+-1 x2 -1 x5 >= -1 ;
+-1 x3 -1 x6 >= -1 ;
+-1 x2 >= 0 ;
+-1 x3 >= 0 ;
+-1 x1 +1 x5 >= 0 ;
+-1 x2 >= 0 ;
+-1 x3 +1 x5 >= 0 ;
+-1 x4 >= 0 ;
++1 x1 +1 x3 -1 x5 >= 0 ;
+-1 x6 >= 0 ;
+";
+
+/// The format of two graphs, the graphs, whether the copy is to be induced, and the text of the encoding.
 struct Encoded {
+    kind: LadKind,
     pattern: &'static [u8],
     target: &'static [u8],
     induced: bool,
@@ -117,16 +162,17 @@ struct Encoded {
 
 impl<R> Example<R> for Encoded {
     fn holds(&self, _rt: &R, alloc: Global) -> Result<bool, AllocError> {
-        match problem(alloc, self.pattern, self.target, PLAIN, self.induced) {
+        match problem(alloc, self.pattern, self.target, self.kind, self.induced) {
             Some(q) => is_text(alloc, &q, self.text),
             None => Ok(false),
         }
     }
 }
 
-static ENCODED: [Encoded; 7] = [
+static ENCODED: [Encoded; 11] = [
     // an edge into an edge
     Encoded {
+        kind: LadKind::Lad,
         pattern: EDGE,
         target: EDGE,
         induced: false,
@@ -134,6 +180,7 @@ static ENCODED: [Encoded; 7] = [
     },
     // nothing into nothing
     Encoded {
+        kind: LadKind::Lad,
         pattern: b"0",
         target: b"0",
         induced: false,
@@ -141,6 +188,7 @@ static ENCODED: [Encoded; 7] = [
     },
     // a vertex into nothing
     Encoded {
+        kind: LadKind::Lad,
         pattern: b"1 0",
         target: b"0",
         induced: false,
@@ -148,6 +196,7 @@ static ENCODED: [Encoded; 7] = [
     },
     // three vertices into two
     Encoded {
+        kind: LadKind::Lad,
         pattern: b"3 0 0 0",
         target: b"2 0 0",
         induced: false,
@@ -155,6 +204,7 @@ static ENCODED: [Encoded; 7] = [
     },
     // a loop into two vertices
     Encoded {
+        kind: LadKind::Lad,
         pattern: b"1 1 0",
         target: SECOND_WITH_LOOP,
         induced: false,
@@ -162,6 +212,7 @@ static ENCODED: [Encoded; 7] = [
     },
     // a vertex into the same, induced
     Encoded {
+        kind: LadKind::Lad,
         pattern: b"1 0",
         target: SECOND_WITH_LOOP,
         induced: true,
@@ -169,10 +220,43 @@ static ENCODED: [Encoded; 7] = [
     },
     // two vertices into an edge, induced
     Encoded {
+        kind: LadKind::Lad,
         pattern: b"2 0 0",
         target: EDGE,
         induced: true,
         text: TWO_INTO_EDGE,
+    },
+    // an edge one way into the same
+    Encoded {
+        kind: LadKind::DirectedLad,
+        pattern: b"2 1 1 0",
+        target: b"2 1 1 0",
+        induced: false,
+        text: ONE_WAY,
+    },
+    // an edge one way into two vertices with an edge both ways and a third with one from the first, induced
+    Encoded {
+        kind: LadKind::DirectedLad,
+        pattern: b"2 1 1 0",
+        target: b"3 2 1 2 1 0 0",
+        induced: true,
+        text: INDUCED_ONE_WAY,
+    },
+    // two vertices into an edge one way and a third vertex, induced
+    Encoded {
+        kind: LadKind::DirectedLad,
+        pattern: b"2 0 0",
+        target: b"3 1 1 0 0",
+        induced: true,
+        text: INDUCED_APART,
+    },
+    // a loop and an edge with labels into two such loops and three such edges
+    Encoded {
+        kind: LadKind::LabelledLad,
+        pattern: b"2 0 2 0 3 1 7 0 0",
+        target: b"3 0 3 0 3 1 7 2 8 0 0 0 2 1 7 2 4",
+        induced: false,
+        text: LABELS_OF_EDGES,
     },
 ];
 
@@ -200,7 +284,7 @@ const LABELLED_EDGE: &str = "* #variable= 4 #constraint= 12
 #[test]
 fn refuses_other_labels(rt: HostRuntime) -> Result<(), Fail> {
     let edge = b"2 1 1 1 2 1 0";
-    let q = problem(rt.alloc(), edge, edge, true, false);
+    let q = problem(rt.alloc(), edge, edge, LadKind::VertexLabelledLad, false);
     let q = q.ok_or("no problem")?;
     assert!(rt; is_text(rt.alloc(), &q, LABELLED_EDGE)?);
     Ok(())
@@ -275,7 +359,7 @@ fn lines_of(
 
 #[test]
 fn numbers_lines_of_a_triangle(rt: HostRuntime) -> Result<(), Fail> {
-    let q = problem(rt.alloc(), TRIANGLE, FOUR_CYCLE, PLAIN, false).ok_or("no problem")?;
+    let q = problem(rt.alloc(), TRIANGLE, FOUR_CYCLE, LadKind::Lad, false).ok_or("no problem")?;
     let encoding = Encoding::new(rt.alloc(), &q)?;
     assert_eq!(rt; encoding.len(), 34);
     assert_eq!(rt; lines_of(&encoding, &q, 2, 3), Some((5, 6, 10, None)));
@@ -288,12 +372,30 @@ fn numbers_lines_of_a_triangle(rt: HostRuntime) -> Result<(), Fail> {
 
 #[test]
 fn numbers_lines_of_an_induced_copy(rt: HostRuntime) -> Result<(), Fail> {
-    let q = problem(rt.alloc(), b"3 1 1 1 0 0", SECOND_WITH_LOOP, PLAIN, true).ok_or("no problem")?;
+    let q = problem(
+        rt.alloc(),
+        b"3 1 1 1 0 0",
+        SECOND_WITH_LOOP,
+        LadKind::Lad,
+        true,
+    );
+    let q = q.ok_or("no problem")?;
     let encoding = Encoding::new(rt.alloc(), &q)?;
     assert_eq!(rt; encoding.len(), 23);
     assert_eq!(rt; lines_of(&encoding, &q, 2, 1), Some((5, 6, 8, Some(11))));
     assert_eq!(rt; edge_of(&encoding, &q, 1, 0, 1), Some(15));
     assert_eq!(rt; non_edge_of(&encoding, &q, 0, 2, 0), Some(16));
     assert_eq!(rt; non_edge_of(&encoding, &q, 2, 1, 1), Some(23));
+    Ok(())
+}
+
+#[test]
+fn numbers_lines_of_an_edge_one_way(rt: HostRuntime) -> Result<(), Fail> {
+    let edge = b"2 1 1 0";
+    let q = problem(rt.alloc(), edge, edge, LadKind::DirectedLad, false).ok_or("no problem")?;
+    let encoding = Encoding::new(rt.alloc(), &q)?;
+    assert_eq!(rt; encoding.len(), 10);
+    assert_eq!(rt; edge_of(&encoding, &q, 0, 1, 1), Some(8));
+    assert_eq!(rt; edge_of(&encoding, &q, 1, 0, 0), Some(9));
     Ok(())
 }

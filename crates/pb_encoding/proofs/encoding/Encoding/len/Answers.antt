@@ -7,14 +7,14 @@ use Rattle.pb_encoding.proofs.encoding.Encoding.len.Goals as goal
 
 pub lines_of-requires-clause-pairs : goal.lines_of-requires-clause-pairs
 lines_of-requires-clause-pairs c =
-    let k = kept _ _ _ _ _ _ _ c.self.view_is c.self.invariant.0 in
+    let k = kept _ _ _ _ _ _ _ c.self.view_is c.self.invariant in
     let e : length c.deref.result.now ≡ length (non_edge_numbers c.args.self.now) = ap length (c.deref.ensures.value ∙ k.numbered.non_edges_are) in
     let b : length (non_edge_numbers c.args.self.now) ≤ 1048576 = (kept_few _ _ _ _ _ _ k).non_edges in
     omega arith
 
 pub returns : goal.returns
 returns c =
-    let k = kept _ _ _ _ _ _ _ c.self.view_is c.self.invariant.0 in
+    let k = kept _ _ _ _ _ _ _ c.self.view_is c.self.invariant in
     let e : length c.deref.result.now ≡ length (non_edge_numbers c.args.self.now) = ap length (c.deref.ensures.value ∙ k.numbered.non_edges_are) in
     let n : c.lines_of.result ≡ length (non_edge_numbers c.args.self.now) * size c.args.self.now.target = c.lines_of.ensures.lines ∙ rw (e, k.targets_are) in
     let s = starts c.args.self.now in

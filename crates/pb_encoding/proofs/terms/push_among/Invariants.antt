@@ -1,7 +1,7 @@
 use Rattle.std.proofs.Common.{◌≡◌, ◌-◌, ◌*◌, ◌<◌, ◌≤◌, ◌++◌, true, length}
 use Rattle.graph_rows.specs.BitRow.{has}
 use Rattle.pb_encoding.proofs.Beside.{right}
-use Rattle.pb_encoding.proofs.terms.push_beside.Given as goal
+use Rattle.pb_encoding.proofs.terms.push_among.Given as goal
 
 abbrev pub invariant-loop-u : goal.invariant-loop-u
 invariant-loop-u l = record {
