@@ -124,6 +124,7 @@ fn push_chosen<M: LineMaker, N: RowNames, K: Keeper>(
     requires sound { Sound q.now rows.now }
     requires few { length rows.now ≤ 2 ^ 22 }
     requires lines { lines.now ≡ q.now }
+    requires plain { ArePlain q.now }
     requires nameable { AreNameable q.now rows.now (changes_in numbers.now chosen.now) }
     requires long { size q.now.pattern ≤ length at.old }
     requires none { refs.old.items ≡ [] }
@@ -336,6 +337,7 @@ fn gather<M: LineMaker, N: RowNames, K: Keeper>(
     requires sound { Sound q.now rows.now }
     requires few { length rows.now ≤ 2 ^ 22 }
     requires lines { lines.now ≡ q.now }
+    requires plain { ArePlain q.now }
     requires long { size q.now.pattern ≤ length at.old }
     requires known { AreAt at.old path.now }
     requires nameable { AreNameable q.now rows.now (changes_in numbers.now chosen.now) }
@@ -387,6 +389,7 @@ pub fn explain<M: LineMaker, N: RowNames, K: Keeper>(
     requires sound { Sound q.now rows.now }
     requires few { length rows.now ≤ 2 ^ 22 }
     requires lines { lines.now ≡ q.now }
+    requires plain { ArePlain q.now }
     requires in_problem { AreInProblem q.now (changes_of numbers.now entries.now) }
     requires path { AreInRange q.now path.now }
     requires end { IsEndIn q.now rows.now (end_by end (set_at numbers.now short) []) }
@@ -409,7 +412,6 @@ pub fn explain<M: LineMaker, N: RowNames, K: Keeper>(
     if !keeper.is_on() {
         return Ok(None);
     }
-    lines.graphs_are_plain();
     let size = size_of(q);
     fill_at(&mut scratch.at, size, path)?;
     let walk = Walk {

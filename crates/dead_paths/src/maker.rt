@@ -3,6 +3,7 @@
 ghost use Rattle.std.specs.Prelude.{◌≡◌, ℕ, ◌^◌, ◌<◌, ◌++◌, List, length, IfOk};
 ghost use Rattle.graph_theory.specs.Graph.{size};
 ghost use Rattle.graph_theory.specs.Embedding.{Problem as TheProblem};
+ghost use Rattle.graph_theory.specs.Plain.{ArePlain};
 ghost use Rattle.proof_theory.specs.Forms.{Form};
 ghost use Rattle.log_theory.specs.LogText.{IsName, IsRef};
 ghost use Rattle.kept_lines.specs.Frames.{Frame, IsFrameOf, Goes, Lasts};
@@ -59,6 +60,7 @@ pub trait LineMaker: Drop {
         r: u16,
     ) -> Result<Ref, AllocError>
         requires lines { lines.now ≡ q.now }
+        requires plain { ArePlain q.now }
         requires p_in { p < size q.now.pattern }
         requires t_in { t < size q.now.target }
         requires r_in { r < size q.now.pattern }

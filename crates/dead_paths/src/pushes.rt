@@ -2,6 +2,7 @@
 
 ghost use Rattle.std.specs.Prelude.{◌≡◌, ℕ, ◌^◌, ◌≤◌, ◌<◌, List, Some, length, OnOk};
 ghost use Rattle.graph_theory.specs.Graph.{size};
+ghost use Rattle.graph_theory.specs.Plain.{ArePlain};
 ghost use Rattle.log_theory.specs.LogText.{AreRefs};
 ghost use Rattle.nogood_book.specs.Rows.{Sound};
 ghost use Rattle.nogood_book.specs.Places.{IsNogoodRow};
@@ -107,6 +108,7 @@ pub(crate) fn push_change<M: LineMaker, N: RowNames, K: Keeper>(
     requires sound { Sound q.now rows.now }
     requires few { length rows.now ≤ 2 ^ 22 }
     requires lines { lines.now ≡ q.now }
+    requires plain { ArePlain q.now }
     requires in_problem { IsInProblem q.now (change_of numbers.now entry.now) }
     requires of_row { IsOfRow rows.now (change_of numbers.now entry.now) }
     requires long { size q.now.pattern ≤ length at.old }

@@ -7,6 +7,8 @@ use native.Mathlib.Nat.{mul-le-mul_right, suc-mul}
 use Rattle.graph_theory.specs.Graph.{size}
 use Rattle.graph_theory.specs.Embedding.{Problem}
 use Rattle.search_theory.specs.Consistency.{IsFirstValue}
+use Rattle.search_theory.proofs.Pairs.{plain_first_value}
+use Rattle.graph_theory.specs.Plain.{ArePlain}
 use Rattle.graph_theory.specs.Neighbours.{degree, sequence, IsKeptBy}
 use Rattle.encoding_theory.specs.Pairs.{is_allowed}
 use Rattle.encoding_theory.proofs.PairTests.{allowed_from}
@@ -275,8 +277,9 @@ pairs_stay w q a refs pairs named =
     goes_stay w a a (HasPairs w q refs pairs named) (HasPairs w q refs (pairs ++ []) named) refl (λ forms has. subst (λ (ps : List (ℕ × ℕ)). HasPairs w q refs ps named forms) (sym (pairs_none pairs)) has)
 
 -- A value that passes all tests is in the first domain.
-pub first_value : (q : Problem) (p u : ℕ) → is_refused q p u ≡ false → degree q.pattern p ≤ degree q.target u → IsKeptBy (sequence q.pattern p) (sequence q.target u) → IsFirstValue q p u
-first_value q p u allowed enough kept = record { alone = allowed_from q p u (is_true (is_allowed q p u) allowed); degree = enough; sequence = kept }
+pub first_value : (q : Problem) (p u : ℕ) → ArePlain q → p < size q.pattern → u < size q.target → is_refused q p u ≡ false → degree q.pattern p ≤ degree q.target u
+    → IsKeptBy (sequence q.pattern p) (sequence q.target u) → IsFirstValue q p u
+first_value q p u plain p_in u_in allowed enough kept = plain_first_value q p u plain p_in u_in (allowed_from q p u (is_true (is_allowed q p u) allowed)) enough kept
   where
     is_true : (b : Bool) → not b ≡ false → b ≡ true
     is_true true h = refl

@@ -5,6 +5,7 @@ use Rattle.std.specs.declared.alloc.AllocError.{AllocError}
 use Rattle.graph_theory.specs.Graph.{size}
 use Rattle.graph_theory.specs.Embedding.{Problem}
 use Rattle.graph_theory.specs.Neighbours.{degree}
+use Rattle.graph_theory.specs.Plain.{ArePlain}
 use Rattle.search_theory.specs.Consistency.{IsFirstValue}
 use Rattle.proof_theory.specs.Forms.{Form}
 use Rattle.log_theory.specs.declared.step.Name.{Name}
@@ -71,8 +72,9 @@ IsFirstLine w q p (Err e) named forms = Unit {0}
 
 -- ---- what the lines are made from
 
--- The encoding and the sequences are the problem's.
+-- The encoding and the sequences are the problem's, and its graphs have no directions.
 pub record IsSet (q lines : Problem) (pattern target : List (List ℕ)) : Type 0 where
+  pub plain : ArePlain q
   pub lines_are : lines ≡ q
   pub pattern_are : pattern ≡ sequences q.pattern
   pub target_are : target ≡ sequences q.target

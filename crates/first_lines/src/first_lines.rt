@@ -3,6 +3,7 @@
 ghost use Rattle.std.specs.Prelude.{◌≡◌, ℕ, ◌+◌, ◌<◌, ◌≤◌, [], ◌∷◌, ◌++◌, true, false, List, length, IfOk, IfSome, IfNone, slice_index};
 ghost use Rattle.graph_theory.specs.Graph.{size};
 ghost use Rattle.graph_theory.specs.Neighbours.{degree, sequence, fails_at, IsKeptBy};
+ghost use Rattle.graph_theory.specs.Plain.{ArePlain};
 ghost use Rattle.proof_theory.specs.Forms.{Form};
 ghost use Rattle.proof_theory.specs.Slack.{refutes, negations};
 ghost use Rattle.log_theory.specs.LogText.{IsName, IsRef, AreRefs};
@@ -17,7 +18,9 @@ ghost use Rattle.first_lines.specs.Given.{IsGiven, IsMade, HasPairs, ArePushed, 
 use crate::choosing::chosen;
 use crate::operands::crowd_refs;
 use crate::units::Units;
+use degree_filter::keeps_by;
 use graph_rows::Problem;
+use graph_theory::direction::Direction;
 use journals::Keeper;
 use kept_lines::keep_sum;
 use log_theory::{Clause, Name, Ref, Refs, Step};
@@ -66,17 +69,18 @@ fn remember(units: &mut Units, variable: u32, name: Name) -> Result<Ref, AllocEr
 }
 
 impl<'a> FirstLines<'a> {
-    /// For this problem and its encoding. Cost: that of the sequences of neighbours' degrees.
+    /// For this problem of graphs without directions, and its encoding. Cost: that of the sequences of neighbours' degrees.
     pub fn new(
         alloc: Global,
         problem: &'a Problem,
         lines: &'a Encoding<'a>,
     ) -> Result<FirstLines<'a>, AllocError>
-        requires { lines.now ≡ problem.now }
+        requires encoding { lines.now ≡ problem.now }
+        requires plain { ArePlain problem.now }
         ensures { IfOk result (λ s. s ≡ problem.now) }
     {
-        let pattern = Sequences::new(alloc, problem.pattern())?;
-        let target = Sequences::new(alloc, problem.target())?;
+        let pattern = Sequences::new(alloc, problem.pattern(), Direction::Out)?;
+        let target = Sequences::new(alloc, problem.target(), Direction::Out)?;
         Ok(FirstLines {
             problem,
             lines,
@@ -88,6 +92,7 @@ impl<'a> FirstLines<'a> {
     /// The problem.
     fn problem(&self) -> &Problem
         ensures same { result.now ≡ self.now }
+        ensures plain { ArePlain self.now }
         ensures few_pattern { size self.now.pattern ≤ 1024 }
         ensures few_target { size self.now.target ≤ 8192 }
     {
@@ -439,6 +444,7 @@ impl<'a> FirstLines<'a> {
     ) -> Result<Option<Ref>, AllocError>
         requires p_in { p < size self.now.pattern }
         requires u_in { u < size self.now.target }
+        requires plain { ArePlain self.now }
         requires allowed { is_refused self.now p u ≡ false }
         requires enough { degree self.now.pattern p ≤ degree self.now.target u }
         ensures goes { (w : Frame) → IsFrameOf self.now (K.owner keeper.old) w
@@ -480,7 +486,7 @@ impl<'a> FirstLines<'a> {
         if let Some(found) = self.known(units, p, u) {
             return Ok(Some(found));
         }
-        if degree_filter::keeps(self.problem(), p, u) {
+        if keeps_by(self.problem(), Direction::Out, p, u) {
             return self.sequence_ref(alloc, keeper, units, p, u);
         }
         Ok(Some(self.degree_ref(alloc, keeper, units, p, u)?))

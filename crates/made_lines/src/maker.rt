@@ -3,6 +3,7 @@
 ghost use Rattle.std.specs.Prelude.{◌≡◌, ℕ, ◌<◌, ◌≤◌, [], IfOk};
 ghost use Rattle.graph_theory.specs.Graph.{size};
 ghost use Rattle.graph_theory.specs.Embedding.{Problem as TheProblem};
+ghost use Rattle.graph_theory.specs.Plain.{ArePlain};
 ghost use Rattle.kept_lines.specs.Frames.{Frame};
 ghost use Rattle.made_lines.specs.Made.{IsMade, made_last, made_wider};
 
@@ -37,7 +38,8 @@ impl<'a> MadeLines<'a> {
         problem: &'a Problem,
         lines: &'a Encoding<'a>,
     ) -> Result<MadeLines<'a>, AllocError>
-        requires { lines.now ≡ problem.now }
+        requires encoding { lines.now ≡ problem.now }
+        requires plain { ArePlain problem.now }
         ensures { IfOk result
             (λ m. (w : Frame)
             → IsMade problem.now m.problem.now w m.units m.firsts m.rows m.sets []) }

@@ -1,12 +1,13 @@
 -- Edges that agree, and values that are consistent.
-use Rattle.std.proofs.Common.{◌≡◌, ℕ, ◌<◌, ◌≤◌, ◌==◌, ◌&&◌, not, Bool, true, false, is_some, List, Option, Some, None, Result, Ok, Err, OnOk, IfOk, refl, sym, ap, subst, ◌∙◌}
-use Rattle.std.proofs.lemmas.Bool.{true≢false, eq-eqb, ne_eqb}
+use Rattle.std.proofs.Common.{◌≡◌, ℕ, ◌<◌, ◌≤◌, ◌==◌, nat_lt, ◌&&◌, not, Bool, true, false, is_some, List, Option, Some, None, Result, Ok, Err, OnOk, IfOk, slice_index, refl, sym, ap, subst, ◌∙◌, arith}
+use Rattle.std.proofs.lemmas.Bool.{true≢false, eq-eqb, ne_eqb, ltb-true, ltb-false}
 use Rattle.std.specs.declared.alloc.AllocError.{AllocError}
-use Rattle.graph_theory.specs.Graph.{edge}
+use Rattle.graph_theory.specs.Graph.{size, edge}
 use Rattle.graph_theory.specs.Plain.{IsPlain}
 use Rattle.graph_theory.specs.Embedding.{Problem, Matches}
 use Rattle.graph_theory.specs.Neighbours.{common}
 use Rattle.search_theory.specs.Consistency.{AreConsistent}
+use Rattle.search_theory.proofs.Pairs.{plain_consistent}
 use Rattle.domain_bits.specs.BitRows.{has}
 use Rattle.needed_values.specs.Consistent.{agree, edges_agree, Leaves, AllConsistent, Shares, AllShare}
 
@@ -28,17 +29,15 @@ agreed true None (Some k) m = absurd cc
 agreed true (Some l) f m = ap is_some m.0
 
 module _ (q : Problem) (pattern : IsPlain q.pattern) (target : IsPlain q.target) (p t r u : ℕ) where
-  pub consistent : (t ≡ u → ⊥) → edges_agree q p t r u ≡ true → common q.pattern p r ≤ common q.target t u → AreConsistent q p t r u
-  consistent apart agrees shared =
+  pub consistent : p < size q.pattern → r < size q.pattern → t < size q.target → u < size q.target → (t ≡ u → ⊥) → edges_agree q p t r u ≡ true → common q.pattern p r ≤ common q.target t u
+      → AreConsistent q p t r u
+  consistent p_in r_in t_in u_in apart agrees shared =
       let out = matched q.induced (edge q.pattern p r) (edge q.target t u) (pattern.zeros p r) (target.zeros t u) agrees in
-      record {
-        pair = record {
-          apart = apart;
-          out = out;
-          back = subst (λ (e : Option ℕ). Matches q.induced e (edge q.target u t)) (pattern.both p r) (subst (λ (f : Option ℕ). Matches q.induced (edge q.pattern p r) f) (target.both t u) out);
-        };
-        shared = shared;
-      }
+      plain_consistent q p t r u (record { pattern_plain = pattern; target_plain = target }) p_in t_in r_in u_in (record {
+        apart = apart;
+        out = out;
+        back = subst (λ (e : Option ℕ). Matches q.induced e (edge q.target u t)) (pattern.both p r) (subst (λ (f : Option ℕ). Matches q.induced (edge q.pattern p r) f) (target.both t u) out);
+      }) shared
 
   pub edges_of : AreConsistent q p t r u → edges_agree q p t r u ≡ true
   edges_of h = agreed q.induced (edge q.pattern p r) (edge q.target t u) h.pair.out
@@ -69,13 +68,49 @@ module _ (q : Problem) (pattern : IsPlain q.pattern) (target : IsPlain q.target)
         s.right u in_mid gone c.shared;
   }
 
-  pub all_of : (b : Bool) → Shares q p t r mid new → AllShare b q p t r new → AllConsistent b q p t r new
-  all_of false s all = tt
-  all_of true s all = λ u h. let m = mid_parts u (s.kept u h) in consistent q pattern target p t r u m.2 m.1 (all u h)
+  pub all_of : (b : Bool) → p < size q.pattern → r < size q.pattern → t < size q.target → ((u : ℕ) → has old u ≡ true → u < size q.target) → Shares q p t r mid new → AllShare b q p t r new
+      → AllConsistent b q p t r new
+  all_of false p_in r_in t_in within s all = tt
+  all_of true p_in r_in t_in within s all = λ u h. let m = mid_parts u (s.kept u h) in consistent q pattern target p t r u p_in r_in t_in (within u m.0) m.2 m.1 (all u h)
 
   pub mid_within : (n : ℕ) → ((u : ℕ) → has old u ≡ true → u < n) → (u : ℕ) → has mid u ≡ true → u < n
   mid_within n within u h = within u (mid_parts u h).0
 
-  pub all_on : (result : Result Bool AllocError) → OnOk result (Shares q p t r mid new) → IfOk result (λ b. AllShare b q p t r new) → IfOk result (λ b. AllConsistent b q p t r new)
-  all_on (Ok b) s all = all_of b s all
-  all_on (Err e) s all = tt
+  pub all_on : (result : Result Bool AllocError) → p < size q.pattern → r < size q.pattern → t < size q.target → ((u : ℕ) → has old u ≡ true → u < size q.target) → OnOk result (Shares q p t r mid new) → IfOk result (λ b. AllShare b q p t r new) → IfOk result (λ b. AllConsistent b q p t r new)
+  all_on (Ok b) p_in r_in t_in within s all = all_of b p_in r_in t_in within s all
+  all_on (Err e) p_in r_in t_in within s all = tt
+
+-- What is left by counts of shared neighbours shares enough, and nothing else that was there does.
+module _ (q : Problem) (p t r shared : ℕ) (counts old new : List ℕ) (shared_is : shared ≡ common q.pattern p r)
+    (counts_are : (u : ℕ) → u < size q.target → (t ≡ u → ⊥) → slice_index counts u ≡ common q.target t u) (within : (u : ℕ) → has old u ≡ true → u < size q.target) (other : has old t ≡ false)
+    (left : (u : ℕ) → has new u ≡ (has old u && not (nat_lt (slice_index counts u) shared))) where
+  count_of : (u : ℕ) → has old u ≡ true → slice_index counts u ≡ common q.target t u
+  count_of u h = counts_are u (within u h) (λ e. true≢false (sym h ∙ ap (has old) (sym e) ∙ other))
+
+  left_parts : (u : ℕ) → has new u ≡ true → (has old u ≡ true) × (nat_lt (slice_index counts u) shared ≡ false)
+  left_parts u h =
+      let a = and_true (has old u) (not (nat_lt (slice_index counts u) shared)) (sym (left u) ∙ h) in
+      (a.0, not_true (nat_lt (slice_index counts u) shared) a.1)
+
+  pub all_counted : (u : ℕ) → has new u ≡ true → common q.pattern p r ≤ common q.target t u
+  all_counted u h =
+      let a = left_parts u h in
+      let enough : shared ≤ slice_index counts u = ltb-false (slice_index counts u) shared a.1 in
+      let is = count_of u a.0 in
+      omega (arith, enough, is, shared_is)
+
+  pub counted : Shares q p t r old new
+  counted = record {
+    kept = λ u h. (left_parts u h).0;
+    right = λ u was gone enough. less u was enough (by (nat_lt (slice_index counts u) shared) (sym (ap (λ (b : Bool). b && not (nat_lt (slice_index counts u) shared)) was) ∙ sym (left u) ∙ gone));
+  }
+    where
+      by : (b : Bool) → not b ≡ false → b ≡ true
+      by true h = refl
+      by false h = absurd cc
+
+      less : (u : ℕ) → has old u ≡ true → common q.pattern p r ≤ common q.target t u → nat_lt (slice_index counts u) shared ≡ true → ⊥
+      less u was enough lt =
+          let few : slice_index counts u < shared = ltb-true (slice_index counts u) shared lt in
+          let is = count_of u was in
+          omega (arith, enough, few, is, shared_is)

@@ -10,6 +10,7 @@ use bit_rows::{keep_counted, unset_bit};
 use common_neighbour::Counts;
 use domain_bits::{and_into, and_not_into};
 use graph_rows::Problem;
+use graph_theory::direction::Direction;
 use std::alloc::{AllocError, Global};
 
 /// Shared neighbours are counted with no vertex that has more neighbours than these.
@@ -53,7 +54,7 @@ fn keep_sharing(
     ensures shares { OnOk result (Shares q.now p t r row.old row.new) }
     ensures all { IfOk result (λ b. AllShare b q.now p t r row.new) }
 {
-    let shared = Counts::new(alloc, q.pattern())?.count(p, r);
+    let shared = Counts::new(alloc, q.pattern(), Direction::Out)?.count(p, r);
     if shared == 0 {
         return Ok(true);
     }
@@ -61,7 +62,7 @@ fn keep_sharing(
     if target.degree(t) > MOST_NEAR {
         return Ok(false);
     }
-    Counts::new(alloc, target)?.fill_counts(t, counts);
+    Counts::new(alloc, target, Direction::Out)?.fill_counts(t, counts);
     keep_counted(row, counts, shared);
     Ok(true)
 }

@@ -318,3 +318,9 @@ closed_failed knows later lines old new owner numbers entries q rows a n k front
   failed = λ b f. subst (λ (es : List Refuted). Writes later lines new owner numbers (es ++ e ∷ []) q rows b) (sym front_is)
       (failed_after knows later lines old new owner numbers entries q rows a b n k e x w owner_same notes_same m from below number_is level_is at value_is f);
 }
+
+-- What is left of the same problem and the same notes is as much.
+pub closed_same : (later : Problem → Frame → List Form → Type 0) (lines lines2 : Problem) (new : Keeping) (owner owner2 : ℕ) (numbers numbers2 : List (ℕ × ℕ)) (entries : List Refuted) (q : Problem) (rows : List Row) (a : Account)
+    → lines2 ≡ lines → owner2 ≡ owner → numbers2 ≡ numbers → Closed (λ b. Writes later lines new owner numbers entries q rows b) (Refutes lines new q rows) a
+    → Closed (λ b. Writes later lines2 new owner2 numbers2 entries q rows b) (Refutes lines2 new q rows) a
+closed_same later lines lines2 new owner owner2 numbers numbers2 entries q rows a lines_same owner_same numbers_same closed = rw (lines_same, owner_same, numbers_same) closed

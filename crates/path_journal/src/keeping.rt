@@ -1,6 +1,7 @@
 //! The logger that keeps the lines of a search.
 
 ghost use Rattle.std.specs.Prelude.{◌≡◌, ℕ, ◌^◌, ◌≤◌, [], List, length, drop, min, ◌-◌, ◌<◌, slice_get, Some, IfOk, IfSome, IfNone};
+ghost use Rattle.graph_theory.specs.Plain.{ArePlain};
 ghost use Rattle.search_theory.specs.Account.{Honest, fresh};
 ghost use Rattle.log_theory.specs.LogText.{IsName, AreRefs};
 ghost use Rattle.nogood_book.specs.declared.row.Row.{Row as TheRow};
@@ -54,8 +55,8 @@ fn last_pair(path: &[(u16, u16)]) -> Option<(u16, u16)>
     Some(path[length - 1])
 }
 
-/// Keeps the lines of one owner, and for each refuted value of the position the number of its line. Cost beside the lines: an entry for each
-/// of these values, and a number for each row that was noted.
+/// Keeps the lines of one owner over the encoding of graphs without directions, and for each refuted value of the position the number of
+/// its line. Cost beside the lines: an entry for each of these values, and a number for each row that was noted.
 #[derive(Drop)]
 pub struct PathJournal<'a, M: LineMaker> {
     lines: &'a Encoding<'a>,
@@ -64,11 +65,13 @@ pub struct PathJournal<'a, M: LineMaker> {
     entries: Vec<Refuted>,
     maker: M,
     scratch: Scratch,
+    ghost plain: { ArePlain lines.now },
 }
 
 impl<'a, M: LineMaker> PathJournal<'a, M> {
     /// No line yet. It takes no memory.
     pub fn new(alloc: Global, lines: &'a Encoding<'a>, owner: u8, maker: M) -> PathJournal<'a, M>
+        requires plain { ArePlain lines.now }
         requires owner { owner ≤ 64 }
         requires knows { (w : Frame) → IsFrameOf lines.now owner w → M.knows maker lines.now w [] }
         ensures owner { result.journal.owner ≡ owner }

@@ -1,7 +1,6 @@
 //! Writing the two files.
 
 ghost use Rattle.std.specs.Prelude.{◌≡◌, ◌≢◌, ◌≤◌, ◌⊎◌, false, length, IsTrue, OnOk, OnErr, IsErrOf, Some};
-ghost use Rattle.graph_theory.specs.Plain.{ArePlain};
 ghost use Rattle.outer_io.specs.KnownText.{Wrote};
 ghost use Rattle.log_theory.specs.Acceptance.{Accepts};
 ghost use Rattle.pb_encoding.specs.Writing.{encoding_text};
@@ -144,7 +143,6 @@ pub fn write_proof<F: Files>(
     requires log { length log.now ≤ 4095 }
     requires apart { encoding.now ≢ log.now }
     requires found { IsFound q.now finding.now }
-    requires plain { ArePlain q.now }
     ensures says { WritingSays result (two_files F.tells F.content F.faults F.fault_at
         encoding.now log.now files.old files.new) (texts profile q.now finding.now) }
     ensures accepted { OnOk result (IsAccepted profile q.now finding.now) }

@@ -3,6 +3,7 @@
 ghost use Rattle.std.specs.Prelude.{◌≡◌, ◌<◌, ◌≤◌, true};
 ghost use Rattle.graph_theory.specs.Graph.{size};
 ghost use Rattle.graph_theory.specs.Neighbours.{is_neighbour};
+ghost use Rattle.graph_theory.specs.Plain.{ArePlain};
 ghost use Rattle.encoding_theory.specs.Pairs.{is_edge_pair as is_edge, is_non_edge_pair as is_non_edge};
 ghost use Rattle.reason_theory.specs.Reasons.{not_there};
 ghost use Rattle.row_theory.specs.Laws.{IsPlainProblem};
@@ -14,7 +15,7 @@ use pb_encoding::Encoding;
 use proof_theory::Literal;
 use std::marker::Model;
 
-/// A problem and the numbers of its encoding's lines.
+/// A problem of graphs without directions and labels of edges, and the numbers of its encoding's lines.
 #[derive(Drop)]
 pub(crate) struct Known<'a, 'b> {
     q: &'a Problem,
@@ -24,12 +25,13 @@ pub(crate) struct Known<'a, 'b> {
 impl<'a, 'b> Model for Known<'a, 'b> {
     ghost use Rattle.std.specs.Prelude.{◌≡◌};
     ghost use Rattle.graph_theory.specs.Embedding.{Problem as TheProblem};
+    ghost use Rattle.graph_theory.specs.Plain.{ArePlain};
 
     ghost Value = { TheProblem };
 
     ghost view = { λ k. k.q.now };
 
-    ghost invariant = { λ k. k.lines.now ≡ k.q.now };
+    ghost invariant = { λ k. (k.lines.now ≡ k.q.now) × ArePlain k.q.now };
 }
 
 /// Whether `b` is another vertex to which an edge leads from `a`. Cost: one word.
@@ -43,7 +45,8 @@ fn are_neighbours(g: &Graph, a: u16, b: u16) -> bool
 
 impl<'a, 'b> Known<'a, 'b> {
     pub(crate) fn new(q: &'a Problem, lines: &'a Encoding<'b>) -> Known<'a, 'b>
-        requires { lines.now ≡ q.now }
+        requires encoding { lines.now ≡ q.now }
+        requires plain { ArePlain q.now }
         ensures { result ≡ q.now }
     {
         Known { q, lines }
@@ -77,7 +80,6 @@ impl<'a, 'b> Known<'a, 'b> {
         let target = self.q.target();
         let _vertices = pattern.size();
         let _targets = target.size();
-        self.lines.graphs_are_plain();
     }
 
     /// Whether `m` is a neighbour of both.

@@ -3,6 +3,7 @@
 ghost use Rattle.std.specs.Prelude.{◌≡◌, ◌<◌, ◌≤◌, ℕ, true, OnOk, IfOk, IsSome, Result};
 ghost use Rattle.graph_theory.specs.Graph.{size};
 ghost use Rattle.graph_theory.specs.Neighbours.{is_neighbour};
+ghost use Rattle.graph_theory.specs.Plain.{ArePlain};
 ghost use Rattle.log_theory.specs.LogText.{IsName};
 ghost use Rattle.kept_lines.specs.Frames.{Frame, IsFrameOf, Goes, AnyForms};
 ghost use Rattle.row_lines.specs.declared.sharing.Sharing.TheVariants.{Many as ManyShared};
@@ -99,6 +100,7 @@ pub fn row_line_with<K: Keeper>(
     r: u16,
 ) -> Result<Name, AllocError>
     requires encoding { lines.now ≡ q.now }
+    requires plain { ArePlain q.now }
     requires p_in { p < size q.now.pattern }
     requires t_in { t < size q.now.target }
     requires r_in { r < size q.now.pattern }
@@ -128,6 +130,7 @@ pub fn row_line<K: Keeper>(
     r: u16,
 ) -> Result<Name, AllocError>
     requires encoding { lines.now ≡ q.now }
+    requires plain { ArePlain q.now }
     requires p_in { p < size q.now.pattern }
     requires t_in { t < size q.now.target }
     requires r_in { r < size q.now.pattern }

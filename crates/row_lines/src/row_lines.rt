@@ -3,6 +3,7 @@
 ghost use Rattle.std.specs.Prelude.{◌≡◌, ◌<◌, [], List, IfOk, IfSome};
 ghost use Rattle.graph_theory.specs.Graph.{size};
 ghost use Rattle.graph_theory.specs.Embedding.{Problem as TheProblem};
+ghost use Rattle.graph_theory.specs.Plain.{ArePlain};
 ghost use Rattle.proof_theory.specs.Forms.{Form};
 ghost use Rattle.log_theory.specs.LogText.{IsRef};
 ghost use Rattle.kept_lines.specs.Frames.{Frame, IsFrameOf, Goes};
@@ -73,6 +74,7 @@ impl RowLines {
         r: u16,
     ) -> Result<Ref, AllocError>
         requires encoding { lines.now ≡ q.now }
+        requires plain { ArePlain q.now }
         requires p_in { p < size q.now.pattern }
         requires t_in { t < size q.now.target }
         requires r_in { r < size q.now.pattern }

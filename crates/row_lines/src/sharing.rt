@@ -9,6 +9,7 @@ ghost use Rattle.row_lines.specs.Choices.{IsSharing, IsFirstShared};
 
 use crate::known::Known;
 use common_neighbour::Counts;
+use graph_theory::direction::Direction;
 use std::alloc::{AllocError, Global};
 
 /// The shared neighbours of two vertices: none, this one alone, or so many.
@@ -92,7 +93,7 @@ pub(crate) fn sharing_of(
     requires others { p ≡ r → ⊥ }
     ensures { IfOk result (IsSharing known.now p r) }
 {
-    let count = Counts::new(alloc, known.pattern())?.count(p, r);
+    let count = Counts::new(alloc, known.pattern(), Direction::Out)?.count(p, r);
     if count > 1 {
         return Ok(Sharing::Many(count));
     }

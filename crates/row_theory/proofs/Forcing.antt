@@ -8,6 +8,7 @@ use Rattle.graph_theory.specs.Graph.{size, edge}
 use Rattle.graph_theory.specs.Embedding.{Problem}
 use Rattle.graph_theory.specs.Neighbours.{is_neighbour, degree, common}
 use Rattle.search_theory.specs.Consistency.{AreConsistent}
+use Rattle.search_theory.proofs.Pairs.{plain_consistent}
 use Rattle.proof_theory.specs.Forms.{Form, Holds, Rises}
 use Rattle.proof_theory.specs.Rules.{sum_of, times_of}
 use Rattle.proof_theory.specs.Slack.{Setting, conflict, after}
@@ -28,14 +29,16 @@ use Rattle.row_theory.proofs.Values.{IsWorth, worth_sum, worth_times, scaled, ri
 use Rattle.row_theory.proofs.Around.{times_around, around_says, around_at_most, around_few}
 
 -- What is not consistent is not compatible, or shares too few.
-refused_by : (q : Problem) (p t r u : ℕ) → (AreConsistent q p t r u → ⊥) → (is_compatible q p t r u ≡ false) ⊎ (common q.target t u < common q.pattern p r)
-refused_by q p t r u refused = by (is_compatible q p t r u) refl (cases_lt (common q.target t u) (common q.pattern p r))
+refused_by : (q : Problem) → IsPlainProblem q → (p t r u : ℕ) → IsPlace q p t r → u < size q.target → (AreConsistent q p t r u → ⊥)
+    → (is_compatible q p t r u ≡ false) ⊎ (common q.target t u < common q.pattern p r)
+refused_by q plain p t r u place u_in refused = by (is_compatible q p t r u) refl (cases_lt (common q.target t u) (common q.pattern p r))
   where
     by : (b : Bool) → is_compatible q p t r u ≡ b → (common q.target t u < common q.pattern p r) ⊎ (common q.pattern p r ≤ common q.target t u)
         → (is_compatible q p t r u ≡ false) ⊎ (common q.target t u < common q.pattern p r)
     by false e shared = inl e
     by true e (inl few) = inr few
-    by true e (inr enough) = absurd (refused (record { pair = compatible_from q p t r u e; shared = enough }))
+    by true e (inr enough) =
+        absurd (refused (plain_consistent q p t r u (record { pattern_plain = plain.pattern_plain; target_plain = plain.target_plain }) place.first place.place place.second u_in (compatible_from q p t r u e) enough))
 
 -- A form that holds only where the value is not taken forces this.
 forces_out : (s : Setting) (f : Form) (v : ℕ) → Rises 0 f.terms → ((a : ℕ → Bool) → Follows s a → Holds f a → a v ≡ true → ⊥) → (conflict s f ≡ true) ⊎ (after s f v ≡ Some false)
@@ -56,9 +59,9 @@ beside_never q a p t r u u_in refused here holds is =
     let reached = holds.reached in
     omega (arith, ints)
 
-forces_beside : (q : Problem) (p t r : ℕ) → common q.pattern p r ≡ 0 → ForcesBeside q (beside_form q p t r) p t r
-forces_beside q p t r none s here u u_in refused = forces_out s (beside_form q p t r) (variable q r u) (Rises-sorted _)
-    (λ a follows holds is. beside_never q a p t r u u_in (by (refused_by q p t r u refused)) (follows.same (variable q p t) true here) holds is)
+forces_beside : (q : Problem) → IsPlainProblem q → (p t r : ℕ) → IsPlace q p t r → common q.pattern p r ≡ 0 → ForcesBeside q (beside_form q p t r) p t r
+forces_beside q plain p t r place none s here u u_in refused = forces_out s (beside_form q p t r) (variable q r u) (Rises-sorted _)
+    (λ a follows holds is. beside_never q a p t r u u_in (by (refused_by q plain p t r u place u_in refused)) (follows.same (variable q p t) true here) holds is)
   where
     by : (is_compatible q p t r u ≡ false) ⊎ (common q.target t u < common q.pattern p r) → is_compatible q p t r u ≡ false
     by (inl e) = e
@@ -105,9 +108,9 @@ target_never q a p t r place here holds is =
     let reached = holds.reached in
     place.others (count_one (λ v. every v && a (variable q v t)) (size q.pattern) p r (omega (arith, ints)) place.first place.second here is)
 
-forces_alone : (q : Problem) (p t r : ℕ) → IsPlace q p t r → common q.pattern p r ≡ 0 → is_paired q p r ≡ false → ForcesBeside q (at_most_target q t) p t r
-forces_alone q p t r place none unpaired s here u u_in refused = forces_out s (at_most_target q t) (variable q r u) (Rises-sorted _)
-    (λ a follows holds is. target_never q a p t r place (follows.same (variable q p t) true here) holds (ap (λ (w : ℕ). a (variable q r w)) (sym (by (refused_by q p t r u refused))) ∙ is))
+forces_alone : (q : Problem) → IsPlainProblem q → (p t r : ℕ) → IsPlace q p t r → common q.pattern p r ≡ 0 → is_paired q p r ≡ false → ForcesBeside q (at_most_target q t) p t r
+forces_alone q plain p t r place none unpaired s here u u_in refused = forces_out s (at_most_target q t) (variable q r u) (Rises-sorted _)
+    (λ a follows holds is. target_never q a p t r place (follows.same (variable q p t) true here) holds (ap (λ (w : ℕ). a (variable q r w)) (sym (by (refused_by q plain p t r u place u_in refused))) ∙ is))
   where
     by : (is_compatible q p t r u ≡ false) ⊎ (common q.target t u < common q.pattern p r) → u ≡ t
     by (inl e) = same_place q p t r u place.others unpaired e
@@ -167,10 +170,10 @@ joined_never q plain a p t r u u_in some refused here holds is = by refused
         let h = says in
         omega (arith, h, times, b, k, few, one)
 
-forces_joined : (q : Problem) → IsPlainProblem q → (p t r : ℕ) → 0 < common q.pattern p r → ForcesBeside q (joined_form q p t r) p t r
-forces_joined q plain p t r some s here u u_in refused = forces_out s (joined_form q p t r) (variable q r u)
+forces_joined : (q : Problem) → IsPlainProblem q → (p t r : ℕ) → IsPlace q p t r → 0 < common q.pattern p r → ForcesBeside q (joined_form q p t r) p t r
+forces_joined q plain p t r place some s here u u_in refused = forces_out s (joined_form q p t r) (variable q r u)
     (rises_where (is_neighbour q.target t) (spread_form q p r) _ (size q.target) (rises_where (is_shared q.pattern p r) (λ m. pair_form q p m t) _ (size q.pattern) (Rises-scaled (weight q t) _ (omega arith) (Rises-sorted _))))
-    (λ a follows holds is. joined_never q plain a p t r u u_in some (refused_by q p t r u refused) (follows.same (variable q p t) true here) holds is)
+    (λ a follows holds is. joined_never q plain a p t r u u_in some (refused_by q plain p t r u place u_in refused) (follows.same (variable q p t) true here) holds is)
 
 apart_never : (q : Problem) → IsPlainProblem q → (a : ℕ → Bool) (p t r u : ℕ) → IsPlace q p t r → u < size q.target → 0 < common q.pattern p r → (u ≡ t) ⊎ (common q.target t u < common q.pattern p r)
     → a (variable q p t) ≡ true → Holds (apart_form q p t r) a → a (variable q r u) ≡ true → ⊥
@@ -209,7 +212,7 @@ apart_never q plain a p t r u place u_in some refused here holds is = by refused
 forces_apart : (q : Problem) → IsPlainProblem q → (p t r : ℕ) → IsPlace q p t r → 0 < common q.pattern p r → is_paired q p r ≡ false → ForcesBeside q (apart_form q p t r) p t r
 forces_apart q plain p t r place some unpaired s here u u_in refused = forces_out s (apart_form q p t r) (variable q r u)
     (rises_where (is_neighbour q.target t) (spread_form q p r) _ (size q.target) (rises_where (is_shared q.pattern p r) (λ m. pair_form q p m t) _ (size q.pattern) (Rises-scaled (weight q t) _ (omega arith) (Rises-sorted _))))
-    (λ a follows holds is. apart_never q plain a p t r u place u_in some (by (refused_by q p t r u refused)) (follows.same (variable q p t) true here) holds is)
+    (λ a follows holds is. apart_never q plain a p t r u place u_in some (by (refused_by q plain p t r u place u_in refused)) (follows.same (variable q p t) true here) holds is)
   where
     by : (is_compatible q p t r u ≡ false) ⊎ (common q.target t u < common q.pattern p r) → (u ≡ t) ⊎ (common q.target t u < common q.pattern p r)
     by (inl e) = inl (same_place q p t r u place.others unpaired e)
@@ -217,8 +220,8 @@ forces_apart q plain p t r place some unpaired s here u u_in refused = forces_ou
 
 pub row_forces : (q : Problem) → IsPlainProblem q → RowForces q
 row_forces q plain = record {
-  beside = λ p t r place none. forces_beside q p t r none;
-  alone = λ p t r place none unpaired. forces_alone q p t r place none unpaired;
-  joined = λ p t r place some. forces_joined q plain p t r some;
+  beside = λ p t r place none. forces_beside q plain p t r place none;
+  alone = λ p t r place none unpaired. forces_alone q plain p t r place none unpaired;
+  joined = λ p t r place some. forces_joined q plain p t r place some;
   apart = λ p t r place some unpaired. forces_apart q plain p t r place some unpaired;
 }

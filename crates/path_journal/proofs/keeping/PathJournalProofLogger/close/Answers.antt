@@ -8,7 +8,7 @@ use Rattle.path_journal.specs.declared.refuted.Refuted.{Refuted}
 use Rattle.path_journal.specs.Lines.{row_frame, Refutes}
 use Rattle.path_journal.specs.Entries.{AreFrom, AreBelow, AreRising, Writes}
 use Rattle.path_journal.specs.Closing.{IsLined}
-use Rattle.path_journal.proofs.Closing.{steps_after, closed_empty, closed_failed}
+use Rattle.path_journal.proofs.Closing.{steps_after, closed_empty, closed_failed, closed_same}
 use Rattle.path_journal.proofs.keeping.PathJournalProofLogger.close.Goals as goal
 
 pub returns-in_err-answer-clause-steps : goal.returns-in_err-answer-clause-steps
@@ -123,7 +123,8 @@ returns-in-None-last_pair-clause-closed g c =
     let last : IsLastOf (Some c.dead_line.new.self.journal.steps) c.in-Some-answer.name =
     subst (λ (o : Option Name). IfSome o (IsLastOf (Some c.dead_line.new.self.journal.steps))) answer c.in_ok-answer.ensures.last in
     let none : length (path a) ≡ 0 = ap (λ (xs : List (ℕ × ℕ)). length xs) (sym c.path.ensures.is) ∙ c.in-None-last_pair.ensures.none in
-    rw (c.dead_line.ensures.same, c.dead_line.ensures.numbers) (closed_empty knows later j.lines.now j.journal c.dead_line.new.self.journal j.numbers.owner j.numbers.notes es c.dead_line.new.self.entries.items q rows a
+    closed_same later j.lines.now c.dead_line.new.self.lines.now c.dead_line.new.self.journal j.numbers.owner c.dead_line.new.self.numbers.owner j.numbers.notes c.dead_line.new.self.numbers.notes c.dead_line.new.self.entries.items q rows a
+    c.dead_line.ensures.same (ap (λ n. n.owner) c.dead_line.ensures.numbers) (ap (λ n. n.notes) c.dead_line.ensures.numbers) (closed_empty knows later j.lines.now j.journal c.dead_line.new.self.journal j.numbers.owner j.numbers.notes es c.dead_line.new.self.entries.items q rows a
     c.in-Some-answer.name w c.dead_line.ensures.owner c.dead_line.ensures.notes m last none)
 
 pub returns-clause-closed : goal.returns-clause-closed
@@ -156,7 +157,8 @@ returns-clause-closed g c =
     let positive : 0 < length c.path.result.now = some.0 in
     let level : length c.path-length.result.now - 1 + 1 ≡ length (path a) = omega (arith, positive, here, long) in
     let front : c.truncate.new.self.items ≡ take k es = c.truncate.ensures.items ∙ ap (λ v. take k v.items) c.dead_line.ensures.entries in
-    rw (c.dead_line.ensures.same, c.dead_line.ensures.numbers) (subst (λ (xs : List Refuted). Closed (λ b. Writes later j.lines.now c.dead_line.new.self.journal j.numbers.owner j.numbers.notes xs q rows b) (Refutes j.lines.now c.dead_line.new.self.journal q rows) a)
+    closed_same later j.lines.now c.dead_line.new.self.lines.now c.dead_line.new.self.journal j.numbers.owner c.dead_line.new.self.numbers.owner j.numbers.notes c.dead_line.new.self.numbers.notes c.push_reserved.new.self.items q rows a
+    c.dead_line.ensures.same (ap (λ n. n.owner) c.dead_line.ensures.numbers) (ap (λ n. n.notes) c.dead_line.ensures.numbers) (subst (λ (xs : List Refuted). Closed (λ b. Writes later j.lines.now c.dead_line.new.self.journal j.numbers.owner j.numbers.notes xs q rows b) (Refutes j.lines.now c.dead_line.new.self.journal q rows) a)
     (sym c.push_reserved.ensures.items)
     (closed_failed knows later j.lines.now j.journal c.dead_line.new.self.journal j.numbers.owner j.numbers.notes es q rows a c.in-Some-answer.name k c.truncate.new.self.items _ c.in-Some-last_pair.last front w
     c.dead_line.ensures.owner c.dead_line.ensures.notes m last from below refl level at refl))
