@@ -5,7 +5,7 @@ use Rattle.std.specs.List.{list_all}
 use Rattle.clap.proofs.OnLiterals.{clap_on_literals}
 use Rattle.log_theory.specs.declared.profile.Profile.TheVariants.{Hinted, Plain}
 use Rattle.graph_theory.specs.Text.{words}
-use Rattle.graph_theory.specs.declared.lad_text.LadKind.TheVariants.{Lad, VertexLabelledLad}
+use Rattle.graph_theory.specs.declared.lad_text.LadKind.TheVariants.{Lad, VertexLabelledLad, DirectedLad, LabelledLad}
 use Rattle.command_line.specs.CommandLine.{command}
 use Rattle.command_line.specs.Grammar.{grammar, answering, solve_grammar, verify_grammar, encode_grammar, check_grammar, reading, demo_grammar, with_graphs, with_kind, with_mapping, with_search, with_proof}
 use Rattle.command_line.specs.declared.commands.Command.TheVariants.{Solve, Verify, Encode, Check, Demo}
@@ -37,7 +37,7 @@ pub unknown_words : list_all is_refused (
 unfolding command grammar answering solve_grammar verify_grammar encode_grammar check_grammar reading demo_grammar with_graphs with_kind with_mapping with_search with_proof clap_on_literals
 unknown_words = refl
 
--- a proof with one file alone, or with two that are one or one of the graphs', a profile without one or out of range, and too long a name
+-- a proof with one file alone, with two that are one or one of the graphs', or in a format with directions, and a profile without one or out of range
 pub wrong_proofs : list_all is_refused (
     codes "subgraph solve p t --prove e" ∷ codes "subgraph solve p t --log l" ∷ codes "subgraph solve p t --prove a --log a"
     ∷ codes "subgraph solve p t --prove p --log l" ∷ codes "subgraph solve p t --prove t --log l" ∷ codes "subgraph solve p t --prove e --log p"
@@ -46,6 +46,7 @@ pub wrong_proofs : list_all is_refused (
     ∷ codes "subgraph demo 7 --prove e --log l" ∷ codes "subgraph solve p t --profile 2" ∷ codes "subgraph solve p t --profile 1"
     ∷ codes "subgraph solve p t --prove e --log l --profile 3" ∷ codes "subgraph solve p t --prove e --log l --profile 0"
     ∷ codes "subgraph solve p t --prove e --log l --profile 2 --profile 2" ∷ codes "subgraph solve p t --prove e --profile 2"
+    ∷ codes "subgraph solve p t --format directedlad --prove e --log l" ∷ codes "subgraph solve p t --prove e --log l --format labelledlad"
     ∷ codes "subgraph solve p t --prove e --log l --profile=" ∷ codes "subgraph check e l --profile 2" ∷ []) ≡ true
 unfolding command grammar answering solve_grammar verify_grammar encode_grammar check_grammar reading demo_grammar with_graphs with_kind with_mapping with_search with_proof clap_on_literals
 wrong_proofs = refl
@@ -59,8 +60,7 @@ pub wrong_values : list_all is_refused (
     ∷ codes "subgraph solve p t --budget=+4" ∷ codes "subgraph solve p t --format foo" ∷ codes "subgraph solve p t --format LAD"
     ∷ codes "subgraph solve p t --seed 18446744073709551616" ∷ codes "subgraph solve p t --seed=" ∷ codes "subgraph solve p t --seed -1"
     ∷ codes "subgraph solve p t --format=" ∷ codes "subgraph verify p t m --format foo"
-    ∷ codes "subgraph solve p t --format directedlad" ∷ codes "subgraph solve p t --format labelledlad"
-    ∷ codes "subgraph encode p t --format directedlad" ∷ codes "subgraph encode p t --format labelledlad"
+    ∷ codes "subgraph solve p t --format directed" ∷ codes "subgraph encode p t --format labelledlad2"
     ∷ codes "subgraph demo +7" ∷ codes "subgraph demo -7" ∷ codes "subgraph demo 7x" ∷ codes "subgraph demo 18446744073709551616"
     ∷ codes "subgraph demo 7 --budget 0" ∷ codes "subgraph demo 7 --budget 9223372036854775808"
     ∷ codes "subgraph solve p t --threads 0" ∷ codes "subgraph solve p t --threads 65" ∷ codes "subgraph solve p t --threads +4"
@@ -74,7 +74,8 @@ pub solves : map (λ (text : List ℕ). command (words text)) (
     codes "subgraph solve p t" ∷ codes "any solve same same --induced" ∷ codes "subgraph solve --budget 4 p --format vertexlabelledlad t"
     ∷ codes "subgraph solve p t --budget=004" ∷ codes "subgraph solve --format=lad -- p --induced" ∷ codes "subgraph solve - solve"
     ∷ codes "subgraph solve p t --seed 18446744073709551615" ∷ codes "subgraph solve --budget 4 --seed=00 p t"
-    ∷ codes "subgraph solve p t --threads 64 --book 4194304" ∷ codes "subgraph solve --book=0 p --threads=008 t" ∷ [])
+    ∷ codes "subgraph solve p t --threads 64 --book 4194304" ∷ codes "subgraph solve --book=0 p --threads=008 t"
+    ∷ codes "subgraph solve p t --format directedlad" ∷ codes "subgraph solve --format=labelledlad p t --induced" ∷ [])
     ≡ Some (Solve (record { pattern = codes "p"; target = codes "t"; induced = false; format = Lad; threads = 1; seed = 0; budget = 9223372036854775807; book = 65536; prove = None }))
     ∷ Some (Solve (record { pattern = codes "same"; target = codes "same"; induced = true; format = Lad; threads = 1; seed = 0; budget = 9223372036854775807; book = 65536; prove = None }))
     ∷ Some (Solve (record { pattern = codes "p"; target = codes "t"; induced = false; format = VertexLabelledLad; threads = 1; seed = 0; budget = 4; book = 65536; prove = None }))
@@ -85,6 +86,8 @@ pub solves : map (λ (text : List ℕ). command (words text)) (
     ∷ Some (Solve (record { pattern = codes "p"; target = codes "t"; induced = false; format = Lad; threads = 1; seed = 0; budget = 4; book = 65536; prove = None }))
     ∷ Some (Solve (record { pattern = codes "p"; target = codes "t"; induced = false; format = Lad; threads = 64; seed = 0; budget = 9223372036854775807; book = 4194304; prove = None }))
     ∷ Some (Solve (record { pattern = codes "p"; target = codes "t"; induced = false; format = Lad; threads = 8; seed = 0; budget = 9223372036854775807; book = 0; prove = None }))
+    ∷ Some (Solve (record { pattern = codes "p"; target = codes "t"; induced = false; format = DirectedLad; threads = 1; seed = 0; budget = 9223372036854775807; book = 65536; prove = None }))
+    ∷ Some (Solve (record { pattern = codes "p"; target = codes "t"; induced = true; format = LabelledLad; threads = 1; seed = 0; budget = 9223372036854775807; book = 65536; prove = None }))
     ∷ []
 unfolding command grammar answering solve_grammar verify_grammar encode_grammar check_grammar reading demo_grammar with_graphs with_kind with_mapping with_search with_proof clap_on_literals
 solves = refl
@@ -103,18 +106,22 @@ proves = refl
 
 -- verifies
 pub verifies : map (λ (text : List ℕ). command (words text)) (
-    codes "subgraph verify p t m" ∷ codes "subgraph verify p --induced t --format vertexlabelledlad m" ∷ [])
+    codes "subgraph verify p t m" ∷ codes "subgraph verify p --induced t --format vertexlabelledlad m" ∷ codes "subgraph verify p t m --format directedlad" ∷ [])
     ≡ Some (Verify (record { pattern = codes "p"; target = codes "t"; mapping = codes "m"; induced = false; format = Lad }))
     ∷ Some (Verify (record { pattern = codes "p"; target = codes "t"; mapping = codes "m"; induced = true; format = VertexLabelledLad }))
+    ∷ Some (Verify (record { pattern = codes "p"; target = codes "t"; mapping = codes "m"; induced = false; format = DirectedLad }))
     ∷ []
 unfolding command grammar answering solve_grammar verify_grammar encode_grammar check_grammar reading demo_grammar with_graphs with_kind with_mapping with_search with_proof clap_on_literals
 verifies = refl
 
 -- encodes
 pub encodes : map (λ (text : List ℕ). command (words text)) (
-    codes "subgraph encode p t" ∷ codes "subgraph encode p --induced t --format vertexlabelledlad" ∷ [])
+    codes "subgraph encode p t" ∷ codes "subgraph encode p --induced t --format vertexlabelledlad" ∷ codes "subgraph encode p t --format directedlad"
+    ∷ codes "subgraph encode p --format labelledlad t" ∷ [])
     ≡ Some (Encode (record { pattern = codes "p"; target = codes "t"; induced = false; format = Lad }))
     ∷ Some (Encode (record { pattern = codes "p"; target = codes "t"; induced = true; format = VertexLabelledLad }))
+    ∷ Some (Encode (record { pattern = codes "p"; target = codes "t"; induced = false; format = DirectedLad }))
+    ∷ Some (Encode (record { pattern = codes "p"; target = codes "t"; induced = false; format = LabelledLad }))
     ∷ []
 unfolding command grammar answering solve_grammar verify_grammar encode_grammar check_grammar reading demo_grammar with_graphs with_kind with_mapping with_search with_proof clap_on_literals
 encodes = refl

@@ -8,9 +8,9 @@ use Rattle.clap.specs.Walk.{is_empty}
 use Rattle.log_theory.specs.declared.profile.Profile.{Profile}
 use Rattle.log_theory.specs.declared.profile.Profile.TheVariants.{Hinted}
 use Rattle.graph_theory.specs.declared.lad_text.LadKind.{LadKind}
-use Rattle.graph_theory.specs.declared.lad_text.LadKind.TheVariants.{Lad}
+use Rattle.graph_theory.specs.declared.lad_text.LadKind.TheVariants.{Lad, VertexLabelledLad, DirectedLad, LabelledLad}
 use Rattle.graph_theory.specs.Plain.{IsUndirected}
-use Rattle.command_line.specs.Words.{file_name, threads, budget, seed, book, profile, format, any_format}
+use Rattle.command_line.specs.Words.{file_name, threads, budget, seed, book, profile, format}
 use Rattle.command_line.specs.Grammar.{grammar}
 use Rattle.command_line.specs.declared.commands.Command.{Command}
 use Rattle.command_line.specs.declared.commands.Command.TheVariants.{Solve, Verify, Encode, Check, Demo}
@@ -34,13 +34,9 @@ abbrev pub or_default : {A : Type 0} → A → (Text → Option A) → Option Te
 or_default default read None = Some default
 or_default default read (Some text) = read text
 
--- The format of both graphs, one without directions, `lad` where none is named.
+-- The format of both graphs, `lad` where none is named.
 abbrev pub format_at : List Row → Option LadKind
 format_at rows = or_default Lad format (first_of (codes "format") rows)
-
--- The same where each format will do.
-abbrev pub any_format_at : List Row → Option LadKind
-any_format_at rows = or_default Lad any_format (first_of (codes "format") rows)
 
 -- The budget, the largest where none is named.
 abbrev pub budget_at : List Row → Option ℕ
@@ -79,14 +75,22 @@ are_apart p t None = true
 are_apart p t (Some w) = not (bytes_eq w.encoding w.log) && (not (bytes_eq w.encoding p) && (not (bytes_eq w.encoding t)
     && (not (bytes_eq w.log p) && not (bytes_eq w.log t))))
 
+-- Whether a proof may be asked for: there are logs for formats without directions alone.
+abbrev pub may_prove : LadKind → Option ProveWords → Bool
+may_prove format None = true
+may_prove Lad (Some w) = true
+may_prove VertexLabelledLad (Some w) = true
+may_prove DirectedLad (Some w) = false
+may_prove LabelledLad (Some w) = false
+
 -- The files of a proof that the words name, `--prove` and `--log` together, and `--profile` only beside them.
 abbrev pub prove_at : List Row → Option (Option ProveWords)
 prove_at rows = prove_from (first_of (codes "prove") rows) (first_of (codes "log") rows) (first_of (codes "profile") rows)
 
--- A solve, where each of its words is good, and the files of its proof are apart.
+-- A solve, where each of its words is good, the files of its proof are apart, and there are logs for its format where one is asked for.
 abbrev pub solve_from : Option Text → Option Text → Bool → Option LadKind → Option ℕ → Option ℕ → Option ℕ → Option ℕ
     → Option (Option ProveWords) → Option Command
-solve_from (Some p) (Some t) induced (Some f) (Some n) (Some s) (Some b) (Some k) (Some w) = if are_apart p t w then Some (Solve (record {
+solve_from (Some p) (Some t) induced (Some f) (Some n) (Some s) (Some b) (Some k) (Some w) = if are_apart p t w && may_prove f w then Some (Solve (record {
   pattern = p;
   target = t;
   induced = induced;
@@ -128,7 +132,7 @@ solve_of rows = solve_from (name_at (codes "pattern") rows) (name_at (codes "tar
 -- The verify that the words after `verify` are.
 abbrev pub verify_of : List Row → Option Command
 verify_of rows = verify_from (name_at (codes "pattern") rows) (name_at (codes "target") rows)
-    (name_at (codes "mapping") rows) (flag_at (codes "induced") rows) (any_format_at rows)
+    (name_at (codes "mapping") rows) (flag_at (codes "induced") rows) (format_at rows)
 
 -- The encode that the words after `encode` are.
 abbrev pub encode_of : List Row → Option Command
@@ -177,7 +181,7 @@ pub record IsSolveInRange (w : SolveWords) : Type 0 where
   pub least : 1 ≤ w.budget
   pub most : w.budget < 2 ^ 63
   pub book : w.book ≤ 4194304
-  pub format : IsUndirected w.format
+  pub format : IfSome w.prove (λ p. IsUndirected w.format)
   pub prove : IfSome w.prove (λ p. IsProveInRange w.pattern w.target p)
 
 pub record IsVerifyInRange (w : VerifyWords) : Type 0 where
@@ -188,7 +192,6 @@ pub record IsVerifyInRange (w : VerifyWords) : Type 0 where
 pub record IsEncodeInRange (w : EncodeWords) : Type 0 where
   pub pattern : length w.pattern ≤ 4095
   pub target : length w.target ≤ 4095
-  pub format : IsUndirected w.format
 
 pub record IsCheckInRange (w : CheckWords) : Type 0 where
   pub encoding : length w.encoding ≤ 4095

@@ -38,12 +38,9 @@ book = number_within 0 4194304
 abbrev pub profile : List ℕ → Option Profile
 profile text = option_map (λ n. if n == 2 then Plain else Hinted) (number_within 1 2 text)
 
--- The format without directions that a word names.
+-- The format that a word names.
 abbrev pub format : List ℕ → Option LadKind
 format text = if bytes_eq text (codes "lad") then Some Lad
-    else (if bytes_eq text (codes "vertexlabelledlad") then Some VertexLabelledLad else None)
-
--- The format that a word names.
-abbrev pub any_format : List ℕ → Option LadKind
-any_format text = if bytes_eq text (codes "directedlad") then Some DirectedLad
-    else (if bytes_eq text (codes "labelledlad") then Some LabelledLad else format text)
+    else (if bytes_eq text (codes "vertexlabelledlad") then Some VertexLabelledLad
+    else (if bytes_eq text (codes "directedlad") then Some DirectedLad
+    else (if bytes_eq text (codes "labelledlad") then Some LabelledLad else None)))

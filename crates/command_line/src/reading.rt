@@ -96,30 +96,20 @@ fn small_number_of(text: &str, least: u32, most: u32) -> Option<u32>
     }
 }
 
-/// The format without directions that a word names.
+/// The format that a word names.
 fn format_named(text: &str) -> Option<LadKind>
-    ensures value { result ≡ word.format text.now }
-    ensures undirected { IfSome result IsUndirected }
+    ensures { result ≡ word.format text.now }
 {
     if text == "lad" {
         Some(LadKind::Lad)
     } else if text == "vertexlabelledlad" {
         Some(LadKind::VertexLabelledLad)
-    } else {
-        None
-    }
-}
-
-/// The format that a word names.
-fn any_format_named(text: &str) -> Option<LadKind>
-    ensures { result ≡ word.any_format text.now }
-{
-    if text == "directedlad" {
+    } else if text == "directedlad" {
         Some(LadKind::DirectedLad)
     } else if text == "labelledlad" {
         Some(LadKind::LabelledLad)
     } else {
-        format_named(text)
+        None
     }
 }
 
@@ -150,23 +140,12 @@ fn flag_at(matches: &ArgMatches, id: &str) -> bool
     }
 }
 
-/// The format of both graphs, one without directions.
+/// The format of both graphs.
 fn format_at(matches: &ArgMatches) -> Option<LadKind>
-    ensures value { result ≡ line.format_at (rows_of (found_of matches.now)) }
-    ensures undirected { IfSome result IsUndirected }
+    ensures { result ≡ line.format_at (rows_of (found_of matches.now)) }
 {
     match word_at(matches, "format") {
         Some(text) => format_named(text),
-        None => Some(LadKind::Lad),
-    }
-}
-
-/// The format of both graphs.
-fn any_format_at(matches: &ArgMatches) -> Option<LadKind>
-    ensures { result ≡ line.any_format_at (rows_of (found_of matches.now)) }
-{
-    match word_at(matches, "format") {
-        Some(text) => any_format_named(text),
         None => Some(LadKind::Lad),
     }
 }
@@ -294,6 +273,20 @@ fn are_apart(pattern: &FileName, target: &FileName, prove: &Option<ProveWords>) 
     encoding != log && encoding != pattern && encoding != target && log != pattern && log != target
 }
 
+/// Whether a proof may be asked for: there are logs for formats without directions alone.
+fn may_prove(format: LadKind, prove: &Option<ProveWords>) -> bool
+    ensures answer { result ≡ line.may_prove format prove.now }
+    ensures undirected { IsTrue result → IfSome prove.now (λ p. IsUndirected format) }
+{
+    if prove.is_none() {
+        return true;
+    }
+    match format {
+        LadKind::Lad | LadKind::VertexLabelledLad => true,
+        LadKind::DirectedLad | LadKind::LabelledLad => false,
+    }
+}
+
 /// The solve that was found.
 fn solve_words<'a>(matches: &ArgMatches<'a>) -> Option<Command<'a>>
     ensures words { result ≡ line.solve_of (rows_of (found_of matches.now)) }
@@ -308,7 +301,7 @@ fn solve_words<'a>(matches: &ArgMatches<'a>) -> Option<Command<'a>>
     let budget = budget_at(matches)?;
     let book = book_at(matches)?;
     let prove = prove_at(matches)?;
-    if !are_apart(&pattern, &target, &prove) {
+    if !are_apart(&pattern, &target, &prove) || !may_prove(format, &prove) {
         return None;
     }
     Some(Command::Solve(SolveWords {
@@ -333,7 +326,7 @@ fn verify_words<'a>(matches: &ArgMatches<'a>) -> Option<Command<'a>>
     let target = name_at(matches, "target")?;
     let mapping = name_at(matches, "mapping")?;
     let induced = flag_at(matches, "induced");
-    let format = any_format_at(matches)?;
+    let format = format_at(matches)?;
     Some(Command::Verify(VerifyWords {
         pattern,
         target,

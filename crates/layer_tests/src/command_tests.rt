@@ -96,7 +96,7 @@ impl<R> Example<R> for Says {
     }
 }
 
-static SAYS: [Says; 19] = [
+static SAYS: [Says; 23] = [
     Says {
         line: "subgraph solve p t",
         told: "solve p t false Lad 1 0 9223372036854775807 65536 unproved",
@@ -108,6 +108,14 @@ static SAYS: [Says; 19] = [
     Says {
         line: "subgraph solve --budget 4 p --format vertexlabelledlad t",
         told: "solve p t false VertexLabelledLad 1 0 4 65536 unproved",
+    },
+    Says {
+        line: "subgraph solve --format directedlad p t",
+        told: "solve p t false DirectedLad 1 0 9223372036854775807 65536 unproved",
+    },
+    Says {
+        line: "subgraph solve p t --induced --format labelledlad",
+        told: "solve p t true LabelledLad 1 0 9223372036854775807 65536 unproved",
     },
     Says {
         line: "subgraph solve p t --budget=09223372036854775807",
@@ -162,6 +170,14 @@ static SAYS: [Says; 19] = [
         told: "encode p t true VertexLabelledLad",
     },
     Says {
+        line: "subgraph encode p t --format directedlad",
+        told: "encode p t false DirectedLad",
+    },
+    Says {
+        line: "subgraph encode p --format labelledlad t --induced",
+        told: "encode p t true LabelledLad",
+    },
+    Says {
         line: "subgraph check e l",
         told: "check e l",
     },
@@ -189,7 +205,7 @@ impl<R> Example<R> for Refused {
     }
 }
 
-static REFUSED: [Refused; 42] = [
+static REFUSED: [Refused; 45] = [
     Refused(""),
     Refused("subgraph solve p"),
     Refused("subgraph solve p t m"),
@@ -213,6 +229,7 @@ static REFUSED: [Refused; 42] = [
     Refused("subgraph check e l --induced"),
     Refused("subgraph verify p t m --seed 4"),
     Refused("subgraph solve p t --format foo"),
+    Refused("subgraph encode p t --format directed"),
     Refused("subgraph solve p t --seed 1 --seed 1"),
     Refused("subgraph solve p t --induced --induced"),
     Refused("subgraph solve p t --induced=true"),
@@ -221,6 +238,8 @@ static REFUSED: [Refused; 42] = [
     Refused("subgraph solve p t --prove a --log a"),
     Refused("subgraph solve p t --prove p --log l"),
     Refused("subgraph solve p t --prove e --log t"),
+    Refused("subgraph solve p t --format directedlad --prove e --log l"),
+    Refused("subgraph solve p t --prove e --log l --format labelledlad --profile 2"),
     Refused("subgraph solve p t --profile 2"),
     Refused("subgraph solve p t --prove e --log l --profile 3"),
     Refused("subgraph solve p t --prove e --log l --profile 0"),

@@ -32,7 +32,8 @@ fn problem(alloc: Global, pattern: &[u8], target: &[u8]) -> Option<Problem>
 
 /// The lines for the first domains of so many pattern vertices, in order.
 fn made(alloc: Global, q: &Problem, encoding: &Encoding, count: u16) -> Result<Journal, AllocError>
-    requires { encoding.now ≡ q.now }
+    requires encoding { encoding.now ≡ q.now }
+    requires plain { ArePlain q.now }
 {
     let lines = FirstLines::new(alloc, q, encoding)?;
     let mut journal = Journal::new(alloc, 1);
@@ -76,7 +77,8 @@ fn are_made(
     count: u16,
     text: &[u8],
 ) -> Result<bool, AllocError>
-    requires { encoding.now ≡ q.now }
+    requires encoding { encoding.now ≡ q.now }
+    requires plain { ArePlain q.now }
 {
     let journal = made(alloc, q, encoding, count)?;
     Ok(journal.text() == text)

@@ -4,7 +4,8 @@ ghost use Rattle.std.specs.Prelude.{IfSome};
 ghost use Rattle.graph_theory.specs.Plain.{ArePlain};
 
 use graph_rows::Problem;
-use sample_graphs::graph;
+use lad_reader::LadKind;
+use sample_graphs::{graph, graph_in};
 use std::alloc::Global;
 
 /// The problem of two texts.
@@ -13,5 +14,12 @@ pub fn problem(alloc: Global, pattern: &[u8], target: &[u8], induced: bool) -> O
 {
     let pattern = graph(alloc, pattern)?;
     let target = graph(alloc, target)?;
+    Some(Problem::new(pattern, target, induced))
+}
+
+/// The problem of two texts with directions.
+pub fn directed(alloc: Global, pattern: &[u8], target: &[u8], induced: bool) -> Option<Problem> {
+    let pattern = graph_in(alloc, pattern, LadKind::DirectedLad)?;
+    let target = graph_in(alloc, target, LadKind::DirectedLad)?;
     Some(Problem::new(pattern, target, induced))
 }

@@ -47,7 +47,8 @@ fn made_alone(
     t: u16,
     r: u16,
 ) -> Result<Name, AllocError>
-    requires { lines.now ≡ q.now }
+    requires lines { lines.now ≡ q.now }
+    requires plain { ArePlain q.now }
 {
     if is_pair(q, p, t, r) {
         row_line(alloc, q, lines, journal, p, t, r)
@@ -67,7 +68,8 @@ fn made_with(
     t: u16,
     r: u16,
 ) -> Result<Name, AllocError>
-    requires { lines.now ≡ q.now }
+    requires lines { lines.now ≡ q.now }
+    requires plain { ArePlain q.now }
 {
     if is_pair(q, p, t, r) {
         row_line_with(alloc, q, lines, spreads, journal, p, t, r)
@@ -87,7 +89,8 @@ fn ask(
     t: u16,
     r: u16,
 ) -> Result<Ref, AllocError>
-    requires { lines.now ≡ q.now }
+    requires lines { lines.now ≡ q.now }
+    requires plain { ArePlain q.now }
 {
     if is_pair(q, p, t, r) {
         made.row(alloc, q, lines, journal, p, t, r)
@@ -239,7 +242,8 @@ fn is_named(
     pair: (u16, u16, u16),
     number: u64,
 ) -> Result<bool, AllocError>
-    requires { lines.now ≡ q.now }
+    requires lines { lines.now ≡ q.now }
+    requires plain { ArePlain q.now }
 {
     let line = ask(alloc, q, lines, made, journal, pair.0, pair.1, pair.2)?;
     Ok(line == Ref::Made(Name { owner: 1, number }))

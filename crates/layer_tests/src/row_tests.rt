@@ -1,10 +1,9 @@
 //! Worked rows of consistent values.
 
 ghost use Rattle.std.specs.Prelude.{◌≡◌, ◌<◌, IsTrue};
-ghost use Rattle.graph_theory.specs.Plain.{ArePlain};
 ghost use Rattle.graph_theory.specs.Graph.{size};
 
-use crate::problems::problem;
+use crate::problems::{directed, problem};
 use graph_rows::Problem;
 use pair_rows::{MOST_WORDS, PairKinds, PairRows};
 use sample_graphs::{APART, EDGE, FOUR_CYCLE, PATH, TRIANGLE};
@@ -34,9 +33,7 @@ struct Worked {
 }
 
 /// The values of `r` that go together with `t` of `p`, as one word, where rows were made at another vertex before.
-fn row(alloc: Global, q: &Problem, p: u16, r: u16, t: u16) -> Option<u64>
-    requires { ArePlain q.now }
-{
+fn row(alloc: Global, q: &Problem, p: u16, r: u16, t: u16) -> Option<u64> {
     if !are_two(q, p, r) || t >= q.target().size() {
         return None;
     }
@@ -123,6 +120,98 @@ fn rows_hold_what_goes_together(rt: HostRuntime) -> Result<(), Fail> {
     Ok(())
 }
 
+/// The same of texts with directions.
+struct Directed(Worked);
+
+impl<R> Example<R> for Directed {
+    fn holds(&self, _rt: &R, alloc: Global) -> Result<bool, AllocError> {
+        let worked = &self.0;
+        let (p, r) = worked.vertices;
+        match directed(alloc, worked.pattern, worked.target, worked.induced) {
+            Some(q) => Ok(row(alloc, &q, p, r, worked.value) == Some(worked.word)),
+            None => Ok(false),
+        }
+    }
+}
+
+/// An edge from the first vertex to the second.
+const ARC: &[u8] = b"2 1 1 0";
+
+/// Edges round three vertices, and a vertex apart.
+const ROUND: &[u8] = b"4 1 1 1 2 1 0 0";
+
+/// Edges from the first vertex to two others, and a vertex apart.
+const FORK: &[u8] = b"4 2 1 2 0 0 0";
+
+/// Edges from two vertices to the first, and a vertex apart.
+const MEET: &[u8] = b"4 0 1 0 1 0 0";
+
+static DIRECTED: [Directed; 7] = [
+    Directed(Worked {
+        pattern: ARC,
+        target: ROUND,
+        induced: false,
+        vertices: (0, 1),
+        value: 0,
+        word: 0b0010,
+    }),
+    Directed(Worked {
+        pattern: ARC,
+        target: ROUND,
+        induced: false,
+        vertices: (1, 0),
+        value: 0,
+        word: 0b0100,
+    }),
+    Directed(Worked {
+        pattern: APART,
+        target: ROUND,
+        induced: true,
+        vertices: (0, 1),
+        value: 0,
+        word: 0b1000,
+    }),
+    // the two ends of a fork share an in-neighbour, and no neighbour
+    Directed(Worked {
+        pattern: FORK,
+        target: FORK,
+        induced: false,
+        vertices: (1, 2),
+        value: 1,
+        word: 0b0100,
+    }),
+    Directed(Worked {
+        pattern: FORK,
+        target: MEET,
+        induced: false,
+        vertices: (1, 2),
+        value: 1,
+        word: 0,
+    }),
+    Directed(Worked {
+        pattern: MEET,
+        target: MEET,
+        induced: false,
+        vertices: (1, 2),
+        value: 1,
+        word: 0b0100,
+    }),
+    Directed(Worked {
+        pattern: MEET,
+        target: FORK,
+        induced: false,
+        vertices: (1, 2),
+        value: 1,
+        word: 0,
+    }),
+];
+
+#[test]
+fn rows_hold_what_goes_together_along_edges(rt: HostRuntime) -> Result<(), Fail> {
+    assert_eq!(rt; first_wrong(&rt, rt.alloc(), &DIRECTED)?, None);
+    Ok(())
+}
+
 /// Whether `p` and `r` are asked nothing but distinct images in a cycle.
 fn free(alloc: Global, pattern: &[u8], induced: bool, p: u16, r: u16) -> Option<bool> {
     let q = problem(alloc, pattern, FOUR_CYCLE, induced)?;
@@ -181,9 +270,7 @@ fn first_neighbour(rows: &PairRows, q: &Problem, t: u16) -> Option<u16>
 }
 
 /// Whether this is so of two vertices and a value.
-fn is_near(alloc: Global, q: &Problem, near: &Near) -> Option<bool>
-    requires { ArePlain q.now }
-{
+fn is_near(alloc: Global, q: &Problem, near: &Near) -> Option<bool> {
     let ((p, r), t) = (near.vertices, near.value);
     if !are_two(q, p, r) || t >= q.target().size() {
         return None;

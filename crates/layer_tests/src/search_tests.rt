@@ -1,12 +1,11 @@
 //! Whole searches on worked problems, by workers over books.
 
 ghost use Rattle.std.specs.Prelude.{◌≡◌, [], IfOk};
-ghost use Rattle.graph_theory.specs.Plain.{ArePlain};
 ghost use Rattle.nogood_book.specs.Seats.{IsSeatOf};
 ghost use Rattle.propagation.specs.Propagation.{IsOf};
 ghost use Rattle.restart_search.specs.Searching.{AtRest};
 
-use crate::problems::problem;
+use crate::problems::{directed, problem};
 use domain_bits::{Domains, WordTrail};
 use graph_rows::Problem;
 use nogood_book::{BookSeat, RowBook, RowSeat};
@@ -71,6 +70,50 @@ static SMALL: [Searched; 10] = [
     Searched(FOUR_CYCLE, PATH, false, 0, 0, End::None),
     Searched(THREE_POINTS, APART, false, 0, 0, End::None),
     Searched(b"0", TRIANGLE, false, 0, 0, End::Yes),
+];
+
+/// A search of texts with directions.
+struct Along(Searched);
+
+impl<R> Example<R> for Along {
+    fn holds(&self, _rt: &R, alloc: Global) -> Result<bool, AllocError> {
+        let Searched(pattern, target, induced, budget, rows, end) = self.0;
+        match directed(alloc, pattern, target, induced) {
+            Some(q) => Ok(search_for(alloc, &q, budget, rows) == Ok(end)),
+            None => Ok(false),
+        }
+    }
+}
+
+/// Edges from each of three vertices to the next.
+const CHAIN: &[u8] = b"3 1 1 1 2 0";
+
+/// Edges round three vertices.
+const ROUND: &[u8] = b"3 1 1 1 2 1 0";
+
+/// Edges from each of three vertices to all that come later.
+const RANKED: &[u8] = b"3 2 1 2 1 2 0";
+
+/// Edges from the first of three vertices to the others.
+const FORK: &[u8] = b"3 2 1 2 0 0";
+
+/// Edges from the other two to the first.
+const MEET: &[u8] = b"3 0 1 0 1 0";
+
+/// Edges from each of six vertices to the next two, round them.
+const SIX: &[u8] = b"6 2 1 2 2 2 3 2 3 4 2 4 5 2 5 0 2 0 1";
+
+/// Searches along edges.
+static ALONG: [Along; 9] = [
+    Along(Searched(ROUND, RANKED, false, 1, 16, End::None)),
+    Along(Searched(FORK, MEET, false, 1, 16, End::None)),
+    Along(Searched(FORK, FORK, true, 100, 16, End::Yes)),
+    Along(Searched(CHAIN, RANKED, false, 100, 16, End::Yes)),
+    Along(Searched(CHAIN, RANKED, true, 100, 16, End::None)),
+    Along(Searched(CHAIN, ROUND, false, 100, 16, End::Yes)),
+    Along(Searched(CHAIN, ROUND, true, 100, 16, End::None)),
+    Along(Searched(ROUND, SIX, false, 100, 16, End::Yes)),
+    Along(Searched(CHAIN, SIX, true, 100, 16, End::Yes)),
 ];
 
 /// Searches for five vertices that are beside each other.
@@ -178,9 +221,7 @@ fn search<'a>(
 }
 
 /// The same, with the kinds of pairs.
-fn search_for(alloc: Global, q: &Problem, budget: u32, rows: u16) -> Result<End, AllocError>
-    requires { ArePlain q.now }
-{
+fn search_for(alloc: Global, q: &Problem, budget: u32, rows: u16) -> Result<End, AllocError> {
     let kinds = PairKinds::new(alloc, q)?;
     search(alloc, q, &kinds, budget, rows)
 }
@@ -204,6 +245,12 @@ fn ends(
 #[test]
 fn small_problems_are_decided(rt: HostRuntime) -> Result<(), Fail> {
     assert_eq!(rt; first_wrong(&rt, rt.alloc(), &SMALL)?, None);
+    Ok(())
+}
+
+#[test]
+fn small_problems_are_decided_along_edges(rt: HostRuntime) -> Result<(), Fail> {
+    assert_eq!(rt; first_wrong(&rt, rt.alloc(), &ALONG)?, None);
     Ok(())
 }
 

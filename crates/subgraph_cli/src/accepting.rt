@@ -1,7 +1,6 @@
 //! The log of a refutation, written to memory and checked.
 
 ghost use Rattle.std.specs.Prelude.{◌≡◌, IfOk, IfErr, OnOk};
-ghost use Rattle.graph_theory.specs.Plain.{ArePlain};
 ghost use Rattle.encoding_theory.specs.Variables.{variables};
 ghost use Rattle.encoding_theory.specs.Encoding.{encoding as encoding_of};
 ghost use Rattle.log_theory.specs.declared.step.Verdict.TheVariants.{Unsatisfiable};
@@ -85,8 +84,7 @@ fn check_log(alloc: Global, q: &Problem, model: &Model, log: &[u8]) -> Result<()
 /// Writes the log of a refutation to memory, and checks it over the encoding of the problem. The memory taken is that of the log, of the
 /// encoding and of what the log makes.
 pub(crate) fn accept(alloc: Global, q: &Problem, parts: &Logged) -> Result<(), Stop>
-    requires parts { IsProof q.now parts.now }
-    requires plain { ArePlain q.now }
+    requires { IsProof q.now parts.now }
     ensures accepted { OnOk result (HasRefutation q.now) }
     ensures memory { IfErr result (λ stop. stop ≡ Stop.NoMemory) }
 {

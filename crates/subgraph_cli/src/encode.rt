@@ -1,7 +1,6 @@
 //! The command `encode`.
 
 ghost use Rattle.std.specs.Prelude.{◌≡◌, ◌⊎◌, IsTrue, IfErr, IsErrOf};
-ghost use Rattle.graph_theory.specs.Plain.{ArePlain, IsUndirected};
 ghost use Rattle.subgraph_cli.specs.Disk.{disk, KeepsFiles};
 ghost use Rattle.subgraph_cli.specs.Encoded.{EncodeSays, WritingSays};
 ghost use Rattle.subgraph_cli.specs.Questions.{IsFaultOfTwo};
@@ -20,7 +19,6 @@ use std::alloc::Global;
 
 /// Writes the encoding of a problem, a line at a time.
 fn write_encoding<O: Sink>(alloc: Global, q: &Problem, out: &mut O) -> Result<(), Stop>
-    requires { ArePlain q.now }
     ensures says { WritingSays result q.now (stream O.spot O.contents O.faults out.old out.new) }
     ensures spares { IfErr result (λ stop. SparesInParts stop
         (stream O.spot O.contents O.faults out.old out.new)) }
@@ -45,7 +43,6 @@ pub fn encode<F: Files, O: Sink>(
     files: &mut F,
     out: &mut O,
 ) -> Result<(), Stop>
-    requires { IsUndirected words.now.format }
     ensures says { IsTrue (F.tells files.old)
         → EncodeSays result words.now (F.content files.old words.now.pattern)
         (F.content files.old words.now.target) (stream O.spot O.contents O.faults out.old out.new) }

@@ -1,7 +1,6 @@
 //! The files that show an answer of `solve`.
 
 ghost use Rattle.std.specs.Prelude.{◌≡◌, ◌⊎◌, true, is_some, IsTrue, IfErr, IsErrOf};
-ghost use Rattle.graph_theory.specs.Plain.{ArePlain};
 ghost use Rattle.command_line.specs.CommandLine.{IsSolveInRange};
 ghost use Rattle.proof_files.specs.Findings.{IsFound};
 ghost use Rattle.subgraph_cli.specs.Deciding.{IsRight, IsFindingOf, LeavingSays, IsOfWriting};
@@ -42,7 +41,6 @@ pub(crate) fn leave_proof<F: Files>(
     files: &mut F,
 ) -> Result<(), Stop>
     requires ranges { IsSolveInRange words.now }
-    requires plain { ArePlain q.now }
     requires right { IsRight answer.now q.now (is_some words.now.prove) }
     ensures says { IsTrue (F.tells files.old)
         → LeavingSays result answer.now q.now words.now.prove
