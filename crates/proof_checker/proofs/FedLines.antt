@@ -1,5 +1,5 @@
 -- A log that is cut at its LFs, and what each of its lines does to the verdict.
-use Rattle.std.proofs.Common.{◌≡◌, ◌≢◌, ℕ, zero, suc, ◌+◌, ◌<◌, Bool, true, false, cond, ◌==◌, List, [], ◌∷◌, ◌++◌, length, get_or, take, drop, None, Some, Result, Ok, Err, refl, sym, ap, ◌∙◌, arith, subst, length-append, append_assoc}
+use Rattle.std.proofs.Common.{◌≡◌, ◌≢◌, ℕ, zero, suc, ◌+◌, ◌<◌, Bool, true, false, cond, ◌==◌, List, [], ◌∷◌, ◌++◌, length, get_or, take, drop, Some, Result, Ok, Err, refl, sym, ap, ◌∙◌, arith, subst, length-append, append_assoc}
 use Rattle.std.proofs.lemmas.Bool.{ne_eqb}
 use Rattle.proof_theory.specs.Forms.{Form}
 use Rattle.log_theory.specs.declared.step.Cause.{Cause}
@@ -10,7 +10,7 @@ use Rattle.log_theory.specs.Words.{pieces, into_first}
 use Rattle.log_theory.specs.Acceptance.{NoFeed}
 use Rattle.log_theory.specs.Verdicts.{Stage, Progress, Goes, Ends, line_progress, verdict_from, when_ended, go_on, at_end}
 use Rattle.std.specs.declared.alloc.AllocError.{AllocError}
-use Rattle.std.specs.Prelude.{IfOk, is_ok}
+use Rattle.std.specs.Prelude.{is_ok}
 use Rattle.proof_checker.specs.declared.checker.Standing.{Standing}
 use Rattle.proof_checker.specs.declared.checker.Standing.TheVariants.{Open, Claimed}
 use Rattle.proof_checker.specs.Feeding.{Fed, verdict_on, verdict_with}

@@ -2,6 +2,9 @@ pub mod Backwards
 pub mod SharedRows
 pub mod Propagation
 pub mod Passing
+pub mod Led
+pub mod Greatest
+pub mod Rooted
 pub mod Claims
 pub mod Leading
 pub mod FedLines

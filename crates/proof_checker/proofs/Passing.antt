@@ -1,5 +1,5 @@
 -- Passes of unit propagation over forms: what each leaves unchanged, and what a pass that sets nothing shows.
-use Rattle.std.proofs.Common.{◌≡◌, ℕ, zero, suc, ◌+◌, ◌-◌, ◌<◌, ◌≤◌, Bool, true, false, cond, ◌==◌, nat_lt, List, [], ◌∷◌, ◌++◌, length, map, get_or, take, drop, Option, Some, None, Result, Ok, Err, ℤ, ◌<ℤ◌, pos, unsigned_abs, int_lt, refl, sym, ap, ◌∙◌, subst, arith, inl, inr, ◌⊎◌}
+use Rattle.std.proofs.Common.{◌≡◌, ℕ, zero, suc, ◌+◌, ◌-◌, ◌<◌, ◌≤◌, Bool, true, false, cond, nat_lt, List, [], ◌∷◌, ◌++◌, length, map, get_or, take, drop, Option, Some, None, Ok, Err, ℤ, ◌<ℤ◌, pos, unsigned_abs, int_lt, refl, sym, ap, ◌∙◌, subst, arith, inl, inr, ◌⊎◌}
 use Rattle.std.specs.List.{flat_map}
 use Rattle.std.proofs.lemmas.Bool.{eq-eqb, ne_eqb, ltb-true, ltb-false}
 use Rattle.std.proofs.lemmas.Int.{ints}
@@ -7,10 +7,9 @@ use Rattle.std.proofs.lemmas.List.{take_more, get_or-map, length-map}
 use Rattle.proof_theory.specs.declared.literal.Literal.{Literal}
 use Rattle.proof_theory.specs.Forms.{Form, Rises}
 use Rattle.proof_theory.specs.Slack.{Setting, setting, slack, conflict, wanted, forced_by, forced_at, or_else, after, negations, clause_form}
-use Rattle.proof_theory.specs.Propagation.{IsAmong, Value, ForcesValue, IsForced, HasConflict, Extends, closes}
+use Rattle.proof_theory.specs.Propagation.{IsAmong, Value, ForcesValue, HasConflict, Extends, closes}
 use Rattle.proof_theory.proofs.Propagation.{extends_itself, extends_on, extends_after, forces_wider, conflict_wider, closes_after, closes_same, closes_at_conflict, closes_not}
 use Rattle.log_theory.specs.declared.step.Cause.TheVariants.{NoConflict}
-use Rattle.log_theory.specs.Steps.{◌>>=◌, unless}
 use Rattle.log_theory.specs.Lookups.{are_distinct, variables_of, closed_clause}
 use Rattle.log_theory.specs.Tables.{Table, all_forms}
 use Rattle.log_theory.proofs.DroppedLogs.{left_among, right_among, list_among}
@@ -24,7 +23,7 @@ use Rattle.proof_checker.specs.Rows.{no_form, form_at, rows_of, ArePlaced}
 
 -- ---- places in lists
 
-split_among : (f : Form) (fs gs : List Form) → IsAmong f (fs ++ gs) → IsAmong f fs ⊎ IsAmong f gs
+pub split_among : (f : Form) (fs gs : List Form) → IsAmong f (fs ++ gs) → IsAmong f fs ⊎ IsAmong f gs
 split_among f [] gs i = inr i
 split_among f (x ∷ xs) gs (inl e) = inl (inl e)
 split_among f (x ∷ xs) gs (inr i) = by (split_among f xs gs i)

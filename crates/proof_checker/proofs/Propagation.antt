@@ -1,7 +1,7 @@
 -- The steps of unit propagation along references, and of the walk that sets the negations of a clause's literals.
-use Rattle.std.proofs.Common.{inl, inr, ◌⊎◌, not, ◌≡◌, ℕ, zero, suc, ◌+◌, ◌<◌, ◌≤◌, Bool, true, false, cond, ◌&&◌, ◌||◌, nat_lt, nat_le, List, [], ◌∷◌, length, get_or, drop, Option, Some, None, is_some, MatchOption, Result, Ok, Err, ℤ, pos, ◌-ℤ◌, ◌==◌, unsigned_abs, int_lt, refl, sym, ap, ◌∙◌, arith, subst}
+use Rattle.std.proofs.Common.{inl, inr, ◌⊎◌, not, ◌≡◌, ℕ, zero, suc, ◌+◌, ◌<◌, ◌≤◌, Bool, true, false, cond, ◌&&◌, ◌||◌, List, [], ◌∷◌, length, get_or, drop, Option, Some, None, is_some, MatchOption, Result, Ok, Err, ℤ, pos, ◌-ℤ◌, ◌==◌, unsigned_abs, int_lt, refl, sym, ap, ◌∙◌, arith, subst}
 use Rattle.std.proofs.lemmas.Bool.{ne_eqb, eq-eqb}
-use Rattle.std.proofs.lemmas.Bool.{cases_eq, and_parts}
+use Rattle.std.proofs.lemmas.Bool.{cases_eq}
 use Rattle.std.proofs.lemmas.List.{drop_more}
 use Rattle.proof_theory.specs.declared.literal.Literal.{Literal}
 use Rattle.proof_theory.specs.Forms.{Form, Rises}

@@ -1,4 +1,5 @@
-// Unit propagation over all constraints so far, for lines that name none: passes over all of them until one sets nothing.
+// Unit propagation over all constraints so far, for lines that name none: by counters, which find a conflict fast, and where they find
+// none by passes over all constraints until one sets nothing.
 
 ghost use Rattle.std.specs.Prelude.{◌≡◌, ◌≤◌, ◌^◌, ◌++◌, List, map, length};
 ghost use Rattle.std.specs.List.{flat_map};
@@ -10,10 +11,12 @@ ghost use Rattle.log_theory.specs.Tables.{all_forms};
 ghost use Rattle.proof_checker.specs.Told.{Told};
 ghost use Rattle.proof_checker.specs.Reach.{AllReach};
 ghost use Rattle.proof_checker.specs.Passing.{Passed};
+ghost use Rattle.proof_checker.specs.Rooted.{IsRooted};
 
 use super::clauses::clause;
 use super::fault::LineFault;
 use super::propagate::{above, clear, follow, negate_all, reach};
+use super::propagator::{Propagator, is_closed};
 use super::table::Table;
 use log_theory::Cause;
 use pb_terms::{Constraint, Literal, Literals};
@@ -114,7 +117,7 @@ fn reach_lists(lists: &[Vec<Constraint>]) -> u64
 /// The clause of the literals, if unit propagation from its negation over all constraints so far comes to a conflict, or the first fault.
 /// Costs the literals and the terms of all constraints, these as often as a pass over all sets a variable, and once more; and memory for the
 /// variables, where a constraint names a greater one than all lines before.
-pub fn derive_alone(
+fn derive_by_passes(
     alloc: Global,
     set: &mut Literals,
     model: &[Constraint],
@@ -133,4 +136,24 @@ pub fn derive_alone(
         return Err(LineFault::Cause(Cause::NoConflict));
     }
     Ok(clause(alloc, literals)?)
+}
+
+/// The clause of the literals, if unit propagation from its negation over all constraints so far comes to a conflict, or the first fault.
+/// Costs the literals, the constraints that came since the last line, and the terms of those that what is set may concern; passes over
+/// all constraints only where counters find no conflict, which ends the log if they are right.
+pub fn derive_alone(
+    alloc: Global,
+    work: &mut Propagator,
+    model: &[Constraint],
+    table: &Table,
+    literals: &[Literal],
+) -> Result<Constraint, LineFault>
+    requires { IsRooted model.now table.now work.old.levels }
+    ensures told { Told result (closed_clause (all_forms model.now table.now) literals.now) }
+    ensures rooted { IsRooted model.now table.now work.new.levels }
+{
+    if is_closed(alloc, work, model, table, literals)? {
+        return Ok(clause(alloc, literals)?);
+    }
+    derive_by_passes(alloc, &mut work.set, model, table, literals)
 }

@@ -10,13 +10,17 @@
 mod checker;
 mod clauses;
 mod closing;
+mod counters;
 mod cutting;
 mod fault;
+mod following;
+mod levels;
 mod line_checker;
 mod lines;
 mod log_file;
 mod ones;
 mod propagate;
+mod propagator;
 mod ranges;
 mod stack;
 mod table;

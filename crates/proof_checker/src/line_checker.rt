@@ -12,10 +12,11 @@ ghost use Rattle.proof_checker.specs.Turns.{Turns};
 
 use super::fault::LineFault;
 use super::lines::{Turn, prove};
+use super::propagator::Propagator;
 use super::ranges::is_in_range;
 use super::table::Table;
 use log_theory::{Cause, Profile, Step};
-use pb_terms::{Constraint, Literals};
+use pb_terms::Constraint;
 use proof_log::{StepFault, read_step};
 use std::alloc::{AllocError, Global};
 use std::marker::Model;
@@ -35,18 +36,19 @@ pub struct LineChecker<'a> {
     model: &'a [Constraint],
     place: Place,
     table: Table,
-    set: Literals,
+    work: Propagator,
 }
 
 impl<'a> Model for LineChecker<'a> {
     ghost use Rattle.proof_checker.specs.Turns.{Checking};
     ghost use Rattle.proof_checker.specs.Stages.{StandsWith, stage_of};
+    ghost use Rattle.proof_checker.specs.Rooted.{IsRooted};
 
     ghost Value = { Checking };
 
     ghost view = { λ c. record { variables = c.variables; model = c.model.now; stage = stage_of c.place c.table } };
 
-    ghost invariant = { λ c. StandsWith c.place c.table };
+    ghost invariant = { λ c. StandsWith c.place c.table × IsRooted c.model.now c.table c.work.levels };
 }
 
 /// Whether a line is this text.
@@ -93,13 +95,13 @@ impl<'a> LineChecker<'a> {
             (λ c. c ≡ record { variables = variables; model = model.now; stage = Opening }) }
     {
         let table = Table::new(alloc)?;
-        let set = Literals::new(alloc, 0)?;
+        let work = Propagator::new(alloc)?;
         Ok(LineChecker {
             variables,
             model,
             place: Place::Opening,
             table,
-            set,
+            work,
         })
     }
 
@@ -119,7 +121,7 @@ impl<'a> LineChecker<'a> {
         Ok(Turn::Goes)
     }
 
-    /// What a step behind the first line leads to.
+    /// What a step behind the first line leads to. What lasts is given up where no line follows.
     fn take(&mut self, alloc: Global, step: &Step) -> Result<Turn, LineFault>
         requires { in_range self.old.variables (step_variables step.now) ≡ true }
         ensures same { (self.new.variables ≡ self.old.variables)
@@ -135,15 +137,21 @@ impl<'a> LineChecker<'a> {
                 self.place = Place::Proving(profile);
                 Ok(Turn::Goes)
             }
-            (Place::Proving(profile), step) => prove(
+            (Place::Proving(profile), step) => match prove(
                 alloc,
-                &mut self.set,
+                &mut self.work,
                 self.variables,
                 self.model,
                 &mut self.table,
                 profile,
                 step,
-            ),
+            ) {
+                Ok(Turn::Goes) => Ok(Turn::Goes),
+                last => {
+                    self.work.levels.forget();
+                    last
+                }
+            },
             _ => Err(LineFault::Cause(Cause::Form)),
         }
     }
@@ -163,8 +171,8 @@ impl<'a> LineChecker<'a> {
         self.take(alloc, &step)
     }
 
-    /// What the next line, without its LF, leads to. Costs the line and the terms that it touches: in a log without hints those of all
-    /// constraints so far for a `u` line. Nothing is said of where the checker stands after a fault, or behind a last line.
+    /// What the next line, without its LF, leads to. Costs the line and the terms that it touches. Nothing is said of where the checker
+    /// stands after a fault, or behind a last line.
     pub fn step(&mut self, alloc: Global, line: &[u8]) -> Result<Turn, LineFault>
         ensures same { (self.new.variables ≡ self.old.variables)
             × (self.new.model ≡ self.old.model) }

@@ -8,11 +8,13 @@ ghost use Rattle.log_theory.specs.Tables.{find, step_of, step_in};
 ghost use Rattle.log_theory.specs.Verdicts.{Stage, Proving, in_range, progress_of, refuted_by, step_variables};
 ghost use Rattle.proof_checker.specs.Told.{Leads};
 ghost use Rattle.proof_checker.specs.Turns.{Turns};
+ghost use Rattle.proof_checker.specs.Rooted.{IsRooted};
 
 use super::closing::derive_alone;
 use super::fault::LineFault;
 use super::ones::check_ones;
 use super::propagate::derive;
+use super::propagator::Propagator;
 use super::stack::evaluate;
 use super::table::Table;
 use log_theory::{Cause, Name, Op, Profile, Ref, Step, Verdict};
@@ -63,16 +65,19 @@ fn make_by_propagation(
 /// A line that makes a clause by unit propagation over all constraints so far.
 fn make_by_closing(
     alloc: Global,
-    set: &mut Literals,
+    work: &mut Propagator,
     model: &[Constraint],
     table: &mut Table,
     name: Name,
     literals: &[Literal],
 ) -> Result<(), LineFault>
-    ensures { Leads result (step_in Plain model.now table.old (U name literals.now [])) table.new }
+    requires { IsRooted model.now table.old work.old.levels }
+    ensures leads { Leads result (step_in Plain model.now table.old (U name literals.now []))
+        table.new }
+    ensures rooted { IsRooted model.now table.old work.new.levels }
 {
     table.fresh_name(name)?;
-    let made = derive_alone(alloc, set, model, table, literals)?;
+    let made = derive_alone(alloc, work, model, table, literals)?;
     table.push_made(name, made)?;
     Ok(())
 }
@@ -90,26 +95,27 @@ fn refute_by(model: &[Constraint], table: &Table, at: Ref) -> Result<Turn, LineF
     Ok(Turn::Ends(Verdict::Unsatisfiable))
 }
 
-/// What a line of a profile leads to behind the first two. Costs the terms that it touches: without hints those of all constraints so far
-/// for a `u` line.
+/// What a line of a profile leads to behind the first two. Costs the terms that it touches.
 pub fn prove(
     alloc: Global,
-    set: &mut Literals,
+    work: &mut Propagator,
     variables: u32,
     model: &[Constraint],
     table: &mut Table,
     profile: Profile,
     step: &Step,
 ) -> Result<Turn, LineFault>
-    requires { in_range variables (step_variables step.now) ≡ true }
-    ensures { Turns result (progress_of model.now (Proving profile table.old) step.now)
+    requires range { in_range variables (step_variables step.now) ≡ true }
+    requires rooted { IsRooted model.now table.old work.old.levels }
+    ensures turns { Turns result (progress_of model.now (Proving profile table.old) step.now)
         (Proving profile table.new) }
+    ensures rooted { IsRooted model.now table.old work.new.levels }
 {
     match (profile, step) {
         (Profile::Hinted, Step::U { name, lits, refs }) => {
             make_by_propagation(
                 alloc,
-                set,
+                &mut work.set,
                 model,
                 table,
                 *name,
@@ -119,7 +125,7 @@ pub fn prove(
             Ok(Turn::Goes)
         }
         (Profile::Plain, Step::U { name, lits, .. }) => {
-            make_by_closing(alloc, set, model, table, *name, lits.as_slice())?;
+            make_by_closing(alloc, work, model, table, *name, lits.as_slice())?;
             Ok(Turn::Goes)
         }
         (_, Step::P { name, ops }) => {

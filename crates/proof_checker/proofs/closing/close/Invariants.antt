@@ -1,4 +1,4 @@
-use Rattle.std.proofs.Common.{◌≡◌, ◌+◌, ◌++◌, Bool, false, cond, map, length}
+use Rattle.std.proofs.Common.{◌≡◌, ◌+◌, ◌++◌, false, cond, map, length}
 use Rattle.std.specs.List.{flat_map}
 use Rattle.proof_theory.specs.Slack.{setting}
 use Rattle.proof_theory.specs.Propagation.{closes}

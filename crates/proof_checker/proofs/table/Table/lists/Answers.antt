@@ -1,4 +1,4 @@
-use Rattle.std.proofs.Common.{List, map, subst}
+use Rattle.std.proofs.Common.{map, subst}
 use Rattle.std.specs.List.{flat_map}
 use Rattle.proof_theory.specs.Forms.{Form}
 use Rattle.proof_theory.specs.Propagation.{IsAmong}

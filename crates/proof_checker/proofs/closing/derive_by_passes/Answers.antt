@@ -6,7 +6,7 @@ use Rattle.proof_theory.specs.Propagation.{IsAmong, closes}
 use Rattle.log_theory.specs.Tables.{Table, all_forms}
 use Rattle.proof_checker.proofs.Propagation.{literals_wider, forms_wider}
 use Rattle.proof_checker.proofs.Passing.{lists_close, closed_makes, closed_fails}
-use Rattle.proof_checker.proofs.closing.derive_alone.Goals as goal
+use Rattle.proof_checker.proofs.closing.derive_by_passes.Goals as goal
 
 pub negate_all-requires-clause-within : goal.negate_all-requires-clause-within
 negate_all-requires-clause-within c =

@@ -1,0 +1,12 @@
+use Rattle.std.proofs.Common.{false}
+use Rattle.proof_theory.specs.Slack.{Setting}
+use Rattle.log_theory.specs.Tables.{all_forms}
+use Rattle.proof_checker.specs.Led.{Led, Comes}
+use Rattle.proof_checker.specs.Levels.{Keeps, now}
+use Rattle.proof_checker.proofs.propagator.run.Given as goal
+
+abbrev pub invariant-loop-place : goal.invariant-loop-place
+invariant-loop-place l = record {
+  comes : (s : Setting) → Led s (all_forms l.model l.table) (now l.initial.set) → Comes false s (all_forms l.model l.table) (now l.set);
+  kept : Keeps l.initial.set l.set;
+}

@@ -1,0 +1,255 @@
+// Counters of slack over all constraints, by which unit propagation sees whom a literal concerns (Sheini, Sakallah 2006; Elffers,
+// Nordström 2018; Devriendt 2020). Each constraint has a number, and each literal the list of the constraints in which it stands. Once a
+// literal is false its coefficients leave the slacks of these, and a constraint is looked at only where its slack is below its greatest
+// coefficient. What counters say is advice, and no contract speaks of it: whoever takes it looks at the constraint itself before
+// anything follows (`follow`), so that a wrong counter would cost time and no answer.
+
+use super::following::greatest_of;
+use super::levels::Levels;
+use super::propagate::reach;
+use super::table::Table;
+use log_theory::{Name, Ref};
+use pb_terms::Constraint;
+use std::alloc::{AllocError, Global};
+
+/// The slack of a constraint under the literals that have been taken from it, and its greatest coefficient.
+#[derive(Clone, Copy, Debug)]
+pub struct Counter {
+    slack: i64,
+    widest: i64,
+}
+
+/// A constraint in which a literal stands, and its coefficient there.
+#[derive(Clone, Copy, Debug)]
+pub struct Use {
+    number: u32,
+    size: u32,
+}
+
+impl Use {
+    /// The constraint's number.
+    pub fn number(&self) -> usize {
+        self.number as usize
+    }
+}
+
+/// The counter and the name of each constraint, by its number; the uses of each literal; how many constraints of the model and of each
+/// owner have a number; up to which number all that they force at the root was set; and how many literals of the queue were taken
+/// from the counters.
+#[derive(Drop)]
+pub struct Counters {
+    pub slacks: Vec<Counter>,
+    pub names: Vec<Ref>,
+    pub uses: Vec<Vec<Use>>,
+    counted: Vec<usize>,
+    pub settled: usize,
+    pub taken: usize,
+}
+
+/// The place of the uses of the literal that is false where a variable has a value.
+fn place_of(variable: u32, value: bool) -> usize {
+    variable as usize * 2 + usize::from(value)
+}
+
+/// The uses of the literal that is false where a variable has a value.
+pub fn uses_of(uses: &[Vec<Use>], variable: u32, value: bool) -> &[Use] {
+    match uses.get(place_of(variable, value)) {
+        Some(list) => list,
+        None => &[],
+    }
+}
+
+/// The greatest absolute coefficient. One pass.
+fn widest_of(terms: &[(u32, i128)]) -> u128 {
+    let mut widest: u128 = 0;
+    for &(_, coefficient) in terms {
+        widest = widest.max(coefficient.unsigned_abs());
+    }
+    widest
+}
+
+/// The counter of a constraint; one that is due at each change, where its numbers are beyond a counter's.
+fn counter_of(set: &Levels, next: &Constraint) -> Counter {
+    let slack = greatest_of(set, next.terms()).saturating_sub(next.bound());
+    let widest = widest_of(next.terms());
+    if widest > u128::from(u32::MAX) || slack.unsigned_abs() > 1 << 62 {
+        return Counter {
+            slack: 0,
+            widest: i64::MAX,
+        };
+    }
+    Counter {
+        slack: i64::try_from(slack).unwrap_or(0),
+        widest: i64::try_from(widest).unwrap_or(i64::MAX),
+    }
+}
+
+/// Whether a constraint may be in conflict or force something.
+pub fn is_due(slacks: &[Counter], number: usize) -> bool {
+    match slacks.get(number) {
+        Some(counter) => counter.slack < counter.widest,
+        None => false,
+    }
+}
+
+/// Takes a false literal from a counter, and says whether its constraint is due.
+pub fn lower(slacks: &mut [Counter], next: Use) -> bool {
+    let number = next.number as usize;
+    if number >= slacks.len() {
+        return false;
+    }
+    let Counter { slack, widest } = slacks[number];
+    let slack = slack.wrapping_sub(i64::from(next.size));
+    slacks[number] = Counter { slack, widest };
+    slack < widest
+}
+
+/// Gives counters back what a literal took from them.
+fn raise_all(slacks: &mut [Counter], uses: &[Use]) {
+    for next in uses {
+        let number = next.number as usize;
+        if number < slacks.len() {
+            let Counter { slack, widest } = slacks[number];
+            let slack = slack.wrapping_add(i64::from(next.size));
+            slacks[number] = Counter { slack, widest };
+        }
+    }
+}
+
+/// Lists for the literals of all variables below a number.
+fn make_room(alloc: Global, uses: &mut Vec<Vec<Use>>, variables: u64) -> Result<(), AllocError> {
+    let places = variables.saturating_mul(2) as usize;
+    for _ in uses.len()..places {
+        uses.push(Vec::new(alloc))?;
+    }
+    Ok(())
+}
+
+/// Notes the uses of a constraint's literals. One pass.
+fn note_uses(uses: &mut [Vec<Use>], number: u32, terms: &[(u32, i128)]) -> Result<(), AllocError> {
+    for &(variable, coefficient) in terms {
+        let place = place_of(variable, coefficient < 0);
+        if place < uses.len() {
+            let size = u32::try_from(coefficient.unsigned_abs()).unwrap_or(u32::MAX);
+            uses[place].push(Use { number, size })?;
+        }
+    }
+    Ok(())
+}
+
+/// How many constraints of a list have a number.
+fn counted_of(counted: &[usize], list: usize) -> usize {
+    match counted.get(list) {
+        Some(&count) => count,
+        None => 0,
+    }
+}
+
+/// Notes how many constraints of a list have a number.
+fn note_counted(counted: &mut Vec<usize>, list: usize, count: usize) -> Result<(), AllocError> {
+    for _ in counted.len()..list.saturating_add(1) {
+        counted.push(0)?;
+    }
+    if list < counted.len() {
+        counted[list] = count;
+    }
+    Ok(())
+}
+
+impl Counters {
+    /// No constraint.
+    pub fn new(alloc: Global) -> Counters {
+        Counters {
+            slacks: Vec::new(alloc),
+            names: Vec::new(alloc),
+            uses: Vec::new(alloc),
+            counted: Vec::new(alloc),
+            settled: 0,
+            taken: 0,
+        }
+    }
+
+    /// Gives a constraint the next number. Two passes over its terms.
+    fn number(
+        &mut self,
+        alloc: Global,
+        set: &Levels,
+        name: Ref,
+        next: &Constraint,
+    ) -> Result<(), AllocError> {
+        let Ok(number) = u32::try_from(self.slacks.len()) else {
+            return Ok(());
+        };
+        make_room(alloc, &mut self.uses, reach(next.terms()))?;
+        note_uses(&mut self.uses, number, next.terms())?;
+        self.names.push(name)?;
+        self.slacks.push(counter_of(set, next))?;
+        Ok(())
+    }
+
+    /// Numbers what the model has that has no number.
+    fn number_model(
+        &mut self,
+        alloc: Global,
+        set: &Levels,
+        model: &[Constraint],
+    ) -> Result<(), AllocError> {
+        let from = counted_of(&self.counted, 0);
+        for at in from..model.len() {
+            let name = Ref::Line((at as u64).saturating_add(1));
+            self.number(alloc, set, name, &model[at])?;
+        }
+        note_counted(&mut self.counted, 0, model.len())
+    }
+
+    /// Numbers what an owner has made that has no number.
+    fn number_made(
+        &mut self,
+        alloc: Global,
+        set: &Levels,
+        owner: u8,
+        made: &[Constraint],
+    ) -> Result<(), AllocError> {
+        let list = usize::from(owner) + 1;
+        let from = counted_of(&self.counted, list);
+        for at in from..made.len() {
+            let number = (at as u64).saturating_add(1);
+            let name = Ref::Made(Name { owner, number });
+            self.number(alloc, set, name, &made[at])?;
+        }
+        note_counted(&mut self.counted, list, made.len())
+    }
+
+    /// Numbers all that has no number. Constant, and what the new ones cost.
+    pub fn take_in(
+        &mut self,
+        alloc: Global,
+        set: &Levels,
+        model: &[Constraint],
+        table: &Table,
+    ) -> Result<(), AllocError> {
+        self.number_model(alloc, set, model)?;
+        let lists = table.lists();
+        for at in 0..lists.len() {
+            if let Ok(owner) = u8::try_from(at) {
+                self.number_made(alloc, set, owner, &lists[at])?;
+            }
+        }
+        Ok(())
+    }
+
+    /// The number after the greatest variable of all constraints.
+    pub fn reach(&self) -> usize {
+        self.uses.len() / 2
+    }
+
+    /// Gives the counters back all that the queue's literals took from them.
+    pub fn undo(&mut self, set: &Levels) {
+        for place in 0..self.taken {
+            let Some((variable, value)) = set.at(place) else {
+                return;
+            };
+            raise_all(&mut self.slacks, uses_of(&self.uses, variable, value));
+        }
+    }
+}
