@@ -50,6 +50,7 @@ test: build
 hostile: build
 	$(PYTHON) bench/hostile.py $(PROGRAM) --texts $(TEXTS)
 	$(PYTHON) bench/refused_memory.py $(PROGRAM)
+	$(PYTHON) bench/refused_memory.py $(PROGRAM) --full --threads 1
 	bench/real_edge.sh $(PROGRAM)
 
 docs:

@@ -1,16 +1,20 @@
 #!/usr/bin/env python3
 """Gives the program hostile texts, and holds each of its answers against a plain reading of the formats.
 
-usage: python3 bench/hostile.py PROGRAM [--texts N] [--kinds KIND ..] [--jobs J] [--seed S] [--seconds N] [--folder FOLDER] [--keep FOLDER]
+usage: python3 bench/hostile.py PROGRAM [--texts N | --all N] [--minutes M] [--kinds KIND ..] [--jobs J] [--seed S] [--seconds N] [--folder FOLDER]
+           [--keep FOLDER]
 
 PROGRAM is the built program (crates/subgraph/out/subgraph). A hostile text is a good one after one to three edits at random (`edits.py`): a
-graph in either format (`lad`, `vertexlabelledlad`) for `solve` or `encode`, a `mapping` for `verify`, an `encoding` or a `log` for `check`. The
-other files of a question are good. Status, output and the error stream are compared with what `plain.py` and `tools/plain_check.py` say; where
-several maps are right any of them will do. A run that ends by a signal or takes longer than --seconds differs too. The kind `limit` is a few fixed
-texts at the limits of sizes. Each text is made from the seed, its kind and its place, so that a run can be repeated, by whatever number of jobs.
+graph for `solve` or `encode`, in the formats with directions for `verify`; a `mapping` for `verify`, over graphs in each of the four; for `check`
+an `encoding`, a `log`, or one without hints (`plainlog`). The other files of a question are good. Status, output and the error stream are compared
+with what `plain.py` and `tools/plain_check.py` say; where several maps are right any of them will do. A run that ends by a signal or takes longer than
+--seconds differs too. The kind `limit` is a few fixed texts at the limits of sizes. Each text is made from the seed, its kind and its place, so that a
+run can be repeated, by whatever number of jobs.
 
-Prints what came of each kind, by status and cause. A difference is told, its hostile text made smaller as long as there is one, and its files
-stand in the folder --keep; the status is then 1.
+--texts are those of each kind; --all 1000000 is a million of all kinds together, as many of each. After --minutes no more are begun.
+
+Prints what came of each kind, by status and cause, and how many texts that were. A difference is told, its hostile text made smaller as long as there
+is one, and its files stand in the folder --keep; the status is then 1.
 """
 import argparse
 import collections
@@ -20,14 +24,15 @@ import random
 import subprocess
 import sys
 import tempfile
+import time
 from dataclasses import dataclass
 from typing import Callable, List
 
 import plain
-from agree import goes, occurs, random_graph, text_of
+from agree import random_graph
 from check_logs import check_cases, mutant, random_pair
 from edits import hostile
-from plain import Answer
+from plain import FORMATS, Answer
 
 TOP = os.path.dirname(os.path.dirname(os.path.abspath(__file__)))
 CHUNK = 100
@@ -50,64 +55,79 @@ class Question:
 # The kinds of questions --------------------------------------------------------------------------------------------------------
 
 
-def graphs(rng, labelled):
-    """A pattern and a target, small enough for brute force; about half of the patterns occur."""
-    labels, loops = rng.choice([1, 2, 3]) if labelled else 1, rng.random() < 0.3
-    sizes = rng.randint(0, 6), rng.randint(0, 9)
-    return [random_graph(rng, size, rng.random(), loops, labels) for size in sizes]
+def text_in(rng, kind, graph):
+    """The text of a graph in a format; an edge without direction is listed at both ends, and now and then one is listed again."""
+    labels, edges = graph
+    lines = [[len(labels)]]
+    for a, label in enumerate(labels):
+        listed = [(b, edges[a, b]) for b in range(len(labels)) if (a, b) in edges]
+        listed += [pair for pair in listed if rng.random() < 0.1]
+        near = [word for pair in listed for word in pair[: 1 + FORMATS[kind].edge_labels]]
+        lines.append([label] * FORMATS[kind].labels + [len(listed)] + near)
+    return "".join(" ".join(map(str, line)) + "\n" for line in lines).encode()
 
 
-def options(labelled, induced):
-    return ["--format", "vertexlabelledlad"] * labelled + ["--induced"] * induced
+def random_in(rng, kind, size):
+    """A random graph of a format."""
+    return random_graph(rng, size, rng.random(), rng.random() < 0.3, rng.choice([1, 2, 3]), kind)
 
 
-def graph_question(rng, labelled):
+def planted(rng, kind):
+    """A target, a part of it as a pattern, and where this part is; now and then it is somewhere else."""
+    target = random_in(rng, kind, rng.randint(0, 9))
+    images = rng.sample(range(len(target[0])), rng.randint(0, min(6, len(target[0]))))
+    labels = [target[0][t] for t in images]
+    edges = {(p, q): target[1][t, u] for p, t in enumerate(images) for q, u in enumerate(images) if (t, u) in target[1]}
+    if rng.random() < 0.3:
+        images = [rng.randrange(10) for _ in images]
+    return (labels, edges), target, images
+
+
+def options(kind, induced):
+    return ["--format", kind] * (kind != "lad") + ["--induced"] * induced
+
+
+def graph_question(rng, kind):
+    """About half of the patterns occur, and brute force can tell."""
     induced, at = rng.random() < 0.5, rng.randrange(2)
-    texts = [text_of(graph, labelled).encode() for graph in graphs(rng, labelled)]
+    texts = [text_in(rng, kind, random_in(rng, kind, rng.randint(0, most))) for most in (6, 9)]
     texts[at] = hostile(rng, texts[at])
     if rng.random() < 0.25:
-        return Question(["encode", *options(labelled, induced)], texts, at, lambda it, _: plain.encode(it, labelled, induced))
-    words = ["solve", *options(labelled, induced), "--threads", rng.choice("113")]
-    return Question(words, texts, at, lambda it, found: plain.solve(it, labelled, induced, found))
+        return Question(["encode", *options(kind, induced)], texts, at, lambda it, _: plain.encode(it, kind, induced))
+    words = ["solve", *options(kind, induced), "--threads", rng.choice("113")]
+    return Question(words, texts, at, lambda it, found: plain.solve(it, kind, induced, found))
 
 
-def embedding(pattern, target, induced):
-    """The first embedding, None where there is none."""
-    if not occurs(pattern, target, induced, []):
-        return None
-    images = []
-    for p in range(len(pattern[0])):
-        fitting = (t for t in range(len(target[0])) if goes(pattern, target, induced, images, p, t))
-        images.append(next(t for t in fitting if occurs(pattern, target, induced, images + [t])))
-    return images
+def mapping_question(rng, kind, at):
+    """A graph is hostile where `at` is 0 or 1, the mapping where it is 2."""
+    induced = rng.random() < 0.5
+    pattern, target, images = planted(rng, kind)
+    mapping = "yes\n" + "".join(f"{p} -> {t}\n" for p, t in enumerate(images))
+    texts = [text_in(rng, kind, pattern), text_in(rng, kind, target), mapping.encode()]
+    texts[at] = hostile(rng, texts[at])
+    return Question(["verify", *options(kind, induced)], texts, at, lambda it, _: plain.verify(it[:2], it[2], kind, induced))
 
 
-def mapping_question(rng):
-    labelled, induced = rng.random() < 0.3, rng.random() < 0.5
-    pattern, target = graphs(rng, labelled)
-    images = embedding(pattern, target, induced) if rng.random() < 0.7 else None
-    if images is None:
-        images = [rng.randrange(10) for _ in pattern[0]]
-    text = "yes\n" + "".join(f"{p} -> {t}\n" for p, t in enumerate(images))
-    texts = [text_of(graph, labelled).encode() for graph in (pattern, target)] + [hostile(rng, text.encode())]
-    return Question(["verify", *options(labelled, induced)], texts, 2, lambda it, _: plain.verify(it[:2], it[2], labelled, induced))
-
-
-def proof_question(rng, at):
+def proof_question(rng, at, hinted):
     """An encoding and a log over it: worked cases, or of right form at random. Edits are those of `check_logs.py` too."""
     case = rng.choice(CASES)
     texts = list(random_pair(rng)) if rng.random() < 0.6 else [case[1], case[2]]
+    if not hinted:
+        texts[1] = check_cases.without_hints(texts[1])
     texts[at] = (mutant if rng.random() < 0.3 else hostile)(rng, texts[at])
     return Question(["check"], texts, at, lambda it, _: plain.check(*it))
 
 
 CASES = [case for case in check_cases.cases() if max(map(len, case[1:3])) < 2000]
 KINDS = {
-    "lad": lambda rng: graph_question(rng, False),
-    "vertexlabelledlad": lambda rng: graph_question(rng, True),
-    "mapping": mapping_question,
-    "encoding": lambda rng: proof_question(rng, 0),
-    "log": lambda rng: proof_question(rng, 1),
+    "lad": lambda rng: graph_question(rng, "lad"),
+    "vertexlabelledlad": lambda rng: graph_question(rng, "vertexlabelledlad"),
+    "directedlad": lambda rng: mapping_question(rng, "directedlad", rng.randrange(2)),
+    "labelledlad": lambda rng: mapping_question(rng, "labelledlad", rng.randrange(2)),
+    "mapping": lambda rng: mapping_question(rng, rng.choice(list(FORMATS)), 2),
+    "encoding": lambda rng: proof_question(rng, 0, rng.random() < 0.7),
+    "log": lambda rng: proof_question(rng, 1, True),
+    "plainlog": lambda rng: proof_question(rng, 1, False),
 }
 
 
@@ -141,11 +161,20 @@ def limits():
         ("verify", [nothing, nothing, filled(b"yes\n", most)], Answer(4, b"", b"mapping: line 2: Form\n")),
         ("verify", [nothing, nothing, filled(b"yes\n", most + 1)], Answer(4, b"", b"mapping: too long\n")),
         ("verify", [nothing, nothing, b"\n" * most], Answer(4, b"", b"mapping: line 1: Form\n")),
+        ("verify --format labelledlad", [nothing, b"8192\n" + b"0 0\n" * 8192, b"yes\n"], Answer(0, b"embedding\n")),
+        ("verify --format labelledlad", [nothing, b"8193\n", b"yes\n"], Answer(4, b"", b"target: word 1: TooMany\n")),
+        ("verify --format labelledlad", [b"1\n0 4294967295 0\n", nothing, b""], Answer(4, b"", b"pattern: word 5: EndsEarly\n")),
+        ("verify --format labelledlad", [b"1\n0 4294967295 0 1\n", nothing, b""], Answer(4, b"", b"pattern: word 6: EndsEarly\n")),
+        ("verify --format labelledlad", [b"2\n0 2 1 7 1 8\n0 0\n", nothing, b""], Answer(4, b"", b"pattern: word 7: LabelClash\n")),
+        ("verify --format labelledlad", [b"2\n0 2 1 7 1 4294967296\n0 0\n", nothing, b""], Answer(4, b"", b"pattern: word 7: NotNumber\n")),
+        ("verify --format directedlad", [edge, b"2\n1 1\n0\n", b"yes\n0 -> 0\n1 -> 1\n"], Answer(7, b"", b"mapping: not an embedding\n")),
         ("check", [b"* #variable= 4294967295 #constraint= 0\n", b"embedding proof 1\nm 0\nq\n"], Answer(0, b"accepted undecided\n")),
+        ("check", [b"* #variable= 4294967295 #constraint= 0\n", b"embedding proof 2\nm 0\nq\n"], Answer(0, b"accepted undecided\n")),
+        ("check", [b"* #variable= 0 #constraint= 0\n", b"embedding proof 3\nm 0\nq\n"], Answer(7, b"", b"log: line 1: Form\n")),
         ("check", [b"* #variable= 1 #constraint= 9223372036854775807\n", b""], Answer(4, b"", b"encoding: line 2: Count\n")),
     ]
     for command, texts, answer in cases:
-        yield Question([command], texts, 0, lambda *_, right=answer: right)
+        yield Question(command.split(), texts, 0, lambda *_, right=answer: right)
 
 
 # Asking ------------------------------------------------------------------------------------------------------------------------
@@ -228,8 +257,12 @@ def ask(words, questions):
 
 
 def chunk(words, kind, begin, end):
+    if kind == "limit":
+        return kind, *ask(words, limits())
+    if time.monotonic() > words.last:
+        return kind, collections.Counter(), []
     rngs = [random.Random(f"{words.seed} {kind} {i}") for i in range(begin, end)]
-    return ask(words, [KINDS[kind](rng) for rng in rngs])
+    return kind, *ask(words, [KINDS[kind](rng) for rng in rngs])
 
 
 def keep(folder, name, question):
@@ -251,10 +284,12 @@ def table(came):
     print("| | all | " + " | ".join(str(sum(came[kind].values())) for kind in kinds) + " |")
 
 
-def main():
+def words_of_the_line():
     parser = argparse.ArgumentParser()
     parser.add_argument("program")
     parser.add_argument("--texts", type=int, default=1000, help="how many of each kind")
+    parser.add_argument("--all", type=int, help="how many of all kinds together, as many of each")
+    parser.add_argument("--minutes", type=float, default=float("inf"), help="after which no more texts are begun")
     parser.add_argument("--kinds", nargs="+", choices=[*KINDS, "limit"], default=[*KINDS, "limit"])
     parser.add_argument("--jobs", type=int, default=1)
     parser.add_argument("--seed", type=int, default=0)
@@ -262,22 +297,32 @@ def main():
     parser.add_argument("--folder", default="/dev/shm", help="where the files of the questions are written; memory is best")
     parser.add_argument("--keep", default=os.path.join(TOP, "out", "hostile"), help="a folder for what differs")
     words = parser.parse_args()
-    came, differ = {}, 0
+    words.random = [kind for kind in words.kinds if kind != "limit"]
+    if words.all and words.random:
+        words.texts = -(-words.all // len(words.random))
+    words.last = time.monotonic() + words.minutes * 60
+    return words
+
+
+def chunks(words):
+    """What is asked at once, kind after kind, so that all kinds have come equally far wherever it ends."""
+    if "limit" in words.kinds:
+        yield "limit", 0, 0
+    for begin in range(0, words.texts, CHUNK):
+        for kind in words.random:
+            yield kind, begin, min(begin + CHUNK, words.texts)
+
+
+def main():
+    words = words_of_the_line()
+    came, differ = {kind: collections.Counter() for kind in words.kinds}, 0
     with concurrent.futures.ThreadPoolExecutor(words.jobs) as pool:
-        for kind in words.kinds:
-            if kind == "limit":
-                done = [pool.submit(ask, words, [question]) for question in limits()]
-            else:
-                ends = range(0, words.texts, CHUNK)
-                done = [pool.submit(chunk, words, kind, begin, min(begin + CHUNK, words.texts)) for begin in ends]
-            came[kind] = collections.Counter()
-            for one in done:
-                counts, differences = one.result()
-                came[kind] += counts
-                for question, found, right in differences:
-                    differ += 1
-                    files = keep(words.keep, f"{differ}.{kind}", question)
-                    print(f"difference {differ}: {' '.join(question.words + files)}: {told(found)}; wanted {told(right)}", flush=True)
+        for kind, counts, differences in pool.map(lambda it: chunk(words, *it), chunks(words)):
+            came[kind] += counts
+            for question, found, right in differences:
+                differ += 1
+                files = keep(words.keep, f"{differ}.{kind}", question)
+                print(f"difference {differ}: {' '.join(question.words + files)}: {told(found)}; wanted {told(right)}", flush=True)
     table(came)
     print(f"{sum(sum(rows.values()) for rows in came.values())} texts, {differ} answers differ from the plain reading")
     sys.exit(1 if differ else 0)

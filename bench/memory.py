@@ -43,6 +43,7 @@ def encoding(megabytes):
 
 def graph_runs():
     yield "no vertices", ["solve"], ["0\n", "0\n"]
+    yield "demo", ["demo", "7"], []
     for what, target in (
         ("an edge into 8,192 vertices without edges", "8192\n" + "0\n" * 8192),
         ("an edge into a ring of 8,192", ring(8192, 1)),
@@ -52,6 +53,12 @@ def graph_runs():
     yield "a ring of 1,024 into a ring of 8,192, one fail", ["solve", "--budget", "1"], [ring(1024, 1), ring(8192, 1)]
     yield "the same induced, dense", ["solve", "--induced", "--budget", "1"], [ring(1024, 100), ring(8192, 400)]
     yield "encode, a ring of 20 into a ring of 2,000", ["encode"], [ring(20, 1), ring(2000, 1)]
+    lonely = "1\n0\n", "8192\n" + "0\n" * 8192, "yes\n0 -> 8191\n"
+    yield "verify, a vertex in 8,192 without edges", ["verify"], lonely
+    yield "the same with directions", ["verify", "--format", "directedlad"], lonely
+    labelled = "1\n0 0\n", "8192\n" + "0 0\n" * 8192, "yes\n0 -> 8191\n"
+    yield "the same with labels of edges", ["verify", "--format", "labelledlad"], labelled
+    yield "verify, a mapping of 67 MB", ["verify"], [EDGE, EDGE, "yes\n" + " " * (MOST_BYTES - 4)]
 
 
 def stated_runs():
@@ -74,13 +81,16 @@ def stated_runs():
 def proof_runs(megabytes):
     text, count = encoding(megabytes)
     yield f"an encoding of {megabytes} MB, {count:,} constraints", ["check"], [text, f"embedding proof 1\nm {count}\nq\n"]
-    small, count = "* #variable= 1000 #constraint= 2\n+1 x1 +1 x2 >= 1 ;\n-1 x1 -1 x2 >= -1 ;\n", 2
-    for what, line in (
-        ("`p`", lambda i: f"p 0.{i} x{i % 1000 + 1} x{(i * 7) % 1000 + 1} + x{(i * 31) % 1000 + 1} + ;\n"),
-        ("`u`", lambda i: f"u 0.{i} x1 x2 x{i % 997 + 3} ; 1 ;\n"),
+    count = 500
+    small = f"* #variable= {2 * count} #constraint= {count}\n" + "".join(f"+1 x{2 * k + 1} +1 x{2 * k + 2} >= 1 ;\n" for k in range(count))
+    for what, profile, line in (
+        ("`p`", 1, lambda i: f"p 0.{i} x{i % 1000 + 1} x{(i * 7) % 1000 + 1} + x{(i * 31) % 1000 + 1} + ;\n"),
+        ("`u`", 1, lambda i: f"u 0.{i} x{i % count * 2 + 1} x{i % count * 2 + 2} ; {i % count + 1} ;\n"),
+        ("`u` without hints", 2, lambda i: f"u 0.{i} x{i % count * 2 + 1} x{i % count * 2 + 2} ;\n"),
     ):
         lines, made = repeated(line, megabytes)
-        yield f"a log of {megabytes} MB, {made:,} lines {what}", ["check"], [small, f"embedding proof 1\nm {count}\n{lines}q\n"]
+        log = f"embedding proof {profile}\nm {count}\n{lines}q\n"
+        yield f"a log of {megabytes} MB, {made:,} lines {what}", ["check"], [small, log]
 
 
 def measure(program, words, texts, folder):

@@ -1,14 +1,14 @@
 """What the program is to answer, in plain Python, read off docs/FORMATS.md and the README alone: it shares nothing with the program.
 
 Encodings and logs are judged by `tools/plain_check.py`; this adds graphs, mappings, the encoding's text and the statuses. A graph is a list of
-labels and a set of ordered pairs with an edge, both ways round, as in `agree.py`.
+labels and, for each ordered pair with an edge, this edge's label: without directions for a pair both ways round, so that `agree.py` can take it.
 """
 import os
 import re
 import sys
 from dataclasses import dataclass
 
-from agree import is_embedding, occurs
+from agree import occurs
 
 sys.path.insert(0, os.path.join(os.path.dirname(os.path.dirname(os.path.abspath(__file__))), "tools"))
 
@@ -16,6 +16,23 @@ import plain_check  # noqa: E402
 
 MOST_BYTES = 67108864
 MOST_VERTICES = {"pattern": 1024, "target": 8192}
+
+
+@dataclass(frozen=True)
+class Format:
+    """What a format of graphs tells beside each vertex's neighbours."""
+
+    labels: bool = False
+    directed: bool = False
+    edge_labels: bool = False
+
+
+FORMATS = {
+    "lad": Format(),
+    "vertexlabelledlad": Format(labels=True),
+    "directedlad": Format(directed=True),
+    "labelledlad": Format(labels=True, directed=True, edge_labels=True),
+}
 
 
 @dataclass(frozen=True)
@@ -67,24 +84,39 @@ class Words:
         self.refuse_if(self.taken <= len(self.words), "WordsLeft")
 
 
-def read_graph(who, text, labelled):
+def read_graph(who, text, kind):
     words = Words(who, text)
     size = words.next()
     words.refuse_if(size > MOST_VERTICES[who], "TooMany")
-    labels, edges = [], set()
+    labels, edges = [], {}
     for a in range(size):
-        labels.append(words.next() if labelled else 0)
+        labels.append(words.next() if FORMATS[kind].labels else 0)
         for _ in range(words.next()):
             b = words.next()
             words.refuse_if(b >= size, "NoSuchVertex")
-            edges |= {(a, b), (b, a)}
+            label = words.next() if FORMATS[kind].edge_labels else 0
+            words.refuse_if(FORMATS[kind].directed and edges.get((a, b), label) != label, "LabelClash")
+            edges[a, b] = label
+            if not FORMATS[kind].directed:
+                edges[b, a] = label
     words.end()
     return labels, edges
 
 
-def read_graphs(texts, labelled):
+def read_graphs(texts, kind):
     """The pattern and the target; the pattern is read first, and so refused first."""
-    return [read_graph(who, text, labelled) for who, text in zip(("pattern", "target"), texts)]
+    return [read_graph(who, text, kind) for who, text in zip(("pattern", "target"), texts)]
+
+
+def embeds(pattern, target, induced, images):
+    """Whether the images are an embedding, pair by pair."""
+    vertices = range(len(pattern[0]))
+    if len(images) != len(vertices) or len(set(images)) != len(vertices) or any(t >= len(target[0]) for t in images):
+        return False
+    if any(pattern[0][p] != target[0][images[p]] for p in vertices):
+        return False
+    pairs = [(pattern[1].get((p, q)), target[1].get((images[p], images[q]))) for p in vertices for q in vertices]
+    return all(here == there or here is None and not induced for here, there in pairs)
 
 
 def read_mapping(text):
@@ -104,10 +136,10 @@ def read_mapping(text):
     return images
 
 
-def solve(texts, labelled, induced, found):
+def solve(texts, kind, induced, found):
     """The right answer; where several maps are right and `found` tells one of them, `found`."""
     try:
-        pattern, target = read_graphs(texts, labelled)
+        pattern, target = read_graphs(texts, kind)
     except Refused as fault:
         return fault.answer()
     if not occurs(pattern, target, induced, []):
@@ -116,17 +148,17 @@ def solve(texts, labelled, induced, found):
         images = read_mapping(found.out)
     except Refused:
         images = []
-    right = (found.status, found.err) == (0, b"") and is_embedding(pattern, target, induced, images)
+    right = (found.status, found.err) == (0, b"") and embeds(pattern, target, induced, images)
     return found if right and found.out.startswith(b"yes\n") else Answer(0, b"yes\n..")
 
 
-def verify(texts, mapping, labelled, induced):
+def verify(texts, mapping, kind, induced):
     try:
-        pattern, target = read_graphs(texts, labelled)
+        pattern, target = read_graphs(texts, kind)
         images = read_mapping(mapping)
     except Refused as fault:
         return fault.answer()
-    if is_embedding(pattern, target, induced, images):
+    if embeds(pattern, target, induced, images):
         return Answer(0, b"embedding\n")
     return Answer(7, b"", b"mapping: not an embedding\n")
 
@@ -157,9 +189,9 @@ def constraints(pattern, target, induced):
                         yield {x(p, t): -1, **near}, 0
 
 
-def encode(texts, labelled, induced):
+def encode(texts, kind, induced):
     try:
-        pattern, target = read_graphs(texts, labelled)
+        pattern, target = read_graphs(texts, kind)
     except Refused as fault:
         return fault.answer()
     lines = [

@@ -137,6 +137,23 @@ head -c 20000000 /dev/zero | tr '\0' ' ' >blanks
 row "no memory for a file" 6 "memory: refused" limited -v 20000 "$work/subgraph" solve blanks square
 rm blanks
 
+# What a text states takes no memory before it is there: each of these has no more than the row above.
+narrow=(limited -v 20000 "$work/subgraph")
+echo 0 >nothing.lad
+echo 1 4294967295 0 >near
+echo 8192 4294967295 1 >near.target
+echo 1 0 4294967295 0 >near.labelled
+echo '* #variable= 4294967295 #constraint= 0' >variables
+echo '* #variable= 1 #constraint= 9223372036854775807' >constraints
+printf 'embedding proof 1\nm 0\nq\n' >claims
+printf 'embedding proof 2\nm 9223372036854775807\nq\n' >claims.more
+row "a pattern of 2^32 - 1 neighbours, of which one is there" 4 "pattern: word 4: EndsEarly" "${narrow[@]}" solve near square
+row "a target of 8,192 vertices and as many neighbours" 4 "target: word 4: EndsEarly" "${narrow[@]}" solve nothing.lad near.target
+row "as many neighbours with labels" 4 "pattern: word 5: EndsEarly" "${narrow[@]}" verify --format labelledlad near.labelled square map
+row "an encoding of 2^32 - 1 variables" 0 "" "${narrow[@]}" check variables claims
+row "one of 2^63 - 1 constraints" 4 "encoding: line 2: Count" "${narrow[@]}" check constraints claims
+row "a log over 2^63 - 1 constraints" 7 "log: line 2: Form" "${narrow[@]}" check variables claims.more
+
 row "encoding to a folder" 5 "files: fault" "${program[@]}" solve pentagon sides --prove folder --log l
 left "the log is not begun" is_absent l
 row "encoding to a full device" 5 "files: fault" "${program[@]}" solve pentagon sides --prove /dev/full --log l
@@ -144,6 +161,8 @@ left "the log is not begun" is_absent l
 row "log to a folder" 5 "files: fault" "${program[@]}" solve pentagon sides --prove e --log folder
 left "the encoding is whole" cmp -s e whole.e
 row "log to a full device" 5 "files: fault" "${program[@]}" solve pentagon sides --prove e --log /dev/full
+left "the encoding is whole" cmp -s e whole.e
+row "log without hints to a full device" 5 "files: fault" "${program[@]}" solve pentagon sides --prove e --log /dev/full --profile 2
 left "the encoding is whole" cmp -s e whole.e
 row "log into a folder that is not there" 5 "files: fault" "${program[@]}" solve pentagon sides --prove e --log nowhere/l
 left "the encoding is whole" cmp -s e whole.e

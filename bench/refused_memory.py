@@ -1,7 +1,7 @@
 #!/usr/bin/env python3
 """Refuses each allocation of a run in turn, and looks what comes of it: the right answer or `memory: refused`, and no half-truth in any file.
 
-usage: python3 bench/refused_memory.py PROGRAM [--cases WORD ..] [--threads N ..] [--most N] [--seed S]
+usage: python3 bench/refused_memory.py PROGRAM [--cases WORD ..] [--threads N ..] [--most N] [--seed S] [--full]
 
 PROGRAM is the built program (crates/subgraph/out/subgraph), which is run as it is: `refuse.c`, compiled here by cc and preloaded, stands before the C
 library. Each run of a case is told the number of one allocation, which is refused, and then all later ones too. Numbers go from 1 to the number of
@@ -9,8 +9,9 @@ allocations of a run that gets all memory; where these are more than --most, so 
 
 Right is: the answer of a run with all memory, which for `solve` may be another map; or status 6, the line `memory: refused`, and on standard output
 nothing, or for `encode` a front of its text. With --prove, after an answer the encoding is whole and the plain checker accepts the log for that
-answer; at status 6 the encoding's file is not there or holds a front of it, and the log's is there only beside a whole encoding. Prints a row for
-each case, and each run that is not as it should be, whose number makes the status 1.
+answer; at status 6 the encoding's file is not there or holds a front of it, and the log's is there only beside a whole encoding. With --full the
+error stream is /dev/full, which takes nothing, and all but its lines is to be the same. Prints a row for each case, and each run that is not as it
+should be, whose number makes the status 1.
 """
 import argparse
 import collections
@@ -24,6 +25,7 @@ from typing import List, Optional
 
 import plain
 from agree import text_of
+from check_logs import check_cases
 from plain import Answer
 
 HERE = os.path.dirname(os.path.abspath(__file__))
@@ -56,19 +58,23 @@ def two_sides(rng, size):
 def write_files(folder, seed):
     """The files of all cases, by name."""
     texts = {
-        "triangle": text_of(ring(3), False),
-        "pentagon": text_of(ring(5), False),
-        "square": text_of(ring(4), False),
-        "sides": text_of(two_sides(random.Random(seed), 14), False),
+        "triangle": text_of(ring(3), "lad"),
+        "pentagon": text_of(ring(5), "lad"),
+        "square": text_of(ring(4), "lad"),
+        "sides": text_of(two_sides(random.Random(seed), 14), "lad"),
         "cut": "3\n2 1",
         "map": "yes\n0 -> 1\n1 -> 2\n2 -> 3\n3 -> 0\n",
         "wrong": "yes\n0 -> 1\n1 -> 3\n2 -> 2\n3 -> 0\n",
+        "one way": "2\n7 1 1 5\n8 0\n",
+        "there": "yes\n0 -> 0\n1 -> 1\n",
     }
     texts = {name: text.encode() for name, text in texts.items()}
-    texts["opb"] = plain.encode([texts["triangle"], texts["square"]], False, False).out
+    texts["opb"] = plain.encode([texts["triangle"], texts["square"]], "lad", False).out
     for name, file in (("proof", "triangle-in-four-cycle.proof"), ("gap", "step-left-out.proof")):
         with open(os.path.join(FORMATS, file), "rb") as f:
             texts[name] = f.read()
+    texts["proof without hints"] = check_cases.without_hints(texts["proof"])
+    texts["gap without hints"] = texts["proof without hints"].replace(b"u 0.3 ~x1 ;", b"u 0.3 x1 ;")
     for name, text in texts.items():
         with open(os.path.join(folder, name), "wb") as f:
             f.write(text)
@@ -81,11 +87,13 @@ def cases(texts, threads):
     yield Case("no command", ["solve", "square"], Answer(3, b"", b"words: not a command\n"))
     yield Case("a text refused", ["solve", "cut", "square"], Answer(4, b"", b"pattern: word 4: EndsEarly\n"))
     yield Case("encode", ["encode", "triangle", "square"], Answer(0, texts["opb"]))
-    yield Case("encode, induced", ["encode", "--induced", "square", "square"], plain.encode(square, False, True))
+    yield Case("encode, induced", ["encode", "--induced", "square", "square"], plain.encode(square, "lad", True))
     yield Case("verify", ["verify", "square", "square", "map"], Answer(0, b"embedding\n"))
     yield Case("verify, no embedding", ["verify", "square", "square", "wrong"], Answer(7, b"", b"mapping: not an embedding\n"))
-    yield Case("check", ["check", "opb", "proof"], Answer(0, b"accepted unsatisfiable\n"))
-    yield Case("check, refused", ["check", "opb", "gap"], Answer(7, b"", b"log: line 5: NoConflict\n"))
+    yield Case("verify, labels of edges", ["verify", "--format", "labelledlad", "one way", "one way", "there"], Answer(0, b"embedding\n"))
+    for hints in ("", " without hints"):
+        yield Case(f"check{hints}", ["check", "opb", f"proof{hints}"], Answer(0, b"accepted unsatisfiable\n"))
+        yield Case(f"check{hints}, refused", ["check", "opb", f"gap{hints}"], Answer(7, b"", b"log: line 5: NoConflict\n"))
     none, unknown = Answer(1, b"none\n"), Answer(2, b"unknown\n")
     for count in threads:
         by = ["--threads", str(count)]
@@ -95,7 +103,7 @@ def cases(texts, threads):
             (["pentagon", "sides"], none),
             (["pentagon", "sides", "--budget", "40"], unknown),
         ):
-            for prove in ([], ["--prove", "e", "--log", "l"]):
+            for prove in ([], ["--prove", "e", "--log", "l"], ["--prove", "e", "--log", "l", "--profile", "2"]):
                 words = ["solve", *asked, *by, *prove]
                 yield Case(" ".join(words), words, answer, bool(prove))
         yield Case(f"demo, {count} threads", ["demo", "7", *by], Answer(0, b"planted yes\ncycle none\nlog accepted\n"))
@@ -104,7 +112,8 @@ def cases(texts, threads):
 class Runs:
     """Runs of the program in a folder, each refused one allocation or all from one on."""
 
-    def __init__(self, program, folder, texts):
+    def __init__(self, program, folder, texts, full):
+        self.full = full
         self.program = os.path.abspath(program)
         self.folder = folder
         self.texts = texts
@@ -130,31 +139,39 @@ class Runs:
         if all_later:
             env["REFUSE_ALL"] = "1"
         words = [self.program, *case.words]
-        done = subprocess.run(words, capture_output=True, stdin=subprocess.DEVNULL, env=env, cwd=self.folder, timeout=600)
-        return Answer(done.returncode, done.stdout, done.stderr), int.from_bytes(self.read("count"), sys.byteorder)
+        with open("/dev/full", "wb") as device:
+            streams = {"stdin": subprocess.DEVNULL, "stdout": subprocess.PIPE, "stderr": device if self.full else subprocess.PIPE}
+            done = subprocess.run(words, **streams, env=env, cwd=self.folder, timeout=600)
+        return Answer(done.returncode, done.stdout, done.stderr or b""), int.from_bytes(self.read("count"), sys.byteorder)
+
+    def seen(self, answer):
+        """An answer as it is seen: without what it tells on the error stream, where that takes nothing."""
+        return Answer(answer.status, answer.out, b"" if self.full else answer.err)
 
     def wanted(self, case, found):
         graphs = [self.texts.get(name) for name in case.words[1:3]]
-        return case.answer or plain.solve(graphs, False, False, found)
+        return case.answer or plain.solve(graphs, "lad", False, found)
 
     def wrong(self, case, found):
         """What is wrong with an answer and with what it left; None where nothing is."""
         if found.status == REFUSED.status:
             front = case.words[0] == "encode" and case.answer.out.startswith(found.out)
-            if found.err != REFUSED.err or found.out and not front:
+            if found.err != self.seen(REFUSED).err or found.out and not front:
                 return "memory was refused, and the streams hold something else"
-        elif found != self.wanted(case, found):
+        elif found != self.seen(self.wanted(case, found)):
             return "a wrong answer"
         return self.wrong_proof(case, found) if case.proves else None
 
     def wrong_proof(self, case, found):
         encoding, log = self.read("e"), self.read("l")
-        right = plain.encode([self.texts[name] for name in case.words[1:3]], False, False).out
+        right = plain.encode([self.texts[name] for name in case.words[1:3]], "lad", False).out
         if found.status == REFUSED.status:
             if not right.startswith(encoding or b"") or log is not None and encoding != right:
                 return "memory was refused, and the proof's files hold something else"
         elif encoding != right or plain.check(encoding, log or b"").out != SHOWN[found.out.split(b"\n")[0].decode()]:
             return "the proof is not one of the answer"
+        elif not log.startswith(b"embedding proof 2\n" if "--profile" in case.words else b"embedding proof 1\n"):
+            return "the log is of the other profile"
         return None
 
 
@@ -184,13 +201,14 @@ def main():
     parser.add_argument("--threads", type=int, nargs="+", default=[1, 2])
     parser.add_argument("--most", type=int, default=1000, help="how many allocations of a case are refused, at most")
     parser.add_argument("--seed", type=int, default=0, help="of the graph with two sides")
+    parser.add_argument("--full", action="store_true", help="with an error stream that takes nothing")
     words = parser.parse_args()
     columns = ["allocations", "runs", "refused", "answered", "not reached"]
     print("| case | " + " | ".join(columns) + " | wrong |\n|---" + "|---" * (len(columns) + 1) + "|")
     total, wrong = collections.Counter(), 0
     with tempfile.TemporaryDirectory() as folder:
         texts = write_files(folder, words.seed)
-        runs = Runs(words.program, folder, texts)
+        runs = Runs(words.program, folder, texts, words.full)
         for case in cases(texts, words.threads):
             if case.name.startswith(tuple(words.cases)):
                 came, told = sweep(runs, case, words.most)

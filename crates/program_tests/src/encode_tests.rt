@@ -18,6 +18,19 @@ const EDGE_INTO_EDGE: &str = "* #variable= 4 #constraint= 10
 +1 x1 -1 x4 >= 0 ;
 ";
 
+const ONE_WAY: &str = "* #variable= 4 #constraint= 10
++1 x1 +1 x2 >= 1 ;
+-1 x1 -1 x2 >= -1 ;
++1 x3 +1 x4 >= 1 ;
+-1 x3 -1 x4 >= -1 ;
+-1 x1 -1 x3 >= -1 ;
+-1 x2 -1 x4 >= -1 ;
+-1 x1 +1 x4 >= 0 ;
+-1 x2 >= 0 ;
+-1 x3 >= 0 ;
++1 x1 -1 x4 >= 0 ;
+";
+
 const LOOP_INTO_TWO: &str = "* #variable= 2 #constraint= 5
 +1 x1 +1 x2 >= 1 ;
 -1 x1 -1 x2 >= -1 ;
@@ -56,7 +69,7 @@ fn first_wrong<R: Threads + Sync>(
     Ok(None)
 }
 
-static ENCODED: [Encoded; 8] = [
+static ENCODED: [Encoded; 11] = [
     Encoded {
         line: "subgraph encode p t",
         pattern: "0\n",
@@ -96,6 +109,30 @@ static ENCODED: [Encoded; 8] = [
         status: 0,
         out: "* #variable= 1 #constraint= 3\n+1 x1 >= 1 ;\n-1 x1 >= -1 ;\n-1 x1 >= -1 ;\n",
         err: "",
+    },
+    Encoded {
+        line: "subgraph encode p t --format directedlad",
+        pattern: "2\n1 1\n0\n",
+        target: "2\n1 1\n0\n",
+        status: 0,
+        out: ONE_WAY,
+        err: "",
+    },
+    Encoded {
+        line: "subgraph encode --format labelledlad p t",
+        pattern: "1\n5 1 0 7\n",
+        target: "1\n5 1 0 8\n",
+        status: 0,
+        out: "* #variable= 1 #constraint= 4\n+1 x1 >= 1 ;\n-1 x1 >= -1 ;\n-1 x1 >= -1 ;\n-1 x1 >= 0 ;\n",
+        err: "",
+    },
+    Encoded {
+        line: "subgraph encode p t --format labelledlad",
+        pattern: "2\n0 2 1 7 1 8\n0 0\n",
+        target: EDGE,
+        status: 4,
+        out: "",
+        err: "pattern: word 7: LabelClash\n",
     },
     Encoded {
         line: "subgraph encode p t",

@@ -1,12 +1,12 @@
 //! Each call failing in turn.
 
-use memory_runs::{CLEAN, EDGE, Failing, Ran, parts, run_over};
+use memory_runs::{CLEAN, EDGE, FOUR_CYCLE, Failing, Ran, TRIANGLE, part, parts, run_over};
 use std::alloc::{AllocError, Global};
 use std::test::Fail;
 use std::thread::Threads;
 
-/// Runs the program over an edge as pattern and target, a good and a bad mapping of it, and an encoding with a good and a bad
-/// log, with this call failing.
+/// Runs the program over an edge as pattern and target, a good and a bad mapping of it, an encoding with a good log of each
+/// kind and a bad one, and faulty graphs, with this call failing.
 fn run_failing<R: Threads + Sync>(
     rt: &R,
     alloc: Global,
@@ -20,7 +20,13 @@ fn run_failing<R: Threads + Sync>(
         ("b", "yes\n0 -> 0\n1 -> 0\n"),
         ("e", "* #variable= 0 #constraint= 0\n"),
         ("l", "embedding proof 1\nm 0\ny\n"),
+        ("h", "embedding proof 2\nm 0\ny\n"),
         ("r", "embedding proof 1\nm 0\ne 1\n"),
+        ("none", ""),
+        ("cut", "3\n2 1\n"),
+        ("letter", "1\nx\n"),
+        ("other", "2\n1 2\n0\n"),
+        ("more", "1\n0 7\n"),
     ];
     run_over(rt, alloc, line, parts(alloc, &texts)?, failing)
 }
@@ -98,7 +104,7 @@ fn first_wrong_of_files<R: Threads + Sync>(
     Ok(None)
 }
 
-static OF_FILES: [OfFiles; 4] = [
+static OF_FILES: [OfFiles; 5] = [
     OfFiles {
         line: "subgraph solve p t",
         beyond: 7,
@@ -113,6 +119,10 @@ static OF_FILES: [OfFiles; 4] = [
     },
     OfFiles {
         line: "subgraph check e l",
+        beyond: 7,
+    },
+    OfFiles {
+        line: "subgraph check e h",
         beyond: 7,
     },
 ];
@@ -176,7 +186,7 @@ fn first_wrong_of_output<R: Threads + Sync>(
     Ok(None)
 }
 
-static OF_OUTPUT: [OfOutput; 4] = [
+static OF_OUTPUT: [OfOutput; 5] = [
     OfOutput {
         line: "subgraph solve p t",
         beyond: 10,
@@ -191,6 +201,10 @@ static OF_OUTPUT: [OfOutput; 4] = [
     },
     OfOutput {
         line: "subgraph check e l",
+        beyond: 2,
+    },
+    OfOutput {
+        line: "subgraph check e h",
         beyond: 2,
     },
 ];
@@ -249,13 +263,41 @@ fn first_wrong_of_errors<R: Threads + Sync>(
     Ok(None)
 }
 
-static OF_ERRORS: [OfErrors; 8] = [
+static OF_ERRORS: [OfErrors; 15] = [
     OfErrors {
         line: "subgraph solve p",
         status: 3,
     },
     OfErrors {
         line: "subgraph solve m t",
+        status: 4,
+    },
+    OfErrors {
+        line: "subgraph solve other t",
+        status: 4,
+    },
+    OfErrors {
+        line: "subgraph solve cut t",
+        status: 4,
+    },
+    OfErrors {
+        line: "subgraph solve none t",
+        status: 4,
+    },
+    OfErrors {
+        line: "subgraph solve letter t",
+        status: 4,
+    },
+    OfErrors {
+        line: "subgraph solve more t",
+        status: 4,
+    },
+    OfErrors {
+        line: "subgraph verify p t none",
+        status: 4,
+    },
+    OfErrors {
+        line: "subgraph check p l",
         status: 4,
     },
     OfErrors {
@@ -287,5 +329,45 @@ static OF_ERRORS: [OfErrors; 8] = [
 #[test]
 fn a_fault_of_the_error_stream_changes_no_status(rt: HostRuntime) -> Result<(), Fail> {
     assert_eq!(rt; first_wrong_of_errors(&rt, rt.alloc(), &OF_ERRORS)?, None);
+    Ok(())
+}
+
+/// Whether a front of a target's text ends early, in place of this word.
+fn ends_early<R: Threads + Sync>(
+    rt: &R,
+    alloc: Global,
+    front: &[u8],
+    word: u64,
+) -> Result<bool, AllocError> {
+    let mut files = parts(alloc, &[("p", TRIANGLE)])?;
+    files.push(part(alloc, "t", front)?)?;
+    let ran = run_over(rt, alloc, "subgraph solve p t", files, CLEAN)?;
+    let told = format!(in alloc; "target: word {word}: EndsEarly\n")?;
+    Ok(ran.gave(4, "", told.as_str()))
+}
+
+/// How many bytes the first front of a text of words of one byte has that does not end early, at the word after its last one.
+fn first_front_that_is_read<R: Threads + Sync>(
+    rt: &R,
+    alloc: Global,
+    text: &[u8],
+) -> Result<usize, AllocError> {
+    let mut word: u64 = 1;
+    for n in 0..text.len() {
+        if !ends_early(rt, alloc, &text[..n], word)? {
+            return Ok(n);
+        }
+        if text[n] != b' ' && text[n] != b'\n' {
+            word = word.wrapping_add(1);
+        }
+    }
+    Ok(text.len())
+}
+
+#[test]
+fn each_front_of_a_graph_ends_early(rt: HostRuntime) -> Result<(), Fail> {
+    let read = first_front_that_is_read(&rt, rt.alloc(), FOUR_CYCLE.as_bytes())?;
+    // All 13 words, without the last line's end.
+    assert_eq!(rt; read, 25);
     Ok(())
 }

@@ -41,7 +41,42 @@ fn first_wrong_answered<R: Threads + Sync>(
     Ok(None)
 }
 
-static ANSWERED: [Answered; 19] = [
+static ANSWERED: [Answered; 24] = [
+    Answered {
+        line: "subgraph solve p t --format directedlad --budget 1",
+        pattern: "3\n1 1\n1 2\n1 0\n",
+        target: "3\n2 1 2\n1 2\n0\n",
+        status: 1,
+        out: "none\n",
+    },
+    Answered {
+        line: "subgraph solve p t --format directedlad --budget 1",
+        pattern: "3\n2 1 2\n0\n0\n",
+        target: "3\n0\n1 0\n1 0\n",
+        status: 1,
+        out: "none\n",
+    },
+    Answered {
+        line: "subgraph solve p t --format directedlad --induced",
+        pattern: "2\n1 1\n0\n",
+        target: "2\n1 1\n1 0\n",
+        status: 1,
+        out: "none\n",
+    },
+    Answered {
+        line: "subgraph solve p t --format labelledlad",
+        pattern: "2\n5 1 1 7\n6 0\n",
+        target: "2\n6 0\n5 1 0 7\n",
+        status: 0,
+        out: "yes\n0 -> 1\n1 -> 0\n",
+    },
+    Answered {
+        line: "subgraph solve p t --format labelledlad",
+        pattern: "2\n5 1 1 7\n6 0\n",
+        target: "2\n6 0\n5 1 0 8\n",
+        status: 1,
+        out: "none\n",
+    },
     Answered {
         line: "subgraph solve p t --format vertexlabelledlad",
         pattern: "2\n1 1 1\n2 1 0\n",

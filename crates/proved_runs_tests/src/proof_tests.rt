@@ -257,63 +257,63 @@ fn refute_but<R: Threads + Sync>(rt: &R, alloc: Global, number: u64) -> Result<R
     refute(rt, alloc, failing)
 }
 
-/// Whether the files are as a fault may leave them: the encoding's holds a front part, and the log's nothing before the encoding is whole.
-fn is_front(ran: &Ran, whole: &Ran) -> bool {
-    let encoding = ran.file("e");
-    let log = ran.file("l");
-    whole.file("e").starts_with(encoding)
-        && whole.file("l").starts_with(log)
-        && (log.is_empty() || encoding.len() == whole.file("e").len())
+/// Words by which a triangle is refuted in a cycle of four vertices, in a log without hints.
+const REFUTES_WITHOUT_HINTS: &str = "subgraph solve p t --prove e --log l --profile 2";
+
+/// How many calls load the pattern and the target.
+const LOADING: u64 = 6;
+
+/// Whether a run whose call of that number failed left its files as the place of the call tells: both untouched where a graph was
+/// loaded; the encoding's front and no log; or the encoding whole, as it is ever after, and the log's front.
+fn is_in_order(ran: &Ran, whole: &Ran, number: u64, was_whole: bool) -> bool {
+    let (encoding, log) = (ran.files.content("e"), ran.files.content("l"));
+    if number <= LOADING {
+        encoding.is_none() && log.is_none()
+    } else if ran.file("e") == whole.file("e") {
+        whole.file("l").starts_with(ran.file("l"))
+    } else {
+        !was_whole && log.is_none() && whole.file("e").starts_with(ran.file("e"))
+    }
 }
 
-/// What a run with one call on the files failing comes to.
-#[derive(Clone, Copy, PartialEq, Eq)]
-enum Faulty {
-    /// There is no such call: the triangle is refuted.
-    Refuted,
-    /// The fault is told, and its files hold front parts.
-    Front,
-    /// Neither.
-    Wrong,
-}
-
-/// What the run comes to where that call on the files fails.
-fn fault_at<R: Threads + Sync>(
+/// The number of the first call on the files whose fault leaves something else, of those where one call after the other fails,
+/// or 0.
+fn first_out_of_order<R: Threads + Sync>(
     rt: &R,
     alloc: Global,
-    whole: &Ran,
-    number: u64,
-) -> Result<Faulty, AllocError> {
-    let ran = refute_but(rt, alloc, number)?;
-    if ran.status == 1 {
-        return Ok(Faulty::Refuted);
-    }
-    if ran.gave(5, "", "files: fault\n") && is_front(&ran, whole) {
-        return Ok(Faulty::Front);
-    }
-    Ok(Faulty::Wrong)
-}
-
-/// What the first run comes to that leaves no front part, of those where one call after the other fails.
-fn first_without_front<R: Threads + Sync>(
-    rt: &R,
-    alloc: Global,
-    whole: &Ran,
-) -> Result<Faulty, AllocError> {
+    line: &str,
+) -> Result<u64, AllocError> {
+    let whole = run_proof(rt, alloc, line, TRIANGLE, FOUR_CYCLE, CLEAN)?;
+    let mut was_whole = false;
     for number in 1..1000 {
-        let faulty = fault_at(rt, alloc, whole, number)?;
-        if faulty != Faulty::Front {
-            return Ok(faulty);
+        let failing = Failing {
+            files: number,
+            ..CLEAN
+        };
+        let ran = run_proof(rt, alloc, line, TRIANGLE, FOUR_CYCLE, failing)?;
+        if ran.status == 1 && was_whole {
+            return Ok(0);
         }
+        if !ran.gave(5, "", "files: fault\n") || !is_in_order(&ran, &whole, number, was_whole) {
+            return Ok(number);
+        }
+        was_whole = ran.file("e") == whole.file("e");
     }
-    Ok(Faulty::Wrong)
+    Ok(1000)
 }
 
 #[test]
-fn each_fault_of_a_file_leaves_a_front_part(rt: HostRuntime) -> Result<(), Fail> {
-    let whole = refute(&rt, rt.alloc(), CLEAN)?;
-    let faulty = first_without_front(&rt, rt.alloc(), &whole)?;
-    assert!(rt; faulty == Faulty::Refuted);
+fn each_fault_of_a_file_leaves_what_came_before(rt: HostRuntime) -> Result<(), Fail> {
+    assert_eq!(rt; first_out_of_order(&rt, rt.alloc(), REFUTES)?, 0);
+    Ok(())
+}
+
+#[test]
+fn so_it_does_without_hints(rt: HostRuntime) -> Result<(), Fail> {
+    assert_eq!(rt;
+        first_out_of_order(&rt, rt.alloc(), REFUTES_WITHOUT_HINTS)?,
+        0
+    );
     Ok(())
 }
 
@@ -346,6 +346,26 @@ fn a_log_of_two_lines_ends_early(rt: HostRuntime) -> Result<(), Fail> {
     Ok(())
 }
 
+/// Whether a fault of the call before that one leaves the log empty.
+fn is_empty_before<R: Threads + Sync>(
+    rt: &R,
+    alloc: Global,
+    number: u64,
+) -> Result<bool, AllocError> {
+    if number < 2 {
+        return Ok(false);
+    }
+    let ran = refute_but(rt, alloc, number - 1)?;
+    Ok(ran.file("l").is_empty())
+}
+
+#[test]
+fn the_head_of_a_log_is_added_at_once(rt: HostRuntime) -> Result<(), Fail> {
+    let number = call_after_the_head(&rt, rt.alloc())?;
+    assert!(rt; is_empty_before(&rt, rt.alloc(), number)?);
+    Ok(())
+}
+
 /// Refutes again over the files that a run left.
 fn refute_again<R: Threads + Sync>(rt: &R, alloc: Global, ran: &Ran) -> Result<Ran, AllocError> {
     let mut files = parts(alloc, &[("p", TRIANGLE), ("t", FOUR_CYCLE)])?;
@@ -370,11 +390,30 @@ fn is_untold(ran: &Ran, whole: &Ran) -> bool {
         && ran.file("l") == whole.file("l")
 }
 
+/// The number of the first call on the output that a run no longer makes, where the fault of each earlier one leaves the proof
+/// whole; 0 where one does not, or there is none.
+fn first_told<R: Threads + Sync>(rt: &R, alloc: Global, whole: &Ran) -> Result<u64, AllocError> {
+    for number in 1..100 {
+        let failing = Failing {
+            out: number,
+            ..CLEAN
+        };
+        let ran = refute(rt, alloc, failing)?;
+        if ran.gave(1, "none\n", "") && number > 1 {
+            return Ok(number);
+        }
+        if !is_untold(&ran, whole) {
+            return Ok(0);
+        }
+    }
+    Ok(0)
+}
+
 #[test]
-fn a_fault_of_the_output_leaves_the_proof_whole(rt: HostRuntime) -> Result<(), Fail> {
+fn each_fault_of_the_output_leaves_the_proof_whole(rt: HostRuntime) -> Result<(), Fail> {
     let whole = refute(&rt, rt.alloc(), CLEAN)?;
-    let ran = refute(&rt, rt.alloc(), Failing { out: 1, ..CLEAN })?;
-    assert!(rt; is_untold(&ran, &whole));
+    let told = first_told(&rt, rt.alloc(), &whole)?;
+    assert!(rt; told > 1);
     Ok(())
 }
 

@@ -25,6 +25,25 @@ u 0.13 ; 0.3 0.6 0.9 0.12 1 ;
 e 0.13
 ";
 
+/// The same without hints.
+const WITHOUT_HINTS: &str = "embedding proof 2
+m 34
+p 0.1 15 24 + 6 + ;
+p 0.2 15 26 + 6 + ;
+u 0.3 ~x1 ;
+p 0.4 16 23 + 6 + ;
+p 0.5 16 25 + 6 + ;
+u 0.6 ~x2 ;
+p 0.7 17 24 + 6 + ;
+p 0.8 17 26 + 6 + ;
+u 0.9 ~x3 ;
+p 0.10 18 23 + 6 + ;
+p 0.11 18 25 + 6 + ;
+u 0.12 ~x4 ;
+u 0.13 ;
+e 0.13
+";
+
 /// A refutation of three vertices in two: each of the three has an image, and each of the two is the image of one.
 const NO_THIRD: &str = "embedding proof 1\nm 8\np 0.1 1 3 + 5 + 7 + 8 + 3 d ;\ne 0.1\n";
 
@@ -68,7 +87,7 @@ fn check_of<R: Threads + Sync>(
     check_over(rt, alloc, encoded.out.bytes(), log.as_bytes())
 }
 
-static ACCEPTED: [Accepted; 6] = [
+static ACCEPTED: [Accepted; 7] = [
     Accepted {
         line: "subgraph encode p t",
         pattern: "0\n",
@@ -99,6 +118,13 @@ static ACCEPTED: [Accepted; 6] = [
     },
     Accepted {
         line: "subgraph encode p t",
+        pattern: TRIANGLE,
+        target: FOUR_CYCLE,
+        log: WITHOUT_HINTS,
+        out: "accepted unsatisfiable\n",
+    },
+    Accepted {
+        line: "subgraph encode p t",
         pattern: "1\n1 0\n",
         target: "2\n0\n1 1\n",
         log: "embedding proof 1\nm 5\ny x2\n",
@@ -125,5 +151,59 @@ fn a_log_that_misses_a_step_is_refused(rt: HostRuntime) -> Result<(), Fail> {
     let log = "embedding proof 1\nm 10\nu 0.1 ; 1 ;\ne 0.1\n";
     let checked = check_of(&rt, rt.alloc(), &encoded, log)?;
     assert!(rt; checked.gave(7, "", "log: line 3: NoConflict\n"));
+    Ok(())
+}
+
+/// Whether a front of a log over the encoding ends early at this line.
+fn ends_early<R: Threads + Sync>(
+    rt: &R,
+    alloc: Global,
+    encoded: &Ran,
+    front: &[u8],
+    line: u64,
+) -> Result<bool, AllocError> {
+    let checked = check_over(rt, alloc, encoded.out.bytes(), front)?;
+    let told = format!(in alloc; "log: line {line}: EndsEarly\n")?;
+    Ok(checked.gave(7, "", told.as_str()))
+}
+
+/// How many bytes the first front of a log has that does not end early, at the line after its last whole one.
+fn first_front_that_ends<R: Threads + Sync>(
+    rt: &R,
+    alloc: Global,
+    encoded: &Ran,
+    log: &[u8],
+) -> Result<usize, AllocError> {
+    let mut line: u64 = 1;
+    for n in 0..log.len() {
+        if !ends_early(rt, alloc, encoded, &log[..n], line)? {
+            return Ok(n);
+        }
+        if log[n] == b'\n' {
+            line = line.wrapping_add(1);
+        }
+    }
+    Ok(log.len())
+}
+
+/// Whether each front of a log over the encoding of a triangle in a cycle of four ends early.
+fn is_whole_at_last<R: Threads + Sync>(
+    rt: &R,
+    alloc: Global,
+    log: &str,
+) -> Result<bool, AllocError> {
+    let encoded = run_pair(rt, alloc, "subgraph encode p t", TRIANGLE, FOUR_CYCLE)?;
+    Ok(first_front_that_ends(rt, alloc, &encoded, log.as_bytes())? == log.len())
+}
+
+#[test]
+fn each_front_of_a_log_ends_early(rt: HostRuntime) -> Result<(), Fail> {
+    assert!(rt; is_whole_at_last(&rt, rt.alloc(), NO_TRIANGLE)?);
+    Ok(())
+}
+
+#[test]
+fn each_front_of_a_log_without_hints_ends_early(rt: HostRuntime) -> Result<(), Fail> {
+    assert!(rt; is_whole_at_last(&rt, rt.alloc(), WITHOUT_HINTS)?);
     Ok(())
 }
