@@ -4,9 +4,10 @@
 usage: python3 bench/agree.py PROGRAM [--runs N] [--jobs J] [--seed S] [--hard PERCENT]
 
 PROGRAM is the built program (crates/subgraph/out/subgraph). A small problem (a pattern of at most 6 vertices, a target of at most 9,
-labels, loops and the induced kind among them) is decided by brute force too; a hard one (12 to 16 vertices into 24 to 36, near the
-point where half the patterns occur, so that searches restart and share what they have refuted) is decided by one thread, whose answer
-all others must give. Each mapping that is printed is tested here. Ends with status 1 at the first disagreement, and tells it.
+in any of the four formats, with loops and the induced kind among them) is decided by brute force too; a hard one (12 to 16 vertices into
+24 to 36, near the point where half the patterns occur, so that searches restart and share what they have refuted; half of them with
+directions) is decided by one thread, whose answer all others must give. Each mapping that is printed is tested here. Ends with status 1 at
+the first disagreement, and tells it.
 """
 import argparse
 import concurrent.futures
@@ -17,25 +18,40 @@ import sys
 import tempfile
 
 
-def random_graph(rng, size, density, loops, labels):
-    """Labels, and a set of ordered pairs with an edge in both directions; a loop is a pair of a vertex with itself."""
-    edges = set()
+#: For each format: whether edges have directions, whether vertices have labels, and whether edges have.
+FORMATS = {
+    "lad": (False, False, False),
+    "vertexlabelledlad": (False, True, False),
+    "directedlad": (True, False, False),
+    "labelledlad": (True, True, True),
+}
+
+
+def random_graph(rng, size, density, loops, labels, kind="lad"):
+    """The labels of vertices, and for each ordered pair with an edge its label; a loop is a pair of a vertex with itself."""
+    directed, labelled, edge_labelled = FORMATS[kind]
+    edges = {}
     for a in range(size):
         if loops and rng.random() < 0.2:
-            edges.add((a, a))
+            edges[a, a] = rng.randrange(labels) if edge_labelled else 0
         for b in range(a):
-            if rng.random() < density:
-                edges.add((a, b))
-                edges.add((b, a))
-    return [rng.randrange(labels) for _ in range(size)], edges
+            for pair in ((a, b), (b, a)) if directed else ((a, b),):
+                if rng.random() < density:
+                    edges[pair] = rng.randrange(labels) if edge_labelled else 0
+                    if not directed:
+                        edges[b, a] = 0
+    return [rng.randrange(labels) if labelled else 0 for _ in range(size)], edges
 
 
-def text_of(graph, labelled):
+def text_of(graph, kind):
+    _, labelled, edge_labelled = FORMATS[kind]
     labels, edges = graph
     lines = [str(len(labels))]
     for a in range(len(labels)):
         near = [b for b in range(len(labels)) if (a, b) in edges]
-        words = ([labels[a]] if labelled else []) + [len(near)] + near
+        words = ([labels[a]] if labelled else []) + [len(near)]
+        for b in near:
+            words += [b, edges[a, b]] if edge_labelled else [b]
         lines.append(" ".join(map(str, words)))
     return "\n".join(lines) + "\n"
 
@@ -45,10 +61,11 @@ def goes(pattern, target, induced, image, p, t):
     if pattern[0][p] != target[0][t] or t in image:
         return False
     for q, u in enumerate(image + [t]):
-        there = (p, q) in pattern[1]
-        here = (t, u) in target[1]
-        if there and not here or induced and here and not there:
-            return False
+        for one_way, its_image in (((p, q), (t, u)), ((q, p), (u, t))):
+            there = pattern[1].get(one_way)
+            here = target[1].get(its_image)
+            if there != here and (there is not None or induced):
+                return False
     return True
 
 
@@ -89,22 +106,23 @@ def one(program, seed, hard):
     """One problem: how many runs by several threads were held against its answer, and what disagreed; no number where it stayed undecided."""
     rng = random.Random(seed)
     induced = rng.random() < 0.5
-    labelled = rng.random() < 0.4
-    labels = rng.choice([1, 2, 3]) if labelled else 1
+    kind = rng.choice(["lad", "directedlad"] if hard else list(FORMATS))
+    labels = rng.choice([1, 2, 3])
     if hard:
-        labelled, labels = False, 1
-        target = random_graph(rng, rng.randint(24, 36), rng.uniform(0.3, 0.6), False, 1)
-        pattern = random_graph(rng, rng.randint(12, 16), rng.uniform(0.3, 0.6), False, 1)
+        # an edge in each direction asks twice: fewer of them make the problem as hard
+        most = 0.6 if kind == "lad" else 0.4
+        target = random_graph(rng, rng.randint(24, 36), rng.uniform(most / 2, most), False, 1, kind)
+        pattern = random_graph(rng, rng.randint(12, 16) if kind == "lad" else rng.randint(8, 12), rng.uniform(most / 2, most), False, 1, kind)
     else:
         loops = rng.random() < 0.3
-        target = random_graph(rng, rng.randint(0, 9), rng.random(), loops, labels)
-        pattern = random_graph(rng, rng.randint(0, 6), rng.random(), loops, labels)
+        target = random_graph(rng, rng.randint(0, 9), rng.random(), loops, labels, kind)
+        pattern = random_graph(rng, rng.randint(0, 6), rng.random(), loops, labels, kind)
     with tempfile.TemporaryDirectory() as folder:
         files = [os.path.join(folder, name) for name in ("p.lad", "t.lad")]
         for name, graph in zip(files, (pattern, target)):
             with open(name, "w", encoding="ascii") as f:
-                f.write(text_of(graph, labelled))
-        common = (["--induced"] if induced else []) + (["--format", "vertexlabelledlad"] if labelled else [])
+                f.write(text_of(graph, kind))
+        common = (["--induced"] if induced else []) + (["--format", kind] if kind != "lad" else [])
         if hard:
             alone = solve(program, files, common + ["--budget", "20000"], pattern, target, induced)
             if alone.startswith("status 2"):

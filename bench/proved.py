@@ -48,22 +48,22 @@ class Problem:
     """A random problem in two files, what it is, and where its encoding and its log go."""
 
     def __init__(self, folder, rng, hard):
-        labelled = not hard and rng.random() < 0.4
-        labels = rng.choice([1, 2, 3]) if labelled else 1
+        kind = "vertexlabelledlad" if not hard and rng.random() < 0.4 else "lad"
+        labels = rng.choice([1, 2, 3])
         loops = not hard and rng.random() < 0.3
         self.induced = rng.random() < 0.5
         if hard:
             self.target = random_graph(rng, rng.randint(24, 36), rng.uniform(0.3, 0.6), False, 1)
             self.pattern = random_graph(rng, rng.randint(12, 16), rng.uniform(0.3, 0.6), False, 1)
         else:
-            self.target = random_graph(rng, rng.randint(0, 9), rng.random(), loops, labels)
-            self.pattern = random_graph(rng, rng.randint(0, 6), rng.random(), loops, labels)
+            self.target = random_graph(rng, rng.randint(0, 9), rng.random(), loops, labels, kind)
+            self.pattern = random_graph(rng, rng.randint(0, 6), rng.random(), loops, labels, kind)
         self.files = [os.path.join(folder, name) for name in ("p.lad", "t.lad")]
         self.encoding, self.log = (os.path.join(folder, name) for name in ("e.opb", "l.proof"))
         for name, graph in zip(self.files, (self.pattern, self.target)):
             with open(name, "w", encoding="ascii") as file:
-                file.write(text_of(graph, labelled))
-        self.options = (["--induced"] if self.induced else []) + (["--format", "vertexlabelledlad"] if labelled else [])
+                file.write(text_of(graph, kind))
+        self.options = (["--induced"] if self.induced else []) + ["--format", kind]
 
     def solve(self, program, options):
         """The answer of a run that writes its proof."""

@@ -5,8 +5,8 @@ usage: python3 tools/claims.py [--check]
 
 A definition stands on each name of its text that is defined in the repository, and on what that stands on; the kit's prelude is not
 counted. A type that the code declares (an enum or a struct that definitions speak of) counts as one definition without lines. The lists stand
-between two marks in the page, one pair for each statement of STATEMENTS. With --check nothing is written, and the status is 1 where
-a list is not as it would be.
+between two marks in the page, one pair for each statement of STATEMENTS. README tells the two numbers of `none` in words (TOLD), and they
+are written there. With --check nothing is written, and the status is 1 where a list or a number is not as it would be.
 """
 import glob
 import os
@@ -19,6 +19,8 @@ STATEMENTS = {
 }
 HERE = os.path.dirname(os.path.dirname(os.path.abspath(__file__)))
 PAGE = os.path.join(HERE, "docs", "CLAIMS.md")
+README = os.path.join(HERE, "README.md")
+TOLD = re.compile(r"(walks through `none` definition by definition) \(\d+ of them, \d+ lines\)")
 WORD = re.compile(r"[A-Za-z_◌][\w◌\-'≡≤]*(?:\.[A-Za-z_][\w\-]*)*")
 HEAD = re.compile(r"(?:(?:pub|abbrev|unfoldable|record|data)\s+)+([^\s:{(]+)")
 PLAIN = re.compile(r"([^\s:]+) :")
@@ -117,20 +119,36 @@ def listed(seen):
     return "\n".join(rows)
 
 
-def main():
-    read = modules()
-    page = old = open(PAGE, encoding="utf-8").read()
+def with_lists(page, read):
+    """The page with each list as it is today."""
     for mark, start in STATEMENTS.items():
         opening, closing = f"<!-- list of {mark} -->\n", f"<!-- end of {mark} -->"
         before, _, rest = page.partition(opening)
         _, _, after = rest.partition(closing)
         page = before + opening + listed(closure(read, start)) + "\n" + closing + after
-    if "--check" in sys.argv[1:]:
-        if page != old:
-            sys.exit("docs/CLAIMS.md: a list is not what tools/claims.py writes")
-        return
-    with open(PAGE, "w", encoding="utf-8") as file:
-        file.write(page)
+    return page
+
+
+def with_numbers(page, read):
+    """README with the numbers of today."""
+    seen = closure(read, STATEMENTS["none"])
+    made, count = TOLD.subn(rf"\1 ({len(seen)} of them, {sum(seen.values())} lines)", page)
+    if count != 1:
+        sys.exit("README.md: no line tells how many definitions `none` stands on, or more than one does")
+    return made
+
+
+def main():
+    read = modules()
+    for path, as_today in ((PAGE, with_lists), (README, with_numbers)):
+        with open(path, encoding="utf-8") as file:
+            old = file.read()
+        page = as_today(old, read)
+        if "--check" not in sys.argv[1:]:
+            with open(path, "w", encoding="utf-8") as file:
+                file.write(page)
+        elif page != old:
+            sys.exit(f"{os.path.relpath(path, HERE)}: not what tools/claims.py writes")
 
 
 if __name__ == "__main__":
