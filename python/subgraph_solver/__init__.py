@@ -24,13 +24,14 @@ from .errors import (
     Undecided,
 )
 from .graph import Graph, as_graph
-from .matcher import GraphMatcher
+from .matcher import DiGraphMatcher, GraphMatcher
 from .program import Progress
 from .questions import Proof, check, encode, find, verify
 from .draw import draw
 from .reading import read_graph
 
 __all__ = [
+    "DiGraphMatcher",
     "Fault",
     "Graph",
     "GraphMatcher",

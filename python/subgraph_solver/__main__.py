@@ -48,6 +48,8 @@ def _graphs(words: argparse.ArgumentParser, name: str) -> None:
     words.add_argument("--kind", help="what both files are, whatever their endings say")
     shared = "an attribute that images share; may be repeated"
     words.add_argument("--label", action="append", metavar="NAME", help=shared)
+    words.add_argument("--edge-label", action="append", metavar="NAME", help="the same for edges and their images")
+    words.add_argument("--directed", action="store_true", help="edge lists have directions, from the first name")
     if name in ("find", "draw"):
         words.add_argument("--seed", type=int)
         words.add_argument("--budget", type=int, help="the most fails")
@@ -102,9 +104,9 @@ def _answer(asked: argparse.Namespace) -> int:
     if asked.command == "check":
         print(f"accepted {check(asked.encoding, asked.log)}")
         return 0
-    pattern = read_graph(asked.pattern, asked.kind)
-    target = read_graph(asked.target, asked.kind)
-    how = {"induced": asked.induced, "node_label": _label(asked.label)}
+    pattern = read_graph(asked.pattern, asked.kind, asked.directed)
+    target = read_graph(asked.target, asked.kind, asked.directed)
+    how = {"induced": asked.induced, "node_label": _label(asked.label), "edge_label": _label(asked.edge_label)}
     if asked.command in ("find", "draw"):
         return _find(asked, how, pattern, target)
     if asked.command == "encode":

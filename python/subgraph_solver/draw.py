@@ -1,6 +1,7 @@
 """A picture of an answer: the pattern beside the target, and where each vertex goes."""
 from __future__ import annotations
 
+import math
 import os
 from dataclasses import dataclass, field
 from html import escape
@@ -80,13 +81,13 @@ def draw(
         As `find` has them.
     mapping : mapping, optional
         What `find` answered. Each image has its vertex's colour, and the images of edges are drawn bold. Without it
-        the graphs are drawn alone.
+        the graphs are drawn alone. Edges with a direction are arrows, but for loops.
     path : path, optional
         The file that gets the picture.
     answer : str, optional
         A word for the head, as ``unknown``.
     node_label : as `find` has it
-        Labels are written beside the vertices.
+        Labels are written beside the vertices; edges' labels are not drawn.
 
     Returns
     -------
@@ -106,8 +107,8 @@ def draw(
 
 def _graphs(pattern: Graph, target: Graph, mapping: Mapping[Name, Name], said: str) -> str:
     images = {pattern.number[p]: target.number[t] for p, t in mapping.items()}
-    target_places = layout(target.neighbours, 1.5)
-    pattern_places = layout(pattern.neighbours)
+    target_places = layout(_joined(target), 1.5)
+    pattern_places = layout(_joined(pattern))
     if images and len(images) == len(pattern):
         pattern_places = turned_like(pattern_places, [target_places[images[p]] for p in range(len(pattern))])
     panels = [_pattern_panel(pattern, images), _target_panel(pattern, target, images)]
@@ -122,6 +123,16 @@ def _graphs(pattern: Graph, target: Graph, mapping: Mapping[Name, Name], said: s
         listed, below = _images_text(pattern, target, images, width, HEAD + high)
     parts = [_opening(width, HEAD + high + below), _head(panels[1].left - GAP / 2, width, high, said)]
     return "\n".join([*parts, *drawn, *[listed] * bool(listed), "</svg>\n"])
+
+
+def _joined(graph: Graph) -> List[Set[int]]:
+    """For each vertex those that an edge leads to, or that it comes from."""
+    if not graph.directed:
+        return graph.neighbours
+    joined = [set(near) for near in graph.neighbours]
+    for a, b in graph.edges():
+        joined[b].add(a)
+    return joined
 
 
 def _colour(vertex: int) -> str:
@@ -147,7 +158,7 @@ def _target_panel(pattern: Graph, graph: Graph, images: Mapping[int, int]) -> _P
         beside[t] = " · ".join(mine + ([beside[t]] if t in beside else []))
     long = max((len(str(graph.names[t])) for t in names), default=0) > 4
     width = CROWDED_WIDTH if crowded or (long and len(graph) > 12) else TARGET_WIDTH
-    bold = {(min(it), max(it)) for it in pairs}
+    bold = set(pairs) if graph.directed else {(min(it), max(it)) for it in pairs}
     return _Panel(graph, "target", PATTERN_WIDTH + GAP, width, 0.0, colours, bold, names, beside)
 
 
@@ -245,7 +256,20 @@ def _edge(panel: _Panel, a: int, b: int, is_bold: bool) -> str:
     if a == b:
         r = 0.8 * panel.size_of(a)
         return f'<circle cx="{x:.1f}" cy="{y - 1.5 * r:.1f}" r="{r:.1f}" fill="none" {paint}/>'
-    return f'<line x1="{x:.1f}" y1="{y:.1f}" x2="{u:.1f}" y2="{v:.1f}" {paint}/>'
+    line = f'<line x1="{x:.1f}" y1="{y:.1f}" x2="{u:.1f}" y2="{v:.1f}" {paint}/>'
+    if not panel.graph.directed:
+        return line
+    return line + _arrow(panel.places[a], panel.places[b], panel.size_of(b), 4 + 2.5 * width, colour)
+
+
+def _arrow(start: Point, end: Point, radius: float, size: float, colour: str) -> str:
+    """The head of an arrow that ends at a vertex of this radius."""
+    far = max(math.dist(start, end), 1e-9)
+    dx, dy = (end[0] - start[0]) / far, (end[1] - start[1]) / far
+    x, y = end[0] - radius * dx, end[1] - radius * dy
+    corners = [(x, y)] + [(x - size * (dx - it * dy), y - size * (dy + it * dx)) for it in (-0.4, 0.4)]
+    points = " ".join(f"{u:.1f},{v:.1f}" for u, v in corners)
+    return f'<polygon points="{points}" fill="{colour}"/>'
 
 
 def _vertex(panel: _Panel, v: int) -> str:

@@ -10,19 +10,26 @@ Name = Hashable
 Attributes = Mapping[str, Any]
 #: How vertices are labelled: the name of an attribute, several names, or a function of name and attributes.
 NodeLabel = Union[None, str, Sequence[str], Callable[[Name, Attributes], Hashable]]
+#: How edges are labelled: the name of an attribute, several names, or a function of both ends and attributes.
+EdgeLabel = Union[None, str, Sequence[str], Callable[[Name, Name, Attributes], Hashable]]
 
 
 class Graph:
-    """An undirected graph without parallel edges.
+    """A graph without parallel edges, undirected or directed.
 
     Parameters
     ----------
     edges : iterable of pairs of names
-        A pair of one name twice is a loop, and a pair that comes twice, either way round, is one edge.
+        A pair of one name twice is a loop, and a pair that comes twice is one edge; in an undirected graph it may come
+        either way round.
     vertices : iterable of names
         Put before those that the edges name; the way to have a vertex without edges.
     labels : mapping from names to labels, optional
         Where it is given it has each vertex.
+    directed : bool
+        Is a pair an edge from its first name to its second alone?
+    edge_labels : mapping from pairs of names to labels, optional
+        Where it is given it has each edge, in an undirected graph either way round.
 
     Attributes
     ----------
@@ -31,9 +38,13 @@ class Graph:
     number : dict
         Each name's place in that list.
     neighbours : list of set of int
-        For each vertex the places of its neighbours.
+        For each vertex the places of its neighbours, in a directed graph of those that an edge leads to.
     labels : list, or None
         For each vertex its label; ``None`` where the graph has no labels.
+    directed : bool
+        Have edges directions?
+    edge_labels : dict, or None
+        For each of `edges()` its label; ``None`` where edges have no labels.
     source : object
         What the graph was made of, as an RDKit molecule; ``None`` where it was made of edges.
     """
@@ -43,10 +54,13 @@ class Graph:
         edges: Iterable[Tuple[Name, Name]] = (),
         vertices: Iterable[Name] = (),
         labels: Optional[Mapping[Name, Hashable]] = None,
+        directed: bool = False,
+        edge_labels: Optional[Mapping[Tuple[Name, Name], Hashable]] = None,
     ) -> None:
         self.names: List[Name] = []
         self.number: Dict[Name, int] = {}
         self.neighbours: List[set] = []
+        self.directed = directed
         self.source: Any = None
         for name in vertices:
             self._place(name)
@@ -54,13 +68,17 @@ class Graph:
             first, second = pair
             a, b = self._place(first), self._place(second)
             self.neighbours[a].add(b)
-            self.neighbours[b].add(a)
+            if not directed:
+                self.neighbours[b].add(a)
         self.labels: Optional[List[Hashable]] = None
         if labels is not None:
             missing = [name for name in self.names if name not in labels]
             if missing:
                 raise ValueError(f"the vertex {missing[0]!r} has no label")
             self.labels = [labels[name] for name in self.names]
+        self.edge_labels: Optional[Dict[Tuple[int, int], Hashable]] = None
+        if edge_labels is not None:
+            self.edge_labels = {(a, b): self._named_label(edge_labels, a, b) for a, b in self.edges()}
 
     def _place(self, name: Name) -> int:
         if name not in self.number:
@@ -69,31 +87,69 @@ class Graph:
             self.neighbours.append(set())
         return self.number[name]
 
+    def _named_label(self, labels: Mapping[Tuple[Name, Name], Hashable], a: int, b: int) -> Hashable:
+        """The label of an edge, of a mapping that has the names of its ends."""
+        first, second = self.names[a], self.names[b]
+        ways = [(first, second)] if self.directed else [(first, second), (second, first)]
+        found = {labels[it] for it in ways if it in labels}
+        if len(found) != 1:
+            raise ValueError(f"the edge ({first!r}, {second!r}) has {'two labels' if found else 'no label'}")
+        return found.pop()
+
     def __len__(self) -> int:
         return len(self.names)
 
     def __repr__(self) -> str:
-        labelled = "" if self.labels is None else ", labelled"
-        return f"<Graph of {len(self)} vertices and {len(self.edges())} edges{labelled}>"
+        labelled = "" if self.labels is None and self.edge_labels is None else ", labelled"
+        directed = "directed " if self.directed else ""
+        return f"<Graph of {len(self)} vertices and {len(self.edges())} {directed}edges{labelled}>"
 
     def edges(self) -> List[Tuple[int, int]]:
-        """The edges as pairs of places, the lesser first, in rising order."""
-        return [(a, b) for a, near in enumerate(self.neighbours) for b in sorted(near) if a <= b]
+        """The edges as pairs of places, in rising order; in an undirected graph the lesser place is first."""
+        near = enumerate(self.neighbours)
+        return [(a, b) for a, listed in near for b in sorted(listed) if self.directed or a <= b]
+
+    def edge_label(self, a: int, b: int) -> Hashable:
+        """The label of an edge by the places of its ends, in an undirected graph either way round."""
+        if self.edge_labels is None:
+            raise ValueError("the edges have no labels")
+        return self.edge_labels[(a, b) if self.directed or a <= b else (b, a)]
 
 
-def lad_text(graph: Graph, numbers: Optional[Mapping[Hashable, int]] = None) -> str:
-    """The graph in LAD text.
+def lad_format(directed: bool, labels: bool, edge_labels: bool) -> str:
+    """The name of the least format that has what two graphs have: directions, labels of vertices, labels of edges."""
+    if edge_labels or (directed and labels):
+        return "labelledlad"
+    if directed:
+        return "directedlad"
+    return "vertexlabelledlad" if labels else "lad"
+
+
+def lad_text(
+    graph: Graph,
+    numbers: Optional[Mapping[Hashable, int]] = None,
+    edge_numbers: Optional[Mapping[Hashable, int]] = None,
+) -> str:
+    """The graph in LAD text, of the format that `lad_format` names.
 
     Parameters
     ----------
     graph : Graph
     numbers : mapping from labels to numbers, optional
-        With it the text is of the format ``vertexlabelledlad``.
+        With it the text has labels of vertices.
+    edge_numbers : mapping from labels of edges to numbers, optional
+        With it the text has these. In ``labelledlad`` labels that a graph does not have are 0.
     """
+    name = lad_format(graph.directed, numbers is not None, edge_numbers is not None)
     lines = [str(len(graph))]
     for a, near in enumerate(graph.neighbours):
-        head = [] if numbers is None else [numbers[graph.labels[a]]]
-        lines.append(" ".join(map(str, [*head, len(near), *sorted(near)])))
+        words = [] if name in ("lad", "directedlad") else [0 if numbers is None else numbers[graph.labels[a]]]
+        words.append(len(near))
+        for b in sorted(near):
+            words.append(b)
+            if name == "labelledlad":
+                words.append(0 if edge_numbers is None else edge_numbers[graph.edge_label(a, b)])
+        lines.append(" ".join(map(str, words)))
     return "\n".join(lines) + "\n"
 
 
@@ -103,71 +159,101 @@ def label_numbers(pattern: Graph, target: Graph) -> Optional[Dict[Hashable, int]
     Labels that are all numbers from 0 to 4,294,967,295 stand for themselves, so that a file shows an atomic number as
     what it is. Others are counted from 0 as they come.
     """
-    if pattern.labels is None and target.labels is None:
+    return _numbers(pattern.labels, target.labels, "labels")
+
+
+def edge_label_numbers(pattern: Graph, target: Graph) -> Optional[Dict[Hashable, int]]:
+    """As `label_numbers`, for the labels of edges."""
+    labels = [None if it.edge_labels is None else list(it.edge_labels.values()) for it in (pattern, target)]
+    return _numbers(labels[0], labels[1], "labels of edges")
+
+
+def _numbers(
+    of_pattern: Optional[List[Hashable]], of_target: Optional[List[Hashable]], what: str
+) -> Optional[Dict[Hashable, int]]:
+    if of_pattern is None and of_target is None:
         return None
-    if pattern.labels is None or target.labels is None:
-        bare = "pattern" if pattern.labels is None else "target"
-        raise ValueError(f"the {bare} has no labels, and the other graph has")
-    labels = dict.fromkeys([*pattern.labels, *target.labels])
+    if of_pattern is None or of_target is None:
+        bare = "pattern" if of_pattern is None else "target"
+        raise ValueError(f"the {bare} has no {what}, and the other graph has")
+    labels = dict.fromkeys([*of_pattern, *of_target])
     if all(type(it) is int and 0 <= it < 1 << 32 for it in labels):
         return {it: it for it in labels}
     return {label: number for number, label in enumerate(labels)}
 
 
-def read_lad(text: str, labelled: bool = False) -> Graph:
+def read_lad(text: str, labelled: bool = False, directed: bool = False, edges_labelled: bool = False) -> Graph:
     """The graph of a LAD text, its vertices named from 0.
 
     It takes what the program takes and looks for fewer faults.
     """
     words = iter(text.split())
+    labels: Dict[Name, Hashable] = {}
+    edges: Dict[Tuple[Name, Name], Hashable] = {}
     try:
         size = int(next(words))
-        labels: Dict[Name, Hashable] = {}
-        edges = []
         for a in range(size):
             if labelled:
                 labels[a] = int(next(words))
-            edges += [(a, int(next(words))) for _ in range(int(next(words)))]
+            for _ in range(int(next(words))):
+                b = int(next(words))
+                label = int(next(words)) if edges_labelled else 0
+                if edges.setdefault((a, b), label) != label:
+                    raise ValueError(f"the LAD text has two labels for the edge from {a} to {b}")
     except StopIteration:
         raise ValueError("the LAD text ends early") from None
     if any(b >= size for _, b in edges):
         raise ValueError("the LAD text names a vertex that it does not have")
-    return Graph(edges, range(size), labels if labelled else None)
+    return Graph(edges, range(size), labels if labelled else None, directed, edges if edges_labelled else None)
 
 
-def as_graph(source: Any, node_label: NodeLabel = None) -> Graph:
+def as_graph(source: Any, node_label: NodeLabel = None, edge_label: EdgeLabel = None) -> Graph:
     """A graph of this package, of whatever holds one.
 
     Parameters
     ----------
-    source : Graph, networkx.Graph, igraph.Graph, rdkit Mol, dict of neighbours, or iterable of pairs
+    source : Graph, networkx.Graph or DiGraph, igraph.Graph, rdkit Mol, dict of neighbours, or iterable of pairs
         The vertices keep their names: networkx's nodes, igraph's ``name`` where there is one and else its index,
-        RDKit's atom indices.
+        RDKit's atom indices. Directed graphs stay directed; pairs have directions in ``Graph(pairs, directed=True)``.
     node_label : str, sequence of str, or callable, optional
         The attribute (or attributes) that images must share, or a function of a vertex's name and attributes. Without
         it networkx's and igraph's vertices have no labels, and atoms have the label ``element``. An atom's attributes
         are ``element`` (its atomic number), ``charge``, ``aromatic`` and ``isotope``.
+    edge_label : str, sequence of str, or callable, optional
+        The same for edges: an attribute, or a function of an edge's ends and attributes, which gets the ends of an
+        undirected edge in either order, once. Without it all edges are alike. A bond's attributes are ``order`` (1.0,
+        2.0, 3.0, or 1.5 where it is aromatic) and ``aromatic``.
 
     Returns
     -------
     Graph
     """
     if isinstance(source, Graph):
-        if node_label is None:
-            return source
-        if source.source is None:
-            raise ValueError("a Graph of edges has its labels from when it was made")
-        return as_graph(source.source, node_label)
+        return _labelled_anew(source, node_label, edge_label)
     if _is_a(source, "networkx", "Graph"):
-        graph = _of_networkx(source, node_label)
+        graph = _of_networkx(source, node_label, edge_label)
     elif _is_a(source, "igraph", "Graph"):
-        graph = _of_igraph(source, node_label)
+        graph = _of_igraph(source, node_label, edge_label)
     elif _is_a(source, "rdkit.Chem", "Mol"):
-        graph = _of_molecule(source, "element" if node_label is None else node_label)
+        graph = _of_molecule(source, "element" if node_label is None else node_label, edge_label)
     else:
-        return _of_plain(source, node_label)
+        return _of_plain(source, node_label, edge_label)
     graph.source = source
     return graph
+
+
+def _labelled_anew(graph: Graph, node_label: NodeLabel, edge_label: EdgeLabel) -> Graph:
+    """The graph with other labels of its source; those that are not asked for stay."""
+    if node_label is None and edge_label is None:
+        return graph
+    if graph.source is None:
+        raise ValueError("a Graph of edges has its labels from when it was made")
+    made = as_graph(graph.source, node_label, edge_label)
+    if node_label is None:
+        made.labels = graph.labels
+    if edge_label is None:
+        made.edge_labels = graph.edge_labels
+    return made
 
 
 def _is_a(thing: Any, module: str, kind: str) -> bool:
@@ -181,61 +267,76 @@ def is_molecule(source: Any) -> bool:
     return _is_a(source, "rdkit.Chem", "Mol")
 
 
-def _label(node_label: NodeLabel, name: Name, attributes: Attributes) -> Hashable:
-    if callable(node_label):
-        return node_label(name, attributes)
-    wanted = [node_label] if isinstance(node_label, str) else list(node_label or ())
-    for it in wanted:
+def _attributes(wanted: Union[str, Sequence[str]], attributes: Attributes, who: str) -> Hashable:
+    """The value of an attribute, or the values of several."""
+    names = [wanted] if isinstance(wanted, str) else list(wanted)
+    for it in names:
         if it not in attributes:
-            raise ValueError(f"the vertex {name!r} has no attribute {it!r}")
-    values = tuple(attributes[it] for it in wanted)
-    return values[0] if isinstance(node_label, str) else values
+            raise ValueError(f"the {who} has no attribute {it!r}")
+    values = tuple(attributes[it] for it in names)
+    return values[0] if isinstance(wanted, str) else values
 
 
 def _labels(node_label: NodeLabel, vertices: Iterable[Tuple[Name, Attributes]]) -> Optional[Dict[Name, Hashable]]:
     if node_label is None:
         return None
-    return {name: _label(node_label, name, attributes) for name, attributes in vertices}
+    if callable(node_label):
+        return {name: node_label(name, attributes) for name, attributes in vertices}
+    return {name: _attributes(node_label, attributes, f"vertex {name!r}") for name, attributes in vertices}
 
 
-def _refuse_directed(is_directed: bool) -> None:
-    if is_directed:
-        raise NotAvailable("the program decides undirected graphs: take to_undirected() if directions do not matter")
+def _edge_labels(
+    edge_label: EdgeLabel, edges: Iterable[Tuple[Name, Name, Attributes]]
+) -> Optional[Dict[Tuple[Name, Name], Hashable]]:
+    if edge_label is None:
+        return None
+    if callable(edge_label):
+        return {(a, b): edge_label(a, b, attributes) for a, b, attributes in edges}
+    return {(a, b): _attributes(edge_label, attributes, f"edge ({a!r}, {b!r})") for a, b, attributes in edges}
 
 
-def _of_networkx(source: Any, node_label: NodeLabel) -> Graph:
-    _refuse_directed(source.is_directed())
-    if source.is_multigraph() and any(count > 1 for count in _counts(source.edges())):
+def _of_networkx(source: Any, node_label: NodeLabel, edge_label: EdgeLabel) -> Graph:
+    directed = source.is_directed()
+    if source.is_multigraph() and any(count > 1 for count in _counts(source.edges(), directed)):
         raise NotAvailable("the graph has parallel edges, and the program takes graphs without")
     edges = ((a, b) for a, b in source.edges())
-    return Graph(edges, source.nodes(), _labels(node_label, source.nodes(data=True)))
+    labels = _labels(node_label, source.nodes(data=True))
+    return Graph(edges, source.nodes(), labels, directed, _edge_labels(edge_label, source.edges(data=True)))
 
 
-def _counts(edges: Iterable[Tuple[Name, Name]]) -> Iterable[int]:
-    found: Dict[frozenset, int] = {}
+def _counts(edges: Iterable[Tuple[Name, Name]], directed: bool) -> Iterable[int]:
+    found: Dict[Hashable, int] = {}
     for pair in edges:
-        found[frozenset(pair)] = found.get(frozenset(pair), 0) + 1
+        edge = pair if directed else frozenset(pair)
+        found[edge] = found.get(edge, 0) + 1
     return found.values()
 
 
-def _of_igraph(source: Any, node_label: NodeLabel) -> Graph:
-    _refuse_directed(source.is_directed())
+def _of_igraph(source: Any, node_label: NodeLabel, edge_label: EdgeLabel) -> Graph:
     if source.has_multiple():
         raise NotAvailable("the graph has parallel edges, and the program takes graphs without")
     named = "name" in source.vs.attributes()
     names = source.vs["name"] if named else range(source.vcount())
     if len(set(names)) < source.vcount():
         raise ValueError("two vertices have one name")
-    edges = ((names[a], names[b]) for a, b in source.get_edgelist())
-    vertices = ((name, vertex.attributes()) for name, vertex in zip(names, source.vs))
-    return Graph(edges, names, _labels(node_label, vertices))
+    edges = [(names[a], names[b]) for a, b in source.get_edgelist()]
+    labels = _labels(node_label, ((name, vertex.attributes()) for name, vertex in zip(names, source.vs)))
+    with_attributes = ((a, b, edge.attributes()) for (a, b), edge in zip(edges, source.es))
+    return Graph(edges, names, labels, source.is_directed(), _edge_labels(edge_label, with_attributes))
 
 
-def _of_molecule(source: Any, node_label: NodeLabel) -> Graph:
-    atoms = list(source.GetAtoms())
-    if any(it.HasQuery() for it in atoms):
+def _of_molecule(source: Any, node_label: NodeLabel, edge_label: EdgeLabel) -> Graph:
+    atoms, bonds = list(source.GetAtoms()), list(source.GetBonds())
+    if any(it.HasQuery() for it in atoms) or (edge_label is not None and any(it.HasQuery() for it in bonds)):
         raise NotAvailable("a SMARTS query asks for more than labels: make the pattern by MolFromSmiles")
-    edges = ((it.GetBeginAtomIdx(), it.GetEndAtomIdx()) for it in source.GetBonds())
+    edges = [
+        (
+            it.GetBeginAtomIdx(),
+            it.GetEndAtomIdx(),
+            {"order": it.GetBondTypeAsDouble(), "aromatic": it.GetIsAromatic()},
+        )
+        for it in bonds
+    ]
     vertices = [
         (
             it.GetIdx(),
@@ -248,21 +349,24 @@ def _of_molecule(source: Any, node_label: NodeLabel) -> Graph:
         )
         for it in atoms
     ]
-    return Graph(edges, range(len(atoms)), _labels(node_label, vertices))
+    pairs = ((a, b) for a, b, _ in edges)
+    labels = _labels(node_label, vertices)
+    return Graph(pairs, range(len(atoms)), labels, edge_labels=_edge_labels(edge_label, edges))
 
 
-def _of_plain(source: Any, node_label: NodeLabel) -> Graph:
+def _of_plain(source: Any, node_label: NodeLabel, edge_label: EdgeLabel) -> Graph:
     if isinstance(source, (str, bytes)):
         raise TypeError("a text is no graph: read_graph reads files and SMILES")
-    labels: Optional[Callable[[Name], Hashable]] = None
-    if callable(node_label):
-        labels = lambda name: node_label(name, {})  # noqa: E731
-    elif node_label is not None:
+    if not (node_label is None or callable(node_label)):
         raise ValueError("a list of edges has no attributes: give Graph(edges, labels=..) or a function of the name")
+    if not (edge_label is None or callable(edge_label)):
+        raise ValueError("a list of edges has no attributes: give Graph(edges, edge_labels=..) or a function of ends")
     if isinstance(source, Mapping):
         graph = Graph(((a, b) for a, near in source.items() for b in near), source)
     else:
         graph = Graph(source)
-    if labels is not None:
-        graph.labels = [labels(name) for name in graph.names]
+    if callable(node_label):
+        graph.labels = [node_label(name, {}) for name in graph.names]
+    if callable(edge_label):
+        graph.edge_labels = {(a, b): edge_label(graph.names[a], graph.names[b], {}) for a, b in graph.edges()}
     return graph

@@ -3,7 +3,7 @@ from __future__ import annotations
 
 from typing import Any, Dict, Optional
 
-from .graph import Name, NodeLabel
+from .graph import EdgeLabel, Name, NodeLabel
 from .questions import StrPath, find
 
 
@@ -20,6 +20,8 @@ class GraphMatcher:
         In place of networkx's `node_match`: what two vertices must share, and not a test of two.
     seed, budget : int, optional
         As `find` has them.
+    edge_label : str, sequence of str, or callable, optional
+        In place of `edge_match`: what two edges must share.
 
     Attributes
     ----------
@@ -35,11 +37,13 @@ class GraphMatcher:
         seed: Optional[int] = None,
         budget: Optional[int] = None,
         program: Optional[StrPath] = None,
+        edge_label: EdgeLabel = None,
     ) -> None:
         self.G1 = G1
         self.G2 = G2
         self.mapping: Dict[Name, Name] = {}
-        self._how = {"node_label": node_label, "seed": seed, "budget": budget, "program": program}
+        labels: Dict[str, Any] = {"node_label": node_label, "edge_label": edge_label}
+        self._how = {**labels, "seed": seed, "budget": budget, "program": program}
 
     def subgraph_is_isomorphic(self) -> bool:
         """Is a subgraph of G1 that vertices induce isomorphic to G2?"""
@@ -53,3 +57,7 @@ class GraphMatcher:
         images = find(self.G2, self.G1, induced, **self._how)
         self.mapping = {t: p for p, t in images.items()} if isinstance(images, dict) else {}
         return isinstance(images, dict)
+
+
+class DiGraphMatcher(GraphMatcher):
+    """As `GraphMatcher`, which takes directed graphs too, under networkx's name for these."""

@@ -11,7 +11,7 @@ from .graph import Graph, read_lad
 SMILES = "smiles:"
 
 
-def read_graph(word: str, kind: Optional[str] = None) -> Any:
+def read_graph(word: str, kind: Optional[str] = None, directed: bool = False) -> Any:
     """The graph that a word names.
 
     Parameters
@@ -19,13 +19,15 @@ def read_graph(word: str, kind: Optional[str] = None) -> Any:
     word : str
         A file, or ``smiles:`` and a molecule.
     kind : str, optional
-        ``graphml``, ``gml``, ``edges``, ``lad``, ``vertexlabelledlad`` or ``smi``; without it the ending says it.
-        An edge list has two names a line, a lone name is a vertex, and ``#`` begins a comment. Of a file of SMILES the
-        first word is read.
+        ``graphml``, ``gml``, ``edges``, ``smi``, ``lad``, ``vertexlabelledlad``, ``directedlad`` or ``labelledlad``;
+        without it the ending says it. An edge list has two names a line, a lone name is a vertex, and ``#`` begins a
+        comment. Of a file of SMILES the first word is read.
+    directed : bool
+        Has an edge of an edge list a direction, from the first name to the second? Other files tell themselves.
 
     Returns
     -------
-    networkx.Graph, igraph.Graph, rdkit Mol or Graph
+    networkx.Graph or DiGraph, igraph.Graph, rdkit Mol or Graph
         GraphML and GML are read by networkx where it is installed, and else by igraph; SMILES by RDKit. The rest needs
         neither.
     """
@@ -37,7 +39,7 @@ def read_graph(word: str, kind: Optional[str] = None) -> Any:
     if reader is None:
         kinds = ", ".join(sorted(_READERS))
         raise ValueError(f"{word}: its ending tells no kind of graph; name one of {kinds}")
-    return reader(word)
+    return _edges(word, directed) if reader is _edges else reader(word)
 
 
 def _module(why: str, *names: str) -> Any:
@@ -68,7 +70,7 @@ def _text(path: str) -> str:
         return file.read()
 
 
-def _edges(path: str) -> Graph:
+def _edges(path: str, directed: bool = False) -> Graph:
     vertices: List[str] = []
     edges = []
     for number, line in enumerate(_text(path).splitlines(), 1):
@@ -78,7 +80,7 @@ def _edges(path: str) -> Graph:
         vertices += words
         if len(words) == 2:
             edges.append((words[0], words[1]))
-    return Graph(edges, vertices)
+    return Graph(edges, vertices, directed=directed)
 
 
 def _molecule(text: str) -> Any:
@@ -97,9 +99,11 @@ def _smiles_file(path: str) -> Any:
 
 
 _READERS: Dict[str, Callable[[str], Any]] = {
+    "directedlad": lambda path: read_lad(_text(path), directed=True),
     "edges": _edges,
     "gml": _by_library("gml"),
     "graphml": _by_library("graphml"),
+    "labelledlad": lambda path: read_lad(_text(path), True, True, True),
     "lad": lambda path: read_lad(_text(path)),
     "smi": _smiles_file,
     "vertexlabelledlad": lambda path: read_lad(_text(path), True),

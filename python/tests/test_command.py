@@ -42,6 +42,33 @@ class Command(unittest.TestCase):
         spent = ask("find", "triangle.edges", "cycle.lad", "--budget", "3", cwd=self.folder)
         self.assertEqual(spent[:2], (2, "unknown\n"))
 
+    def test_directions(self) -> None:
+        self.write("ring.edges", "a b\nb c\nc a\n")
+        self.write("turned.edges", "x y\ny z\nx z\n")
+        rows = (((), (0, "yes")), (("--directed",), (1, "none")))
+        for options, told in rows:
+            status, out, error = ask("find", "ring.edges", "turned.edges", *options, cwd=self.folder)
+            self.assertEqual((status, out.splitlines()[0], error), (*told, ""))
+        status, _, error = ask("find", "path.edges", "cycle.lad", "--directed", cwd=self.folder)
+        self.assertEqual(status, 3)
+        self.assertIn("the pattern is directed, and the target is undirected", error)
+
+    @needs("networkx")
+    def test_labels_of_edges(self) -> None:
+        head = 'graph [ {} node [ id 0 label "a" ] node [ id 1 label "b" ] node [ id 2 label "c" ] '
+        edge = 'edge [ source {} target {} kind "{}" ] '
+        for name, first in (("plain", ""), ("directed", "directed 1")):
+            self.write(f"{name}.gml", head.format(first) + edge.format(0, 1, "x") + edge.format(1, 2, "y") + "]")
+            self.write(f"{name}_part.gml", head.format(first) + edge.format(2, 1, "y") + "]")
+            graphs = (f"{name}_part.gml", f"{name}.gml")
+            status, out, error = ask("find", *graphs, "--edge-label", "kind", "--draw", "it.svg", cwd=self.folder)
+            self.assertEqual((status, error), (0, ""))
+            self.assertEqual(out.splitlines()[:2], ["yes", "a -> a"])
+        self.assertEqual(out.splitlines()[2:], ["b -> c", "c -> b"])
+        self.assertEqual(ask("encode", *graphs, "it.opb", "--edge-label", "kind", cwd=self.folder)[0], 0)
+        status, _, error = ask("find", *graphs, "--edge-label", "size", cwd=self.folder)
+        self.assertIn("has no attribute 'size'", error)
+
     def test_verify_encode_draw(self) -> None:
         self.write("good.txt", "yes\na -> z\nb -> x\nc -> y\n")
         self.write("bad.txt", "a -> z\nb -> x\nc -> x\n")

@@ -57,6 +57,26 @@ class Statuses(unittest.TestCase):
         self.assertEqual(first[:-2], options.split())
         self.assertEqual(second[:-2], ["solve"])
 
+    def test_formats(self) -> None:
+        def same(*_: object) -> str:
+            return "x"
+
+        directed = solver.Graph(PATH, directed=True)
+        rows = (
+            (PATH, {}, "lad"),
+            (PATH, {"node_label": same}, "vertexlabelledlad"),
+            (PATH, {"edge_label": same}, "labelledlad"),
+            (PATH, {"node_label": same, "edge_label": same}, "labelledlad"),
+            (directed, {}, "directedlad"),
+            (solver.Graph(PATH, (), dict.fromkeys("abc", 1), True), {}, "labelledlad"),
+            (solver.Graph(PATH, (), None, True, dict.fromkeys(PATH, 1)), {}, "labelledlad"),
+        )
+        for graph, how, kind in rows:
+            with self.subTest(kind, labels=list(how)), StandIn(1, "none\n") as program:
+                self.assertIsNone(solver.find(graph, graph, program=program.path, **how))
+                options = [] if kind == "lad" else ["--format", kind]
+                self.assertEqual(program.words()[0][:-2], ["solve", *options])
+
     def test_proof(self) -> None:
         body = (
             "import sys\n"

@@ -4,7 +4,7 @@ import tempfile
 import unittest
 
 from subgraph_solver import Graph, as_graph, draw, read_graph
-from subgraph_solver.graph import label_numbers, lad_text, read_lad
+from subgraph_solver.graph import edge_label_numbers, label_numbers, lad_text, read_lad
 from subgraph_solver.layout import layout, turned_like
 
 from .asked import CYCLE, PATH, TRIANGLE
@@ -26,6 +26,40 @@ class Graphs(unittest.TestCase):
             with self.assertRaises(ValueError):
                 read_lad(text)
 
+    def test_directions_and_labels_of_edges(self) -> None:
+        pairs, names = [("a", "b"), ("b", "a"), ("b", "c"), ("c", "c")], {"a": 4, "b": 5, "c": 4}
+        kinds, either = dict(zip(pairs, (7, 8, 7, 9))), {("b", "a"): 7, ("b", "c"): 8, ("c", "c"): 9}
+        same = {it: it for it in range(10)}
+        rows = (
+            ("directed", Graph(pairs, directed=True), (), "3\n1 1\n2 0 2\n1 2\n"),
+            ("and vertices labelled", Graph(pairs, (), names, True), (same,), "3\n4 1 1 0\n5 2 0 0 2 0\n4 1 2 0\n"),
+            ("and edges", Graph(pairs, (), names, True, kinds), (same, same), "3\n4 1 1 7\n5 2 0 8 2 7\n4 1 2 9\n"),
+            ("edges alone", Graph(pairs, (), None, True, kinds), (None, same), "3\n0 1 1 7\n0 2 0 8 2 7\n0 1 2 9\n"),
+            ("undirected", Graph(pairs, edge_labels=either), (None, same), "3\n0 1 1 7\n0 2 0 7 2 8\n0 2 1 8 2 9\n"),
+        )
+        for what, graph, numbers, text in rows:
+            with self.subTest(what):
+                self.assertEqual(lad_text(graph, *numbers), text)
+                again = read_lad(text, bool(numbers), True, bool(numbers))
+                self.assertEqual(again.neighbours, graph.neighbours)
+                if len(numbers) == 2:
+                    labels = {(a, b): graph.edge_label(a, b) for a, b in again.edges()}
+                    self.assertEqual(again.edge_labels, labels)
+        self.assertEqual(repr(rows[2][1]), "<Graph of 3 vertices and 4 directed edges, labelled>")
+        with self.assertRaisesRegex(ValueError, "two labels for the edge from 0 to 1"):
+            read_lad("2 0 2 1 5 1 6 0 0", True, True, True)
+
+    def test_edge_label_numbers(self) -> None:
+        def of(*labels: object) -> Graph:
+            edges = [(0, number) for number in range(len(labels))]
+            return Graph(edges, edge_labels=dict(zip(edges, labels)))
+
+        self.assertIsNone(edge_label_numbers(Graph(TRIANGLE), Graph()))
+        self.assertEqual(edge_label_numbers(of(2, 1), of(3)), {2: 2, 1: 1, 3: 3})
+        self.assertEqual(edge_label_numbers(of(1.0, 1.5), of(2.0, 1.0)), {1.0: 0, 1.5: 1, 2.0: 2})
+        with self.assertRaisesRegex(ValueError, "the target has no labels of edges"):
+            edge_label_numbers(of(1), Graph(TRIANGLE))
+
     def test_label_numbers(self) -> None:
         def of(*labels: object) -> Graph:
             return Graph(vertices=range(len(labels)), labels=dict(enumerate(labels)))
@@ -39,8 +73,14 @@ class Graphs(unittest.TestCase):
     def test_faults(self) -> None:
         with self.assertRaisesRegex(ValueError, "'b' has no label"):
             Graph([("a", "b")], labels={"a": 1})
+        with self.assertRaisesRegex(ValueError, r"\('a', 'b'\) has no label"):
+            Graph([("a", "b")], directed=True, edge_labels={("b", "a"): 1})
+        with self.assertRaisesRegex(ValueError, r"\('a', 'b'\) has two labels"):
+            Graph([("a", "b")], edge_labels={("a", "b"): 1, ("b", "a"): 2})
         with self.assertRaisesRegex(ValueError, "no attributes"):
             as_graph(PATH, "colour")
+        with self.assertRaisesRegex(ValueError, "no attributes"):
+            as_graph(PATH, edge_label="colour")
         with self.assertRaises(TypeError):
             as_graph("0 1")
 
@@ -51,12 +91,16 @@ class Graphs(unittest.TestCase):
                 file.write("a b # first\n\nb c\nd\n")
             graph = read_graph(path)
             self.assertEqual((graph.names, graph.edges()), (["a", "b", "c", "d"], [(0, 1), (1, 2)]))
+            self.assertEqual(read_graph(path, directed=True).neighbours, [{1}, {2}, set(), set()])
             with self.assertRaisesRegex(ValueError, "no kind of graph"):
                 read_graph(os.path.join(folder, "g.odd"))
             with open(path, "w", encoding="utf-8") as file:
                 file.write("a b\na b c\n")
             with self.assertRaisesRegex(ValueError, "line 2"):
                 read_graph(path)
+            with open(path, "w", encoding="utf-8") as file:
+                file.write("2\n1 1\n2 0 1\n")
+            self.assertEqual(read_graph(path, "directedlad").edges(), [(0, 1), (1, 0), (1, 1)])
 
 
 class Pictures(unittest.TestCase):
@@ -89,6 +133,12 @@ class Pictures(unittest.TestCase):
                     self.assertEqual(file.read(), picture)
                 circles = xml.parseString(picture).getElementsByTagName("circle")
                 self.assertGreaterEqual(len(circles), 3 + len(as_graph(target)))
+
+    def test_arrows(self) -> None:
+        target = Graph([*TRIANGLE, (1, 0), (2, 2)], directed=True)
+        picture = draw(Graph(PATH, directed=True), target, {"a": 0, "b": 1, "c": 2})
+        self.assertEqual(picture.count("<polygon"), 2 + 4)
+        self.assertNotIn("<polygon", draw(PATH, TRIANGLE))
 
     def test_texts_are_escaped(self) -> None:
         self.assertIn("&lt;a&amp;b&gt;", draw([("<a&b>", "c")], TRIANGLE))

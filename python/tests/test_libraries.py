@@ -41,13 +41,35 @@ class OfNetworkx(unittest.TestCase):
         with self.assertRaisesRegex(ValueError, "'a' has no attribute 'size'"):
             as_graph(graph, "size")
 
+    def test_edges(self) -> None:
+        import networkx
+
+        rows = (("b", "a", "x", 2), ("b", "c", "y", 3), ("c", "c", "x", 5))
+        pairs = [(a, b, {"kind": kind, "size": size}) for a, b, kind, size in rows]
+        for made in (networkx.Graph, networkx.DiGraph, networkx.MultiGraph, networkx.MultiDiGraph):
+            with self.subTest(made.__name__):
+                graph = made()
+                graph.add_edges_from(pairs)
+                networkx.set_node_attributes(graph, "red", "colour")
+                read = as_graph(graph, edge_label="kind")
+                self.assertEqual((read.names, read.directed), (["b", "a", "c"], graph.is_directed()))
+                self.assertEqual(read.edge_labels, {(0, 1): "x", (0, 2): "y", (2, 2): "x"})
+                self.assertEqual(as_graph(graph, edge_label=("size", "kind")).edge_label(0, 2), (3, "y"))
+                by_ends = as_graph(graph, edge_label=lambda a, b, data: (a == b, data["size"]))
+                self.assertEqual(by_ends.edge_label(2, 2), (True, 5))
+                self.assertEqual(as_graph(read, "colour").edge_labels, read.edge_labels)
+                self.assertEqual(as_graph(as_graph(graph, "colour"), None, "kind").labels, ["red"] * 3)
+
     def test_refused(self) -> None:
         import networkx
 
-        with self.assertRaisesRegex(NotAvailable, "undirected"):
-            as_graph(networkx.DiGraph([(0, 1)]))
         with self.assertRaisesRegex(NotAvailable, "parallel"):
             as_graph(networkx.MultiGraph([(0, 1), (1, 0)]))
+        with self.assertRaisesRegex(NotAvailable, "parallel"):
+            as_graph(networkx.MultiDiGraph([(0, 1), (0, 1)]))
+        self.assertEqual(as_graph(networkx.MultiDiGraph([(0, 1), (1, 0)])).edges(), [(0, 1), (1, 0)])
+        with self.assertRaisesRegex(ValueError, r"\(0, 1\) has no attribute 'kind'"):
+            as_graph(networkx.Graph([(0, 1)]), edge_label="kind")
         self.assertEqual(as_graph(networkx.MultiGraph([(0, 1)])).edges(), [(0, 1)])
 
     def test_files(self) -> None:
@@ -59,6 +81,8 @@ class OfNetworkx(unittest.TestCase):
                 path = os.path.join(folder, f"g.{kind}")
                 getattr(networkx, f"write_{kind}")(graph, path)
                 self.assertEqual(lad_text(as_graph(read_graph(path))), lad_text(as_graph(graph)))
+                getattr(networkx, f"write_{kind}")(networkx.DiGraph([("a", "b"), ("c", "b")]), path)
+                self.assertEqual(as_graph(read_graph(path)).neighbours, [{1}, set(), {1}])
 
     @needs_program
     def test_agrees(self) -> None:
@@ -88,6 +112,30 @@ class OfNetworkx(unittest.TestCase):
                         self.assertTrue(verify(pattern, target, images, induced, label))
         self.assertTrue(30 < sum(answers) < 170)
 
+    @needs_program
+    def test_agrees_on_edges(self) -> None:
+        """100 random questions with directions, labels of edges, or both, some with loops and labels of vertices."""
+        import networkx
+        from networkx.algorithms.isomorphism import DiGraphMatcher, GraphMatcher
+
+        chance = random.Random(17)
+        answers = []
+        for turn in range(100):
+            directed, labelled = turn % 3 != 0, turn % 3 != 1
+            target, pattern = (_random(chance, size, directed) for size in (chance.randint(4, 9), chance.randint(2, 4)))
+            how = {"node_label": "kind" if turn % 4 == 3 else None, "edge_label": "kind" if labelled else None}
+            node_match, edge_match = (it and (lambda a, b: a["kind"] == b["kind"]) for it in how.values())
+            matcher = (DiGraphMatcher if directed else GraphMatcher)(target, pattern, node_match, edge_match)
+            for induced in (False, True):
+                with self.subTest(turn=turn, induced=induced):
+                    exists = matcher.subgraph_is_isomorphic() if induced else matcher.subgraph_is_monomorphic()
+                    images = find(pattern, target, induced, **how)
+                    self.assertEqual(images is not None, exists)
+                    answers.append(exists)
+                    if images is not None and turn % 10 == 0:
+                        self.assertTrue(verify(pattern, target, images, induced, **how))
+        self.assertTrue(30 < sum(answers) < 170)
+
 
 @needs("igraph")
 class OfIgraph(unittest.TestCase):
@@ -100,8 +148,12 @@ class OfIgraph(unittest.TestCase):
         graph.vs["colour"] = [1, 2, 1]
         made = as_graph(graph, "colour")
         self.assertEqual((made.names, made.edges(), made.labels), (["a", "b", "c"], [(0, 1), (1, 2)], [1, 2, 1]))
-        with self.assertRaisesRegex(NotAvailable, "undirected"):
-            as_graph(igraph.Graph(2, [(0, 1)], directed=True))
+        graph.es["kind"] = ["x", "y"]
+        self.assertEqual(as_graph(graph, edge_label="kind").edge_labels, {(0, 1): "x", (1, 2): "y"})
+        directed = igraph.Graph(2, [(1, 0)], directed=True)
+        directed.es["kind"] = ["x"]
+        made = as_graph(directed, edge_label="kind")
+        self.assertEqual((made.directed, made.edge_labels), (True, {(1, 0): "x"}))
         with self.assertRaisesRegex(NotAvailable, "parallel"):
             as_graph(igraph.Graph(2, [(0, 1), (0, 1)]))
 
@@ -140,6 +192,9 @@ class OfRdkit(unittest.TestCase):
         self.assertEqual((made.names, made.labels, made.edges()), ([0, 1], [6, 7], [(0, 1)]))
         self.assertEqual(as_graph(Chem.MolFromSmiles("C[NH3+]"), ("element", "charge")).labels, [(6, 0), (7, 1)])
         self.assertEqual(as_graph(Chem.MolFromSmiles("c1ccccc1C"), "aromatic").labels[5:], [True, False])
+        bonds = as_graph(Chem.MolFromSmiles("C=CO"), edge_label="order")
+        self.assertEqual((bonds.labels, bonds.edge_labels), ([6, 6, 8], {(0, 1): 2.0, (1, 2): 1.0}))
+        self.assertEqual(set(as_graph(Chem.MolFromSmiles("c1ccccc1"), edge_label="order").edge_labels.values()), {1.5})
         with self.assertRaisesRegex(NotAvailable, "SMARTS"):
             as_graph(Chem.MolFromSmarts("[#6]"))
         self.assertEqual(read_graph("smiles:CO").GetNumAtoms(), 2)
@@ -173,6 +228,19 @@ class OfRdkit(unittest.TestCase):
         picture = draw(pattern, target, {0: 11, 1: 9, 2: 10})
         self.assertIn("pattern: yes", _letters(picture))
         self.assertIn("<svg", draw(pattern, target))
+
+
+def _random(chance, size, directed):  # type: ignore[no-untyped-def]
+    """A random graph with a few loops, whose vertices and edges have one of two kinds."""
+    import networkx
+
+    graph = networkx.gnp_random_graph(size, 0.3 + 0.3 * chance.random(), chance.randrange(1 << 20), directed)
+    graph.add_edges_from((v, v) for v in range(size) if chance.random() < 0.15)
+    for edge in graph.edges:
+        graph.edges[edge]["kind"] = chance.choice("xxy")
+    for node in graph:
+        graph.nodes[node]["kind"] = chance.choice("aab")
+    return graph
 
 
 def _letters(picture: str) -> str:

@@ -4,6 +4,7 @@ import tempfile
 import unittest
 
 from subgraph_solver import (
+    DiGraphMatcher,
     Graph,
     GraphMatcher,
     LogRefused,
@@ -87,9 +88,68 @@ class Find(unittest.TestCase):
         it = told.exception
         self.assertEqual((it.who, it.place, it.cause, it.status), ("pattern", ("word", 1), "TooMany", 4))
 
-    def test_not_yet(self) -> None:
-        with self.assertRaises(NotAvailable):
-            find(TRIANGLE, CYCLE, edge_label="order")
+    def test_directions(self) -> None:
+        ring, turned = [(0, 1), (1, 2), (2, 0)], [(0, 1), (1, 2), (0, 2)]
+        rows = (
+            ("a path goes round a ring", [("a", "b"), ("b", "c")], ring, False, True),
+            ("and does not induced", [("a", "b"), ("b", "c")], ring, True, False),
+            ("no ring with an edge turned", ring, turned, False, False),
+            ("nor is that in a ring", turned, ring, False, False),
+            ("one that leads to two", [("a", "b"), ("a", "c")], ring, False, False),
+            ("both ways", [("a", "b"), ("b", "a")], [(0, 1), (1, 2)], False, False),
+            ("one way in both", [("a", "b")], [(0, 1), (1, 0)], False, True),
+            ("and not induced", [("a", "b")], [(0, 1), (1, 0)], True, False),
+            ("a loop wants a loop", [("a", "a")], [(0, 1), (1, 1)], False, True),
+            ("nothing in nothing", [], [], False, True),
+        )
+        for what, pattern, target, induced, exists in rows:
+            with self.subTest(what):
+                graphs = Graph(pattern, directed=True), Graph(target, directed=True)
+                images = find(*graphs, induced)
+                self.assertEqual(images is not None, exists)
+                if exists:
+                    self.assertTrue(verify(*graphs, images, induced))
+
+    def test_labels_of_edges(self) -> None:
+        rows = (
+            ("the second edge", {("a", "b"): "double"}, {(1, 2): "single", (2, 3): "double"}, {2, 3}),
+            ("none has the label", {("a", "b"): "triple"}, {(1, 2): "single", (2, 3): "double"}, None),
+            ("a label of a loop", {("a", "a"): "x"}, {(1, 1): "y", (2, 2): "x"}, {2}),
+            ("and none", {("a", "a"): "x"}, {(1, 1): "y", (2, 1): "x"}, None),
+            ("great numbers", {("a", "b"): (1 << 32) - 1}, {(1, 2): 0, (2, 3): (1 << 32) - 1}, {2, 3}),
+        )
+        for what, pattern, target, found in rows:
+            for directed in (False, True):
+                with self.subTest(what, directed=directed):
+                    graphs = [Graph(it, directed=directed, edge_labels=it) for it in (pattern, target)]
+                    images = find(*graphs)
+                    self.assertEqual(images and set(images.values()), found)
+                    if images:
+                        self.assertTrue(verify(*graphs, images))
+
+    def test_labels_of_both(self) -> None:
+        pattern = Graph([("x", "y")], (), {"x": "C", "y": "O"}, True, {("x", "y"): 1})
+        target = Graph([(1, 2), (2, 3)], (), {1: "C", 2: "O", 3: "C"}, True, {(1, 2): 1, (2, 3): 1})
+        self.assertEqual(find(pattern, target), {"x": 1, "y": 2})
+        self.assertFalse(verify(pattern, target, {"x": 3, "y": 2}))
+        self.assertIsNone(find(pattern, Graph([(2, 1)], (), {1: "C", 2: "O"}, True, {(2, 1): 1})))
+        step = {"edge_label": lambda a, b, _: abs(a - b)}
+        self.assertEqual(sorted(find([(0, 2)], [(5, 6), (6, 8)], **step).values()), [6, 8])
+
+    def test_not_alike(self) -> None:
+        one_way, labelled = Graph([(0, 1)], directed=True), Graph([(0, 1)], edge_labels={(0, 1): 1})
+        rows = (
+            (one_way, TRIANGLE, "the pattern is directed, and the target is undirected"),
+            (TRIANGLE, one_way, "the pattern is undirected, and the target is directed"),
+            (labelled, TRIANGLE, "the target has no labels of edges"),
+            (TRIANGLE, labelled, "the pattern has no labels of edges"),
+        )
+        for pattern, target, text in rows:
+            with self.subTest(text), self.assertRaisesRegex(ValueError, text):
+                find(pattern, target)
+        for graph in (one_way, labelled):
+            with self.assertRaisesRegex(NotAvailable, "undirected graphs without labels of edges"):
+                find(graph, graph, prove=True)
 
     def test_matcher(self) -> None:
         matcher = GraphMatcher(TRIANGLE, PATH)
@@ -97,6 +157,9 @@ class Find(unittest.TestCase):
         self.assertEqual(set(matcher.mapping.values()), {"a", "b", "c"})
         self.assertFalse(matcher.subgraph_is_isomorphic())
         self.assertEqual(matcher.mapping, {})
+        graphs = Graph([(0, 1), (1, 2)], directed=True), Graph([("a", "b"), ("c", "b")], directed=True)
+        self.assertTrue(DiGraphMatcher(graphs[0], graphs[0]).subgraph_is_isomorphic())
+        self.assertFalse(DiGraphMatcher(*graphs).subgraph_is_monomorphic())
 
 
 @needs_program
@@ -147,6 +210,10 @@ class Others(unittest.TestCase):
         with open(self.encoding, encoding="ascii") as file:
             lines = file.read().splitlines()
         self.assertEqual((lines[0], lines[7], len(lines)), ("* #variable= 4 #constraint= 10", "-1 x1 +1 x4 >= 0 ;", 11))
+        one_way = Graph([(0, 1)], directed=True)
+        self.assertEqual(encode(one_way, one_way, self.encoding), (4, 10))
+        with open(self.encoding, encoding="ascii") as file:
+            self.assertEqual(file.read().splitlines()[8], "-1 x2 >= 0 ;")
 
     def test_check(self) -> None:
         encode(TRIANGLE, CYCLE, self.encoding)
