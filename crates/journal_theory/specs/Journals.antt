@@ -40,13 +40,16 @@ pub record Finds (less more : Lookup) : Type 0 where
 
 -- A lookup finds the owner's forms by their names.
 pub record HoldsOwn (owner : ℕ) (forms : List Form) (look : Lookup) : Type 0 where
-  pub own : (k : ℕ) (f : Form) → slice_get forms k ≡ Some f → look (Made (own_name owner k)) ≡ Some f
+  pub own : (k : ℕ) (f : Form) → slice_get forms k ≡ Some f
+      → look (Made (own_name owner k)) ≡ Some f
 
 -- Each line makes its form from every lookup that finds what the base does and the owner's earlier forms.
-pub record IsJournal (base : Lookup) (owner : ℕ) (lines : List Step) (forms : List Form) : Type 0 where
+pub record IsJournal (base : Lookup) (owner : ℕ) (lines : List Step)
+    (forms : List Form) : Type 0 where
   pub same : length lines ≡ length forms
   pub making : (k : ℕ) (s : Step) → slice_get lines k ≡ Some s → IsMaking s
-  pub steps : (k : ℕ) (s : Step) (f : Form) (look : Lookup) → slice_get lines k ≡ Some s → slice_get forms k ≡ Some f → Finds base look
+  pub steps : (k : ℕ) (s : Step) (f : Form) (look : Lookup) → slice_get lines k ≡ Some s
+      → slice_get forms k ≡ Some f → Finds base look
       → HoldsOwn owner (take k forms) look → makes look s ≡ Ok f
 
 -- What is there before an owner's lines: the model, owner 0's forms, and the clauses of the rows below a place.
@@ -64,7 +67,8 @@ pub record Row : Type 0 where
 
 -- Row k is a nogood of the owner.
 abbrev pub IsNogoodOf : List Row → ℕ → ℕ → Type 0
-IsNogoodOf rows k owner = (r : Row) × (slice_get rows k ≡ Some r) × (r.is_nogood ≡ true) × (r.owner ≡ owner)
+IsNogoodOf rows k owner = (r : Row) × (slice_get rows k ≡ Some r) × (r.is_nogood ≡ true)
+    × (r.owner ≡ owner)
 
 -- The lines of one owner, and for each of its nogood rows the number of the line that is its clause.
 pub record Journal : Type 0 where
@@ -81,12 +85,16 @@ note_of (x ∷ xs) k = cond (x.0 == k) (Some x.1) (note_of xs k)
 
 -- The journal's lines step beside the rows; a row that is named is a nogood of another owner; each nogood row of the owner has its clause
 -- noted, and the lines up to that name only rows below it.
-pub record Journaled (model : List Form) (rows : List Row) (clause : ℕ → Form) (root : List Form) (owner : ℕ) (j : Journal) (forms : List Form) : Type 0 where
+pub record Journaled (model : List Form) (rows : List Row) (clause : ℕ
+    → Form) (root : List Form) (owner : ℕ) (j : Journal) (forms : List Form) : Type 0 where
   pub journal : IsJournal (base_of model root clause (length rows)) owner j.lines forms
-  pub foreign : (i k : ℕ) (s : Step) → slice_get j.lines i ≡ Some s → NamesRow (step_refs s) k → (o : ℕ) × IsNogoodOf rows k o × (o ≢ owner)
-  pub noted : (k : ℕ) → IsNogoodOf rows k owner → (n : ℕ) × (note_of j.notes k ≡ Some n) × (from_one forms n ≡ Some (clause k))
+  pub foreign : (i k : ℕ) (s : Step) → slice_get j.lines i ≡ Some s → NamesRow (step_refs s) k
+      → (o : ℕ) × IsNogoodOf rows k o × (o ≢ owner)
+  pub noted : (k : ℕ) → IsNogoodOf rows k owner
+      → (n : ℕ) × (note_of j.notes k ≡ Some n) × (from_one forms n ≡ Some (clause k))
   pub notes_in : (k n : ℕ) → note_of j.notes k ≡ Some n → k < length rows
-  pub early : (k n i m : ℕ) (s : Step) → IsNogoodOf rows k owner → note_of j.notes k ≡ Some n → i < n → slice_get j.lines i ≡ Some s
+  pub early : (k n i m : ℕ) (s : Step) → IsNogoodOf rows k owner → note_of j.notes k ≡ Some n
+      → i < n → slice_get j.lines i ≡ Some s
       → NamesRow (step_refs s) m → m < k
 
 -- ---- how a journal grows

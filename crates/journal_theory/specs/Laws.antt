@@ -23,14 +23,21 @@ pub record LineLaws : Type 0 where
 
 -- The merged lines of journals step from the empty table, and lead to one that has all of the finisher's forms.
 abbrev pub MergeLaw : Type 0
-MergeLaw = (model : List Form) (rows : List Row) (clause : ℕ → Form) (js : List Journal) (forms : ℕ → List Form) (f : ℕ) → AreJournals model rows clause js forms → f < length js
+MergeLaw = (model : List Form) (rows : List Row) (clause : ℕ
+    → Form) (js : List Journal) (forms : ℕ → List Form) (f : ℕ)
+    → AreJournals model rows clause js forms → f < length js
     → (t : Table) × StepsRun model empty_table (merged js f rows) t × (made_by t f ≡ forms f)
 
 -- Where the finisher's last form is plainly false, the merged log is accepted.
 abbrev pub AcceptedLaw : Type 0
-AcceptedLaw = (n : ℕ) (model : List Form) (rows : List Row) (clause : ℕ → Form) (js : List Journal) (forms : ℕ → List Form) (f : ℕ) (last : Form) → AreJournals model rows clause js forms
-    → AreFitting n model rows js → f < length js → from_one (forms f) (length (journal_of js f).lines) ≡ Some last → is_contradiction last ≡ true
-    → Accepts n model (lines_text (map step_line (whole_log model (merged js f rows) (Made (last_name js f))))) Unsatisfiable
+AcceptedLaw = (n : ℕ) (model : List Form) (rows : List Row) (clause : ℕ
+    → Form) (js : List Journal) (forms : ℕ → List Form) (f : ℕ) (last : Form)
+    → AreJournals model rows clause js forms
+    → AreFitting n model rows js → f < length js
+    → from_one (forms f) (length (journal_of js f).lines) ≡ Some last
+    → is_contradiction last ≡ true
+    → Accepts n model (lines_text (map step_line (whole_log model (merged js f rows) (Made
+    (last_name js f))))) Unsatisfiable
 
 pub record MergeLaws : Type 0 where
   pub merged_steps : MergeLaw
@@ -38,18 +45,29 @@ pub record MergeLaws : Type 0 where
 
 -- How a worker keeps its journal: from no line on, line by line, as rows come and as its own rows are noted.
 pub record GrowthLaws : Type 0 where
-  pub start : (model : List Form) (rows : List Row) (clause : ℕ → Form) (root : List Form) (owner : ℕ) → ((k : ℕ) → IsNogoodOf rows k owner → ⊥)
+  pub start : (model : List Form) (rows : List Row) (clause : ℕ
+      → Form) (root : List Form) (owner : ℕ) → ((k : ℕ) → IsNogoodOf rows k owner → ⊥)
       → Journaled model rows clause root owner no_journal []
-  pub kept : (model : List Form) (rows : List Row) (clause : ℕ → Form) (root : List Form) (owner : ℕ) (j : Journal) (forms : List Form) (s : Step) (f : Form)
+  pub kept : (model : List Form) (rows : List Row) (clause : ℕ
+      → Form) (root : List Form) (owner : ℕ) (j : Journal) (forms : List Form) (s : Step) (f : Form)
       → Journaled model rows clause root owner j forms → IsMaking s
-      → ((look : Lookup) → Finds (base_of model root clause (length rows)) look → HoldsOwn owner forms look → makes look s ≡ Ok f)
+      → ((look : Lookup) → Finds (base_of model root clause (length rows)) look
+      → HoldsOwn owner forms look → makes look s ≡ Ok f)
       → ((k : ℕ) → NamesRow (step_refs s) k → (o : ℕ) × IsNogoodOf rows k o × (o ≡ owner → ⊥))
       → Journaled model rows clause root owner (with_line j s) (forms ++ f ∷ [])
-  pub grows : (model : List Form) (rows more : List Row) (clause : ℕ → Form) (root : List Form) (owner : ℕ) (j : Journal) (forms : List Form)
-      → Journaled model rows clause root owner j forms → GrowsFor rows more owner → Journaled model more clause root owner j forms
-  pub noted : (model : List Form) (rows more : List Row) (clause : ℕ → Form) (root : List Form) (owner : ℕ) (j : Journal) (forms : List Form) (k n : ℕ)
-      → Journaled model rows clause root owner j forms → PublishesAt rows more owner k → from_one forms n ≡ Some (clause k)
+  pub grows : (model : List Form) (rows more : List Row) (clause : ℕ
+      → Form) (root : List Form) (owner : ℕ) (j : Journal) (forms : List Form)
+      → Journaled model rows clause root owner j forms → GrowsFor rows more owner
+      → Journaled model more clause root owner j forms
+  pub noted : (model : List Form) (rows more : List Row) (clause : ℕ
+      → Form) (root : List Form) (owner : ℕ) (j : Journal) (forms : List Form) (k n : ℕ)
+      → Journaled model rows clause root owner j forms → PublishesAt rows more owner k
+      → from_one forms n ≡ Some (clause k)
       → Journaled model more clause root owner (with_note j k n) forms
-  pub clauses : (model : List Form) (rows : List Row) (clause other : ℕ → Form) (root : List Form) (owner : ℕ) (j : Journal) (forms : List Form)
-      → ((k : ℕ) → k < length rows → other k ≡ clause k) → Journaled model rows clause root owner j forms → Journaled model rows other root owner j forms
-  pub wider : (less more : Lookup) (owner : ℕ) (lines : List Step) (forms : List Form) → Finds less more → IsJournal less owner lines forms → IsJournal more owner lines forms
+  pub clauses : (model : List Form) (rows : List Row) (clause other : ℕ
+      → Form) (root : List Form) (owner : ℕ) (j : Journal) (forms : List Form)
+      → ((k : ℕ) → k < length rows → other k ≡ clause k)
+      → Journaled model rows clause root owner j forms
+      → Journaled model rows other root owner j forms
+  pub wider : (less more : Lookup) (owner : ℕ) (lines : List Step) (forms : List Form)
+      → Finds less more → IsJournal less owner lines forms → IsJournal more owner lines forms

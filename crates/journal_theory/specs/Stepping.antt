@@ -38,7 +38,8 @@ whole_log model steps at = Head ∷ Model (length model) ∷ (steps ++ E at ∷ 
 
 -- The text of lines that step, and lead to a table where the last line's form is plainly false, is accepted: no 0/1 list satisfies the model.
 abbrev pub TextLaw : Type 0
-TextLaw = (n : ℕ) (model : List Form) (steps : List Step) (at : Ref) (t : Table) (f : Form) → AreWritten n (whole_log model steps at)
+TextLaw = (n : ℕ) (model : List Form) (steps : List Step) (at : Ref) (t : Table) (f : Form)
+    → AreWritten n (whole_log model steps at)
     → StepsRun model empty_table steps t → find model t at ≡ Some f → is_contradiction f ≡ true
     → Accepts n model (lines_text (map step_line (whole_log model steps at))) Unsatisfiable
 
@@ -48,4 +49,5 @@ NoFeedLaw = (s : Step) → IsStep s → NoFeed (step_line s)
 
 -- The text of lines is what the writer of lines puts, line after line.
 abbrev pub LinesLaw : Type 0
-LinesLaw = (steps : List Step) → lines_text (map step_line steps) ≡ flat_map (λ s. line_text (step_words s)) steps
+LinesLaw = (steps : List Step) → lines_text (map step_line steps) ≡ flat_map (λ s. line_text
+    (step_words s)) steps

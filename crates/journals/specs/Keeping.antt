@@ -19,8 +19,10 @@ IsLine _ = ⊥
 -- ---- what keeping does
 
 -- The line stands behind those before it, under its owner's next name, which is the answer; where nothing is kept any name is; at a refusal all is as it was.
-abbrev pub Keeps : {E : Type 0} → Result Name E → ℕ → Option (List Step) → Option (List Step) → Step → Type 0
-Keeps (Ok n) owner (Some old) (Some new) step = (n ≡ own_name owner (length old)) × (new ≡ old ++ named owner (length old) step ∷ [])
+abbrev pub Keeps : {E : Type 0} → Result Name E → ℕ → Option (List Step) → Option (List Step)
+    → Step → Type 0
+Keeps (Ok n) owner (Some old) (Some new) step = (n ≡ own_name owner (length old))
+    × (new ≡ old ++ named owner (length old) step ∷ [])
 Keeps (Ok n) owner None None step = Unit {0}
 Keeps (Ok n) owner None (Some new) step = ⊥
 Keeps (Ok n) owner (Some old) None step = ⊥
@@ -52,7 +54,8 @@ steps_in text = steps_told (pieces (λ b. b == 10) text)
 -- Where each line ends, the first one beginning here.
 abbrev pub ends_from : ℕ → List Step → List ℕ
 ends_from at [] = []
-ends_from at (s ∷ ss) = (at + length (line_text (step_words s))) ∷ ends_from (at + length (line_text (step_words s))) ss
+ends_from at (s ∷ ss) = (at + length (line_text (step_words s))) ∷ ends_from (at + length
+    (line_text (step_words s))) ss
 
 abbrev pub AreSteps : List Step → Type 0
 AreSteps [] = Unit {0}

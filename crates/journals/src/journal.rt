@@ -6,9 +6,9 @@ ghost use Rattle.log_theory.specs.Words.{line_text};
 ghost use Rattle.journal_theory.specs.Journals.{named, own_name};
 ghost use Rattle.journals.specs.Keeping.{IsLine, Keeps, Notes, text_of, ends_from, IsText, Keeping, AreSteps, BearNames};
 
-use crate::buffer::TextBuffer;
 use crate::keeper::Keeper;
 use log_theory::{Name, Profile, Step};
+use outer_io::TextBuffer;
 use proof_log::write_step;
 use std::alloc::{AllocError, Global};
 use std::marker::Model;
@@ -28,9 +28,15 @@ impl Model for Journal {
 
     ghost Value = { Keeping };
 
-    ghost view = { λ j. record { owner = j.owner; steps = steps_in j.text.bytes; notes = j.notes.items; spare = vec_capacity j.notes - length j.notes.items } };
+    ghost view = { λ j. record {
+      owner = j.owner;
+      steps = steps_in j.text.bytes;
+      notes = j.notes.items;
+      spare = vec_capacity j.notes - length j.notes.items;
+    } };
 
-    ghost invariant = { λ j. (j.owner ≤ 64) × IsText j.text.bytes j.ends.items × BearNames j.owner (steps_in j.text.bytes) };
+    ghost invariant = { λ j. (j.owner ≤ 64) × IsText j.text.bytes j.ends.items
+        × BearNames j.owner (steps_in j.text.bytes) };
 }
 
 impl Journal {

@@ -6,7 +6,6 @@
 //! J. Nordström 2020).
 #![tactic(auto)]
 
-mod buffer;
 mod journal;
 mod keeper;
 

@@ -1,7 +1,7 @@
 -- A log that is accepted with its hints is accepted without them: the whole log.
-use Rattle.std.proofs.Common.{◌≡◌, ◌≢◌, ℕ, zero, suc, ◌≤◌, Bool, true, false, cond, not, ◌==◌, List, [], ◌∷◌, ◌++◌, length, map, get_or, slice_get, Option, Some, None, Result, Ok, Err, refl, sym, ap, ◌∙◌, subst, arith, inl, inr, ◌⊎◌}
+use Rattle.std.proofs.Common.{◌≡◌, ◌≢◌, ℕ, zero, suc, ◌≤◌, Bool, true, false, cond, ◌==◌, List, [], ◌∷◌, ◌++◌, length, map, get_or, slice_get, Option, Some, Result, Ok, refl, sym, ap, ◌∙◌, subst, arith, inl, inr, ◌⊎◌}
 use Rattle.std.specs.List.{flat_map}
-use Rattle.std.proofs.lemmas.List.{append_assoc, append-nil}
+use Rattle.std.proofs.lemmas.List.{append_assoc}
 use Rattle.proof_theory.specs.declared.literal.Literal.{Literal}
 use Rattle.log_theory.specs.declared.profile.Profile.{Profile}
 use Rattle.log_theory.specs.declared.profile.Profile.TheVariants.{Hinted, Plain}
@@ -21,9 +21,9 @@ use Rattle.proof_theory.specs.Propagation.{IsAmong, closes}
 use Rattle.log_theory.specs.Steps.{◌>>=◌, unless, or_fault}
 use Rattle.log_theory.specs.Words.{pieces}
 use Rattle.log_theory.specs.LogText.{read_line}
-use Rattle.log_theory.specs.Lookups.{Lookup, find_all, is_among, are_distinct, variables_of, makes, closed_clause}
-use Rattle.log_theory.specs.Tables.{Table, empty_table, made_by, from_one, shared_at, find, fresh_name, fresh_row, with_made, with_shared, step_of, all_forms, step_in}
-use Rattle.log_theory.specs.Profiles.{plain, read_in, head_of, profile_of, profile_in, log_profile, dropped_line, dropped_lines, with_feeds, dropped_log}
+use Rattle.log_theory.specs.Lookups.{find_all, is_among, are_distinct, variables_of, makes, closed_clause}
+use Rattle.log_theory.specs.Tables.{Table, empty_table, made_by, from_one, shared_at, find, fresh_name, with_made, step_of, all_forms, step_in}
+use Rattle.log_theory.specs.Profiles.{plain, head_of, profile_of, profile_in, log_profile, dropped_line, dropped_lines, with_feeds, dropped_log}
 use Rattle.log_theory.specs.Verdicts.{all_hold_at, in_range, step_variables, Stage, Opening, Counting, Proving, Progress, Goes, Ends, refuted_by, solved_by, progress_of, further_progress, line_progress}
 use Rattle.log_theory.specs.Acceptance.{NoFeed, AreLines, lines_text, Runs, Accepts}
 use Rattle.proof_theory.proofs.Propagation.{refuted_closes, closes_there}

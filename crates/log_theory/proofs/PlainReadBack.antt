@@ -1,5 +1,5 @@
 -- The line of a step of a log without hints is read as that step.
-use Rattle.std.proofs.Common.{◌≡◌, ◌≢◌, ℕ, List, [], ◌∷◌, ◌++◌, map, Option, Some, refl, sym, ap, ◌∙◌, arith}
+use Rattle.std.proofs.Common.{◌≡◌, ◌≢◌, ℕ, List, [], ◌∷◌, ◌++◌, map, Option, Some, refl, ap, ◌∙◌, arith}
 use lib.Chars.{codes}
 use Rattle.proof_theory.specs.declared.literal.Literal.{Literal}
 use Rattle.log_theory.specs.declared.profile.Profile.{Profile}
@@ -7,7 +7,7 @@ use Rattle.log_theory.specs.declared.profile.Profile.TheVariants.{Hinted, Plain}
 use Rattle.log_theory.specs.declared.step.Name.{Name}
 use Rattle.log_theory.specs.declared.step.Step.{Step}
 use Rattle.log_theory.specs.declared.step.Step.TheVariants.{Head, Model, P, U, N, E, Y, Q}
-use Rattle.log_theory.specs.Words.{pieces, joined}
+use Rattle.log_theory.specs.Words.{joined}
 use Rattle.log_theory.specs.LogText.{name_text, ref_text, literal_text, step_words, name_of, literal_of, all_of, Parted, closed, when_closed, u_from, IsStep}
 use Rattle.log_theory.specs.Profiles.{words_in, plain, plain_step, read_in, told_in, up_to_semicolon, dropped_words, dropped_line}
 use Rattle.log_theory.proofs.Splitting.{AllBetween-tested, AreWords, AreWords-append}

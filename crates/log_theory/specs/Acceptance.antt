@@ -24,7 +24,8 @@ lines_text ls = flat_map (λ l. l ++ 10 ∷ []) ls
 -- Lines lead from where a log stands to where it stands behind them; behind a last line none is lawful.
 abbrev pub Runs : ℕ → List Form → Progress → List (List ℕ) → Progress → Type 0
 Runs n model from [] to = to ≡ from
-Runs n model (Goes stage) (l ∷ ls) to = (next : Progress) × ((line_progress n model stage l ≡ Ok next) × Runs n model next ls to)
+Runs n model (Goes stage) (l ∷ ls) to = (next : Progress)
+    × ((line_progress n model stage l ≡ Ok next) × Runs n model next ls to)
 Runs n model (Ends v) (l ∷ ls) to = ⊥
 
 -- The log is lawful lines, the last of which makes this claim; then the text ends.
@@ -38,7 +39,8 @@ pub record Accepts (n : ℕ) (model : List Form) (log : List ℕ) (claim : Verdi
 abbrev pub HasFault : ℕ → List Form → Progress → List ℕ → Cause → Type 0
 HasFault n model (Ends v) rest cause = (rest ≢ []) × (cause ≡ Malformed)
 HasFault n model (Goes stage) rest cause =
-    (NoFeed rest × (cause ≡ EndsEarly)) ⊎ ((line : List ℕ) × (more : List ℕ) × (rest ≡ line ++ 10 ∷ more) × NoFeed line × (line_progress n model stage line ≡ Err cause))
+    (NoFeed rest × (cause ≡ EndsEarly)) ⊎ ((line : List ℕ) × (more : List ℕ)
+    × (rest ≡ line ++ 10 ∷ more) × NoFeed line × (line_progress n model stage line ≡ Err cause))
 
 -- The lines before line k are lawful, and line k is not: this is its first cause.
 pub record Refuses (n : ℕ) (model : List Form) (log : List ℕ) (k : ℕ) (cause : Cause) : Type 0 where

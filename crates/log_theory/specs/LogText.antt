@@ -45,7 +45,8 @@ abbrev pub step_words : Step → List (List ℕ)
 step_words Head = codes "embedding" ∷ codes "proof" ∷ codes "1" ∷ []
 step_words (Model m) = codes "m" ∷ decimal m ∷ []
 step_words (P name ops) = codes "p" ∷ name_text name ∷ (op_words ops ++ codes ";" ∷ [])
-step_words (U name lits refs) = codes "u" ∷ name_text name ∷ (map literal_text lits ++ codes ";" ∷ (map ref_text refs ++ codes ";" ∷ []))
+step_words (U name lits refs) = codes "u" ∷ name_text name ∷ (map literal_text lits
+    ++ codes ";" ∷ (map ref_text refs ++ codes ";" ∷ []))
 step_words (N row name) = codes "n" ∷ decimal row ∷ name_text name ∷ []
 step_words (E at) = codes "e" ∷ ref_text at ∷ []
 step_words (Y ones) = codes "y" ∷ map (λ v. 120 ∷ decimal v) ones
@@ -55,11 +56,13 @@ step_words Q = codes "q" ∷ []
 
 -- Whether a word is the digits of a number, without a leading zero.
 abbrev pub is_numeral : List ℕ → Bool
-is_numeral w = not (is_empty w) && all_ascii_digits w && (not (begins_with (48 ∷ []) w) || same_word w (48 ∷ []))
+is_numeral w = not (is_empty w) && all_ascii_digits w
+    && (not (begins_with (48 ∷ []) w) || same_word w (48 ∷ []))
 
 -- The number that a word writes, below `most`.
 abbrev pub numeral_below : ℕ → List ℕ → Option ℕ
-numeral_below most w = cond (is_numeral w && nat_lt (digits_value 10 w) most) (Some (digits_value 10 w)) None
+numeral_below most w = cond (is_numeral w
+    && nat_lt (digits_value 10 w) most) (Some (digits_value 10 w)) None
 
 -- The number that a word writes, below 2^63.
 abbrev pub numeral_of : List ℕ → Option ℕ
@@ -67,7 +70,8 @@ numeral_of w = numeral_below (2 ^ 63) w
 
 -- A name of an owner up to 64 and a number from 1.
 abbrev pub name_from : Option ℕ → Option ℕ → Option Name
-name_from (Some owner) (Some number) = cond (nat_le owner 64 && nat_le 1 number) (Some (record { owner = owner; number = number })) None
+name_from (Some owner) (Some number) = cond (nat_le owner 64
+    && nat_le 1 number) (Some (record { owner = owner; number = number })) None
 name_from _ _ = None
 
 -- The name that the pieces round a dot tell.
@@ -93,7 +97,8 @@ row_ref None = None
 -- The reference that a word tells; a row is below 2^22.
 abbrev pub ref_of : List ℕ → Option Ref
 ref_of [] = None
-ref_of (b ∷ bs) = cond (b == 35) (row_ref (numeral_below (2 ^ 22) bs)) (ref_from (numeral_of (b ∷ bs)) (name_of (b ∷ bs)))
+ref_of (b ∷ bs) = cond (b == 35) (row_ref (numeral_below (2 ^ 22) bs)) (ref_from (numeral_of
+    (b ∷ bs)) (name_of (b ∷ bs)))
 
 -- The variable that a word tells, below 2^32.
 abbrev pub variable_of : List ℕ → Option ℕ
@@ -108,7 +113,8 @@ literal_from negated None = None
 -- The literal that a word tells.
 abbrev pub literal_of : List ℕ → Option Literal
 literal_of [] = None
-literal_of (b ∷ bs) = cond (b == 126) (literal_from true (variable_of bs)) (literal_from false (variable_of (b ∷ bs)))
+literal_of (b ∷ bs) = cond (b == 126) (literal_from true (variable_of bs)) (literal_from false
+    (variable_of (b ∷ bs)))
 
 -- One more item in front, where both are there.
 abbrev pub in_front : {A : Type 0} → Option A → Option (List A) → Option (List A)
@@ -155,7 +161,8 @@ op_in_front w Nothing os =
     cond (same_word w (codes "*")) (Some (record { waits = Star; ops = os }))
     (cond (same_word w (codes "d")) (Some (record { waits = Dee; ops = os }))
     (cond (same_word w (codes "+")) (op_read (Some Add) os)
-    (cond (same_word w (codes "s")) (op_read (Some Saturate) os) (op_read (push_op (literal_of w) (ref_of w)) os))))
+    (cond (same_word w (codes "s")) (op_read (Some Saturate) os) (op_read (push_op (literal_of w)
+    (ref_of w)) os))))
 
 -- A further word in front of what was read, if that was read.
 abbrev pub ops_in_front : List ℕ → Option OpsRead → Option OpsRead
@@ -189,7 +196,8 @@ parted_in_front w (Some p) = Some (record { front = w ∷ p.front; rest = p.rest
 -- Words parted at the first `;`.
 abbrev pub part : List (List ℕ) → Option Parted
 part [] = None
-part (w ∷ ws) = cond (same_word w (codes ";")) (Some (record { front = []; rest = ws })) (parted_in_front w (part ws))
+part (w ∷ ws) = cond (same_word w (codes ";")) (Some (record { front = []; rest = ws }))
+    (parted_in_front w (part ws))
 
 -- The words before a `;` that ends the line.
 abbrev pub closed : Option Parted → Option (List (List ℕ))
@@ -226,31 +234,37 @@ m_from (Some m) = Some (Model m)
 m_from None = None
 
 -- What closed words tell, if there are any.
-abbrev pub when_closed : {A : Type 0} → (List (List ℕ) → Option A) → Option (List (List ℕ)) → Option A
+abbrev pub when_closed : {A : Type 0} → (List (List ℕ) → Option A) → Option (List (List ℕ))
+    → Option A
 when_closed tell (Some ws) = tell ws
 when_closed tell None = None
 
 -- A `u` line from its name and its words parted once.
 abbrev pub u_parted : List ℕ → Option Parted → Option Step
 u_parted name None = None
-u_parted name (Some p) = u_from (name_of name) (all_of literal_of p.front) (when_closed (all_of ref_of) (closed (part p.rest)))
+u_parted name (Some p) = u_from (name_of name) (all_of literal_of p.front) (when_closed
+    (all_of ref_of) (closed (part p.rest)))
 
 -- The step of the words behind the first one, by that word.
 abbrev pub step_behind : List ℕ → List (List ℕ) → Option Step
 step_behind kind (name ∷ ws) =
-    cond (same_word kind (codes "p")) (p_from (name_of name) (when_closed (λ os. ops_from (ops_read os)) (closed (part ws))))
+    cond (same_word kind (codes "p")) (p_from (name_of name) (when_closed (λ os. ops_from
+    (ops_read os)) (closed (part ws))))
     (cond (same_word kind (codes "u")) (u_parted name (part ws)) (short_step kind (name ∷ ws)))
   where
     short_step : List ℕ → List (List ℕ) → Option Step
     short_step k (v ∷ []) =
         cond (same_word k (codes "m")) (m_from (numeral_of v))
-        (cond (same_word k (codes "e")) (e_from (ref_of v)) (cond (same_word k (codes "y")) (y_from (all_of variable_of (v ∷ []))) None))
+        (cond (same_word k (codes "e")) (e_from (ref_of v)) (cond (same_word k (codes "y"))
+        (y_from (all_of variable_of (v ∷ []))) None))
     short_step k (v ∷ w ∷ []) =
         cond (same_word k (codes "n")) (n_from (numeral_below (2 ^ 22) v) (name_of w))
-        (cond (same_word k (codes "embedding") && same_word v (codes "proof") && same_word w (codes "1")) (Some Head)
+        (cond (same_word k (codes "embedding") && same_word v (codes "proof")
+        && same_word w (codes "1")) (Some Head)
         (cond (same_word k (codes "y")) (y_from (all_of variable_of (v ∷ w ∷ []))) None))
     short_step k vs = cond (same_word k (codes "y")) (y_from (all_of variable_of vs)) None
-step_behind kind [] = cond (same_word kind (codes "y")) (Some (Y [])) (cond (same_word kind (codes "q")) (Some Q) None)
+step_behind kind [] = cond (same_word kind (codes "y")) (Some (Y [])) (cond (same_word kind
+    (codes "q")) (Some Q) None)
 
 -- The step that words tell, if they are of its grammar.
 abbrev pub step_of_words : List (List ℕ) → Option Step

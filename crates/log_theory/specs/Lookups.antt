@@ -21,7 +21,8 @@ Lookup = Ref → Option Form
 
 -- A form that is not too wide for exact arithmetic.
 abbrev pub narrow : Form → Result Form Cause
-narrow f = unless (nat_le (unsigned_abs f.bound) (2 ^ 125) && nat_le (size f.terms) (2 ^ 125)) Wide >>= λ _. Ok f
+narrow f = unless (nat_le (unsigned_abs f.bound) (2 ^ 125)
+    && nat_le (size f.terms) (2 ^ 125)) Wide >>= λ _. Ok f
 
 -- A rule on the top of the stack.
 abbrev pub on_top : (Form → Form) → List Form → Result (List Form) Cause
@@ -55,7 +56,8 @@ only_one _ = Err Stack
 -- The forms of references, looked up in order.
 abbrev pub find_all : Lookup → List Ref → Result (List Form) Cause
 find_all look [] = Ok []
-find_all look (r ∷ rs) = or_fault (look r) NoSuchName >>= λ f. find_all look rs >>= λ fs. Ok (f ∷ fs)
+find_all look (r ∷ rs) = or_fault (look r) NoSuchName >>= λ f. find_all look rs >>= λ fs. Ok
+    (f ∷ fs)
 
 -- Whether the number stands in the list.
 abbrev pub is_among : ℕ → List ℕ → Bool
@@ -76,7 +78,8 @@ variables_of (l ∷ ls) = l.variable ∷ variables_of ls
 abbrev pub makes : Lookup → Step → Result Form Cause
 makes look (P name ops) = evaluate look [] ops >>= λ stack. only_one stack
 makes look (U name lits refs) =
-    unless (are_distinct (variables_of lits)) Twice >>= λ _. find_all look refs >>= λ fs. unless (refutes (negations lits) fs) NoConflict >>= λ _. Ok (clause_form lits)
+    unless (are_distinct (variables_of lits)) Twice >>= λ _. find_all look refs >>= λ fs. unless
+    (refutes (negations lits) fs) NoConflict >>= λ _. Ok (clause_form lits)
 makes look (N row name) = or_fault (look (Made name)) NoSuchName
 makes look _ = Err Malformed
 
@@ -84,4 +87,5 @@ makes look _ = Err Malformed
 -- them has to come to a conflict.
 abbrev pub closed_clause : List Form → List Literal → Result Form Cause
 closed_clause fs lits =
-    unless (are_distinct (variables_of lits)) Twice >>= λ _. unless (closes (negations lits) fs) NoConflict >>= λ _. Ok (clause_form lits)
+    unless (are_distinct (variables_of lits)) Twice >>= λ _. unless (closes
+    (negations lits) fs) NoConflict >>= λ _. Ok (clause_form lits)

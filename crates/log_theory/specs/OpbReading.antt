@@ -11,7 +11,8 @@ use Rattle.log_theory.specs.OpbText.{OpbModel}
 -- The text without each CR that stands directly before an LF.
 abbrev pub without_returns : List ℕ → List ℕ
 without_returns [] = []
-without_returns (b ∷ bs) = cond ((b == 13) && begins_with (10 ∷ []) bs) (without_returns bs) (b ∷ without_returns bs)
+without_returns (b ∷ bs) = cond ((b == 13)
+    && begins_with (10 ∷ []) bs) (without_returns bs) (b ∷ without_returns bs)
 
 -- The pieces without the last one, where that is empty.
 abbrev pub without_last_empty : List (List ℕ) → List (List ℕ)
@@ -49,7 +50,8 @@ negated_number (Some n) = Some (neg_ℤ (pos n))
 -- The number of digits after a sign or none.
 abbrev pub signed_number : List ℕ → Option ℤ
 signed_number [] = None
-signed_number (b ∷ bs) = cond (b == 43) (positive_number (number_of bs)) (cond (b == 45) (negated_number (number_of bs)) (positive_number (number_of (b ∷ bs))))
+signed_number (b ∷ bs) = cond (b == 43) (positive_number (number_of bs)) (cond (b == 45)
+    (negated_number (number_of bs)) (positive_number (number_of (b ∷ bs))))
 
 -- The word of a number, if there is one.
 abbrev pub plain_word : Option ℤ → OpbWord
@@ -73,7 +75,9 @@ variable_word None word = word
 
 -- What a word is.
 abbrev pub word_of : List ℕ → OpbWord
-word_of w = cond (same_word w (codes ">=")) Relation (cond (same_word w (codes "=")) Equals (cond (same_word w (codes ";")) Semicolon (variable_word (number_after 120 w) (number_word (pieces (λ b. b == 59) w)))))
+word_of w = cond (same_word w (codes ">=")) Relation (cond (same_word w (codes "=")) Equals (cond
+    (same_word w (codes ";")) Semicolon (variable_word (number_after 120 w) (number_word (pieces
+    (λ b. b == 59) w)))))
 
 -- What is due next in a constraint: its first coefficient, a later one, or the variable of a coefficient. `>=` may stand for a coefficient.
 pub data Place : Type 0 where
@@ -110,7 +114,9 @@ bound_words n (w ∷ ws) = misplaced n w
 -- The terms and the bound of a constraint over n variables, or the cause of its first faulty word.
 abbrev pub constraint_words : ℕ → Place → List OpbWord → Result (List (ℕ × ℤ) × ℤ) OpbCause
 constraint_words n place [] = Err Malformed
-constraint_words n (Due c) (Variable v ∷ ws) = unless (nat_lt 0 v && nat_le v n) NoSuchVariable >>= λ _. constraint_words n Later ws >>= λ s. Ok ((v, c) ∷ s.0, s.1)
+constraint_words n (Due c) (Variable v ∷ ws) = unless (nat_lt 0 v
+    && nat_le v n) NoSuchVariable >>= λ _. constraint_words n Later ws >>= λ s. Ok
+    ((v, c) ∷ s.0, s.1)
 constraint_words n (Due c) (w ∷ ws) = misplaced n w
 constraint_words n place (Relation ∷ ws) = bound_words n ws
 constraint_words n place (Equals ∷ ws) = Err Equality
@@ -120,14 +126,16 @@ constraint_words n place (w ∷ ws) = misplaced n w
 
 -- A constraint's line: a word's own fault comes first, then a sum of absolute coefficients that is too wide.
 abbrev pub constraint_line : ℕ → List (List ℕ) → Result Form OpbCause
-constraint_line n ws = constraint_words n First (map word_of ws) >>= λ s. unless (nat_le (size s.0) (2 ^ 125)) Wide >>= λ _. Ok (form_of s.0 s.1)
+constraint_line n ws = constraint_words n First (map word_of ws) >>= λ s. unless (nat_le
+    (size s.0) (2 ^ 125)) Wide >>= λ _. Ok (form_of s.0 s.1)
 
 -- A line after the first: no constraint where it is blank or a comment, else a constraint.
 abbrev pub later_line : ℕ → List (List ℕ) → Result (List Form) OpbCause
 later_line n [] = Ok []
 later_line n (w ∷ ws) =
     cond (begins_with (codes "*") w) (Ok [])
-    (cond (begins_with (codes "min:") w || begins_with (codes "max:") w) (Err Objective) (constraint_line n (w ∷ ws) >>= λ f. Ok (f ∷ [])))
+    (cond (begins_with (codes "min:") w || begins_with (codes "max:") w) (Err Objective)
+    (constraint_line n (w ∷ ws) >>= λ f. Ok (f ∷ [])))
 
 -- A line's answer, its fault with the line's number.
 abbrev pub at_line : ℕ → Result (List Form) OpbCause → Result (List Form) (ℕ × OpbCause)
@@ -137,7 +145,8 @@ at_line k (Err cause) = Err (k, cause)
 -- The constraints of lines that begin at line k, or the first faulty one of these lines.
 abbrev pub later_lines : ℕ → ℕ → List (List ℕ) → Result (List Form) (ℕ × OpbCause)
 later_lines n k [] = Ok []
-later_lines n k (l ∷ ls) = at_line k (later_line n (opb_words l)) >>= λ fs. later_lines n (k + 1) ls >>= λ gs. Ok (fs ++ gs)
+later_lines n k (l ∷ ls) = at_line k (later_line n (opb_words l)) >>= λ fs. later_lines n
+    (k + 1) ls >>= λ gs. Ok (fs ++ gs)
 
 -- Both numbers, where N is below 2^32 and M below 2^63.
 abbrev pub head_numbers : Option ℕ → Option ℕ → Option (ℕ × ℕ)
@@ -147,13 +156,17 @@ head_numbers _ _ = None
 -- The numbers of variables and constraints that the words of line 1 tell; what follows them is passed over.
 abbrev pub head_of : List (List ℕ) → Option (ℕ × ℕ)
 head_of (star ∷ variable ∷ n ∷ constraint ∷ m ∷ _) =
-    cond (same_word star (codes "*") && same_word variable (codes "#variable=") && same_word constraint (codes "#constraint=")) (head_numbers (number_of n) (number_of m)) None
+    cond (same_word star (codes "*") && same_word variable (codes "#variable=")
+    && same_word constraint (codes "#constraint=")) (head_numbers (number_of n)
+    (number_of m)) None
 head_of _ = None
 
 -- The model that lines tell, or the first faulty line, counted from 1, with its cause.
 abbrev pub opb_answer_of : List (List ℕ) → Result OpbModel (ℕ × OpbCause)
 opb_answer_of [] = Err (1, Header)
-opb_answer_of (l ∷ ls) = or_fault (head_of (opb_words l)) (1, Header) >>= λ h. later_lines h.0 2 ls >>= λ fs. unless (length fs == h.1) (length ls + 2, Count) >>= λ _. Ok (record { variables = h.0; constraints = fs })
+opb_answer_of (l ∷ ls) = or_fault (head_of (opb_words l))
+    (1, Header) >>= λ h. later_lines h.0 2 ls >>= λ fs. unless (length fs == h.1)
+    (length ls + 2, Count) >>= λ _. Ok (record { variables = h.0; constraints = fs })
 
 -- The model that a text tells, or its first faulty line with its cause.
 abbrev pub opb_answer : List ℕ → Result OpbModel (ℕ × OpbCause)

@@ -32,7 +32,8 @@ form_words f = term_words f.terms ++ codes ">=" ∷ signed_decimal f.bound ∷ c
 
 -- The text of a model.
 abbrev pub opb_text : OpbModel → List ℕ
-opb_text m = line_text (head_words m.variables (length m.constraints)) ++ flat_map (λ f. line_text (form_words f)) m.constraints
+opb_text m = line_text (head_words m.variables (length m.constraints))
+    ++ flat_map (λ f. line_text (form_words f)) m.constraints
 
 -- Each variable is from 1 to n.
 abbrev pub AreVariables : ℕ → List (ℕ × ℤ) → Type 0
@@ -42,7 +43,8 @@ AreVariables n (t ∷ ts) = (1 ≤ t.0) × (t.0 ≤ n) × AreVariables n ts
 -- Each form is sorted, narrow and over the variables from 1 to n.
 abbrev pub AreConstraints : ℕ → List Form → Type 0
 AreConstraints n [] = ⊤
-AreConstraints n (f ∷ fs) = Rises 0 f.terms × Narrow f × AreVariables n f.terms × AreConstraints n fs
+AreConstraints n (f ∷ fs) = Rises 0 f.terms × Narrow f × AreVariables n f.terms
+    × AreConstraints n fs
 
 -- The model is within the limits of the format.
 pub record IsOpbModel (m : OpbModel) : Type 0 where

@@ -1,6 +1,6 @@
 -- The text of a log without hints: all lines are those of a log with hints, but for the first one and for `u` lines, which end behind
 -- their literals.
-use Rattle.std.specs.Prelude.{◌≡◌, ℕ, Bool, true, cond, ◌==◌, ◌&&◌, List, [], ◌∷◌, ◌++◌, map, Option, Some, None}
+use Rattle.std.specs.Prelude.{◌≡◌, ℕ, cond, ◌==◌, ◌&&◌, List, [], ◌∷◌, ◌++◌, map, Option, Some, None}
 use Rattle.std.specs.List.{flat_map}
 use lib.Chars.{codes}
 use Rattle.log_theory.specs.declared.profile.Profile.{Profile}
@@ -14,7 +14,8 @@ use Rattle.log_theory.specs.LogText.{name_text, literal_text, step_words, name_o
 abbrev pub words_in : Profile → Step → List (List ℕ)
 words_in Hinted s = step_words s
 words_in Plain Head = codes "embedding" ∷ codes "proof" ∷ codes "2" ∷ []
-words_in Plain (U name lits refs) = codes "u" ∷ name_text name ∷ (map literal_text lits ++ codes ";" ∷ [])
+words_in Plain (U name lits refs) = codes "u" ∷ name_text name ∷ (map literal_text lits
+    ++ codes ";" ∷ [])
 words_in Plain s = step_words s
 
 -- The step without its hints.
@@ -33,17 +34,20 @@ IsStepIn profile s = IsStep s × (told_in profile s ≡ s)
 
 -- A `u` line without hints, from its name and the words behind.
 abbrev pub plain_u : List ℕ → List (List ℕ) → Option Step
-plain_u name ws = u_from (name_of name) (when_closed (all_of literal_of) (closed (part ws))) (Some [])
+plain_u name ws = u_from (name_of name) (when_closed (all_of literal_of) (closed (part ws)))
+    (Some [])
 
 -- The first line, from the words behind `embedding`.
 abbrev pub plain_head : List (List ℕ) → Option Step
-plain_head (v ∷ w ∷ []) = cond (same_word v (codes "proof") && same_word w (codes "2")) (Some Head) None
+plain_head (v ∷ w ∷ []) = cond (same_word v (codes "proof")
+    && same_word w (codes "2")) (Some Head) None
 plain_head ws = None
 
 -- The step that words tell in a log without hints.
 abbrev pub plain_step : List (List ℕ) → Option Step
 plain_step (w ∷ v ∷ ws) =
-    cond (same_word w (codes "u")) (plain_u v ws) (cond (same_word w (codes "embedding")) (plain_head (v ∷ ws)) (step_of_words (w ∷ v ∷ ws)))
+    cond (same_word w (codes "u")) (plain_u v ws) (cond (same_word w (codes "embedding"))
+    (plain_head (v ∷ ws)) (step_of_words (w ∷ v ∷ ws)))
 plain_step ws = step_of_words ws
 
 -- The step that a line tells in a log of a profile.
@@ -58,7 +62,8 @@ head_of profile = joined (words_in profile Head)
 -- The profile that a first line tells.
 abbrev pub profile_of : List ℕ → Option Profile
 profile_of line =
-    cond (same_word line (head_of Hinted)) (Some Hinted) (cond (same_word line (head_of Plain)) (Some Plain) None)
+    cond (same_word line (head_of Hinted)) (Some Hinted) (cond (same_word line (head_of Plain))
+    (Some Plain) None)
 
 -- ---- a log with its hints dropped
 
@@ -69,7 +74,8 @@ up_to_semicolon ws (Some p) = p.front ++ codes ";" ∷ []
 
 -- The words of a line, those of a `u` line without its references.
 abbrev pub dropped_words : List (List ℕ) → List (List ℕ)
-dropped_words (w ∷ v ∷ ws) = cond (same_word w (codes "u")) (w ∷ v ∷ up_to_semicolon ws (part ws)) (w ∷ v ∷ ws)
+dropped_words (w ∷ v ∷ ws) = cond (same_word w (codes "u")) (w ∷ v ∷ up_to_semicolon ws (part ws))
+    (w ∷ v ∷ ws)
 dropped_words ws = ws
 
 abbrev pub dropped_line : List ℕ → List ℕ

@@ -55,15 +55,21 @@ are_rows_below (s ∷ ss) row = nat_lt s.0 row && are_rows_below ss row
 -- A name is its owner's next; one that is made already is `NameUsed`, another `Order`.
 abbrev pub fresh_name : Table → Name → Result ℕ Cause
 fresh_name t name =
-    unless (not (nat_le name.number (length (made_by t name.owner)))) NameUsed >>= λ _. unless (name.number == length (made_by t name.owner) + 1) Order
+    unless (not (nat_le name.number (length (made_by t name.owner)))) NameUsed >>= λ _. unless
+    (name.number == length (made_by t name.owner) + 1) Order
 
 -- A row lies above all rows used; one that is used itself is `NameUsed`, another `Order`.
 abbrev pub fresh_row : Table → ℕ → Result ℕ Cause
-fresh_row t row = unless (not (is_row_used t.shared row)) NameUsed >>= λ _. unless (are_rows_below t.shared row) Order
+fresh_row t row = unless (not (is_row_used t.shared row)) NameUsed >>= λ _. unless
+    (are_rows_below t.shared row) Order
 
 -- The table with an owner's next form.
 abbrev pub with_made : Table → Name → Form → Table
-with_made t name f = record { made = set t.made name.owner (made_by t name.owner ++ f ∷ []); shared = t.shared }
+with_made t name f = record {
+  made = set t.made name.owner (made_by t name.owner
+      ++ f ∷ []);
+  shared = t.shared;
+}
 
 -- The table with one more row.
 abbrev pub with_shared : Table → ℕ → Form → Table
@@ -71,9 +77,12 @@ with_shared t row f = record { made = t.made; shared = t.shared ++ (row, f) ∷ 
 
 -- One line's step in a log with hints: the table after it, or its first fault.
 abbrev pub step_of : List Form → Table → Step → Result Table Cause
-step_of model t (P name ops) = fresh_name t name >>= λ _. makes (find model t) (P name ops) >>= λ f. Ok (with_made t name f)
-step_of model t (U name lits refs) = fresh_name t name >>= λ _. makes (find model t) (U name lits refs) >>= λ f. Ok (with_made t name f)
-step_of model t (N row name) = fresh_row t row >>= λ _. makes (find model t) (N row name) >>= λ f. Ok (with_shared t row f)
+step_of model t (P name ops) = fresh_name t name >>= λ _. makes (find model t)
+    (P name ops) >>= λ f. Ok (with_made t name f)
+step_of model t (U name lits refs) = fresh_name t name >>= λ _. makes (find model t)
+    (U name lits refs) >>= λ f. Ok (with_made t name f)
+step_of model t (N row name) = fresh_row t row >>= λ _. makes (find model t)
+    (N row name) >>= λ f. Ok (with_shared t row f)
 step_of model t _ = Err Malformed
 
 -- The model's forms and all that were made so far, by whatever name.
@@ -83,5 +92,6 @@ all_forms model t = model ++ (flat_map (λ fs. fs) t.made ++ map (λ s. s.1) t.s
 -- One line's step in a log of a profile; without hints a `u` line names nothing, and is judged over all forms so far.
 abbrev pub step_in : Profile → List Form → Table → Step → Result Table Cause
 step_in Hinted model t s = step_of model t s
-step_in Plain model t (U name lits refs) = fresh_name t name >>= λ _. closed_clause (all_forms model t) lits >>= λ f. Ok (with_made t name f)
+step_in Plain model t (U name lits refs) = fresh_name t name >>= λ _. closed_clause
+    (all_forms model t) lits >>= λ f. Ok (with_made t name f)
 step_in Plain model t s = step_of model t s

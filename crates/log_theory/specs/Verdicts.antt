@@ -57,31 +57,39 @@ pub data Progress : Type 0 where
 
 -- The claim of `e`: the form is plainly false.
 abbrev pub refuted_by : Option Form → Result Progress Cause
-refuted_by o = or_fault o NoSuchName >>= λ f. unless (is_contradiction f) NotFalse >>= λ _. Ok (Ends Unsatisfiable)
+refuted_by o = or_fault o NoSuchName >>= λ f. unless (is_contradiction f) NotFalse >>= λ _. Ok
+    (Ends Unsatisfiable)
 
 -- The claim of `y`: the model holds where exactly these variables are one.
 abbrev pub solved_by : List Form → List ℕ → Result Progress Cause
-solved_by model ones = unless (are_distinct ones) Twice >>= λ _. unless (all_hold_at (λ v. is_among v ones) model) NotSolution >>= λ _. Ok (Ends Satisfiable)
+solved_by model ones = unless (are_distinct ones) Twice >>= λ _. unless (all_hold_at
+    (λ v. is_among v ones) model) NotSolution >>= λ _. Ok (Ends Satisfiable)
 
 -- What a step leads to behind the first line.
 abbrev pub progress_of : List Form → Stage → Step → Result Progress Cause
-progress_of model (Counting profile) (Model m) = unless (m == length model) Malformed >>= λ _. Ok (Goes (Proving profile empty_table))
+progress_of model (Counting profile) (Model m) = unless (m == length model) Malformed >>= λ _. Ok
+    (Goes (Proving profile empty_table))
 progress_of model (Proving profile t) (E at) = refuted_by (find model t at)
 progress_of model (Proving profile t) (Y ones) = solved_by model ones
 progress_of model (Proving profile t) Q = Ok (Ends Undecided)
-progress_of model (Proving profile t) s = step_in profile model t s >>= λ u. Ok (Goes (Proving profile u))
+progress_of model (Proving profile t) s = step_in profile model t s >>= λ u. Ok (Goes
+    (Proving profile u))
 progress_of model stage s = Err Malformed
 
 -- What a line of a profile leads to behind the first one: its grammar comes first, then the range of its variables.
 abbrev pub further_progress : ℕ → List Form → Profile → Stage → List ℕ → Result Progress Cause
 further_progress n model profile stage line =
-    or_fault (read_in profile line) Malformed >>= λ s. unless (in_range n (step_variables s)) Malformed >>= λ _. progress_of model stage s
+    or_fault (read_in profile line) Malformed >>= λ s. unless (in_range n
+    (step_variables s)) Malformed >>= λ _. progress_of model stage s
 
 -- What a line leads to: the first one tells the profile in which all others are read.
 abbrev pub line_progress : ℕ → List Form → Stage → List ℕ → Result Progress Cause
-line_progress n model Opening line = or_fault (profile_of line) Malformed >>= λ profile. Ok (Goes (Counting profile))
-line_progress n model (Counting profile) line = further_progress n model profile (Counting profile) line
-line_progress n model (Proving profile t) line = further_progress n model profile (Proving profile t) line
+line_progress n model Opening line = or_fault (profile_of line) Malformed >>= λ profile. Ok (Goes
+    (Counting profile))
+line_progress n model (Counting profile) line = further_progress n model profile
+    (Counting profile) line
+line_progress n model (Proving profile t) line = further_progress n model profile
+    (Proving profile t) line
 
 -- The verdict where nothing but the end of the text follows, else the refusal of the next line, k.
 abbrev pub at_end : ℕ → Verdict → List (List ℕ) → Verdict
@@ -102,7 +110,8 @@ when_ended k (m ∷ ms) progress more = go_on k (m ∷ ms) progress more
 -- The verdict of a text from line k on, cut at its LFs.
 abbrev pub verdict_from : ℕ → List Form → Stage → ℕ → List (List ℕ) → Verdict
 verdict_from n model stage k [] = Refused k EndsEarly
-verdict_from n model stage k (l ∷ rest) = when_ended k rest (line_progress n model stage l) (λ next. verdict_from n model next (k + 1) rest)
+verdict_from n model stage k (l ∷ rest) = when_ended k rest (line_progress n model stage l)
+    (λ next. verdict_from n model next (k + 1) rest)
 
 -- The verdict of a log over a model with n variables.
 abbrev pub verdict_of : ℕ → List Form → List ℕ → Verdict

@@ -10,6 +10,7 @@ ghost use Rattle.log_theory.specs.TextLaws.{AnswerLaws, LogLaws, OpbLaw, Profile
 
 pub mod opb;
 pub mod profile;
+mod shared;
 pub mod step;
 
 pub use opb::OpbCause;

@@ -61,6 +61,13 @@ impl Ops {
     {
         &self.items
     }
+
+    /// The items as a vector of the caller's; it takes no memory.
+    pub fn into_vec(self) -> Vec<Op>
+        ensures { result.items ≡ self }
+    {
+        self.items
+    }
 }
 
 /// The literals of a clause. Contracts see the list.
@@ -91,6 +98,13 @@ impl Clause {
         ensures { result.now ≡ self.now }
     {
         &self.items
+    }
+
+    /// The items as a vector of the caller's; it takes no memory.
+    pub fn into_vec(self) -> Vec<Literal>
+        ensures { result.items ≡ self }
+    {
+        self.items
     }
 }
 
@@ -123,6 +137,13 @@ impl Refs {
     {
         &self.items
     }
+
+    /// The items as a vector of the caller's; it takes no memory.
+    pub fn into_vec(self) -> Vec<Ref>
+        ensures { result.items ≡ self }
+    {
+        self.items
+    }
 }
 
 /// Numbers of variables. Contracts see the list.
@@ -152,6 +173,13 @@ impl Variables {
         ensures { result.now ≡ self.now }
     {
         &self.items
+    }
+
+    /// The items as a vector of the caller's; it takes no memory.
+    pub fn into_vec(self) -> Vec<u32>
+        ensures { result.items ≡ self }
+    {
+        self.items
     }
 }
 

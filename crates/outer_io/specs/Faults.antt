@@ -18,4 +18,5 @@ Use = List ℕ × Purpose
 
 -- the last fault is that of this call where it fails, and else the one that it was before
 abbrev pub TellsFault : {T E : Type 0} → Use → Option Use → Option Use → Result T E → Type 0
-TellsFault now_used before now result = MatchResult result (λ _. now ≡ before) (λ _. now ≡ Some now_used)
+TellsFault now_used before now result = MatchResult result (λ _. now ≡ before)
+    (λ _. now ≡ Some now_used)

@@ -18,5 +18,7 @@ pub record StopsIn (steady : Bool) (old new : Option (List ℕ)) (text : List �
   pub kept : IsTrue steady → known_len old ≤ known_len new
 
 -- The text was put: all of it at `Ok`, a front part of it at `Err`.
-abbrev pub Wrote : {T E : Type 0} → Bool → Option (List ℕ) → Option (List ℕ) → Result T E → List ℕ → Type 0
-Wrote steady old new result text = MatchResult result (λ _. new ≡ append_known old text) (λ _. StopsIn steady old new text)
+abbrev pub Wrote : {T E : Type 0} → Bool → Option (List ℕ) → Option (List ℕ) → Result T E
+    → List ℕ → Type 0
+Wrote steady old new result text = MatchResult result (λ _. new ≡ append_known old text)
+    (λ _. StopsIn steady old new text)

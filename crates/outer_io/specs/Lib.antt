@@ -8,3 +8,4 @@ pub mod MemorySinks
 pub mod MemoryTold
 pub mod RealEdge
 pub mod FileCauses
+pub mod Buffers

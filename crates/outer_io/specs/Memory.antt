@@ -20,7 +20,8 @@ content_in files name = option_and_then (λ file. file.bytes) (file_in files nam
 
 -- the file is there and has room for the piece
 abbrev pub HasRoom : Option Kept → List ℕ → Type 0
-HasRoom file piece = IsSomeAnd file (λ kept. IsSomeAnd kept.bytes (λ bytes. length piece ≤ kept.room - length bytes))
+HasRoom file piece = IsSomeAnd file (λ kept. IsSomeAnd kept.bytes
+    (λ bytes. length piece ≤ kept.room - length bytes))
 
 -- a file's name and room
 abbrev pub label_of : Kept → List ℕ × ℕ

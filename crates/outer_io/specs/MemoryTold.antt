@@ -8,7 +8,12 @@ use Rattle.outer_io.specs.Memory.{Kept, content_in}
 
 -- the file that a part asks for
 abbrev pub kept_part : MemoryPart → Kept
-kept_part part = record { name = string_bytes part.name; bytes = option_map (λ bytes. bytes.items) part.bytes; room = part.room }
+kept_part part = record {
+  name = string_bytes part.name;
+  bytes = option_map
+      (λ bytes. bytes.items) part.bytes;
+  room = part.room;
+}
 
 abbrev pub files_kept : MemoryFiles → List Kept
 files_kept s = s.files.items
@@ -34,7 +39,8 @@ files_chosen s = option_map (λ at. s.read_name) s.read_at
 
 -- what stands past the place that reading has come to
 abbrev pub files_left : MemoryFiles → Option (List ℕ)
-files_left s = option_and_then (λ at. option_map (drop at) (content_in s.files.items s.read_name)) s.read_at
+files_left s = option_and_then (λ at. option_map (drop at)
+    (content_in s.files.items s.read_name)) s.read_at
 
 abbrev pub files_begun : MemoryFiles → Option (List ℕ)
 files_begun s = if s.is_begun then Some s.write_name else None

@@ -11,5 +11,7 @@ abbrev pub SameOthers : List ℕ → (List ℕ → Option (List ℕ)) → (List 
 SameOthers name old new = (file : List ℕ) → file ≢ name → new file ≡ old file
 
 -- A read gave the next bytes of what was left, and none to a buffer with room only at the end; a failed one took none.
-abbrev pub TakesFront : {E : Type 0} → Option (List ℕ) → Option (List ℕ) → Result ℕ E → List ℕ → Type 0
-TakesFront old new result buffer = MatchResult result (λ count. (old ≡ prepend_known (take count buffer) new) × (count ≡ 0 → 0 < length buffer → IsAtEnd new)) (λ _. new ≡ old)
+abbrev pub TakesFront : {E : Type 0} → Option (List ℕ) → Option (List ℕ) → Result ℕ E → List ℕ
+    → Type 0
+TakesFront old new result buffer = MatchResult result (λ count. (old ≡ prepend_known
+    (take count buffer) new) × (count ≡ 0 → 0 < length buffer → IsAtEnd new)) (λ _. new ≡ old)

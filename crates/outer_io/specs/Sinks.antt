@@ -13,7 +13,9 @@ pub record Spot : Type 0 where
 
 -- It is the same sink still, and what stands beside it is as it was. The count of faults stays at `Ok`; it rises at `Err`,
 -- and the last fault is then this sink's.
-pub record HasBlame {S T E : Type 0} (spot : S → Spot) (rest : S → List ℕ → Option (List ℕ)) (faults : S → ℕ) (blamed : S → Type 0) (old new : S) (result : Result T E) : Type 0 where
+pub record HasBlame {S T E : Type 0} (spot : S → Spot) (rest : S → List ℕ
+    → Option (List ℕ)) (faults : S → ℕ) (blamed : S
+    → Type 0) (old new : S) (result : Result T E) : Type 0 where
   pub same : spot new ≡ spot old
   pub others : (file : List ℕ) → rest new file ≡ rest old file
   pub later : faults old ≤ faults new

@@ -118,7 +118,10 @@ impl Model for FaultCount {
 
     ghost Value = { FaultTold };
 
-    ghost view = { λ f. record { count = f.count; last = option_map (λ purpose. (f.name, purpose)) f.purpose } };
+    ghost view = { λ f. record {
+      count = f.count;
+      last = option_map (λ purpose. (f.name, purpose)) f.purpose;
+    } };
 }
 
 impl FaultCount {

@@ -35,7 +35,12 @@ impl<'a, F: Files> Sink for FileSink<'a, F> {
 
     ghost contents = { λ s. F.content s.files.now s.name.now };
 
-    ghost spot = { λ s. record { over = s.files.ghost_name; file = s.name.now; told = F.tells s.files.now; steady = true } };
+    ghost spot = { λ s. record {
+      over = s.files.ghost_name;
+      file = s.name.now;
+      told = F.tells s.files.now;
+      steady = true;
+    } };
 
     ghost rest = { λ s. other_content (F.content s.files.now) s.name.now };
 

@@ -3,7 +3,8 @@
 //! This layer stands on nothing. It keeps two promises that the rest of the program is written over: bytes come and go in
 //! order, and a call fails only where the object that was handed in counted a fault, which it can tell of. The layers above
 //! are generic over `Files` and `Sink` and use their clauses alone; a sink's text is spoken of by `Wrote`, its faults by
-//! `HasBlame`. `MemoryFiles` and `MemorySink` hold all in memory, tell all that they hold, and fail where they are told to.
+//! `HasBlame`. `MemoryFiles` and `MemorySink` hold all in memory, tell all that they hold, and fail where they are told to; a `TextBuffer` is
+//! a text in memory that is read where it stands.
 //! `RealFiles` and `RealSink` stand at the edge, over the system's files and streams, and tell nothing of contents.
 //!
 //! Traits with several ends under one contract are the old way of writing drivers; that a fake end is made to fail at each
@@ -26,6 +27,7 @@ pub mod real_sink;
 pub mod sink;
 #[cfg(test)]
 mod tests;
+pub mod text_buffer;
 
 pub use fault::{Failed, LoadFault, Purpose, PutFault};
 pub use file_sink::FileSink;
@@ -39,3 +41,4 @@ pub use reading::load;
 pub use real_files::RealFiles;
 pub use real_sink::RealSink;
 pub use sink::Sink;
+pub use text_buffer::TextBuffer;

@@ -39,7 +39,11 @@ impl Model for MemoryFile {
 
     ghost Value = { Kept };
 
-    ghost view = { λ f. record { name = string_bytes f.name; bytes = if f.exists then Some f.held.bytes else None; room = f.held.limit } };
+    ghost view = { λ f. record {
+      name = string_bytes f.name;
+      bytes = if f.exists then Some f.held.bytes else None;
+      room = f.held.limit;
+    } };
 }
 
 impl MemoryFile {

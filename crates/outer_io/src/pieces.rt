@@ -87,7 +87,12 @@ impl<'a, F: Files> Sink for Pieces<'a, F> {
 
     ghost contents = { λ s. append_known (F.content s.files.now s.name.now) s.held.now };
 
-    ghost spot = { λ s. record { over = s.files.ghost_name; file = s.name.now; told = F.tells s.files.now; steady = false } };
+    ghost spot = { λ s. record {
+      over = s.files.ghost_name;
+      file = s.name.now;
+      told = F.tells s.files.now;
+      steady = false;
+    } };
 
     ghost rest = { λ s. other_content (F.content s.files.now) s.name.now };
 

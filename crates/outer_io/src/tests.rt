@@ -64,7 +64,8 @@ fn put_line<S: Sink>(word: &[u8], sink: &mut S) -> Result<(), PutFault>
 /// A line in a file.
 fn write_line<F: Files>(files: &mut F, name: &str) -> Result<(), PutFault>
     requires { length name.now ≤ NAME_LIMIT }
-    ensures text { OnOk result (IsTrue (F.tells files.old) → F.content files.new name.now ≡ Some (codes "< w >")) }
+    ensures text { OnOk result (IsTrue (F.tells files.old)
+        → F.content files.new name.now ≡ Some (codes "< w >")) }
     ensures failed { OnErr result (F.fault_at files.new ≡ Some (name.now, Purpose.Writing)) }
     ensures later { F.faults files.old ≤ F.faults files.new }
     ensures tells { F.tells files.new ≡ F.tells files.old }

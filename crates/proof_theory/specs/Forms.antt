@@ -55,7 +55,8 @@ keep v (negsuc n) ts = (v, negsuc n) ∷ ts
 unfoldable pub put : ℕ → ℤ → List (ℕ × ℤ) → List (ℕ × ℤ)
 put v c [] = keep v c []
 put v c (t ∷ ts) =
-    cond (nat_lt v t.0) (keep v c (t ∷ ts)) (cond (v == t.0) (keep v (c +ℤ t.1) ts) (t ∷ put v c ts))
+    cond (nat_lt v t.0) (keep v c (t ∷ ts)) (cond (v == t.0) (keep v (c +ℤ t.1) ts)
+    (t ∷ put v c ts))
 
 -- Any terms as the sorted list with the same coefficients: like terms are added, and zeros vanish.
 unfoldable pub sorted : List (ℕ × ℤ) → List (ℕ × ℤ)

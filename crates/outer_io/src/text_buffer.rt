@@ -1,23 +1,24 @@
-//! Bytes in memory that a line's writer appends to.
+//! Bytes in memory that a writer appends to: a sink whose text is then read where it stands.
 
 ghost use Rattle.std.specs.Prelude.{◌≡◌, [], length, take};
 ghost use Rattle.outer_io.specs.KnownText.{Wrote};
 ghost use Rattle.outer_io.specs.Sinks.{HasBlame};
-ghost use Rattle.journals.specs.Buffers.{buffer_contents, buffer_spot, buffer_rest, buffer_faults, buffer_blamed};
+ghost use Rattle.outer_io.specs.Buffers.{buffer_contents, buffer_spot, buffer_rest, buffer_faults, buffer_blamed};
 
-use outer_io::{Failed, Sink};
+use crate::fault::Failed;
+use crate::sink::Sink;
 use std::alloc::Global;
 use std::marker::Model;
 
-/// A text that grows at its end.
+/// A text that grows at its end. A put fails only where memory is refused.
 #[derive(Drop)]
-pub(crate) struct TextBuffer {
+pub struct TextBuffer {
     bytes: Vec<u8>,
     refused: u64,
 }
 
 impl Model for TextBuffer {
-    ghost use Rattle.journals.specs.Buffers.{Buffered};
+    ghost use Rattle.outer_io.specs.Buffers.{Buffered};
 
     ghost Value = { Buffered };
 
@@ -26,7 +27,7 @@ impl Model for TextBuffer {
 
 impl TextBuffer {
     /// An empty text. It takes no memory.
-    pub(crate) fn new(alloc: Global) -> TextBuffer
+    pub fn new(alloc: Global) -> TextBuffer
         ensures { result.bytes ≡ [] }
     {
         TextBuffer {
@@ -36,21 +37,21 @@ impl TextBuffer {
     }
 
     /// The text so far.
-    pub(crate) fn as_slice(&self) -> &[u8]
+    pub fn as_slice(&self) -> &[u8]
         ensures { result.now ≡ self.now.bytes }
     {
         &self.bytes
     }
 
     /// How many bytes it has.
-    pub(crate) fn len(&self) -> usize
+    pub fn len(&self) -> usize
         ensures { result ≡ length self.now.bytes }
     {
         self.bytes.len()
     }
 
     /// Lets go of all bytes but the first so many.
-    pub(crate) fn truncate(&mut self, len: usize)
+    pub fn truncate(&mut self, len: usize)
         ensures { self.new.bytes ≡ take len self.old.bytes }
     {
         self.bytes.truncate(len);
