@@ -3,8 +3,8 @@ use Rattle.std.proofs.Common.{◌≡◌, ℕ, ◌+◌, ◌-◌, ◌*◌, ◌^◌
 use Rattle.std.proofs.lemmas.Bool.{cases_order}
 use Rattle.std.proofs.lemmas.Nat.{pow_pos}
 use native.Mathlib.Nat.{pow-le-pow_right}
-use Rattle.domain_bits.specs.Counting.{count}
-use Rattle.domain_bits.specs.BitRows.{has}
+use Rattle.graph_theory.specs.Neighbours.{count}
+use Rattle.bit_rows.specs.BitRows.{has}
 use Rattle.biased_choice.specs.Bias.{total, weight, weight_of, total_weight, top_degree, Bias}
 
 pub weight_small : (top degree : ℕ) → weight top degree ≤ 2 ^ 40

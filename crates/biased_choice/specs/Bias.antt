@@ -1,7 +1,7 @@
 -- The value that a word chooses among the members of a row, by weights that double with each degree.
 use Rattle.std.specs.Prelude.{◌≡◌, ℕ, ◌+◌, ◌-◌, ◌*◌, ◌%◌, ◌^◌, ◌<◌, ◌≤◌, Bool, true, cond, List, length, slice_index}
 use Rattle.std.proofs.Common.{zero, suc, max}
-use Rattle.domain_bits.specs.BitRows.{has}
+use Rattle.bit_rows.specs.BitRows.{has}
 
 -- the greatest degree among the numbers below n that pass
 abbrev pub greatest : (ℕ → Bool) → (ℕ → ℕ) → ℕ → ℕ
@@ -41,5 +41,6 @@ pub record Bias (row degrees : List ℕ) (word v : ℕ) : Type 0 where
 
 -- a word chooses one member, and the total of a row of 8,192 values is at most 2^53
 pub record BiasLaws : Type 0 where
-  pub one : (row degrees : List ℕ) (word v u : ℕ) → Bias row degrees word v → Bias row degrees word u → v ≡ u
+  pub one : (row degrees : List ℕ) (word v u : ℕ) → Bias row degrees word v
+      → Bias row degrees word u → v ≡ u
   pub small : (row degrees : List ℕ) → 64 * length row ≤ 8192 → total_weight row degrees ≤ 2 ^ 53

@@ -6,8 +6,8 @@
 //! Hoffmann, McCreesh, Prosser and Trimble 2019), the generator xoshiro256++ (Blackman and Vigna 2021).
 
 ghost use Rattle.std.specs.Prelude.{◌≡◌, ℕ, ◌-◌, ◌*◌, ◌^◌, ◌<◌, ◌≤◌, true, length};
-ghost use Rattle.domain_bits.specs.BitRows.{has};
-ghost use Rattle.domain_bits.specs.Counting.{count};
+ghost use Rattle.bit_rows.specs.BitRows.{has};
+ghost use Rattle.graph_theory.specs.Neighbours.{count};
 ghost use Rattle.biased_choice.specs.Bias.{Bias, BiasLaws, top_degree, total_weight, weight};
 ghost use Rattle.biased_choice.specs.Streams.{jumps, seeded};
 ghost use Rattle.rand_xoshiro.specs.Xoshiro256.{plus_plus};

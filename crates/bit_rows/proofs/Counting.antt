@@ -6,10 +6,9 @@ use Rattle.std.specs.Int.RustNames.{bit_xor}
 use Rattle.std.proofs.Math.ListN.{set}
 use Rattle.std.proofs.lemmas.Bool.{cases_eq, cases_lt, eq-eqb, ne_eqb, lt-ltb, le-ltb, le-leb, lt-leb, false≢true}
 use Rattle.std.proofs.lemmas.List.{get_or-set_same, get_or-set_other, get_or-take, get_or-drop}
-use Rattle.domain_bits.specs.BitRows.{is_set, has}
-use Rattle.domain_bits.proofs.WordBits.{is_set_and, is_set_or, is_set_pow, is_set-zero, low_bit, low_is_set, xor_same, xor_other}
-use Rattle.domain_bits.proofs.Rows.{has_past}
-use Rattle.domain_bits.proofs.Runs.{one_shifted}
+use Rattle.bit_rows.specs.BitRows.{is_set, has}
+use Rattle.bit_rows.proofs.WordBits.{is_set_and, is_set_or, is_set_pow, is_set-zero, low_bit, low_is_set, xor_same, xor_other, one_shifted}
+use Rattle.bit_rows.proofs.Rows.{has_past}
 use Rattle.bit_rows.proofs.WordsAt.{has_written, has_elsewhere}
 
 -- a value of one word of a row

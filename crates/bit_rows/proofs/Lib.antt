@@ -1,3 +1,8 @@
+pub mod Passing
+pub mod WordBits
+pub mod Rows
+pub mod WholeRows
+pub mod FourWords
 pub mod Writing
 pub mod Shared
 pub mod Filled

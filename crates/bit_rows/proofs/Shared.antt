@@ -4,11 +4,10 @@ use Rattle.std.proofs.Common.{◌≡◌, ℕ, ◌+◌, ◌*◌, ◌-◌, ◌/◌
 use Rattle.std.proofs.lemmas.Bool.{lt-ltb, le-ltb}
 use Rattle.std.proofs.lemmas.Nat.{and_le_l}
 use lib.Count.{ones}
-use Rattle.domain_bits.specs.BitRows.{is_set, has}
-use Rattle.domain_bits.proofs.WordBits.{is_set_and, is_set_ones, count_word, count-is_set}
-use Rattle.domain_bits.proofs.Runs.{one_shifted}
-use Rattle.domain_bits.proofs.Rows.{has_at}
-use Rattle.domain_bits.proofs.Counts.{count_same, count_add, count_past, count_within}
+use Rattle.bit_rows.specs.BitRows.{is_set, has}
+use Rattle.bit_rows.proofs.WordBits.{is_set_and, is_set_ones, count_word, count-is_set, one_shifted}
+use Rattle.bit_rows.proofs.Rows.{has_at}
+use Rattle.bit_rows.proofs.Passing.{count_same, count_add, count_past, count_within}
 use Rattle.graph_theory.specs.Neighbours.{count}
 
 -- a value that both rows hold

@@ -5,9 +5,9 @@ use Rattle.std.specs.Int.{bit_at, trailing_zeros}
 use Rattle.std.proofs.lemmas.Bool.{cases_lt}
 use Rattle.std.proofs.lemmas.Nat.{shr-shr}
 use Rattle.std.proofs.lemmas.Nat.Bits.{bit_at-trailing_zeros, bit_at_above, bit_at-zero}
-use Rattle.domain_bits.specs.BitRows.{has}
-use Rattle.domain_bits.proofs.Rows.{has_at}
-use Rattle.domain_bits.proofs.WordBits.{is_set-zero}
+use Rattle.bit_rows.specs.BitRows.{has}
+use Rattle.bit_rows.proofs.Rows.{has_at}
+use Rattle.bit_rows.proofs.WordBits.{is_set-zero}
 
 -- ---- one word
 

@@ -6,10 +6,9 @@ use Rattle.std.proofs.Math.ListN.{set}
 use Rattle.std.proofs.lemmas.Bool.{cases_eq, cases_lt, eq-eqb, ne_eqb, lt-ltb, le-ltb}
 use Rattle.std.proofs.lemmas.List.{get_or-set_same, get_or-set_other}
 use Rattle.std.proofs.Math.Pow.{pow-lt}
-use Rattle.domain_bits.specs.BitRows.{is_set, has}
-use Rattle.domain_bits.proofs.WordBits.{is_set_and_not, is_set_pow, is_set_ones, is_set-zero}
-use Rattle.domain_bits.proofs.Rows.{has_past}
-use Rattle.domain_bits.proofs.Runs.{one_shifted}
+use Rattle.bit_rows.specs.BitRows.{is_set, has}
+use Rattle.bit_rows.proofs.WordBits.{is_set_and_not, is_set_pow, is_set_ones, is_set-zero, one_shifted}
+use Rattle.bit_rows.proofs.Rows.{has_past}
 
 -- the values of the word that was written
 pub has_written : (row : List ℕ) (place word v : ℕ) → place < length row → v / 64 ≡ place → has (set row place word) v ≡ is_set word (v % 64)

@@ -1,13 +1,13 @@
 -- A row in which one bit is set, and a row of zeros.
 
 use Rattle.std.proofs.Common.{◌≡◌, ℕ, ◌*◌, ◌/◌, ◌%◌, ◌^◌, ◌<◌, ◌≤◌, Bool, true, false, eqb, ◌||◌, List, length, get_or, refl, sym, arith, inl, inr, ◌⊎◌, bit_or, w64}
-use Rattle.std.proofs.Math.ListN.{set}
+use Rattle.std.proofs.Math.ListN.{set, replicate}
 use Rattle.std.proofs.lemmas.Nat.Bits.{bit_at_set_same, bit_at_set_other}
 use Rattle.std.proofs.lemmas.Bool.{cases_eq, cases_lt, eq-eqb, ne_eqb}
-use Rattle.std.proofs.lemmas.List.{get_or-set_same, get_or-set_other}
-use Rattle.domain_bits.specs.BitRows.{is_set, has}
-use Rattle.domain_bits.proofs.WordBits.{is_set-zero}
-use Rattle.domain_bits.proofs.Rows.{has_past}
+use Rattle.std.proofs.lemmas.List.{get_or-set_same, get_or-set_other, get_or_past, get_or-replicate, length-replicate}
+use Rattle.bit_rows.specs.BitRows.{is_set, has}
+use Rattle.bit_rows.proofs.WordBits.{is_set-zero}
+use Rattle.bit_rows.proofs.Rows.{has_past}
 
 or_true : (b : Bool) → (b || true) ≡ true
 or_true true = refl
@@ -57,3 +57,11 @@ has_none row zeros v = by (cases_lt (v / 64) (length row))
     by : (v / 64 < length row) ⊎ (length row ≤ v / 64) → has row v ≡ false
     by (inl inside) = rw (zeros (v / 64) inside) (is_set-zero (v % 64))
     by (inr past) = has_past row v (omega arith)
+
+-- a row of zeros holds nothing
+pub has-zeros : (n v : ℕ) → has (replicate n 0) v ≡ false
+has-zeros n v = by (cases_lt (v / 64) n)
+  where
+    by : (v / 64 < n) ⊎ (n ≤ v / 64) → has (replicate n 0) v ≡ false
+    by (inl inside) = rw (get_or-replicate {A = ℕ} n (v / 64) 0 0 inside) (is_set-zero (v % 64))
+    by (inr past) = rw (get_or_past {X = ℕ} (replicate n 0) (v / 64) 0 (rw (length-replicate {A = ℕ} n 0) past)) (is_set-zero (v % 64))

@@ -2,7 +2,7 @@
 
 ghost use Rattle.std.specs.Prelude.{◌≡◌, ℕ, ◌+◌, ◌*◌, ◌/◌, ◌%◌, ◌<◌, ◌≤◌, ◌==◌, ◌&&◌, not, nat_lt, true, length, slice_index};
 ghost use Rattle.std.specs.Int.{from_bool};
-ghost use Rattle.domain_bits.specs.BitRows.{has, is_set};
+ghost use Rattle.bit_rows.specs.BitRows.{has, is_set};
 
 /// Counts each member of the row once more. Cost: one step for each word and for each member.
 pub fn count_members(row: &[u64], counts: &mut [u16])

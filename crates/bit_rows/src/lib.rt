@@ -1,22 +1,31 @@
-//! Rows of words by their members: single bits, the walk from member to member, and counts of the values.
+//! Rows of words: single bits, the walk from member to member, counts of the values, and operations on whole rows.
 //!
-//! A row of words is a set of numbers: value v is bit v % 64 of word v / 64. The layers above fill rows value by value,
-//! walk over the members of one, and keep of one what a count allows; whole rows are combined by the kernels of
-//! `domain_bits`. (Sets of values as words: J. R. Ullmann, "Bit-vector algorithms for binary constraint satisfaction and
-//! subgraph isomorphism", 2010.)
+//! A row of words is a set of numbers: value v is bit v % 64 of word v / 64. The layers above keep graphs and domains in such rows:
+//! they fill rows value by value, walk over the members of one, keep of one what a count allows, and combine whole rows word by
+//! word. (Sets of values as words: J. R. Ullmann, "Bit-vector algorithms for binary constraint satisfaction and subgraph
+//! isomorphism", 2010.)
 #![tactic(auto)]
 
 ghost use Rattle.std.specs.Prelude.{◌≡◌, ℕ, ◌+◌, ◌*◌, ◌^◌, ◌<◌, ◌≤◌, ◌==◌, ◌&&◌, ◌||◌, not, nat_lt, false, length};
-ghost use Rattle.domain_bits.specs.BitRows.{has, is_set};
+ghost use Rattle.bit_rows.specs.BitRows.{has, is_set, words_for};
 ghost use Rattle.graph_theory.specs.Neighbours.{count};
 
 mod counts;
+mod kernels;
 mod members;
 mod numbers;
 
 pub use counts::{count_members, keep_counted};
+pub use kernels::{and_into, and_not_into, count_ones, or_into};
 pub use members::next_member;
 pub use numbers::keep_equal;
+
+/// How many words a row of so many values has. Cost: one step.
+pub fn words_for(values: usize) -> usize
+    ensures { result ≡ words_for values }
+{
+    values.div_ceil(64)
+}
 
 /// Whether the value is in the set that the row holds. Cost: one word.
 pub fn has_bit(row: &[u64], value: usize) -> bool

@@ -1,7 +1,7 @@
 //! The walk over a row's members.
 
 ghost use Rattle.std.specs.Prelude.{◌≡◌, ℕ, ◌*◌, ◌<◌, ◌≤◌, true, false, length, slice_index};
-ghost use Rattle.domain_bits.specs.BitRows.{has};
+ghost use Rattle.bit_rows.specs.BitRows.{has};
 
 /// The first word that is not 0 from a place on, or the number of words.
 fn next_word(row: &[u64], from: usize) -> usize

@@ -1,7 +1,7 @@
 //! A number for each value: what of a row has a given one.
 
 ghost use Rattle.std.specs.Prelude.{◌≡◌, ℕ, ◌+◌, ◌*◌, ◌/◌, ◌%◌, ◌<◌, ◌≤◌, ◌==◌, ◌&&◌, true, length, slice_index};
-ghost use Rattle.domain_bits.specs.BitRows.{has, is_set};
+ghost use Rattle.bit_rows.specs.BitRows.{has, is_set};
 
 /// Keeps of the row the values whose number in the list is this one. Cost: one step for each number.
 pub fn keep_equal(row: &mut [u64], numbers: &[u32], number: u32)

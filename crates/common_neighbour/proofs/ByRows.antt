@@ -6,7 +6,7 @@ use Rattle.graph_theory.specs.Graph.{Graph, size, edge}
 use Rattle.graph_theory.specs.Neighbours.{count, is_neighbour, common}
 use Rattle.graph_theory.proofs.Counts.{count-same}
 use Rattle.std.specs.Int.{from_bool}
-use Rattle.graph_rows.specs.BitRow.{has}
+use Rattle.bit_rows.specs.BitRows.{has}
 
 -- whether the test passes, as a number
 abbrev pub one_if : Bool → ℕ

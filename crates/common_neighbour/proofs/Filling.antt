@@ -5,7 +5,7 @@ use Rattle.std.proofs.lemmas.Grind.{common_steps}
 use Rattle.std.proofs.lemmas.Bool.{cases_eq}
 use Rattle.graph_theory.specs.Neighbours.{common}
 use Rattle.graph_theory.proofs.NeighbourCounts.{shared_are_kept}
-use Rattle.graph_rows.specs.BitRow.{has}
+use Rattle.bit_rows.specs.BitRows.{has}
 use Rattle.common_neighbour.specs.Sharing.{TooFewAreDead}
 
 -- one value more, which passes

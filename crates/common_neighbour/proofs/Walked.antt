@@ -6,8 +6,8 @@ use Rattle.std.proofs.lemmas.Bool.{cases_eq, cases_lt}
 use Rattle.std.proofs.lemmas.List.{get_or_past}
 use Rattle.graph_theory.specs.Graph.{Graph, size, edge}
 use Rattle.graph_theory.specs.Neighbours.{count, is_neighbour, common}
-use Rattle.graph_rows.proofs.Counting.{count-le}
-use Rattle.graph_rows.specs.BitRow.{has}
+use Rattle.bit_rows.proofs.Passing.{count_within}
+use Rattle.bit_rows.specs.BitRows.{has}
 use Rattle.common_neighbour.proofs.ByRows.{from_bool-one_if}
 
 -- a vertex that is a neighbour of both
@@ -74,5 +74,5 @@ pub room_to_walk : (g : Graph) (counts : List ℕ) (t c : ℕ) → length counts
 room_to_walk g counts t c long few all v = by (cases_lt v (size g))
   where
     by : (v < size g) ⊎ (size g ≤ v) → get_or counts v 0 < 65535
-    by (inl inside) = omega (arith, all v inside, count-le (of_both g t v) c)
+    by (inl inside) = omega (arith, all v inside, count_within (of_both g t v) c)
     by (inr past) = omega (arith, get_or_past counts v 0 (omega (arith, long)))

@@ -13,7 +13,7 @@ ghost use Rattle.graph_theory.specs.Graph.{size as size_of};
 ghost use Rattle.graph_theory.specs.Neighbours.{common, is_neighbour};
 ghost use Rattle.graph_theory.specs.Reversed.{turned};
 ghost use Rattle.std.specs.Int.{from_bool};
-ghost use Rattle.graph_rows.specs.BitRow.{has, words_for};
+ghost use Rattle.bit_rows.specs.BitRows.{has, words_for};
 ghost use Rattle.common_neighbour.specs.Sharing.{shares, TooFewAreDead};
 
 mod threads;

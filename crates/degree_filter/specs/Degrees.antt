@@ -8,4 +8,5 @@ use Rattle.graph_theory.specs.Path.{Dead}
 
 -- Where t has fewer neighbours than p, no embedding sends p to t.
 abbrev pub LesserDegreesAreDead : Type 0
-LesserDegreesAreDead = (q : Problem) (p t : ℕ) → p < size q.pattern → degree q.target t < degree q.pattern p → Dead q ((p, t) ∷ [])
+LesserDegreesAreDead = (q : Problem) (p t : ℕ) → p < size q.pattern
+    → degree q.target t < degree q.pattern p → Dead q ((p, t) ∷ [])

@@ -30,7 +30,8 @@ part_pair target m a b = is_some (edge target (slice_index m a) (slice_index m b
 
 -- The cycle's target has an edge from one of the vertices 0 to 29 to one of 30 to 59 where the word of the pair is a multiple of 3. They take the words from 11,185 on.
 abbrev pub sides_pair : ℕ → ℕ → ℕ → Bool
-sides_pair seed a b = nat_lt a 30 && (not (nat_lt b 30) && word seed (11185 + a * 30 + (b - 30)) % 3 == 0)
+sides_pair seed a b = nat_lt a 30 && (not (nat_lt b 30)
+    && word seed (11185 + a * 30 + (b - 30)) % 3 == 0)
 
 -- The cycle of five.
 abbrev pub next_pair : ℕ → ℕ → Bool

@@ -13,7 +13,8 @@ pub record IsMadeOf (n : ℕ) (pair : ℕ → ℕ → Bool) (g : Graph) : Type 0
 
 -- Each edge of the graph goes from one side to the other.
 pub record IsTwoSided (side : ℕ → Bool) (g : Graph) : Type 0 where
-  pub each : (a b : ℕ) → a < size g → b < size g → is_some (edge g a b) ≡ true → side b ≡ not (side a)
+  pub each : (a b : ℕ) → a < size g → b < size g → is_some (edge g a b) ≡ true
+      → side b ≡ not (side a)
 
 -- Five vertices, each with an edge to the next and the last with one to the first.
 pub record HasFiveCycle (g : Graph) : Type 0 where
@@ -22,7 +23,8 @@ pub record HasFiveCycle (g : Graph) : Type 0 where
 
 -- No cycle of five embeds in a graph with two sides.
 abbrev pub NoFiveCycle : Type 0
-NoFiveCycle = (side : ℕ → Bool) (q : Problem) → HasFiveCycle q.pattern → IsTwoSided side q.target → HasNone q
+NoFiveCycle = (side : ℕ → Bool) (q : Problem) → HasFiveCycle q.pattern → IsTwoSided side q.target
+    → HasNone q
 
 -- The list has no vertex twice.
 abbrev pub AreDistinct : ℕ → List ℕ → Type 0
@@ -34,7 +36,8 @@ pub record IsPartAt (m : List ℕ) (q : Problem) : Type 0 where
   pub values : (p : ℕ) → p < size q.pattern → slice_index m p < size q.target
   pub distinct : AreDistinct (size q.pattern) m
   pub labels : (p : ℕ) → p < size q.pattern → label q.target (slice_index m p) ≡ label q.pattern p
-  pub edges : (p r : ℕ) → p < size q.pattern → r < size q.pattern → edge q.pattern p r ≡ edge q.target (slice_index m p) (slice_index m r)
+  pub edges : (p r : ℕ) → p < size q.pattern → r < size q.pattern
+      → edge q.pattern p r ≡ edge q.target (slice_index m p) (slice_index m r)
 
 -- A part of the target embeds in it, in both kinds.
 abbrev pub PartEmbeds : Type 0

@@ -57,7 +57,8 @@ impl Pairs for PlantedPattern<'_> {
 
     ghost pair = { λ s. part_pair s.target.now s.chosen.now };
 
-    ghost good = { λ s. (length s.chosen.now ≡ 10) × ((p : ℕ) → p < 10 → slice_index s.chosen.now p < size_of s.target.now) };
+    ghost good = { λ s. (length s.chosen.now ≡ 10)
+        × ((p : ℕ) → p < 10 → slice_index s.chosen.now p < size_of s.target.now) };
 
     fn has(&self, a: usize, b: usize) -> bool {
         let _few = self.target.size();

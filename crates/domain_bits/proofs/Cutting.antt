@@ -3,17 +3,16 @@ use Rattle.std.proofs.Common.{◌≡◌, ℕ, ◌+◌, ◌*◌, ◌-◌, ◌<◌
 use Rattle.std.proofs.lemmas.List.{take_at, append-nil, get_or-set_same, get_or-set_other}
 use Rattle.std.proofs.lemmas.Bool.{and_parts, eqb-true, eq-eqb, ne_eqb, le-ltb, cases_eq, cases_lt}
 use borrow.Rule.Slice.PartMut.{put_mid}
-use Rattle.domain_bits.specs.Counting.{count, members}
+use Rattle.graph_theory.specs.Neighbours.{count, members}
 use Rattle.std.specs.Int.RustNames.{bit_xor}
-use Rattle.domain_bits.specs.BitRows.{has, is_set}
-use Rattle.domain_bits.proofs.Counts.{members_same, members_none, length-members}
-use Rattle.domain_bits.proofs.Runs.{one_shifted}
-use Rattle.domain_bits.proofs.WordBits.{xor_same, xor_other}
+use Rattle.bit_rows.specs.BitRows.{has, is_set}
+use Rattle.bit_rows.proofs.Passing.{members_same, members_none, length-members}
+use Rattle.bit_rows.proofs.WordBits.{one_shifted, xor_same, xor_other}
 use Rattle.domain_bits.specs.Removals.{State, in_domain, size_of, at_vertex, filtered}
 use Rattle.domain_bits.specs.Changes.{Keeps, Single}
 use Rattle.domain_bits.specs.Inside.{Kept}
 use Rattle.domain_bits.proofs.Filtering.{leaves}
-use Rattle.domain_bits.proofs.Rows.{has_past, length-put_mid}
+use Rattle.bit_rows.proofs.Rows.{has_past, length-put_mid}
 use Rattle.domain_bits.proofs.Keeping.{state, length_start, start_bits, values_fit, cut_room, cut_enough, cut_after, cut_kept, filtered_keeps}
 use Rattle.domain_bits.proofs.Sizes.{row_size}
 

@@ -5,12 +5,12 @@ use Rattle.std.proofs.lemmas.List.{get_or-set_same, get_or-set_other, length-set
 use Rattle.std.proofs.lemmas.Nat.{and_le_r}
 use Rattle.std.proofs.lemmas.Bool.{cases_lt, and_parts}
 use lib.Count.{ones, ones-le}
-use Rattle.domain_bits.specs.Counting.{count, members}
-use Rattle.domain_bits.specs.BitRows.{is_set, has, word_values}
+use Rattle.graph_theory.specs.Neighbours.{count, members}
+use Rattle.bit_rows.specs.BitRows.{is_set, has, word_values}
 use Rattle.domain_bits.specs.Removals.{at_vertex}
-use Rattle.domain_bits.proofs.Counts.{count_within, count_le, length-members}
-use Rattle.domain_bits.proofs.WordBits.{is_set_and, is_set_and_not, members_word, count_word}
-use Rattle.domain_bits.proofs.Rows.{has_at, has_same}
+use Rattle.bit_rows.proofs.Passing.{count_within, count_le, length-members}
+use Rattle.bit_rows.proofs.WordBits.{is_set_and, is_set_and_not, members_word, count_word}
+use Rattle.bit_rows.proofs.Rows.{has_at, has_same}
 use Rattle.domain_bits.proofs.Removed.{length-at_vertex}
 
 -- u is in the row and does not stay

@@ -4,12 +4,12 @@ use Rattle.std.proofs.lemmas.List.{get_or-replicate, length-replicate, get_or-dr
 use Rattle.std.proofs.lemmas.List.Sums.{sum_by-cons}
 use Rattle.std.proofs.lemmas.Bool.{lt-ltb, cases_lt}
 use native.Mathlib.Nat.{suc-mul, mul-le-mul_right}
-use Rattle.domain_bits.specs.Counting.{count}
-use Rattle.domain_bits.specs.BitRows.{has, words_for}
+use Rattle.graph_theory.specs.Neighbours.{count}
+use Rattle.bit_rows.specs.BitRows.{has, words_for}
 use Rattle.domain_bits.specs.Removals.{in_domain, size_of}
 use Rattle.domain_bits.specs.Inside.{Kept}
 use Rattle.domain_bits.proofs.Keeping.{state}
-use Rattle.domain_bits.proofs.Rows.{has_same}
+use Rattle.bit_rows.proofs.Rows.{has_same}
 
 sum-replicate : (v n : ℕ) → sum (replicate v n) ≡ v * n
 sum-replicate zero n = omega arith

@@ -6,13 +6,13 @@ use Rattle.std.proofs.lemmas.List.Elements.{All-append, All-cons}
 use Rattle.std.proofs.lemmas.Bool.{cases_lt, cases_eq, and_parts, ltb-true, eqb-true, le-ltb}
 use native.Mathlib.Nat.{mul-le-mul_right, suc-mul}
 use borrow.Rule.Slice.PartMut.{put_mid}
-use Rattle.domain_bits.specs.Counting.{count, members}
-use Rattle.domain_bits.specs.BitRows.{has}
+use Rattle.graph_theory.specs.Neighbours.{count, members}
+use Rattle.bit_rows.specs.BitRows.{has}
 use Rattle.domain_bits.specs.Removals.{State, times, in_domain, size_of, at_vertex, filtered}
 use Rattle.domain_bits.specs.Changes.{Keeps}
 use Rattle.domain_bits.specs.Inside.{InRange, Kept}
-use Rattle.domain_bits.proofs.Counts.{count_same, count_le, members_same, members_past, length-members}
-use Rattle.domain_bits.proofs.Rows.{has-take, has_past, has-put_inside, has-put_outside, length-put_mid}
+use Rattle.bit_rows.proofs.Passing.{count_same, count_le, members_same, members_past, length-members}
+use Rattle.bit_rows.proofs.Rows.{has-take, has_past, has-put_inside, has-put_outside, length-put_mid}
 use Rattle.domain_bits.proofs.Removed.{times-append, times-members, in_domain-without, in_domain-without_other, in_domain-without_own, size_of-without, length-at_vertex, count_bounds}
 use Rattle.domain_bits.proofs.Filtering.{leaves}
 

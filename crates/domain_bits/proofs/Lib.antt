@@ -1,9 +1,4 @@
-pub mod Counts
-pub mod WordBits
-pub mod Rows
-pub mod FourWords
 pub mod Removed
-pub mod WholeRows
 pub mod Runs
 pub mod Filtering
 pub mod Keeping

@@ -4,10 +4,10 @@ use Rattle.std.specs.Int.{trailing_zeros}
 use Rattle.std.proofs.lemmas.List.{get_or-set_same, get_or-set_other, length-set, get_or-replicate, length-replicate}
 use Rattle.std.proofs.lemmas.Bool.{cases_eq}
 use lib.Count.{ones}
-use Rattle.domain_bits.specs.BitRows.{has, word_values}
+use Rattle.bit_rows.specs.BitRows.{has, word_values}
 use Rattle.domain_bits.specs.Removals.{in_domain, size_of, at_vertex}
 use Rattle.domain_bits.specs.Inside.{Kept, Noted}
-use Rattle.domain_bits.proofs.Counts.{count_same}
+use Rattle.bit_rows.proofs.Passing.{count_same}
 use Rattle.domain_bits.proofs.Sizes.{some_counted, one_counted, in_below}
 use Rattle.domain_bits.proofs.Keeping.{state}
 use Rattle.domain_bits.proofs.Cutting.{Cut}

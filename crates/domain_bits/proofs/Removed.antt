@@ -3,9 +3,9 @@ use Rattle.std.proofs.Common.{◌≡◌, ℕ, ◌+◌, ◌-◌, ◌<◌, ◌≤�
 use Rattle.std.proofs.lemmas.List.{map-append, length-map}
 use Rattle.std.proofs.lemmas.Bool.{eq-eqb, ne_eqb, cases_eq, cases_lt, ltb-true, lt-ltb, and_parts}
 use Rattle.std.proofs.lemmas.Bool.Decides.{nat_tests}
-use Rattle.domain_bits.specs.Counting.{count, members}
+use Rattle.graph_theory.specs.Neighbours.{count, members}
 use Rattle.domain_bits.specs.Removals.{State, times, in_domain, size_of, at_vertex, without_all}
-use Rattle.domain_bits.proofs.Counts.{count_same, count_split, count_past}
+use Rattle.bit_rows.proofs.Passing.{count_same, count_split, count_past}
 
 pub times-append : (xs ys : List (ℕ × ℕ)) (p t : ℕ) → times (xs ++ ys) p t ≡ times xs p t + times ys p t
 times-append [] ys p t = sym (zero-add (times ys p t))

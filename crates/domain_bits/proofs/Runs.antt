@@ -6,14 +6,9 @@ use Rattle.std.proofs.lemmas.List.{take_more, take_all}
 use Rattle.std.proofs.lemmas.Bool.{ne_eqb, eq-eqb}
 use Rattle.std.proofs.lemmas.Nat.Bits.{bit_at_and, bit_at_not, bit_at-lt, bit_at-zero, same_from_bits_below}
 use Rattle.std.proofs.lemmas.Nat.{and_le_l}
-use Rattle.std.proofs.Math.Pow.{pow-lt}
-use Rattle.domain_bits.specs.BitRows.{is_set, word_values}
+use Rattle.bit_rows.specs.BitRows.{is_set, word_values}
 use Rattle.domain_bits.specs.Removals.{at_vertex}
-use Rattle.domain_bits.proofs.WordBits.{is_set_or, is_set_pow, word_values-front, word_values-pow, word_values-first}
-
--- `1 << k`
-pub one_shifted : (k : ℕ) → k < 64 → 1 * 2 ^ k % 2 ^ 64 ≡ 2 ^ k
-one_shifted k l = let p : 2 ^ k < 2 ^ 64 = pow-lt l in omega arith
+use Rattle.bit_rows.proofs.WordBits.{one_shifted, is_set_or, is_set_pow, word_values-front, word_values-pow, word_values-first}
 
 -- where nothing is gone all is kept
 pub nothing_gone : (word keep : ℕ) → word < 2 ^ 64 → keep < 2 ^ 64 → bit_and word (bit_not w64 keep) ≡ 0 → bit_and word keep ≡ word

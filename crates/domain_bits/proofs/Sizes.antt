@@ -1,12 +1,12 @@
 -- What the size of a domain tells of its values.
 use Rattle.std.proofs.Common.{◌≡◌, ℕ, ◌+◌, ◌<◌, zero, suc, Bool, true, false, cond, eqb, ◌&&◌, not, List, refl, sym, ap, ◌∙◌, arith, inl, inr, ◌⊎◌}
 use Rattle.std.proofs.lemmas.Bool.{cases_eq, and_parts, ltb-true, eq-eqb, ne_eqb}
-use Rattle.domain_bits.specs.Counting.{count}
+use Rattle.graph_theory.specs.Neighbours.{count}
 use Rattle.domain_bits.specs.Removals.{State, in_domain, size_of}
 use Rattle.domain_bits.specs.Changes.{Single, IsEmptyDomain}
 use Rattle.std.proofs.Common.{◌*◌, length}
-use Rattle.domain_bits.specs.BitRows.{has, words_for}
-use Rattle.domain_bits.proofs.Counts.{count_same, count_split, count_none}
+use Rattle.bit_rows.specs.BitRows.{has, words_for}
+use Rattle.bit_rows.proofs.Passing.{count_same, count_split, count_none}
 use Rattle.domain_bits.proofs.Removed.{count_bounds}
 
 -- a number that passes is counted

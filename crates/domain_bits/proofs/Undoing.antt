@@ -6,14 +6,14 @@ use Rattle.std.proofs.lemmas.Bool.{cases_eq, cases_order, and_parts, lt-ltb, eqb
 use Rattle.std.proofs.lemmas.Nat.Bits.{bit_at-trailing_zeros}
 use native.Mathlib.Nat.{mul-le-mul_right, suc-mul}
 use lib.Count.{ones}
-use Rattle.domain_bits.specs.Counting.{members}
-use Rattle.domain_bits.specs.BitRows.{is_set, has, word_values}
+use Rattle.graph_theory.specs.Neighbours.{members}
+use Rattle.bit_rows.specs.BitRows.{is_set, has, word_values}
 use Rattle.domain_bits.specs.Removals.{State, times, in_domain, size_of, at_vertex, without_all, undone}
 use Rattle.domain_bits.specs.Changes.{Grows}
 use Rattle.domain_bits.specs.Inside.{InRange, Kept}
-use Rattle.domain_bits.proofs.Counts.{members_none, length-members}
-use Rattle.domain_bits.proofs.WordBits.{members_word, length-word_values, word_values-zero, is_set_or}
-use Rattle.domain_bits.proofs.Rows.{has_same}
+use Rattle.bit_rows.proofs.Passing.{members_none, length-members}
+use Rattle.bit_rows.proofs.WordBits.{members_word, length-word_values, word_values-zero, is_set_or}
+use Rattle.bit_rows.proofs.Rows.{has_same}
 use Rattle.domain_bits.proofs.Removed.{times-append, times-members, in_domain-without_other, in_domain-without_own, size_of-without, length-at_vertex}
 use Rattle.domain_bits.proofs.Keeping.{state, kept_change, row_starts, values_fit}
 

@@ -9,14 +9,13 @@ use Rattle.std.proofs.lemmas.Nat.{leading_top, div_below, le-div, pow_pos, xor_l
 use Rattle.std.proofs.Math.Pow.{pow-lt}
 use lib.Count.{ones, count_leading_zeros}
 use Rattle.domain_bits.specs.declared.trail.Run.{Run}
-use Rattle.domain_bits.specs.Counting.{members}
-use Rattle.domain_bits.specs.BitRows.{is_set, word_values}
+use Rattle.graph_theory.specs.Neighbours.{members}
+use Rattle.bit_rows.specs.BitRows.{is_set, word_values}
 use Rattle.domain_bits.specs.Removals.{at_vertex}
 use Rattle.domain_bits.specs.Runs.{pairs_of, IsRun, AreRuns}
-use Rattle.domain_bits.proofs.Counts.{members_same, members_past}
+use Rattle.bit_rows.proofs.Passing.{members_same, members_past}
 use Rattle.domain_bits.proofs.Removed.{length-at_vertex}
-use Rattle.domain_bits.proofs.Runs.{one_shifted}
-use Rattle.domain_bits.proofs.WordBits.{xor_same, xor_other, word_values-pow, length-word_values}
+use Rattle.bit_rows.proofs.WordBits.{one_shifted, xor_same, xor_other, word_values-pow, length-word_values}
 
 pub pairs_of-last : (rs : List Run) (r : Run) → pairs_of (rs ++ r ∷ []) ≡ pairs_of rs ++ at_vertex r.vertex (word_values r.place r.word)
 pairs_of-last [] r = append-nil (at_vertex r.vertex (word_values r.place r.word))

@@ -1,6 +1,6 @@
 -- How rows, sizes and trail hold the domains.
 use Rattle.std.specs.Prelude.{◌≡◌, ℕ, true, ◌+◌, ◌*◌, ◌<◌, ◌≤◌, List, All, length, drop, sum, slice_index}
-use Rattle.domain_bits.specs.BitRows.{has, words_for}
+use Rattle.bit_rows.specs.BitRows.{has, words_for}
 use Rattle.domain_bits.specs.Removals.{State, times, in_domain, size_of}
 
 -- the pair is a vertex and a value of these domains
@@ -14,7 +14,8 @@ pub record Kept (d : State) (words : ℕ) (rows sizes : List ℕ) (capacity : �
   pub short : words ≤ 1024
   pub long : length rows ≡ d.vertices * words
   pub sized : length sizes ≡ d.vertices
-  pub bits : (p t : ℕ) → p < d.vertices → t < 64 * words → has (drop (p * words) rows) t ≡ in_domain d p t
+  pub bits : (p t : ℕ) → p < d.vertices → t < 64 * words
+      → has (drop (p * words) rows) t ≡ in_domain d p t
   pub counts : (p : ℕ) → p < d.vertices → slice_index sizes p ≡ size_of d p
   pub once : (p t : ℕ) → times d.removed p t ≤ 1
   pub range : All (InRange d.vertices d.values) d.removed
@@ -24,7 +25,8 @@ pub record Kept (d : State) (words : ℕ) (rows sizes : List ℕ) (capacity : �
 -- the value noted for each vertex is in its domain, where that has one value only
 pub record Noted (d : State) (singles : List ℕ) : Type 0 where
   pub long : length singles ≡ d.vertices
-  pub single : (p : ℕ) → p < d.vertices → size_of d p ≡ 1 → in_domain d p (slice_index singles p) ≡ true
+  pub single : (p : ℕ) → p < d.vertices → size_of d p ≡ 1
+      → in_domain d p (slice_index singles p) ≡ true
 
 -- rows, sizes and noted values are as the trail says
 pub record Held (d : State) (words : ℕ) (rows sizes singles : List ℕ) (capacity : ℕ) : Type 0 where

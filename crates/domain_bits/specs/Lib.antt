@@ -1,5 +1,3 @@
-pub mod Counting
-pub mod BitRows
 pub mod Removals
 pub mod Changes
 pub mod Inside

@@ -1,7 +1,7 @@
 -- Domains, seen as the full ones without what was removed from them.
 use Rattle.std.specs.Prelude.{ℕ, ◌+◌, ◌==◌, nat_lt, Bool, ◌&&◌, not, cond, List, [], ◌∷◌, ◌++◌, map, take}
-use Rattle.domain_bits.specs.Counting.{count, members}
-use Rattle.domain_bits.specs.BitRows.{has}
+use Rattle.graph_theory.specs.Neighbours.{count, members}
+use Rattle.bit_rows.specs.BitRows.{has}
 
 -- a domain for each vertex: all values below `values`, without the pairs that were removed, in their order
 pub record State : Type 0 where

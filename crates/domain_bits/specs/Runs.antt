@@ -1,7 +1,7 @@
 -- Removed values in runs, each of one vertex and one word.
 use Rattle.std.specs.Prelude.{◌≡◌, ℕ, ◌^◌, ◌<◌, List, [], ◌∷◌, ◌++◌, All, length}
 use Rattle.domain_bits.specs.declared.trail.Run.{Run}
-use Rattle.domain_bits.specs.BitRows.{word_values}
+use Rattle.bit_rows.specs.BitRows.{word_values}
 use Rattle.domain_bits.specs.Removals.{at_vertex}
 
 -- the pairs that runs list, in order

@@ -7,12 +7,13 @@
 ghost use Rattle.std.specs.Prelude.{◌≡◌, ℕ, ◌+◌, ◌-◌, ◌*◌, ◌/◌, ◌^◌, ◌<◌, ◌≤◌, ◌==◌, ◌&&◌, ◌↔◌, ◌++◌, ◌∷◌, [], not, true, List, length, IfOk, IfSome, IfNone, IsTrue, IsSome, nat_lt, drop, if◌then◌else◌, bit_and, bit_or, count_ones, slice_index, slice_set};
 ghost use Rattle.std.specs.Bool.{OnTrue};
 ghost use Rattle.std.specs.Int.{bit_not, trailing_zeros, w64};
-ghost use Rattle.domain_bits.specs.BitRows.{has, is_set, word_values, words_for};
+ghost use Rattle.bit_rows.specs.BitRows.{has, is_set, word_values, words_for};
 ghost use Rattle.domain_bits.specs.Changes.{Grows, IsEmptyDomain, Keeps, Single};
-ghost use Rattle.domain_bits.specs.Counting.{count, members};
+ghost use Rattle.graph_theory.specs.Neighbours.{count, members};
 ghost use Rattle.domain_bits.specs.Removals.{assigned, at_vertex, full, in_domain, intersected, size_of, undone, without};
 
 use crate::trail::{PairTrail, Run, Trail};
+use bit_rows::words_for;
 use std::alloc::{AllocError, Global};
 use std::marker::Model;
 
@@ -61,9 +62,18 @@ impl<T: Trail> Model for Domains<T> {
 
     ghost Value = { State };
 
-    ghost view = { λ d. record { vertices = d.vertices; values = d.values; removed = T.removed d.trail } };
+    ghost view = { λ d. record {
+      vertices = d.vertices;
+      values = d.values;
+      removed = T.removed d.trail;
+    } };
 
-    ghost invariant = { λ d. Held (record { vertices = d.vertices; values = d.values; removed = T.removed d.trail }) d.words d.rows.items d.sizes.items d.singles.items (T.capacity d.trail) };
+    ghost invariant = { λ d. Held (record {
+      vertices = d.vertices;
+      values = d.values;
+      removed = T.removed d.trail;
+    }) d.words d.rows.items d.sizes.items d.singles.items
+        (T.capacity d.trail) };
 }
 
 impl Domains {
@@ -91,7 +101,7 @@ impl<T: Trail> Domains<T> {
         ensures vertices { IfOk result (λ d. d.vertices ≡ vertices) }
         ensures values { IfOk result (λ d. d.values ≡ values) }
     {
-        let words = (usize::from(values) + 63) / 64;
+        let words = words_for(usize::from(values));
         let rows = full_rows(alloc, usize::from(vertices), usize::from(values), words)?;
         let sizes = vec![in alloc; values; usize::from(vertices)]?;
         let singles = vec![in alloc; 0; usize::from(vertices)]?;

@@ -9,11 +9,10 @@
 //! The rows are those of bit-parallel filtering (Ullmann 2010, McCreesh and Prosser 2015), the trail that of backtracking solvers.
 
 mod domains;
-mod kernels;
 mod trail;
 mod word_trail;
 
+pub use bit_rows::{and_into, and_not_into, count_ones, or_into};
 pub use domains::{Domains, Mark};
-pub use kernels::{and_into, and_not_into, count_ones, or_into};
 pub use trail::{PairTrail, Run, Trail};
 pub use word_trail::WordTrail;

@@ -2,7 +2,7 @@
 //! copies of the domains is the usual way of backtracking solvers (Aggoun and Beldiceanu 1991, "time stamps and trails").
 
 ghost use Rattle.std.specs.Prelude.{◌≡◌, ℕ, ◌+◌, ◌*◌, ◌^◌, ◌<◌, ◌≤◌, List, [], ◌++◌, length, IfOk, IfSome, IfNone, take, vec_capacity, OnOk};
-ghost use Rattle.domain_bits.specs.BitRows.{word_values};
+ghost use Rattle.bit_rows.specs.BitRows.{word_values};
 ghost use Rattle.domain_bits.specs.Removals.{at_vertex};
 
 use std::alloc::{AllocError, Global};

@@ -2,7 +2,7 @@
 //! of an entry are the bits of its word, rising.
 
 ghost use Rattle.std.specs.Prelude.{◌≡◌, ℕ, ◌+◌, ◌*◌, ◌^◌, ◌<◌, ◌≤◌, ◌++◌, ◌∷◌, [], List, length, IfOk, IfSome, IfNone, vec_capacity, bit_xor, count_ones};
-ghost use Rattle.domain_bits.specs.BitRows.{word_values};
+ghost use Rattle.bit_rows.specs.BitRows.{word_values};
 ghost use Rattle.domain_bits.specs.Removals.{at_vertex};
 
 use crate::trail::{Run, Trail};

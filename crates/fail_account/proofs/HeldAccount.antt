@@ -7,9 +7,9 @@ use native.Mathlib.Nat.{mul-le-mul_right}
 use Rattle.graph_theory.specs.Graph.{size}
 use Rattle.graph_theory.specs.Embedding.{Problem}
 use Rattle.graph_theory.specs.Path.{NotOn, Dead}
-use Rattle.graph_rows.specs.BitRow.{words_for}
+use Rattle.bit_rows.specs.BitRows.{words_for}
 use Rattle.graph_rows.specs.Held.{marked}
-use Rattle.graph_rows.proofs.Bits.{has-zeros}
+use Rattle.bit_rows.proofs.Writing.{has-zeros}
 use Rattle.search_theory.specs.Bounds.{cutoff}
 use Rattle.search_theory.specs.Account.{Step, Account, path, fresh, inserted, MayGuess, deepened, failed, FailsTo, restarted, Deepen, Fail, Restart, Honest, InRange}
 use Rattle.search_theory.specs.Remaining.{Bounded, remaining}

@@ -5,9 +5,11 @@ use Rattle.std.proofs.Math.ListN.{set}
 use Rattle.std.proofs.Math.Nat.{mul_left_comm}
 use native.Mathlib.Nat.{mul-le-mul_right}
 use Rattle.std.proofs.lemmas.Bool.{cases_lt, cases_eq, eq-eqb, ne_eqb}
-use Rattle.graph_rows.specs.BitRow.{has}
+use Rattle.bit_rows.specs.BitRows.{has}
 use Rattle.graph_rows.specs.Held.{marked}
-use Rattle.graph_rows.proofs.Bits.{has-set, has_same, is_set-zero}
+use Rattle.bit_rows.proofs.Writing.{has-set}
+use Rattle.bit_rows.proofs.Rows.{has_same_at}
+use Rattle.bit_rows.proofs.WordBits.{is_set-zero}
 use Rattle.graph_rows.proofs.Places.{eqb-places}
 use Rattle.fail_account.specs.Rows.{Clears, Refutes}
 
@@ -25,7 +27,7 @@ marked_zero words width i t zero = rw (place_of width i t, zero) (is_set-zero ((
 
 -- words that agree there have equal marks
 pub marked_same : (old new : List ℕ) (width i t : ℕ) → get_or new (i * width + t / 64) 0 ≡ get_or old (i * width + t / 64) 0 → marked new width i t ≡ marked old width i t
-marked_same old new width i t same = has_same new old (i * (64 * width) + t) (i * (64 * width) + t) (rw (place_of width i t) same) refl
+marked_same old new width i t same = has_same_at new old (i * (64 * width) + t) (i * (64 * width) + t) (rw (place_of width i t) same) refl
 
 -- a row of a lesser level ends before
 row_before : (i n width : ℕ) → i < n → i * width + width ≤ n * width

@@ -3,10 +3,10 @@
 use Rattle.std.proofs.Common.{◌≡◌, ℕ, ◌+◌, ◌-◌, ◌*◌, ◌<◌, ◌≤◌, false, List, length, take, drop, Option, sym, ap, ◌∙◌, ◌⊎◌, inl, inr, arith}
 use Rattle.std.proofs.lemmas.Bool.{cases_lt}
 use Rattle.std.proofs.lemmas.List.{length-take}
-use Rattle.graph_rows.specs.BitRow.{has}
+use Rattle.bit_rows.specs.BitRows.{has}
 use Rattle.graph_rows.specs.Held.{marked}
 use Rattle.graph_rows.proofs.Places.{has-row}
-use Rattle.graph_rows.proofs.Bits.{has_past}
+use Rattle.bit_rows.proofs.Rows.{has_past}
 use Rattle.search_theory.specs.Account.{level_among}
 use Rattle.graph_theory.specs.Neighbours.{members}
 use Rattle.fail_account.specs.Held.{refuted_at, steps_from, Kept}

@@ -10,4 +10,5 @@ pub record Clears (old new : List ℕ) (from to : ℕ) : Type 0 where
 
 -- The row after a level is emptied, and a value is marked in the level's own.
 pub record Refutes (width : ℕ) (old new : List ℕ) (level value : ℕ) : Type 0 where
-  pub each : (i t : ℕ) → t < 64 * width → marked new width i t ≡ (not (i == level + 1) && (marked old width i t || (i == level && t == value)))
+  pub each : (i t : ℕ) → t < 64 * width → marked new width i t ≡ (not (i == level + 1)
+      && (marked old width i t || (i == level && t == value)))

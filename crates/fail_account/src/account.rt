@@ -3,7 +3,7 @@
 ghost use Rattle.std.specs.Prelude.{◌≡◌, ℕ, ◌+◌, ◌-◌, ◌*◌, ◌^◌, ◌<◌, ◌≤◌, ◌&&◌, ◌↔◌, false, nat_lt, if◌then◌else◌, length, IsTrue, IfOk, IfSome};
 ghost use Rattle.graph_theory.specs.Graph.{size};
 ghost use Rattle.graph_theory.specs.Path.{NotOn, IsPath, Dead};
-ghost use Rattle.graph_rows.specs.BitRow.{has, words_for};
+ghost use Rattle.bit_rows.specs.BitRows.{has, words_for};
 ghost use Rattle.search_theory.specs.Bounds.{cutoff, enough};
 ghost use Rattle.search_theory.specs.Account.{path, InRange, level_at, fresh, NotAmong, MayGuess, deepened, FailsTo, restarted, Honest};
 ghost use Rattle.search_theory.specs.Remaining.{remaining};
@@ -12,6 +12,7 @@ ghost use Rattle.fail_account.specs.Held.{vertex_at};
 
 use crate::cutoffs::luby;
 use crate::rows::{clear_words, is_marked, refute};
+use bit_rows::words_for;
 use graph_rows::Problem;
 use std::alloc::{AllocError, Global};
 use std::marker::Model;
@@ -54,9 +55,11 @@ impl Model for Account {
 
     ghost Value = { TheAccount };
 
-    ghost view = { λ a. held a.pattern a.target a.budget a.path.items a.words.items a.width a.vertex a.count a.run a.all };
+    ghost view = { λ a. held a.pattern a.target a.budget a.path.items a.words.items a.width
+        a.vertex a.count a.run a.all };
 
-    ghost invariant = { λ a. Kept a.pattern a.target a.budget a.path.items a.words.items a.width a.vertex a.count a.run a.all a.limit (vec_capacity a.path) };
+    ghost invariant = { λ a. Kept a.pattern a.target a.budget a.path.items a.words.items a.width
+        a.vertex a.count a.run a.all a.limit (vec_capacity a.path) };
 }
 
 impl Account {
@@ -69,7 +72,7 @@ impl Account {
     {
         let pattern = q.pattern().size();
         let target = q.target().size();
-        let width = (usize::from(target) + 63) / 64;
+        let width = words_for(usize::from(target));
         let path = Vec::with_capacity(alloc, usize::from(pattern))?;
         let words = vec![in alloc; 0u64; (usize::from(pattern) + 1) * width]?;
         Ok(Account {

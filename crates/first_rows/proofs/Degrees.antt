@@ -7,7 +7,7 @@ use Rattle.graph_theory.specs.Embedding.{Problem, Allowed}
 use Rattle.graph_theory.specs.Neighbours.{degree, sequence, IsKeptBy}
 use Rattle.graph_theory.specs.Reversed.{reversed_problem, AreMutual}
 use Rattle.graph_theory.proofs.ReversedGraphs.{degree-mutual, sequence-mutual}
-use Rattle.graph_rows.specs.BitRow.{has}
+use Rattle.bit_rows.specs.BitRows.{has}
 use Rattle.nds_filter.specs.Sequences.{sequences, sequence_at}
 use Rattle.nds_filter.proofs.Keeping.{sequence_is}
 use Rattle.search_theory.specs.Consistency.{IsFirstValue}

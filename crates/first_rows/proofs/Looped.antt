@@ -3,7 +3,7 @@
 use Rattle.std.proofs.Common.{◌≡◌, ℕ, Bool, true, false, not, ◌&&◌, List, Option, Some, None, is_some, refl, sym, ◌∙◌, subst}
 use Rattle.graph_theory.specs.Graph.{label, edge}
 use Rattle.graph_theory.specs.Embedding.{Problem, Allowed, Matches}
-use Rattle.graph_rows.specs.BitRow.{has}
+use Rattle.bit_rows.specs.BitRows.{has}
 
 -- two edges that are not there match
 none_match : (induced : Bool) (e f : Option ℕ) → is_some e ≡ false → is_some f ≡ false → Matches induced e f

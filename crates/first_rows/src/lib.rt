@@ -11,13 +11,12 @@ ghost use Rattle.graph_theory.specs.Graph.{size, label};
 ghost use Rattle.graph_theory.specs.Embedding.{Allowed};
 ghost use Rattle.graph_theory.specs.Neighbours.{sequence, IsKeptBy};
 ghost use Rattle.graph_theory.specs.Reversed.{reversed, reversed_problem, AreMutual};
-ghost use Rattle.graph_rows.specs.BitRow.{has, words_for};
+ghost use Rattle.bit_rows.specs.BitRows.{has, words_for};
 ghost use Rattle.nds_filter.specs.Sequences.{sequences, sequence_at};
 ghost use Rattle.search_theory.specs.Consistency.{IsFirstValue};
 ghost use Rattle.first_rows.specs.Degrees.{KeepsDegrees};
 
-use bit_rows::{keep_equal, next_member, unset_bit};
-use domain_bits::{and_into, and_not_into};
+use bit_rows::{and_into, and_not_into, keep_equal, next_member, unset_bit};
 use graph_rows::Problem;
 use graph_theory::direction::Direction;
 use nds_filter::{KeptRows, SequenceAnswer, Sequences};
@@ -42,7 +41,9 @@ impl<'a> Model for FirstRows<'a> {
 
     ghost view = { λ k. k.problem.now };
 
-    ghost invariant = { λ k. (k.out ≡ k.problem.now) × IfSome k.back (λ b. b ≡ reversed_problem k.problem.now) × IfNone k.back (AreMutual k.problem.now) };
+    ghost invariant = { λ k. (k.out ≡ k.problem.now)
+        × IfSome k.back (λ b. b ≡ reversed_problem k.problem.now)
+        × IfNone k.back (AreMutual k.problem.now) };
 }
 
 impl<'a> FirstRows<'a> {

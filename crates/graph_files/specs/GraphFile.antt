@@ -17,7 +17,8 @@ pub record IsGraphFile (bytes : List ℕ) (kind : LadKind) (most : ℕ) (g : Gra
 -- The bytes of a file are refused: they are over the limit, or have a first faulty word.
 abbrev pub IsRefusedFor : List ℕ → LadKind → ℕ → GraphFault → Type 0
 IsRefusedFor bytes kind most TooLong = 67108864 < length bytes
-IsRefusedFor bytes kind most (Word w cause) = (length bytes ≤ 67108864) × Fault (words bytes) kind most w cause
+IsRefusedFor bytes kind most (Word w cause) = (length bytes ≤ 67108864)
+    × Fault (words bytes) kind most w cause
 IsRefusedFor bytes kind most Failed = ⊥
 IsRefusedFor bytes kind most NoMemory = ⊥
 
@@ -30,8 +31,10 @@ IsFaultOfUse (Word w cause) = ⊥
 
 -- What an answer says of a file, where contents are told: its graph, or why it is refused.
 abbrev pub GraphSays : Option (List ℕ) → LadKind → ℕ → Result Graph GraphFault → Type 0
-GraphSays content kind most (Ok g) = (bytes : List ℕ) × (content ≡ Some bytes) × IsGraphFile bytes kind most g
-GraphSays content kind most (Err fault) = IsFaultOfUse fault ⊎ ((bytes : List ℕ) × (content ≡ Some bytes) × IsRefusedFor bytes kind most fault)
+GraphSays content kind most (Ok g) = (bytes : List ℕ) × (content ≡ Some bytes)
+    × IsGraphFile bytes kind most g
+GraphSays content kind most (Err fault) = IsFaultOfUse fault ⊎ ((bytes : List ℕ)
+    × (content ≡ Some bytes) × IsRefusedFor bytes kind most fault)
 
 -- What an answer says of bytes within the limit.
 abbrev pub BytesSay : List ℕ → LadKind → ℕ → Result Graph GraphFault → Type 0

@@ -1,26 +1,9 @@
--- Counts: equal where the tests agree, and one more where one number more passes.
+-- Counts: one more where one number more passes.
 
-use Rattle.std.proofs.Common.{◌≡◌, ℕ, ◌+◌, ◌<◌, ◌≤◌, zero, suc, Bool, true, false, if◌then◌else◌, refl, sym, arith, inl, inr, ◌⊎◌}
+use Rattle.std.proofs.Common.{◌≡◌, ℕ, ◌+◌, ◌<◌, zero, suc, Bool, true, false, if◌then◌else◌, sym, arith, inl, inr, ◌⊎◌}
 use Rattle.std.proofs.lemmas.Bool.{cases_eq}
 use Rattle.graph_theory.specs.Neighbours.{count}
 use Rattle.graph_theory.proofs.Counts.{count-same}
-
--- no more numbers pass than there are
-pub count-le : (f : ℕ → Bool) (n : ℕ) → count f n ≤ n
-count-le f zero = omega arith
-count-le f (suc n) = by (f n) (count-le f n)
-  where
-    by : (t : Bool) → count f n ≤ n → (if t then 1 else 0) + count f n ≤ suc n
-    by true h = omega arith
-    by false h = omega arith
-
--- a test that passes nothing below n counts 0
-pub count_none : (f : ℕ → Bool) (n : ℕ) → ((k : ℕ) → k < n → f k ≡ false) → count f n ≡ 0
-count_none f zero h = refl
-count_none f (suc n) h =
-    let e : f n ≡ false = h n (omega arith) in
-    let rest : count f n ≡ 0 = count_none f n (λ k k_in. h k (omega arith)) in
-    rw (e, rest) refl
 
 -- a test that passes b besides counts one more
 pub count_more : (f g : ℕ → Bool) (n b : ℕ) → b < n → f b ≡ false → g b ≡ true → ((k : ℕ) → k < n → (k ≡ b → ⊥) → g k ≡ f k) → count g n ≡ count f n + 1

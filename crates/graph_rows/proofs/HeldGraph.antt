@@ -12,9 +12,9 @@ use Rattle.graph_theory.specs.Neighbours.{degree, in_degree, is_neighbour, is_in
 use Rattle.graph_theory.specs.Plain.{IsPlain}
 use Rattle.graph_theory.proofs.Counts.{count-same}
 use Rattle.graph_theory.proofs.Tables.{slice_get-tabulate}
-use Rattle.graph_rows.specs.BitRow.{has}
+use Rattle.bit_rows.specs.BitRows.{has}
 use Rattle.graph_rows.specs.Held.{marked, marks_other, edge_held, cell, graph_held, AreMarks, AreMutual, AreTurned, AreBack, AreCells, AreLoops}
-use Rattle.graph_rows.proofs.Bits.{has_past}
+use Rattle.bit_rows.proofs.Rows.{has_past}
 use Rattle.graph_rows.proofs.Places.{has-row}
 use Rattle.graph_rows.proofs.Marking.{room_in_row}
 

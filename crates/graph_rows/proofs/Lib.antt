@@ -1,5 +1,4 @@
 pub mod Counting
-pub mod Bits
 pub mod Places
 pub mod Marking
 pub mod HeldGraph

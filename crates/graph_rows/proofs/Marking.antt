@@ -5,12 +5,13 @@ use Rattle.std.proofs.Math.ListN.{set, replicate}
 use Rattle.std.proofs.lemmas.Bool.{cases_eq, cases_order, eq-eqb, ne_eqb}
 use Rattle.std.proofs.lemmas.List.{get_or-set_same, get_or-set_other, length-set, get_or-take, get_or_past, take_more, length-replicate, get_or-replicate, length-take-le}
 use Rattle.std.proofs.lemmas.Grind.{common_steps}
-use Rattle.graph_rows.specs.BitRow.{has, words_for}
+use Rattle.bit_rows.specs.BitRows.{has, words_for}
 use Rattle.graph_theory.specs.Neighbours.{count}
 use Rattle.graph_theory.proofs.Counts.{count-same}
 use Rattle.graph_rows.specs.Held.{marked, marks_other, AreMarks, AddsMark, AddsListed, AddsOut, AddsIn, stands_in, said, either_said}
-use Rattle.graph_rows.proofs.Bits.{has-zeros}
-use Rattle.graph_rows.proofs.Counting.{count_more, count_none}
+use Rattle.bit_rows.proofs.Writing.{has-zeros}
+use Rattle.graph_rows.proofs.Counting.{count_more}
+use Rattle.bit_rows.proofs.Passing.{count_none}
 use Rattle.graph_rows.proofs.Places.{eqb-places}
 
 -- a value added to the words is a mark added to the rows

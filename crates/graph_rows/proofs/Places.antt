@@ -5,9 +5,9 @@ use Rattle.std.proofs.Math.Nat.{mul_left_comm}
 use Rattle.std.proofs.lemmas.Bool.{cases_eq, cases_order, eq-eqb, ne_eqb}
 use Rattle.std.proofs.lemmas.List.{get_or-take, get_or-drop}
 use native.Mathlib.Nat.{mul-le-mul, mul-le-mul_right, suc-mul}
-use Rattle.graph_rows.specs.BitRow.{has}
+use Rattle.bit_rows.specs.BitRows.{has}
 use Rattle.graph_rows.specs.Held.{marked}
-use Rattle.graph_rows.proofs.Bits.{has_same}
+use Rattle.bit_rows.proofs.Rows.{has_same_at}
 
 -- two places within rows of one length are one place exactly where row and value are the same
 pub eqb-places : (s a b x y : ℕ) → b < s → y < s → eqb (a * s + b) (x * s + y) ≡ (eqb a x && eqb b y)
@@ -43,7 +43,7 @@ has-row words width a b from is b_in =
     let place : (a * (64 * width) + b) / 64 ≡ from + b / 64 = omega (arith, mul_left_comm a 64 width) in
     let bit : b % 64 ≡ (a * (64 * width) + b) % 64 = omega (arith, mul_left_comm a 64 width) in
     let word : b / 64 < width = omega arith in
-    has_same (take width (drop from words)) words b (a * (64 * width) + b)
+    has_same_at (take width (drop from words)) words b (a * (64 * width) + b)
     (get_or-take width (drop from words) (b / 64) 0 word ∙ get_or-drop from words (b / 64) 0 ∙ ap (λ i. get_or words i 0) (sym place)) bit
 
 -- the first place of a row is small

@@ -10,7 +10,7 @@ use Rattle.graph_theory.specs.Reversed.{reversed, IsMutual}
 use Rattle.graph_theory.proofs.Counts.{count-same}
 use Rattle.graph_theory.proofs.Tables.{slice_get-tabulate}
 use Rattle.graph_theory.proofs.ReversedGraphs.{edge-reversed}
-use Rattle.graph_rows.specs.BitRow.{has}
+use Rattle.bit_rows.specs.BitRows.{has}
 use Rattle.graph_rows.specs.Held.{marks_other, graph_held, AreMarks, AreMutual, AreTurned}
 use Rattle.graph_rows.proofs.HeldGraph.{mutual_in, turned_edge, degrees_are}
 

@@ -8,7 +8,7 @@ use Rattle.std.proofs.lemmas.List.{same_lists, get_or_default}
 use Rattle.std.proofs.lemmas.Nat.Bits.{bit_at-lt, same_from_bits_below}
 use native.Mathlib.Nat.{mul-le-mul_right}
 use Rattle.graph_theory.specs.Graph.{Graph, size, edge, tabulate}
-use Rattle.graph_rows.specs.BitRow.{has, words_for}
+use Rattle.bit_rows.specs.BitRows.{has, words_for}
 use Rattle.graph_rows.specs.Held.{marked, edge_held, cell, graph_held, AreMarks}
 use Rattle.graph_rows.proofs.HeldGraph.{tabulate-same, edge-held}
 

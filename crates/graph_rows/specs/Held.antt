@@ -3,7 +3,7 @@
 
 use Rattle.std.specs.Prelude.{◌≡◌, ℕ, ◌+◌, ◌*◌, ◌<◌, ◌≤◌, ◌==◌, Bool, false, ◌&&◌, ◌||◌, not, List, [], ◌∷◌, length, Option, Some, None, slice_index, slice_index_or, if◌then◌else◌}
 use Rattle.graph_theory.specs.Graph.{Graph, tabulate}
-use Rattle.graph_rows.specs.BitRow.{has, words_for}
+use Rattle.bit_rows.specs.BitRows.{has, words_for}
 use Rattle.graph_theory.specs.Neighbours.{count}
 use Rattle.lad_reader.specs.Parts.{with_labels}
 
@@ -27,7 +27,8 @@ cell cells n a b = slice_index cells (a * n + b)
 abbrev pub graph_held : List ℕ → List ℕ → List ℕ → ℕ → Graph
 graph_held labels words cells width = record {
   labels = labels;
-  rows = tabulate (length labels) (λ a. tabulate (length labels) (λ b. edge_held (marked words width a b) (cell cells (length labels) a b)));
+  rows = tabulate (length labels) (λ a. tabulate (length labels) (λ b. edge_held
+      (marked words width a b) (cell cells (length labels) a b)));
 }
 
 -- Another vertex that is marked in the row of a.
@@ -82,20 +83,24 @@ either_said lists a b = said lists a b || said lists b a
 
 -- The rows have the marks that they had, and that of b in the row of a.
 pub record AddsMark (width : ℕ) (old new : List ℕ) (a b : ℕ) : Type 0 where
-  pub each : (x y : ℕ) → y < 64 * width → marked new width x y ≡ (marked old width x y || (a == x && b == y))
+  pub each : (x y : ℕ) → y < 64 * width → marked new width x y ≡ (marked old width x y
+      || (a == x && b == y))
 
 -- The rows have the marks that they had, and those of a list of vertices that have an edge with a.
 pub record AddsListed (width : ℕ) (old new : List ℕ) (a : ℕ) (listed : List ℕ) : Type 0 where
   pub each : (x y : ℕ) → x < 64 * width → y < 64 * width
-      → marked new width x y ≡ (marked old width x y || (a == x && stands_in listed y || a == y && stands_in listed x))
+      → marked new width x y ≡ (marked old width x y || (a == x && stands_in listed y || a == y
+      && stands_in listed x))
 
 -- The rows have the marks that they had, and in that of a those of a list.
 pub record AddsOut (width : ℕ) (old new : List ℕ) (a : ℕ) (listed : List ℕ) : Type 0 where
-  pub each : (x y : ℕ) → x < 64 * width → y < 64 * width → marked new width x y ≡ (marked old width x y || (a == x && stands_in listed y))
+  pub each : (x y : ℕ) → x < 64 * width → y < 64 * width
+      → marked new width x y ≡ (marked old width x y || (a == x && stands_in listed y))
 
 -- The rows have the marks that they had, and a in those of a list.
 pub record AddsIn (width : ℕ) (old new : List ℕ) (a : ℕ) (listed : List ℕ) : Type 0 where
-  pub each : (x y : ℕ) → x < 64 * width → y < 64 * width → marked new width x y ≡ (marked old width x y || (a == y && stands_in listed x))
+  pub each : (x y : ℕ) → x < 64 * width → y < 64 * width
+      → marked new width x y ≡ (marked old width x y || (a == y && stands_in listed x))
 
 -- The label with which b is listed first, or 0.
 abbrev pub label_in : List (ℕ × ℕ) → ℕ → ℕ
@@ -104,9 +109,11 @@ label_in (e ∷ es) b = if e.0 == b then e.1 else label_in es b
 
 -- The label of the edge from a to b as it is listed.
 abbrev pub listed_cell : List (List ℕ) → List (List ℕ) → ℕ → ℕ → ℕ
-listed_cell lists labels a b = label_in (with_labels (slice_index_or lists a []) (slice_index_or labels a [])) b
+listed_cell lists labels a b = label_in (with_labels (slice_index_or lists a [])
+    (slice_index_or labels a [])) b
 
 -- The cells have what they had, and in the row of a what these lists say.
 pub record PutsRow (n : ℕ) (old new : List ℕ) (a : ℕ) (listed labels : List ℕ) : Type 0 where
   pub long : length new ≡ length old
-  pub each : (x y : ℕ) → y < n → cell new n x y ≡ (if a == x then label_in (with_labels listed labels) y else cell old n x y)
+  pub each : (x y : ℕ) → y < n → cell new n x y ≡ (if a == x then label_in
+      (with_labels listed labels) y else cell old n x y)

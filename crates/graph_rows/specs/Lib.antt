@@ -1,3 +1,2 @@
-pub mod BitRow
 pub mod Held
 pub mod Fitting

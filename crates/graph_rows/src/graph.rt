@@ -8,11 +8,12 @@ ghost use Rattle.graph_theory.specs.Neighbours.{degree as degree_of, in_degree a
 ghost use Rattle.graph_theory.specs.Graph.{graph_of};
 ghost use Rattle.graph_theory.specs.Reversed.{turned, IsMutual};
 ghost use Rattle.lad_reader.specs.Parts.{vertices_of, vertices_from, AllBelow};
-ghost use Rattle.graph_rows.specs.BitRow.{has, words_for};
+ghost use Rattle.bit_rows.specs.BitRows.{has, words_for};
 ghost use Rattle.graph_rows.specs.Held.{cell, AreCells};
 
 use crate::cells::edge_label_cells;
-use crate::marks::{gather_loops, has_bit, is_marked, mark_all, mark_all_in, mark_all_out};
+use crate::marks::{gather_loops, is_marked, mark_all, mark_all_in, mark_all_out};
+use bit_rows::{has_bit, words_for};
 use graph_theory::direction::Direction;
 use lad_reader::{GraphParts, LadKind};
 use std::alloc::{AllocError, Global};
@@ -43,7 +44,11 @@ impl Model for Graph {
 
     ghost view = { λ g. graph_held g.labels.items g.words.items g.cells.items g.width };
 
-    ghost invariant = { λ g. AreMarks (length g.labels.items) g.width g.words.items g.degrees.items × AreBack (length g.labels.items) g.width g.words.items g.back.items g.in_degrees.items × AreLoops (length g.labels.items) g.width g.words.items g.loops.items × AreCells (length g.labels.items) g.cells.items };
+    ghost invariant = { λ g. AreMarks
+        (length g.labels.items) g.width g.words.items g.degrees.items
+        × AreBack (length g.labels.items) g.width g.words.items g.back.items g.in_degrees.items
+        × AreLoops (length g.labels.items) g.width g.words.items g.loops.items
+        × AreCells (length g.labels.items) g.cells.items };
 }
 
 impl Graph {
@@ -76,7 +81,7 @@ impl Graph {
     {
         let labels = Vec::from_slice(alloc, parts.labels.as_slice())?;
         let size = labels.len();
-        let width = (size + 63) / 64;
+        let width = words_for(size);
         let mut words = vec![in alloc; 0u64; size * width]?;
         let mut degrees = vec![in alloc; 0u16; size]?;
         let mut loops = vec![in alloc; 0u64; width]?;
@@ -104,7 +109,7 @@ impl Graph {
     {
         let labels = Vec::from_slice(alloc, parts.labels.as_slice())?;
         let size = labels.len();
-        let width = (size + 63) / 64;
+        let width = words_for(size);
         let mut words = vec![in alloc; 0u64; size * width]?;
         let mut degrees = vec![in alloc; 0u16; size]?;
         let mut back = vec![in alloc; 0u64; size * width]?;

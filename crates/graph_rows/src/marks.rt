@@ -1,30 +1,12 @@
 //! Marks in bit rows: how the rows of a graph are written from the lists of a text.
 
-ghost use Rattle.std.specs.Prelude.{◌≡◌, ℕ, ◌+◌, ◌*◌, ◌<◌, ◌≤◌, ◌==◌, ◌||◌, not, false, length};
+ghost use Rattle.std.specs.Prelude.{◌≡◌, ℕ, ◌+◌, ◌*◌, ◌<◌, ◌≤◌, false, length};
 ghost use Rattle.lad_reader.specs.Parts.{AreBelow, AllBelow};
-ghost use Rattle.graph_rows.specs.BitRow.{has, words_for};
+ghost use Rattle.bit_rows.specs.BitRows.{has, words_for};
 ghost use Rattle.graph_rows.specs.Held.{marked, AreMarks, AreLoops, AddsMark, AddsListed, AddsOut, AddsIn, said, either_said};
 
+use bit_rows::{has_bit, set_bit};
 use lad_reader::NeighbourLists;
-
-/// Whether the value is in the set that the row holds.
-pub(crate) fn has_bit(row: &[u64], value: usize) -> bool
-    requires { value < 64 * length row.now }
-    ensures { result ≡ has row.now value }
-{
-    (row[value / 64] >> (value % 64)) & 1 == 1
-}
-
-/// Puts the value into the set that the row holds, and says whether it is new there.
-fn set_bit(row: &mut [u64], value: usize) -> bool
-    requires { value < 64 * length row.old }
-    ensures new { result ≡ not (has row.old value) }
-    ensures set { (v : ℕ) → has row.new v ≡ (has row.old v || value == v) }
-{
-    let is_new = !has_bit(row, value);
-    row[value / 64] |= 1 << (value % 64);
-    is_new
-}
 
 /// Whether `b` is marked in the row of `a`.
 pub(crate) fn is_marked(words: &[u64], width: usize, a: usize, b: usize) -> bool
@@ -45,7 +27,9 @@ fn mark(words: &mut [u64], degrees: &mut [u16], width: usize, a: usize, b: usize
     ensures marks { AreMarks (length degrees.old) width words.new degrees.new }
     ensures added { AddsMark width words.old words.new a b }
 {
-    let is_new = set_bit(words, a * (64 * width) + b);
+    let place = a * (64 * width) + b;
+    let is_new = !has_bit(words, place);
+    set_bit(words, place);
     if is_new && a != b {
         degrees[a] += 1;
     }
@@ -162,7 +146,7 @@ pub(crate) fn gather_loops(words: &[u64], width: usize, size: usize, loops: &mut
 {
     for a in 0..size {
         if is_marked(words, width, a, a) {
-            let _is_new = set_bit(loops, a);
+            set_bit(loops, a);
         }
     }
 }

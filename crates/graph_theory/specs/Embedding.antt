@@ -24,7 +24,8 @@ Matches true e f = KeepsEdge e f × KeepsEdge f e
 pub record Embeds (q : Problem) (m : List ℕ) : Type 0 where
   pub size_is : length m ≡ size q.pattern
   pub values : (p : ℕ) → p < size q.pattern → slice_index m p < size q.target
-  pub distinct : (p r : ℕ) → p < size q.pattern → r < size q.pattern → slice_index m p ≡ slice_index m r → p ≡ r
+  pub distinct : (p r : ℕ) → p < size q.pattern → r < size q.pattern
+      → slice_index m p ≡ slice_index m r → p ≡ r
   pub labels : (p : ℕ) → p < size q.pattern → label q.target (slice_index m p) ≡ label q.pattern p
   pub edges : (p r : ℕ) → p < size q.pattern → r < size q.pattern
       → Matches q.induced (edge q.pattern p r) (edge q.target (slice_index m p) (slice_index m r))
@@ -51,7 +52,8 @@ pub record Pairwise (q : Problem) (m : List ℕ) : Type 0 where
   pub size_is : length m ≡ size q.pattern
   pub values : (p : ℕ) → p < size q.pattern → slice_index m p < size q.target
   pub alone : (p : ℕ) → p < size q.pattern → Allowed q p (slice_index m p)
-  pub pairs : (p r : ℕ) → p < size q.pattern → r < size q.pattern → (p ≡ r → ⊥) → Compatible q p (slice_index m p) r (slice_index m r)
+  pub pairs : (p r : ℕ) → p < size q.pattern → r < size q.pattern → (p ≡ r → ⊥)
+      → Compatible q p (slice_index m p) r (slice_index m r)
 
 -- A list embeds exactly where it does so vertex by vertex and pair by pair.
 abbrev pub EmbedsByPairs : Type 0

@@ -20,7 +20,8 @@ pub record BegunList (kind : LadKind) (n count : ℕ) (list : List ℕ) : Type 0
   pub numbers : list ≡ listed_numbers kind some
 
 -- Fewer neighbours than are due, and one more without its edge's label, which is due; `earlier` is the label that it had before in the list.
-pub record BegunEdge (kind : LadKind) (earlier : Option ℕ) (n count : ℕ) (list : List ℕ) : Type 0 where
+pub record BegunEdge (kind : LadKind) (earlier : Option ℕ) (n count : ℕ)
+    (list : List ℕ) : Type 0 where
   pub some : List (ℕ × ℕ)
   pub neighbour : ℕ
   pub fewer : length some < count
@@ -73,7 +74,8 @@ pub record Within (kind : LadKind) (limit : ℕ) (before : List ℕ) (place : Pl
 -- These numbers are each what is due in their place, and this is due in the next.
 abbrev pub Due : Place → LadKind → ℕ → List ℕ → Type 0
 Due (Size most) kind limit before = (before ≡ []) × (most ≡ limit)
-Due End kind limit before = (vs : List Vertex) × (length vs ≤ limit) × AreVertices kind (length vs) vs × (before ≡ text_numbers kind vs)
+Due End kind limit before = (vs : List Vertex) × (length vs ≤ limit)
+    × AreVertices kind (length vs) vs × (before ≡ text_numbers kind vs)
 Due Number kind limit before = Within kind limit before Number
 Due (Neighbour n) kind limit before = Within kind limit before (Neighbour n)
 Due (EdgeLabel earlier) kind limit before = Within kind limit before (EdgeLabel earlier)
@@ -100,7 +102,8 @@ first_of [] = None
 first_of (w ∷ ws) = Some w
 
 -- Words 1 to w - 1 are each what is due in their place, and word w is not, for this cause.
-pub record Fault (ws : List (List ℕ)) (kind : LadKind) (limit w : ℕ) (cause : LadCause) : Type 0 where
+pub record Fault (ws : List (List ℕ)) (kind : LadKind) (limit w : ℕ)
+    (cause : LadCause) : Type 0 where
   pub before : List ℕ
   pub rest : List (Option ℕ)
   pub place : Place
@@ -116,20 +119,24 @@ OnWord (Word w cause) P = P w cause
 
 -- The words are the text of at most one list of vertices.
 abbrev pub OneReading : Type 0
-OneReading = (ws : List (List ℕ)) (kind : LadKind) (limit : ℕ) (vs us : List Vertex) → Reads ws kind limit vs → Reads ws kind limit us → vs ≡ us
+OneReading = (ws : List (List ℕ)) (kind : LadKind) (limit : ℕ) (vs us : List Vertex)
+    → Reads ws kind limit vs → Reads ws kind limit us → vs ≡ us
 
 -- A text that reads has no faulty word.
 abbrev pub NoFaultOfReading : Type 0
-NoFaultOfReading = (ws : List (List ℕ)) (kind : LadKind) (limit : ℕ) (vs : List Vertex) (w : ℕ) (cause : LadCause) → Reads ws kind limit vs → Fault ws kind limit w cause → ⊥
+NoFaultOfReading = (ws : List (List ℕ)) (kind : LadKind) (limit : ℕ) (vs : List Vertex) (w : ℕ)
+    (cause : LadCause) → Reads ws kind limit vs → Fault ws kind limit w cause → ⊥
 
 -- A text has at most one first faulty word, with one cause.
 abbrev pub OneFault : Type 0
-OneFault = (ws : List (List ℕ)) (kind : LadKind) (limit w v : ℕ) (cause other : LadCause) → Fault ws kind limit w cause → Fault ws kind limit v other → (w ≡ v) × (cause ≡ other)
+OneFault = (ws : List (List ℕ)) (kind : LadKind) (limit w v : ℕ) (cause other : LadCause)
+    → Fault ws kind limit w cause → Fault ws kind limit v other → (w ≡ v) × (cause ≡ other)
 
 -- A text is that of vertices, or has a faulty word.
 abbrev pub ReadsOrFault : Type 0
 ReadsOrFault = (ws : List (List ℕ)) (kind : LadKind) (limit : ℕ)
-    → ((vs : List Vertex) × Reads ws kind limit vs) ⊎ ((w : ℕ) × (cause : LadCause) × Fault ws kind limit w cause)
+    → ((vs : List Vertex) × Reads ws kind limit vs) ⊎ ((w : ℕ) × (cause : LadCause)
+    × Fault ws kind limit w cause)
 
 -- What holds of every list of words: it has one reading or one first fault, and never both.
 pub record TextLaws : Type 0 where

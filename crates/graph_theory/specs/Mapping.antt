@@ -64,4 +64,5 @@ pub record MappingLaws : Type 0 where
   pub one_mapping : (bytes m n : List ℕ) → IsMapping bytes m → IsMapping bytes n → m ≡ n
   pub no_fault : (bytes m : List ℕ) (n : ℕ) → IsMapping bytes m → FaultyLine bytes n → ⊥
   pub one_fault : (bytes : List ℕ) (n k : ℕ) → FaultyLine bytes n → FaultyLine bytes k → n ≡ k
-  pub either : (bytes : List ℕ) → ((m : List ℕ) × IsMapping bytes m) ⊎ ((n : ℕ) × FaultyLine bytes n)
+  pub either : (bytes : List ℕ) → ((m : List ℕ) × IsMapping bytes m) ⊎ ((n : ℕ)
+      × FaultyLine bytes n)

@@ -7,7 +7,8 @@ use Rattle.graph_theory.specs.Neighbours.{degree, common, sequence, IsKeptBy}
 
 -- The image of a vertex has at least as many neighbours.
 abbrev pub DegreeIsKept : Type 0
-DegreeIsKept = (q : Problem) (m : List ℕ) (p : ℕ) → Embeds q m → p < size q.pattern → degree q.pattern p ≤ degree q.target (slice_index m p)
+DegreeIsKept = (q : Problem) (m : List ℕ) (p : ℕ) → Embeds q m → p < size q.pattern
+    → degree q.pattern p ≤ degree q.target (slice_index m p)
 
 -- The degrees of its neighbours, in falling order, go on as long and are nowhere less.
 abbrev pub SequenceIsKept : Type 0
@@ -16,7 +17,8 @@ SequenceIsKept = (q : Problem) (m : List ℕ) (p : ℕ) → Embeds q m → p < s
 
 -- The images of two vertices share at least as many neighbours.
 abbrev pub SharedAreKept : Type 0
-SharedAreKept = (q : Problem) (m : List ℕ) (p r : ℕ) → Embeds q m → p < size q.pattern → r < size q.pattern
+SharedAreKept = (q : Problem) (m : List ℕ) (p r : ℕ) → Embeds q m → p < size q.pattern
+    → r < size q.pattern
     → common q.pattern p r ≤ common q.target (slice_index m p) (slice_index m r)
 
 -- Two vertices share as many neighbours as the other two ways round.

@@ -50,7 +50,8 @@ sequence g a = falling (map (degree g) (members (is_neighbour g a) (size g)))
 
 -- At place i the second sequence has ended, or is less than the first.
 abbrev pub fails_at : List ℕ → List ℕ → ℕ → Bool
-fails_at ps ts i = nat_lt i (length ps) && not (nat_lt i (length ts) && not (nat_lt (slice_index ts i) (slice_index ps i)))
+fails_at ps ts i = nat_lt i (length ps) && not (nat_lt i (length ts)
+    && not (nat_lt (slice_index ts i) (slice_index ps i)))
 
 -- The second sequence goes on at least as long as the first, and is nowhere less.
 abbrev pub IsKeptBy : List ℕ → List ℕ → Type 0

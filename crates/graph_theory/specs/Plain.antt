@@ -26,4 +26,5 @@ IsUndirected LabelledLad = ⊥
 
 -- The graph of a text without directions is plain.
 abbrev pub UndirectedIsPlain : Type 0
-UndirectedIsPlain = (ws : List (List ℕ)) (kind : LadKind) (limit : ℕ) (g : Graph) → IsUndirected kind → ReadsGraph ws kind limit g → IsPlain g
+UndirectedIsPlain = (ws : List (List ℕ)) (kind : LadKind) (limit : ℕ) (g : Graph)
+    → IsUndirected kind → ReadsGraph ws kind limit g → IsPlain g

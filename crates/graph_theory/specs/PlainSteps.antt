@@ -17,7 +17,8 @@ pub record AreImages (q : Problem) (m : List ℕ) : Type 0 where
 -- The images of p and r are two where these are, and keep the edges from p to r.
 pub record PairIsKept (q : Problem) (m : List ℕ) (p r : ℕ) : Type 0 where
   pub distinct : slice_index m p ≡ slice_index m r → p ≡ r
-  pub edge_is : Matches q.induced (edge q.pattern p r) (edge q.target (slice_index m p) (slice_index m r))
+  pub edge_is : Matches q.induced (edge q.pattern p r) (edge q.target (slice_index m p)
+      (slice_index m r))
 
 -- The image of p is right beside that of each vertex.
 pub record RowIsKept (q : Problem) (m : List ℕ) (p : ℕ) : Type 0 where

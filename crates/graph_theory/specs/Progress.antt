@@ -27,14 +27,16 @@ pub record Went (old new : At) (numbers : List ℕ) : Type 0 where
   pub count : new.1 ≡ old.1 + length numbers
 
 -- After these numbers stands word w, which is refused in this place.
-pub record StopsAt (old : At) (numbers : List ℕ) (place : Place) (w : ℕ) (cause : LadCause) : Type 0 where
+pub record StopsAt (old : At) (numbers : List ℕ) (place : Place) (w : ℕ)
+    (cause : LadCause) : Type 0 where
   pub rest : List (Option ℕ)
   pub left : old.0 ≡ map Some numbers ++ rest
   pub word : w ≡ old.1 + length numbers + 1
   pub refused : refused_at place (first_of rest) ≡ Some cause
 
 -- The words from old to new are these listed neighbours, as many as are due.
-pub record WentListed (kind : LadKind) (size due : ℕ) (old new : At) (listed : List (ℕ × ℕ)) : Type 0 where
+pub record WentListed (kind : LadKind) (size due : ℕ) (old new : At) (listed : List (ℕ
+    × ℕ)) : Type 0 where
   pub all : length listed ≡ due
   pub each : AreListed kind size listed
   pub words : Went old new (listed_numbers kind listed)
@@ -51,10 +53,12 @@ abbrev pub StopsAtLabel : LadKind → List (ℕ × ℕ) → ℕ → At → ℕ �
 StopsAtLabel Lad listed b old w cause = ⊥
 StopsAtLabel VertexLabelledLad listed b old w cause = ⊥
 StopsAtLabel DirectedLad listed b old w cause = ⊥
-StopsAtLabel LabelledLad listed b old w cause = StopsAt old [] (EdgeLabel (listed_label listed b)) w cause
+StopsAtLabel LabelledLad listed b old w cause = StopsAt old [] (EdgeLabel
+    (listed_label listed b)) w cause
 
 -- The words stop being listed neighbours before as many as are due.
-pub record StopsListed (kind : LadKind) (size due : ℕ) (old : At) (w : ℕ) (cause : LadCause) : Type 0 where
+pub record StopsListed (kind : LadKind) (size due : ℕ) (old : At) (w : ℕ)
+    (cause : LadCause) : Type 0 where
   pub list : List ℕ
   pub place : Place
   pub begun : ListBegun place kind size due list
@@ -66,20 +70,23 @@ pub record WentVertex (kind : LadKind) (size : ℕ) (old new : At) (v : Vertex) 
   pub words : Went old new (vertex_numbers kind v)
 
 -- The words stop within a vertex.
-pub record StopsVertex (kind : LadKind) (size : ℕ) (old : At) (w : ℕ) (cause : LadCause) : Type 0 where
+pub record StopsVertex (kind : LadKind) (size : ℕ) (old : At) (w : ℕ)
+    (cause : LadCause) : Type 0 where
   pub part : List ℕ
   pub place : Place
   pub begun : Begun place kind size part
   pub stops : StopsAt old part place w cause
 
 -- The words from old to new are these vertices, as many as are due.
-pub record WentVertices (kind : LadKind) (size due : ℕ) (old new : At) (vs : List Vertex) : Type 0 where
+pub record WentVertices (kind : LadKind) (size due : ℕ) (old new : At)
+    (vs : List Vertex) : Type 0 where
   pub all : length vs ≡ due
   pub each : AreVertices kind size vs
   pub words : Went old new (all_numbers kind vs)
 
 -- The words stop being vertices before as many as are due.
-pub record StopsVertices (kind : LadKind) (size due : ℕ) (old : At) (w : ℕ) (cause : LadCause) : Type 0 where
+pub record StopsVertices (kind : LadKind) (size due : ℕ) (old : At) (w : ℕ)
+    (cause : LadCause) : Type 0 where
   pub whole : List Vertex
   pub part : List ℕ
   pub place : Place

@@ -18,7 +18,12 @@ reversed g = record {
 
 -- Both graphs of a problem turned round.
 abbrev pub reversed_problem : Problem → Problem
-reversed_problem q = record { pattern = reversed q.pattern; target = reversed q.target; induced = q.induced }
+reversed_problem q = record {
+  pattern = reversed q.pattern;
+  target = reversed q.target;
+  induced =
+      q.induced;
+}
 
 -- The rows of a graph, or those of its reversed graph.
 abbrev pub turned_rows : Direction → Graph → List (List (Option ℕ))
@@ -31,7 +36,12 @@ turned direction g = record { labels = g.labels; rows = turned_rows direction g 
 
 -- The problem of both graphs so.
 abbrev pub turned_problem : Direction → Problem → Problem
-turned_problem direction q = record { pattern = turned direction q.pattern; target = turned direction q.target; induced = q.induced }
+turned_problem direction q = record {
+  pattern = turned direction q.pattern;
+  target = turned
+      direction q.target;
+  induced = q.induced;
+}
 
 -- Where an edge stands one way, one stands the other way too. (Their labels may be two.)
 pub record IsMutual (g : Graph) : Type 0 where
@@ -63,10 +73,12 @@ abbrev pub MutualDegrees : Type 0
 MutualDegrees = (g : Graph) (a : ℕ) → IsMutual g → a < size g → degree (reversed g) a ≡ degree g a
 
 abbrev pub MutualSequences : Type 0
-MutualSequences = (g : Graph) (a : ℕ) → IsMutual g → a < size g → sequence (reversed g) a ≡ sequence g a
+MutualSequences = (g : Graph) (a : ℕ) → IsMutual g → a < size g
+    → sequence (reversed g) a ≡ sequence g a
 
 abbrev pub MutualShared : Type 0
-MutualShared = (g : Graph) (a b : ℕ) → IsMutual g → a < size g → b < size g → common (reversed g) a b ≡ common g a b
+MutualShared = (g : Graph) (a b : ℕ) → IsMutual g → a < size g → b < size g
+    → common (reversed g) a b ≡ common g a b
 
 -- Plain graphs are mutual.
 abbrev pub PlainIsMutual : Type 0

@@ -21,8 +21,10 @@ onto_first b (w ∷ ws) = (b ∷ w) ∷ ws
 -- The words of a text are its maximal runs of bytes that are no blanks.
 abbrev pub words : List ℕ → List (List ℕ)
 words [] = []
-words (b ∷ bs) = if is_blank b then words bs else if begins_word bs then onto_first b (words bs) else (b ∷ []) ∷ words bs
+words (b ∷ bs) = if is_blank b then words bs else if begins_word bs then onto_first b
+    (words bs) else (b ∷ []) ∷ words bs
 
 -- A word writes a number where it is one or more decimal digits with a value below 2^32; leading zeros count for nothing.
 abbrev pub number_of : List ℕ → Option ℕ
-number_of w = if nat_lt 0 (length w) && (all_ascii_digits w && nat_lt (digits_value 10 w) (2 ^ 32)) then Some (digits_value 10 w) else None
+number_of w = if nat_lt 0 (length w) && (all_ascii_digits w
+    && nat_lt (digits_value 10 w) (2 ^ 32)) then Some (digits_value 10 w) else None

@@ -5,7 +5,8 @@ use Rattle.graph_theory.specs.Lad.{listed_label}
 
 -- The label that the owner of a stamp gave to b, or none.
 abbrev pub given_label : List ℕ → List ℕ → ℕ → ℕ → Option ℕ
-given_label stamps labels stamp b = if slice_index stamps b == stamp then Some (slice_index labels b) else None
+given_label stamps labels stamp b = if slice_index stamps b == stamp then Some
+    (slice_index labels b) else None
 
 -- It is that of the neighbours listed so far, in a graph of so many vertices.
 pub record AreGiven (size stamp : ℕ) (stamps labels : List ℕ) (listed : List (ℕ × ℕ)) : Type 0 where

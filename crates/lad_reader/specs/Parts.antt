@@ -14,7 +14,8 @@ unlabelled b = (b, 0)
 abbrev pub vertices_from : List ℕ → List (List ℕ) → List Vertex
 vertices_from [] lists = []
 vertices_from (l ∷ ls) [] = []
-vertices_from (l ∷ ls) (bs ∷ lists) = record { label = l; listed = map unlabelled bs } ∷ vertices_from ls lists
+vertices_from (l ∷ ls) (bs ∷ lists) = record { label = l; listed = map unlabelled bs } ∷
+    vertices_from ls lists
 
 -- Listed neighbours, each with the label of its edge; where none is given it is 0.
 abbrev pub with_labels : List ℕ → List ℕ → List (ℕ × ℕ)
@@ -26,8 +27,12 @@ with_labels (b ∷ bs) (e ∷ es) = (b, e) ∷ with_labels bs es
 abbrev pub labelled_from : List ℕ → List (List ℕ) → List (List ℕ) → List Vertex
 labelled_from [] lists labels = []
 labelled_from (l ∷ ls) [] labels = []
-labelled_from (l ∷ ls) (bs ∷ lists) [] = record { label = l; listed = with_labels bs [] } ∷ labelled_from ls lists []
-labelled_from (l ∷ ls) (bs ∷ lists) (es ∷ labels) = record { label = l; listed = with_labels bs es } ∷ labelled_from ls lists labels
+labelled_from (l ∷ ls) (bs ∷ lists) [] = record { label = l; listed = with_labels bs [] } ∷
+    labelled_from ls lists []
+labelled_from (l ∷ ls) (bs ∷ lists) (es ∷ labels) = record {
+  label = l;
+  listed = with_labels bs es;
+} ∷ labelled_from ls lists labels
 
 -- Vertices in a format: only one has labels of edges.
 abbrev pub vertices_by : LadKind → List ℕ → List (List ℕ) → List (List ℕ) → List Vertex

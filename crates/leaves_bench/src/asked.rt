@@ -1,7 +1,7 @@
 //! What a run is asked to do.
 
 ghost use Rattle.std.specs.Prelude.{◌≡◌, ℕ, ◌+◌, ◌*◌, ◌/◌, ◌<◌, ◌≤◌};
-ghost use Rattle.domain_bits.specs.BitRows.{words_for};
+ghost use Rattle.bit_rows.specs.BitRows.{words_for};
 
 /// How many vertices and values the domains have.
 #[derive(Clone, Copy)]

@@ -1,7 +1,7 @@
 //! The work of the rounds. Each gives a checksum of what it saw.
 
 ghost use Rattle.std.specs.Prelude.{◌≡◌, ℕ, ◌+◌, ◌<◌, ◌≤◌, length};
-ghost use Rattle.domain_bits.specs.BitRows.{words_for};
+ghost use Rattle.bit_rows.specs.BitRows.{words_for};
 
 use crate::asked::{Kernel, Shape};
 use crate::rows::Rows;

@@ -7,7 +7,7 @@ use Rattle.std.proofs.lemmas.List.FromFn.{get_or-map-range_with_len, length-map-
 use Rattle.graph_theory.specs.Graph.{Graph, size}
 use Rattle.graph_theory.specs.Embedding.{Problem}
 use Rattle.graph_theory.specs.Neighbours.{degree, sequence, fails_at, IsKeptBy}
-use Rattle.graph_rows.specs.BitRow.{has, words_for}
+use Rattle.bit_rows.specs.BitRows.{has, words_for}
 use Rattle.nds_filter.specs.Sequences.{sequences, sequence_at}
 use Rattle.nds_filter.specs.Kept.{KeptRow, row_at, AreFirsts, RowsStay, AreKept}
 use Rattle.nds_filter.proofs.CountedLists.{length-sequence}

@@ -4,7 +4,7 @@ use Rattle.std.specs.Prelude.{◌≡◌, ℕ, ◌<◌, ◌≤◌, true, List, []
 use Rattle.graph_theory.specs.Graph.{size}
 use Rattle.graph_theory.specs.Embedding.{Problem}
 use Rattle.graph_theory.specs.Neighbours.{degree, sequence, IsKeptBy}
-use Rattle.graph_rows.specs.BitRow.{has, words_for}
+use Rattle.bit_rows.specs.BitRows.{has, words_for}
 
 -- The row holds the target vertices whose sequence keeps that of p; these have as many neighbours, at least.
 pub record KeptRow (q : Problem) (p : ℕ) (row : List ℕ) : Type 0 where
@@ -12,7 +12,8 @@ pub record KeptRow (q : Problem) (p : ℕ) (row : List ℕ) : Type 0 where
   pub within : (t : ℕ) → has row t ≡ true → t < size q.target
   pub right : (t : ℕ) → has row t ≡ true → IsKeptBy (sequence q.pattern p) (sequence q.target t)
   pub degrees : (t : ℕ) → has row t ≡ true → degree q.pattern p ≤ degree q.target t
-  pub complete : (t : ℕ) → t < size q.target → IsKeptBy (sequence q.pattern p) (sequence q.target t) → has row t ≡ true
+  pub complete : (t : ℕ) → t < size q.target
+      → IsKeptBy (sequence q.pattern p) (sequence q.target t) → has row t ≡ true
 
 -- Row k of the rows.
 abbrev pub row_at : List (List ℕ) → ℕ → List ℕ

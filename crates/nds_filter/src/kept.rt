@@ -5,12 +5,12 @@ ghost use Rattle.std.specs.Prelude.{◌≡◌, ℕ, ◌*◌, ◌<◌, ◌≤◌,
 ghost use Rattle.graph_theory.specs.Graph.{size};
 ghost use Rattle.graph_theory.specs.Neighbours.{degree, sequence, IsKeptBy};
 ghost use Rattle.graph_theory.specs.Reversed.{turned_problem};
-ghost use Rattle.graph_rows.specs.BitRow.{has, words_for};
+ghost use Rattle.bit_rows.specs.BitRows.{has, words_for};
 ghost use Rattle.nds_filter.specs.Sequences.{sequences, sequence_at};
 ghost use Rattle.nds_filter.specs.Kept.{KeptRow, row_at, AreFirsts, RowsStay, AreKept};
 
 use crate::sequences::{SequenceAnswer, Sequences, compare};
-use bit_rows::{fill_below, next_member, unset_bit};
+use bit_rows::{fill_below, next_member, unset_bit, words_for};
 use degree_filter::keep_degrees;
 use graph_rows::Problem;
 use graph_theory::direction::Direction;
@@ -77,7 +77,8 @@ impl<'a> Model for KeptRows<'a> {
 
     ghost view = { λ k. k.turned };
 
-    ghost invariant = { λ k. AreKept k.turned k.classes.items (map (λ row. row.items) k.rows.items) (size_of k.turned.pattern) };
+    ghost invariant = { λ k. AreKept k.turned k.classes.items (map
+        (λ row. row.items) k.rows.items) (size_of k.turned.pattern) };
 }
 
 impl<'a> KeptRows<'a> {
@@ -191,7 +192,7 @@ fn kept_row(
     requires target { ts.now ≡ sequences q.now.target }
     ensures { IfOk result (λ row. KeptRow q.now p row.items) }
 {
-    let width = (usize::from(q.target_size()) + 63) / 64;
+    let width = words_for(usize::from(q.target_size()));
     let mut row = vec![in alloc; 0u64; width]?;
     fill_kept(q, ps, ts, p, &mut row);
     Ok(row)

@@ -38,7 +38,8 @@ one_more (Some looks) n = Some (looks ++ n ∷ [])
 pub record CaughtUp (s t : Facts) : Type 0 where
   pub grew : Grew s t
   pub mine : places s.owner t.seen ≡ places s.owner s.seen
-  pub looks : (t.looks ≡ one_more s.looks (length t.seen)) ⊎ ((t.looks ≡ s.looks) × (length t.seen ≡ s.size))
+  pub looks : (t.looks ≡ one_more s.looks (length t.seen)) ⊎ ((t.looks ≡ s.looks)
+      × (length t.seen ≡ s.size))
 
 -- The row stands at this place, the last that is seen, and is its owner's one new row; so the rows between are of others.
 pub record StandsAt (row : Row) (at : ℕ) (s t : Facts) : Type 0 where

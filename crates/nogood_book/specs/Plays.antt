@@ -17,12 +17,15 @@ pub record Shown (v : View) : Type 0 where
 
 -- A load of the next word: unused, which is a look, or a row of another.
 abbrev pub Looks : Step ℕ → Me ℕ View → ℕ → Me ℕ View → Type 0
-Looks s v found w = (w.1 ≡ v.1) × Shown w.0 × (w.0 ≡ (if found == 0 then looked v.0 else sees v.0 (row_of found)))
+Looks s v found w = (w.1 ≡ v.1) × Shown w.0
+    × (w.0 ≡ (if found == 0 then looked v.0 else sees v.0 (row_of found)))
 
 -- An exchange of the next word from unused to a row's: it was unused, and the row is written, or a row of another.
 abbrev pub Adds : Step ℕ → Me ℕ View → ℕ → Me ℕ View → Type 0
-Adds s v found w = (w.1 ≡ v.1) × Shown w.0 × (w.0 ≡ (if found == 0 then added v.0 (row_of s.second) else sees v.0 (row_of found)))
+Adds s v found w = (w.1 ≡ v.1) × Shown w.0
+    × (w.0 ≡ (if found == 0 then added v.0 (row_of s.second) else sees v.0 (row_of found)))
 
 -- A load after a join, which finds out that of two beginnings the shorter begins the longer.
 abbrev pub Checks : Step ℕ → Me ℕ View → ℕ → Me ℕ View → Type 0
-Checks s v found w = (w ≡ v) × Shown w.0 × (length w.0.other ≤ length w.0.seen → StartsWith w.0.seen w.0.other)
+Checks s v found w = (w ≡ v) × Shown w.0 × (length w.0.other ≤ length w.0.seen
+    → StartsWith w.0.seen w.0.other)

@@ -104,15 +104,18 @@ pub record IsSoundRow (q : Problem) (rows : List Row) (k : ℕ) (r : Row) : Type
 
 -- In sound rows each parent lies below its row and is a step, each path is a path in the problem's range, and that of a nogood is dead.
 abbrev pub SoundRowByRow : Type 0
-SoundRowByRow = (q : Problem) (rows : List Row) → Sound q rows → (k : ℕ) (r : Row) → slice_get rows k ≡ Some r → IsSoundRow q rows k r
+SoundRowByRow = (q : Problem) (rows : List Row) → Sound q rows → (k : ℕ) (r : Row)
+    → slice_get rows k ≡ Some r → IsSoundRow q rows k r
 
 -- The path of each nogood among sound rows is dead, however many rows follow.
 abbrev pub NogoodsAreDead : Type 0
-NogoodsAreDead = (q : Problem) (rows : List Row) (k : ℕ) (r : Row) → Sound q rows → slice_get rows k ≡ Some r → r.kind ≡ Nogood → Dead q (path_at rows k)
+NogoodsAreDead = (q : Problem) (rows : List Row) (k : ℕ) (r : Row) → Sound q rows
+    → slice_get rows k ≡ Some r → r.kind ≡ Nogood → Dead q (path_at rows k)
 
 -- A path does not change as rows follow.
 abbrev pub PathsStay : Type 0
-PathsStay = (rows more : List Row) (k : ℕ) → k < length rows → path_at (rows ++ more) k ≡ path_at rows k
+PathsStay = (rows more : List Row) (k : ℕ) → k < length rows
+    → path_at (rows ++ more) k ≡ path_at rows k
 
 -- What holds of sound rows and their paths.
 pub record RowLaws : Type 0 where

@@ -46,7 +46,8 @@ facts_of s = record {
 }
 
 -- The invariant of a seat: the copy of the rows is what its view has seen, and there is room for all rows of the book.
-pub record IsSeat (table : TableId) (me : Me ℕ View) (rows : Vec Row Global) (most owner : ℕ) : Type 0 where
+pub record IsSeat (table : TableId) (me : Me ℕ View) (rows : Vec Row Global)
+    (most owner : ℕ) : Type 0 where
   pub rows_are : rows.items ≡ me.0.seen
   pub no_slots : me.1 ≡ []
   pub room : most ≤ vec_capacity rows
@@ -88,11 +89,13 @@ seeing v rows = record v { seen = rows }
 
 -- The same after a look, where a row is still unused, and after none, where all are used.
 abbrev pub IsAfterLook : SeatName → SeatName → Type 0
-IsAfterLook s t = IsSeatWith s t (looked (seeing s.view t.view.seen)) ⊎ (IsSeatWith s t (seeing s.view t.view.seen) × (length t.view.seen + 1 ≡ s.table.words))
+IsAfterLook s t = IsSeatWith s t (looked (seeing s.view t.view.seen))
+    ⊎ (IsSeatWith s t (seeing s.view t.view.seen) × (length t.view.seen + 1 ≡ s.table.words))
 
 -- What publishing leaves of the rest of a seat: its own places have the row's, or none is new.
 abbrev pub IsAfterWrite : SeatName → SeatName → Published → Type 0
-IsAfterWrite s t (At at) = IsSeatWith s t (record s.view { seen = t.view.seen; mine = s.view.mine ++ at ∷ [] })
+IsAfterWrite s t (At at) = IsSeatWith s t
+    (record s.view { seen = t.view.seen; mine = s.view.mine ++ at ∷ [] })
 IsAfterWrite s t Full = IsSeatWith s t (seeing s.view t.view.seen)
 
 -- A seat took in another. It sees what either had seen, and answers for the owners of both with the places that they had, which are

@@ -72,9 +72,11 @@ pub record IsBook (q : Problem) (most : ℕ) (words : List ℕ) (views : List Vi
   pub sound : Sound q rows
   pub owned : Owned made rows
   pub each : (i : ℕ) (v : View) → get_elem? views i ≡ some v → Knows q rows made i v
-  pub alone : (i j : ℕ) (v w : View) (o : ℕ) → get_elem? views i ≡ some v → get_elem? views j ≡ some w
+  pub alone : (i j : ℕ) (v w : View) (o : ℕ) → get_elem? views i ≡ some v
+      → get_elem? views j ≡ some w
       → HasPart o (parts v) → HasPart o (parts w) → i ≡ j
-  pub somewhere : (o : ℕ) → HasNumber o made → (i : ℕ) × (v : View) × (get_elem? views i ≡ some v) × HasPart o (parts v)
+  pub somewhere : (o : ℕ) → HasNumber o made
+      → (i : ℕ) × (v : View) × (get_elem? views i ≡ some v) × HasPart o (parts v)
 
 abbrev pub Rule : Problem → ℕ → State ℕ View → Type 0
 Rule q most s = IsBook q most s.words s.views
@@ -135,11 +137,23 @@ shorter xs ys = if nat_le (length xs) (length ys) then xs else ys
 
 -- The seat that took in another.
 abbrev pub gathers : View → View → View
-gathers v w = record v { seen = longer v.seen w.seen; other = shorter v.seen w.seen; gathered = v.gathered ++ parts w }
+gathers v w = record v {
+  seen = longer v.seen w.seen;
+  other = shorter v.seen w.seen;
+  gathered =
+      v.gathered ++ parts w;
+}
 
 -- The problem of a seat that is spent.
 abbrev pub no_problem : Problem
-no_problem = record { pattern = record { labels = []; rows = [] }; target = record { labels = []; rows = [] }; induced = false }
+no_problem = record {
+  pattern = record { labels = []; rows = [] };
+  target = record {
+    labels = [];
+    rows = [];
+  };
+  induced = false;
+}
 
 -- What is left of a seat that was taken in.
 abbrev pub nobody : View

@@ -13,7 +13,8 @@ kind_code Step = 0
 kind_code Nogood = 1
 
 abbrev pub word_of : Row → ℕ
-word_of r = r.value + r.vertex * 2 ^ 13 + parent_code r.parent * 2 ^ 23 + r.owner * 2 ^ 47 + kind_code r.kind * 2 ^ 54 + 2 ^ 55
+word_of r = r.value + r.vertex * 2 ^ 13 + parent_code r.parent * 2 ^ 23 + r.owner * 2 ^ 47 +
+    kind_code r.kind * 2 ^ 54 + 2 ^ 55
 
 abbrev pub kind_of : ℕ → RowKind
 kind_of zero = Step

@@ -1,8 +1,8 @@
 -- How many watches wait for their visit.
 use Rattle.std.proofs.Common.{◌≡◌, ℕ, ◌+◌, ◌-◌, ◌*◌, ◌<◌, ◌≤◌, zero, suc, Bool, true, false, cond, eqb, not, ◌&&◌, List, length, get_or, refl, ap, ◌∙◌, arith}
 use Rattle.std.proofs.lemmas.Bool.{lt-ltb}
-use Rattle.domain_bits.specs.Counting.{count}
-use Rattle.domain_bits.proofs.Counts.{count_same, count_split, count_le}
+use Rattle.graph_theory.specs.Neighbours.{count}
+use Rattle.bit_rows.proofs.Passing.{count_same, count_split, count_le}
 use Rattle.domain_bits.proofs.Sizes.{count_some}
 use Rattle.nogood_watch.specs.Lists.{times, followed, Chained}
 use Rattle.nogood_watch.specs.Nogoods.{partner}

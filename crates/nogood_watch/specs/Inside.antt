@@ -14,7 +14,11 @@ home_of values watches x = cell values (literal watches x)
 
 -- the nogood of an entry
 abbrev pub nogood_at : List (ℕ × ℕ) → Entry → Nogood
-nogood_at literals e = record { literals = take (e.end - e.start) (drop e.start literals); name = e.name }
+nogood_at literals e = record {
+  literals = take (e.end - e.start)
+      (drop e.start literals);
+  name = e.name;
+}
 
 abbrev pub nogoods_of : List (ℕ × ℕ) → List Entry → List Nogood
 nogoods_of literals entries = map (nogood_at literals) entries
@@ -28,11 +32,14 @@ pub record Within (literals : List (ℕ × ℕ)) (e : Entry) : Type 0 where
   pub inside : e.end ≤ length literals
 
 -- each watch is in the list of its literal, and no list is being walked
-pub record Kept (vertices values : ℕ) (literals : List (ℕ × ℕ)) (entries : List Entry) (watches : List (ℕ × ℕ)) (heads next : List ℕ) (capacity : ℕ) : Type 0 where
+pub record Kept (vertices values : ℕ) (literals : List (ℕ
+    × ℕ)) (entries : List Entry) (watches : List (ℕ
+    × ℕ)) (heads next : List ℕ) (capacity : ℕ) : Type 0 where
   pub heads_long : length heads ≡ vertices * values + 1
   pub next_long : length next ≡ length watches
   pub within : (i : ℕ) → i < length entries → Within literals (entry entries i)
-  pub literals_are : (i : ℕ) → i < length entries → AreLiterals vertices values (nogood (nogoods_of literals entries) i).literals
+  pub literals_are : (i : ℕ) → i < length entries
+      → AreLiterals vertices values (nogood (nogoods_of literals entries) i).literals
   pub watches_are : AreWatches (nogoods_of literals entries) watches
   pub chained : Chained (home_of values watches) heads next
   pub none : slice_index heads (vertices * values) ≡ no_watch

@@ -25,7 +25,8 @@ pub record Chained (home : ℕ → ℕ) (heads next : List ℕ) : Type 0 where
   pub few : length next ≤ no_watch
   pub lists : ℕ → List ℕ
   pub chains : (k : ℕ) → k < length heads → Chain next (slice_index heads k) (lists k)
-  pub once : (k x : ℕ) → k < length heads → times (lists k) x ≡ cond (nat_lt x (length next) && (home x == k)) 1 0
+  pub once : (k x : ℕ) → k < length heads
+      → times (lists k) x ≡ cond (nat_lt x (length next) && (home x == k)) 1 0
 
 -- x has another home
 abbrev pub moved : (ℕ → ℕ) → ℕ → ℕ → ℕ → ℕ
@@ -43,4 +44,5 @@ without x (y ∷ ys) = cond (y == x) ys (y ∷ without x ys)
 -- the first so many numbers of the list that begins here
 abbrev pub followed : ℕ → List ℕ → ℕ → List ℕ
 followed zero next at = []
-followed (suc n) next at = cond (nat_lt at (length next)) (at ∷ followed n next (slice_index next at)) []
+followed (suc n) next at = cond (nat_lt at (length next)) (at ∷ followed n next
+    (slice_index next at)) []

@@ -18,7 +18,14 @@ pub record State : Type 0 where
 
 -- no nogoods
 abbrev pub empty : ℕ → ℕ → State
-empty vertices values = record { vertices = vertices; values = values; nogoods = []; watches = []; units = []; forced = [] }
+empty vertices values = record {
+  vertices = vertices;
+  values = values;
+  nogoods = [];
+  watches = [];
+  units = [];
+  forced = [];
+}
 
 -- a nogood more: one literal is a unit, and of more the first two are watched
 abbrev pub added : State → List (ℕ × ℕ) → ℕ → State
@@ -54,5 +61,7 @@ pub record AreLiterals (vertices values : ℕ) (xs : List (ℕ × ℕ)) : Type 0
 -- the watches of each nogood are two of its literals
 pub record AreWatches (nogoods : List Nogood) (watches : List (ℕ × ℕ)) : Type 0 where
   pub two : length watches ≡ 2 * length nogoods
-  pub of : (x : ℕ) → x < length watches → (k : ℕ) × (k < length (nogood_of nogoods x).literals) × (literal (nogood_of nogoods x).literals k ≡ literal watches x)
-  pub apart : (x : ℕ) → x < length watches → (literal watches x).0 ≡ (literal watches (partner x)).0 → ⊥
+  pub of : (x : ℕ) → x < length watches → (k : ℕ) × (k < length (nogood_of nogoods x).literals)
+      × (literal (nogood_of nogoods x).literals k ≡ literal watches x)
+  pub apart : (x : ℕ) → x < length watches
+      → (literal watches x).0 ≡ (literal watches (partner x)).0 → ⊥

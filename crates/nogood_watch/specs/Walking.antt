@@ -1,6 +1,6 @@
 -- A walk along the watches of a literal.
 use Rattle.std.specs.Prelude.{◌≡◌, ℕ, ◌+◌, ◌-◌, ◌*◌, ◌<◌, ◌≤◌, ◌⊎◌, ◌==◌, ◌++◌, List, [], length, slice_index}
-use Rattle.domain_bits.specs.Counting.{count}
+use Rattle.graph_theory.specs.Neighbours.{count}
 use Rattle.domain_bits.specs.Removals as removals
 use Rattle.nogood_watch.specs.Lists.{no_watch, times, followed, Chained}
 use Rattle.nogood_watch.specs.Nogoods.{Nogood, literal, nogood, AreLiterals, AreWatches}
@@ -11,10 +11,12 @@ use Rattle.nogood_watch.specs.declared.watched.WatchAnswer.TheVariants.{Quiet, F
 
 -- every literal of other vertices than p and q is assigned
 abbrev pub NoneFree : removals.State → List (ℕ × ℕ) → ℕ → ℕ → Type 0
-NoneFree d xs p q = (k : ℕ) → k < length xs → ((literal xs k).0 ≡ p) ⊎ (((literal xs k).0 ≡ q) ⊎ IsAssigned d (literal xs k))
+NoneFree d xs p q = (k : ℕ) → k < length xs
+    → ((literal xs k).0 ≡ p) ⊎ (((literal xs k).0 ≡ q) ⊎ IsAssigned d (literal xs k))
 
 -- a literal of the list, of another vertex than p and q, that is not assigned
-pub record IsFreeLiteral (d : removals.State) (xs : List (ℕ × ℕ)) (p q : ℕ) (l : ℕ × ℕ) : Type 0 where
+pub record IsFreeLiteral (d : removals.State) (xs : List (ℕ × ℕ)) (p q : ℕ) (l : ℕ
+    × ℕ) : Type 0 where
   pub place : ℕ
   pub within : place < length xs
   pub is : literal xs place ≡ l
@@ -23,10 +25,12 @@ pub record IsFreeLiteral (d : removals.State) (xs : List (ℕ × ℕ)) (p q : �
   pub free : IsAssigned d l → ⊥
 
 -- the lists and watches are in order for a visit of x, the first one in hand
-pub record Ready (d : removals.State) (nogoods : List Nogood) (watches : List (ℕ × ℕ)) (heads next : List ℕ) (x : ℕ) : Type 0 where
+pub record Ready (d : removals.State) (nogoods : List Nogood) (watches : List (ℕ
+    × ℕ)) (heads next : List ℕ) (x : ℕ) : Type 0 where
   pub heads_long : length heads ≡ d.vertices * d.values + 1
   pub next_long : length next ≡ length watches
-  pub literals_are : (i : ℕ) → i < length nogoods → AreLiterals d.vertices d.values (nogood nogoods i).literals
+  pub literals_are : (i : ℕ) → i < length nogoods
+      → AreLiterals d.vertices d.values (nogood nogoods i).literals
   pub watches_are : AreWatches nogoods watches
   pub few : length next ≤ no_watch
   pub x_in : x < length watches
@@ -34,14 +38,17 @@ pub record Ready (d : removals.State) (nogoods : List Nogood) (watches : List (�
   pub assigned : IsAssigned d (literal watches x)
 
 -- what has been forced, and one more at most
-pub record Forces (d : removals.State) (nogoods : List Nogood) (old new : List (ℕ × ℕ)) (x : ℕ) (forced forced' : List (ℕ × ℕ × ℕ)) : Type 0 where
+pub record Forces (d : removals.State) (nogoods : List Nogood) (old new : List (ℕ
+    × ℕ)) (x : ℕ) (forced forced' : List (ℕ × ℕ × ℕ)) : Type 0 where
   pub more : List (ℕ × ℕ × ℕ)
   pub after : forced' ≡ forced ++ more
   pub few : length more ≤ 1
-  pub follows : (k : ℕ) → k < length more → (f : Follows d nogoods old new (literal old x) (forced_at more k)) × (f.watch ≡ x)
+  pub follows : (k : ℕ) → k < length more
+      → (f : Follows d nogoods old new (literal old x) (forced_at more k)) × (f.watch ≡ x)
 
 -- what a visit of x does
-pub record Visited (d : removals.State) (nogoods : List Nogood) (old new : List (ℕ × ℕ)) (forced forced' : List (ℕ × ℕ × ℕ)) (x : ℕ) : Type 0 where
+pub record Visited (d : removals.State) (nogoods : List Nogood) (old new : List (ℕ
+    × ℕ)) (forced forced' : List (ℕ × ℕ × ℕ)) (x : ℕ) : Type 0 where
   pub long : length new ≡ length old
   pub watches_are : AreWatches nogoods new
   pub guarded : IsGuarded d nogoods new forced' (literal old x) x
@@ -51,26 +58,36 @@ pub record Visited (d : removals.State) (nogoods : List Nogood) (old new : List 
 
 -- how many watches are still to be visited
 abbrev pub to_visit : List ℕ → List ℕ → ℕ
-to_visit heads next = count (λ y. times (followed (length next) next (slice_index heads (length heads - 1))) y == 1) (length next)
+to_visit heads next = count (λ y. times (followed (length next) next (slice_index heads
+    (length heads - 1))) y == 1) (length next)
 
 -- what holds on the way: a watch that waits is as it was, the others are in their lists, and the nogoods visited are guarded
-pub record Walking (d : removals.State) (nogoods : List Nogood) (start : List (ℕ × ℕ)) (l : ℕ × ℕ) (watches : List (ℕ × ℕ)) (heads next : List ℕ) (forced : List (ℕ × ℕ × ℕ)) : Type 0 where
+pub record Walking (d : removals.State) (nogoods : List Nogood) (start : List (ℕ × ℕ)) (l : ℕ
+    × ℕ) (watches : List (ℕ × ℕ)) (heads next : List ℕ) (forced : List (ℕ × ℕ × ℕ)) : Type 0 where
   pub heads_long : length heads ≡ d.vertices * d.values + 1
   pub next_long : length next ≡ length watches
   pub start_long : length start ≡ length watches
   pub watches_are : AreWatches nogoods watches
   pub home : ℕ → ℕ
   pub chained : Chained home heads next
-  pub waits : (x : ℕ) → x < length watches → home x ≡ d.vertices * d.values → (literal watches x ≡ l) × (literal start x ≡ l)
-  pub rests : (x : ℕ) → x < length watches → (home x ≡ d.vertices * d.values → ⊥) → home x ≡ cell d.values (literal watches x)
-  pub done : (x : ℕ) → x < length watches → literal start x ≡ l → (home x ≡ d.vertices * d.values → ⊥) → IsGuarded d nogoods watches forced l x
-  pub others : (x : ℕ) → x < length watches → (literal start x ≡ l → ⊥) → literal watches x ≡ literal start x
+  pub waits : (x : ℕ) → x < length watches → home x ≡ d.vertices * d.values
+      → (literal watches x ≡ l) × (literal start x ≡ l)
+  pub rests : (x : ℕ) → x < length watches → (home x ≡ d.vertices * d.values → ⊥)
+      → home x ≡ cell d.values (literal watches x)
+  pub done : (x : ℕ) → x < length watches → literal start x ≡ l → (home x ≡ d.vertices * d.values
+      → ⊥) → IsGuarded d nogoods watches forced l x
+  pub others : (x : ℕ) → x < length watches → (literal start x ≡ l → ⊥)
+      → literal watches x ≡ literal start x
   pub moves : MovesToFree d start watches
-  pub follows : (k : ℕ) → k < length forced → (f : Follows d nogoods start watches l (forced_at forced k)) × (home f.watch ≡ d.vertices * d.values → ⊥)
-  pub room : length forced + count (λ x. home x == d.vertices * d.values) (length next) ≤ length nogoods
+  pub follows : (k : ℕ) → k < length forced
+      → (f : Follows d nogoods start watches l (forced_at forced k))
+      × (home f.watch ≡ d.vertices * d.values → ⊥)
+  pub room : length forced + count (λ x. home x == d.vertices * d.values)
+      (length next) ≤ length nogoods
 
 -- what a walk has done
-pub record Walked (d : removals.State) (nogoods : List Nogood) (old new : List (ℕ × ℕ)) (l : ℕ × ℕ) (forced : List (ℕ × ℕ × ℕ)) : Type 0 where
+pub record Walked (d : removals.State) (nogoods : List Nogood) (old new : List (ℕ × ℕ)) (l : ℕ
+    × ℕ) (forced : List (ℕ × ℕ × ℕ)) : Type 0 where
   pub guarded : (x : ℕ) → x < length old → literal old x ≡ l → IsGuarded d nogoods new forced l x
   pub others : (x : ℕ) → x < length old → (literal old x ≡ l → ⊥) → literal new x ≡ literal old x
   pub moves : MovesToFree d old new
@@ -79,5 +96,7 @@ pub record Walked (d : removals.State) (nogoods : List Nogood) (old new : List (
 -- what an answer says of the forced pairs
 abbrev pub Tells : WatchAnswer → removals.State → List (ℕ × ℕ × ℕ) → Type 0
 Tells Quiet d forced = forced ≡ []
-Tells Forced d forced = (0 < length forced) × ((k : ℕ) → k < length forced → IsAssigned d ((forced_at forced k).0, (forced_at forced k).1) → ⊥)
-Tells (Fail name) d forced = (k : ℕ) × (k < length forced) × ((forced_at forced k).2 ≡ name) × IsAssigned d ((forced_at forced k).0, (forced_at forced k).1)
+Tells Forced d forced = (0 < length forced) × ((k : ℕ) → k < length forced
+    → IsAssigned d ((forced_at forced k).0, (forced_at forced k).1) → ⊥)
+Tells (Fail name) d forced = (k : ℕ) × (k < length forced) × ((forced_at forced k).2 ≡ name)
+    × IsAssigned d ((forced_at forced k).0, (forced_at forced k).1)

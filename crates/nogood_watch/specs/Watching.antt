@@ -23,23 +23,33 @@ abbrev pub IsFree : removals.State → List (ℕ × ℕ) → ℕ → Type 0
 IsFree d watches x = IsAssigned d (literal watches x) → ⊥
 
 -- it is watched at l as before, and its other watch is forced
-pub record IsForced (nogoods : List Nogood) (watches : List (ℕ × ℕ)) (forced : List (ℕ × ℕ × ℕ)) (l : ℕ × ℕ) (x : ℕ) : Type 0 where
+pub record IsForced (nogoods : List Nogood) (watches : List (ℕ × ℕ)) (forced : List (ℕ × ℕ
+    × ℕ)) (l : ℕ × ℕ) (x : ℕ) : Type 0 where
   pub this : literal watches x ≡ l
   pub place : ℕ
   pub within : place < length forced
-  pub other : forced_at forced place ≡ ((literal watches (partner x)).0, (literal watches (partner x)).1, (nogood_of nogoods x).name)
+  pub other : forced_at forced place ≡ (
+    (literal watches (partner x)).0,
+    (literal watches
+        (partner x)).1,
+    (nogood_of nogoods x).name,
+  )
 
 -- it is watched at l as before, and its other watch has left its domain
 pub record HasLeft (d : removals.State) (watches : List (ℕ × ℕ)) (l : ℕ × ℕ) (x : ℕ) : Type 0 where
   pub this : literal watches x ≡ l
-  pub other : removals.in_domain d (literal watches (partner x)).0 (literal watches (partner x)).1 ≡ false
+  pub other : removals.in_domain d (literal watches (partner x)).0 (literal watches
+      (partner x)).1 ≡ false
 
 -- what holds of a nogood with the watch x that was at l, once l is assigned
-abbrev pub IsGuarded : removals.State → List Nogood → List (ℕ × ℕ) → List (ℕ × ℕ × ℕ) → ℕ × ℕ → ℕ → Type 0
-IsGuarded d nogoods watches forced l x = IsFree d watches x ⊎ (IsForced nogoods watches forced l x ⊎ HasLeft d watches l x)
+abbrev pub IsGuarded : removals.State → List Nogood → List (ℕ × ℕ) → List (ℕ × ℕ × ℕ) → ℕ × ℕ → ℕ
+    → Type 0
+IsGuarded d nogoods watches forced l x = IsFree d watches x
+    ⊎ (IsForced nogoods watches forced l x ⊎ HasLeft d watches l x)
 
 -- a pair with a name is in its domain, and all other literals of a nogood of that name, with a watch x that was and is at l, are assigned
-pub record Follows (d : removals.State) (nogoods : List Nogood) (old new : List (ℕ × ℕ)) (l : ℕ × ℕ) (e : ℕ × ℕ × ℕ) : Type 0 where
+pub record Follows (d : removals.State) (nogoods : List Nogood) (old new : List (ℕ × ℕ)) (l : ℕ
+    × ℕ) (e : ℕ × ℕ × ℕ) : Type 0 where
   pub watch : ℕ
   pub within : watch < length old
   pub was : literal old watch ≡ l
@@ -51,11 +61,13 @@ pub record Follows (d : removals.State) (nogoods : List Nogood) (old new : List 
 
 -- each nogood that was watched at l is guarded now
 abbrev pub GuardsAll : removals.State → State → State → ℕ × ℕ → Type 0
-GuardsAll d old new l = (x : ℕ) → x < length old.watches → literal old.watches x ≡ l → IsGuarded d new.nogoods new.watches new.forced l x
+GuardsAll d old new l = (x : ℕ) → x < length old.watches → literal old.watches x ≡ l
+    → IsGuarded d new.nogoods new.watches new.forced l x
 
 -- every other watch keeps its literal
 abbrev pub KeepsOthers : State → State → ℕ × ℕ → Type 0
-KeepsOthers old new l = (x : ℕ) → x < length old.watches → (literal old.watches x ≡ l → ⊥) → literal new.watches x ≡ literal old.watches x
+KeepsOthers old new l = (x : ℕ) → x < length old.watches → (literal old.watches x ≡ l → ⊥)
+    → literal new.watches x ≡ literal old.watches x
 
 -- a watch keeps its literal, or that one is assigned and the new one is not
 abbrev pub KeepsOrFrees : removals.State → ℕ × ℕ → ℕ × ℕ → Type 0
@@ -67,17 +79,20 @@ MovesToFree d old new = (x : ℕ) → x < length old → KeepsOrFrees d (literal
 
 -- nothing is forced that does not follow
 abbrev pub AllFollow : removals.State → State → State → ℕ × ℕ → Type 0
-AllFollow d old new l = (k : ℕ) → k < length new.forced → Follows d old.nogoods old.watches new.watches l (forced_at new.forced k)
+AllFollow d old new l = (k : ℕ) → k < length new.forced
+    → Follows d old.nogoods old.watches new.watches l (forced_at new.forced k)
 
 -- all literals of a nogood of this name are assigned
 pub record IsWhole (d : removals.State) (nogoods : List Nogood) (name : ℕ) : Type 0 where
   pub place : ℕ
   pub within : place < length nogoods
   pub named : (nogood nogoods place).name ≡ name
-  pub all : (k : ℕ) → k < length (nogood nogoods place).literals → IsAssigned d (literal (nogood nogoods place).literals k)
+  pub all : (k : ℕ) → k < length (nogood nogoods place).literals
+      → IsAssigned d (literal (nogood nogoods place).literals k)
 
 -- what each answer says
 abbrev pub Answers : WatchAnswer → removals.State → State → Type 0
 Answers Quiet d s = s.forced ≡ []
-Answers Forced d s = (0 < length s.forced) × ((k : ℕ) → k < length s.forced → IsAssigned d ((forced_at s.forced k).0, (forced_at s.forced k).1) → ⊥)
+Answers Forced d s = (0 < length s.forced) × ((k : ℕ) → k < length s.forced
+    → IsAssigned d ((forced_at s.forced k).0, (forced_at s.forced k).1) → ⊥)
 Answers (Fail name) d s = IsWhole d s.nogoods name

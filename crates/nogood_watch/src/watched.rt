@@ -57,9 +57,17 @@ impl Model for Watched {
 
     ghost Value = { State };
 
-    ghost view = { λ s. record { vertices = s.vertices; values = s.values; nogoods = nogoods_of s.literals.items s.entries.items; watches = s.watches.items; units = s.units.items; forced = s.forced.items } };
+    ghost view = { λ s. record {
+      vertices = s.vertices;
+      values = s.values;
+      nogoods = nogoods_of s.literals.items s.entries.items;
+      watches = s.watches.items;
+      units = s.units.items;
+      forced = s.forced.items;
+    } };
 
-    ghost invariant = { λ s. Kept s.vertices s.values s.literals.items s.entries.items s.watches.items s.heads.items s.next.items (vec_capacity s.forced) };
+    ghost invariant = { λ s. Kept s.vertices s.values s.literals.items s.entries.items
+        s.watches.items s.heads.items s.next.items (vec_capacity s.forced) };
 }
 
 impl Watched {

@@ -29,12 +29,14 @@ pub record IsExhausted (q : Problem) (d : State) (a : Account) (p : ℕ) : Type 
   pub none : (t : ℕ) → in_domain d p t ≡ true → NotAmong a.refuted t → ⊥
 
 -- What the end says of the domains.
-abbrev pub EndsBy : DeadEnd → Problem → Option watched.State → State → Option (List Change) → Option CountedSet → Account → Type 0
+abbrev pub EndsBy : DeadEnd → Problem → Option watched.State → State → Option (List Change)
+    → Option CountedSet → Account → Type 0
 EndsBy (Failed failure) q nogoods d changes short a = Fails q nogoods d changes short failure
 EndsBy (Exhausted p) q nogoods d changes short a = IsExhausted q d a p
 
 -- The path of the account ends so in some domains: what was told of them is true, with the nogoods among the rows, and each guess that was told is one of the path.
-pub record EndsPath (q : Problem) (rows : List Row) (changes : Option (List Change)) (short : Option CountedSet) (a : Account) (end : DeadEnd) : Type 0 where
+pub record EndsPath (q : Problem) (rows : List Row) (changes : Option (List Change))
+    (short : Option CountedSet) (a : Account) (end : DeadEnd) : Type 0 where
   pub domains : State
   pub nogoods : Option watched.State
   pub is_of : IsOf q domains
@@ -64,7 +66,8 @@ pub record GrowsBeside (owner : ℕ) (rows more : List Row) : Type 0 where
   pub none_own : (k : ℕ) → IsNogoodBy owner more k → k < length rows
 
 -- Rows have come, and row k is the one nogood of the owner among them: its path is that of a value which the account has refuted at the level.
-pub record Publishes (a : Account) (owner level value : ℕ) (rows more : List Row) (k : ℕ) : Type 0 where
+pub record Publishes (a : Account) (owner level value : ℕ) (rows more : List Row)
+    (k : ℕ) : Type 0 where
   pub rest : List Row
   pub front : more ≡ rows ++ rest
   pub behind : length rows ≤ k

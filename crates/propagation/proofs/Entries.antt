@@ -3,7 +3,7 @@
 use Rattle.std.proofs.Common.{get_or, ◌≡◌, ℕ, zero, suc, ◌+◌, ◌-◌, ◌<◌, ◌≤◌, Bool, true, false, ltb, cond, List, [], ◌∷◌, ◌++◌, length, take, drop, map, reverse, slice_range, Option, Some, refl, sym, ap, ◌∙◌, subst, arith, append_assoc, length-append, ◌⊎◌, inl, inr, if◌then◌else◌}
 use Rattle.std.proofs.lemmas.Bool.{cases_eq}
 use Rattle.std.proofs.lemmas.List.{append-nil, take_at, take_all, drop_at, take-take, drop-take, take_more, length-take-le, reverse-append}
-use Rattle.domain_bits.specs.Counting.{members}
+use Rattle.graph_theory.specs.Neighbours.{members}
 use Rattle.propagation.specs.declared.change.Place.{Place}
 use Rattle.propagation.specs.declared.change.What.{What}
 use Rattle.propagation.specs.declared.change.What.TheVariants.{One, Others}

@@ -6,12 +6,12 @@ use Rattle.std.proofs.lemmas.List.{append-nil}
 use Rattle.graph_theory.specs.Graph.{size}
 use Rattle.graph_theory.specs.Embedding.{Problem}
 use Rattle.search_theory.specs.Claims.{Single}
-use Rattle.domain_bits.specs.BitRows.{has}
-use Rattle.domain_bits.specs.Counting.{count, members}
+use Rattle.bit_rows.specs.BitRows.{has}
+use Rattle.graph_theory.specs.Neighbours.{count, members}
 use Rattle.domain_bits.specs.Changes as changes
 use Rattle.domain_bits.specs.Removals.{State, in_domain, size_of}
-use Rattle.domain_bits.proofs.Counts.{length-members, count_past, count_le, count_same, count_none}
-use Rattle.domain_bits.proofs.Rows.{has_past}
+use Rattle.bit_rows.proofs.Passing.{length-members, count_past, count_le, count_same, count_none}
+use Rattle.bit_rows.proofs.Rows.{has_past}
 use Rattle.domain_bits.proofs.Sizes.{in_below}
 use Rattle.all_different.specs.declared.Pruned.TheVariants as pruned
 use Rattle.all_different.specs.Ranks.{rank}

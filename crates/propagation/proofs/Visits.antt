@@ -6,7 +6,7 @@ use Rattle.graph_theory.specs.Graph.{size}
 use Rattle.graph_theory.specs.Embedding.{Problem}
 use Rattle.search_theory.specs.Consistency.{AreConsistent}
 use Rattle.search_theory.specs.Claims.{Single}
-use Rattle.domain_bits.specs.Counting.{count}
+use Rattle.graph_theory.specs.Neighbours.{count}
 use Rattle.domain_bits.specs.Removals.{State, in_domain, size_of}
 use Rattle.domain_bits.specs.Changes as changes
 use Rattle.domain_bits.proofs.Sizes.{in_below}

@@ -12,7 +12,8 @@ use Rattle.propagation.specs.Propagation.{waits_at}
 
 -- The vertex of the watch waits, or the watch is in force.
 abbrev pub WaitsOrIsInForce : State → List Bool → List (ℕ × ℕ) → ℕ → Type 0
-WaitsOrIsInForce d waiting watches x = (waits_at waiting (literal watches x).0 ≡ true) ⊎ IsInForce d watches x
+WaitsOrIsInForce d waiting watches x = (waits_at waiting (literal watches x).0 ≡ true)
+    ⊎ IsInForce d watches x
 
 -- Each watch waits or is in force.
 abbrev pub WatchesWait : State → List Bool → watched.State → Type 0
@@ -20,7 +21,8 @@ WatchesWait d waiting s = (x : ℕ) → x < length s.watches → WaitsOrIsInForc
 
 -- Each watch at another vertex than p does.
 abbrev pub WatchesWaitBut : State → List Bool → ℕ → watched.State → Type 0
-WatchesWaitBut d waiting p s = (x : ℕ) → x < length s.watches → ((literal s.watches x).0 ≡ p → ⊥) → WaitsOrIsInForce d waiting s.watches x
+WatchesWaitBut d waiting p s = (x : ℕ) → x < length s.watches → ((literal s.watches x).0 ≡ p → ⊥)
+    → WaitsOrIsInForce d waiting s.watches x
 
 -- After a true answer each watch waits or is in force.
 abbrev pub WaitAfter : Bool → State → List Bool → Option watched.State → Type 0
@@ -34,7 +36,8 @@ InForceAfter false d nogoods = Unit {0}
 
 -- Each of these pairs is out of its domain.
 abbrev pub AreOut : State → List (ℕ × ℕ × ℕ) → Type 0
-AreOut d pairs = (k : ℕ) → k < length pairs → in_domain d (forced_at pairs k).0 (forced_at pairs k).1 ≡ false
+AreOut d pairs = (k : ℕ) → k < length pairs
+    → in_domain d (forced_at pairs k).0 (forced_at pairs k).1 ≡ false
 
 -- After a true answer they are.
 abbrev pub OutAfter : Bool → State → List (ℕ × ℕ × ℕ) → Type 0

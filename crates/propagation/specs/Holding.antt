@@ -22,9 +22,11 @@ single Nogood (x ∷ []) name = (x.0, x.1, name) ∷ []
 single Nogood (x ∷ y ∷ rest) name = []
 
 -- What is made of each row in order, by its kind, its path and its place; the paths of the rows before are known.
-abbrev pub made_from : {A : Type 0} → (RowKind → Pairs → ℕ → List A) → List Pairs → List Row → List A
+abbrev pub made_from : {A : Type 0} → (RowKind → Pairs → ℕ → List A) → List Pairs → List Row
+    → List A
 made_from f known [] = []
-made_from f known (r ∷ rs) = f r.kind (path_of known r) (length known) ++ made_from f (known ++ path_of known r ∷ []) rs
+made_from f known (r ∷ rs) = f r.kind (path_of known r) (length known) ++ made_from f (known
+    ++ path_of known r ∷ []) rs
 
 -- The lists that are kept, if any are.
 abbrev pub lists_in : Option watched.State → List watched.Nogood

@@ -22,7 +22,8 @@ pub record AreNogoods (q : Problem) (s : watched.State) : Type 0 where
   pub values_is : s.values ≡ size q.target
   pub watches : watched.AreWatches s.nogoods s.watches
   pub lists : (i : ℕ) → i < length s.nogoods → IsNogood q (watched.nogood s.nogoods i).literals
-  pub units : (i : ℕ) → i < length s.units → IsNogood q (((forced_at s.units i).0, (forced_at s.units i).1) ∷ [])
+  pub units : (i : ℕ) → i < length s.units
+      → IsNogood q (((forced_at s.units i).0, (forced_at s.units i).1) ∷ [])
 
 -- Where nogoods are kept, they are nogoods.
 abbrev pub AreKept : Problem → Option watched.State → Type 0

@@ -52,7 +52,8 @@ pub record HasTwo (d : State) (p : ℕ) : Type 0 where
   pub not_single : (t : ℕ) → Single (in_domain d) p t → ⊥
 
 -- The domain of p is as it was, and p waits as it did.
-pub record IsSame (old : State) (before : List Bool) (new : State) (after : List Bool) (p : ℕ) : Type 0 where
+pub record IsSame (old : State) (before : List Bool) (new : State) (after : List Bool)
+    (p : ℕ) : Type 0 where
   pub domain : (t : ℕ) → in_domain new p t ≡ in_domain old p t
   pub flag : waits_at after p ≡ waits_at before p
 
@@ -65,10 +66,12 @@ abbrev pub HaveValues : Problem → State → Type 0
 HaveValues q d = (p : ℕ) → p < size q.pattern → HasValue d p
 
 -- Values were removed, no domain was emptied, and each vertex waits, or has two values, or is as it was.
-pub record Shrinks (q : Problem) (old : State) (before : List Bool) (new : State) (after : List Bool) : Type 0 where
+pub record Shrinks (q : Problem) (old : State) (before : List Bool) (new : State)
+    (after : List Bool) : Type 0 where
   pub narrows : Narrows q old new
   pub long : length after ≡ length before
-  pub noted : (p : ℕ) → p < size q.pattern → (waits_at after p ≡ true) ⊎ (HasTwo new p ⊎ IsSame old before new after p)
+  pub noted : (p : ℕ) → p < size q.pattern
+      → (waits_at after p ≡ true) ⊎ (HasTwo new p ⊎ IsSame old before new after p)
   pub some : (p : ℕ) → HasValue old p → HasValue new p
   pub bounded : length new.removed ≤ new.vertices * new.values
   pub less_work : work new after ≤ work old before
@@ -108,12 +111,14 @@ pub record ReadyBut (q : Problem) (d : State) (waiting : List Bool) (p : ℕ) : 
 
 -- After a true answer r has a value: it waits where it has only one, and else no flag has changed. After a false one it has none.
 abbrev pub NotesSize : Bool → State → List Bool → List Bool → ℕ → Type 0
-NotesSize true new before after r = ((v : ℕ) × Single (in_domain new) r v × (after ≡ slice_set before r true)) ⊎ (HasTwo new r × (after ≡ before))
+NotesSize true new before after r = ((v : ℕ) × Single (in_domain new) r v
+    × (after ≡ slice_set before r true)) ⊎ (HasTwo new r × (after ≡ before))
 NotesSize false new before after r = ((v : ℕ) → in_domain new r v ≡ true → ⊥) × (after ≡ before)
 
 -- Nothing has changed; or t was in the domain of r, and the size that it has left is noted.
 abbrev pub NotesTaken : Bool → State → List Bool → State → List Bool → ℕ → ℕ → Type 0
-NotesTaken answer old before new after r t = ((answer ≡ true) × (new ≡ old) × (after ≡ before)) ⊎ ((in_domain old r t ≡ true) × NotesSize answer new before after r)
+NotesTaken answer old before new after r t = ((answer ≡ true) × (new ≡ old)
+    × (after ≡ before)) ⊎ ((in_domain old r t ≡ true) × NotesSize answer new before after r)
 
 -- After a true answer the values of r are consistent with p at t; after a false one r has no value.
 abbrev pub Swept : Bool → Problem → State → ℕ → ℕ → ℕ → Type 0
@@ -121,15 +126,18 @@ Swept true q new p t r = (u : ℕ) → (p ≡ r → ⊥) → in_domain new r u �
 Swept false q new p t r = (u : ℕ) → in_domain new r u ≡ true → ⊥
 
 -- What the step at r leaves: fewer values, none of p's taken, and those of r swept; what left was of r, and does not go together with p at t.
-pub record Sweeps (answer : Bool) (q : Problem) (old : State) (before : List Bool) (new : State) (after : List Bool) (p t r : ℕ) : Type 0 where
+pub record Sweeps (answer : Bool) (q : Problem) (old : State) (before : List Bool) (new : State)
+    (after : List Bool) (p t r : ℕ) : Type 0 where
   pub narrows : Narrows q old new
   pub swept : Swept answer q new p t r
   pub own : (v : ℕ) → in_domain new p v ≡ in_domain old p v
-  pub gone : (s u : ℕ) → in_domain old s u ≡ true → in_domain new s u ≡ false → (s ≡ r) × (AreConsistent q p t r u → ⊥)
+  pub gone : (s u : ℕ) → in_domain old s u ≡ true → in_domain new s u ≡ false
+      → (s ≡ r) × (AreConsistent q p t r u → ⊥)
   pub shrinks : answer ≡ true → Shrinks q old before new after
 
 -- After steps that have swept the vertices below r.
-pub record Settling (q : Problem) (old : State) (before : List Bool) (new : State) (after : List Bool) (p t r : ℕ) : Type 0 where
+pub record Settling (q : Problem) (old : State) (before : List Bool) (new : State)
+    (after : List Bool) (p t r : ℕ) : Type 0 where
   pub shrinks : Shrinks q old before new after
   pub own : (v : ℕ) → in_domain new p v ≡ in_domain old p v
   pub past : (s : ℕ) → s < r → Swept true q new p t s
@@ -141,7 +149,8 @@ Settles false q old before new after p t = Narrows q old new × NoneInside q (in
 
 -- What a visit of a vertex that waited leaves: domains in which each vertex waits or rests, or none that an embedding is within.
 abbrev pub Visited : Bool → Problem → State → List Bool → State → List Bool → Type 0
-Visited true q old before new after = Narrows q old new × Ready q new after × (work new after < work old before)
+Visited true q old before new after = Narrows q old new × Ready q new after
+    × (work new after < work old before)
 Visited false q old before new after = Narrows q old new × NoneInside q (in_domain old)
 
 -- What is left once no vertex waits: domains that are quiet as far as vertices and pairs of them tell, or none that an embedding is within.
@@ -155,13 +164,15 @@ UndecidedWait d waiting n = (p : ℕ) → p < n → waits_at waiting p ≡ false
 
 -- After a true answer p has one value and its flag is as it was, or more and its flag is lowered; after a false one it has none.
 abbrev pub NotesDecided : Bool → State → List Bool → List Bool → ℕ → Type 0
-NotesDecided true d before after p = ((size_of d p ≡ 1) × (after ≡ before)) ⊎ (HasTwo d p × (after ≡ slice_set before p false))
+NotesDecided true d before after p = ((size_of d p ≡ 1) × (after ≡ before)) ⊎ (HasTwo d p
+    × (after ≡ slice_set before p false))
 NotesDecided false d before after p = (t : ℕ) → in_domain d p t ≡ true → ⊥
 
 -- After these steps at the vertices below n.
 pub record Noting (d : State) (before after : List Bool) (n : ℕ) : Type 0 where
   pub long : length after ≡ length before
-  pub noted : (p : ℕ) → p < n → ((size_of d p ≡ 1) × (waits_at after p ≡ waits_at before p)) ⊎ HasTwo d p
+  pub noted : (p : ℕ) → p < n → ((size_of d p ≡ 1)
+      × (waits_at after p ≡ waits_at before p)) ⊎ HasTwo d p
   pub rest : (p : ℕ) → n ≤ p → waits_at after p ≡ waits_at before p
 
 -- What these steps at all vertices leave; after a false answer one of them has no value.
@@ -171,7 +182,8 @@ Notes false d before after = (p : ℕ) × (p < d.vertices) × ((t : ℕ) → in_
 
 -- Each vertex waits, or has two values, or its domain is as it was.
 abbrev pub DecidedOnesWait : Problem → State → State → List Bool → Type 0
-DecidedOnesWait q old new after = (p : ℕ) → p < size q.pattern → (waits_at after p ≡ true) ⊎ (HasTwo new p ⊎ ((t : ℕ) → in_domain new p t ≡ in_domain old p t))
+DecidedOnesWait q old new after = (p : ℕ) → p < size q.pattern
+    → (waits_at after p ≡ true) ⊎ (HasTwo new p ⊎ ((t : ℕ) → in_domain new p t ≡ in_domain old p t))
 
 -- What counting found: nothing, or a set that left all other domains, or one with too few values.
 abbrev pub pruned_of : Result Bool Failure → Pruned
@@ -182,7 +194,8 @@ pruned_of (Err failure) = pruned.Fail
 -- What pruning tells of a problem: its domains are balanced; or values left that no embedding needs, each vertex waits or rests, and each that is decided by it waits; or no embedding is within them.
 abbrev pub PrunesFor : Result Bool Failure → Problem → State → State → List Bool → Type 0
 PrunesFor (Ok false) q old new after = (new ≡ old) × Balanced new
-PrunesFor (Ok true) q old new after = Narrows q old new × Ready q new after × (length old.removed < length new.removed) × DecidedOnesWait q old new after
+PrunesFor (Ok true) q old new after = Narrows q old new × Ready q new after
+    × (length old.removed < length new.removed) × DecidedOnesWait q old new after
 PrunesFor (Err failure) q old new after = Narrows q old new × NoneInside q (in_domain old)
 
 -- What propagation answers: domains at rest, those of unions of them included, or none that an embedding is within.

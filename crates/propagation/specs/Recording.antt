@@ -1,8 +1,8 @@
 -- What a recorder keeps of the changes that it is told: the changes in order, the last one first, up to where domains were undone to.
 
 use Rattle.std.specs.Prelude.{◌≡◌, ℕ, ◌*◌, ◌≤◌, nat_lt, Bool, true, false, cond, ◌⊎◌, List, [], ◌∷◌, ◌++◌, length, map, reverse, slice_range, Option, Some, None}
-use Rattle.domain_bits.specs.BitRows.{has}
-use Rattle.domain_bits.specs.Counting.{members}
+use Rattle.bit_rows.specs.BitRows.{has}
+use Rattle.graph_theory.specs.Neighbours.{members}
 use Rattle.propagation.specs.declared.change.Cause.{Cause}
 use Rattle.propagation.specs.declared.change.Cause.TheVariants.{Guess}
 use Rattle.propagation.specs.declared.change.Place.{Place}
@@ -86,7 +86,8 @@ pub record Recorded : Type 0 where
 -- The change that an entry is, with its numbers.
 abbrev pub change_by : List ℕ → What → ℕ → Change
 change_by numbers (One p cause) from = LeftOne p cause from
-change_by numbers (Others k) from = LeftOthers (slice_range numbers k.start k.middle) (slice_range numbers k.middle k.end) from
+change_by numbers (Others k) from = LeftOthers (slice_range numbers k.start k.middle)
+    (slice_range numbers k.middle k.end) from
 
 abbrev pub change_of : List ℕ → Entry → Change
 change_of numbers e = change_by numbers e.what e.from
@@ -101,10 +102,18 @@ when_whole false cs = None
 
 abbrev pub set_at : List ℕ → Option Place → Option CountedSet
 set_at numbers None = None
-set_at numbers (Some k) = Some (record { vertices = slice_range numbers k.start k.middle; values = slice_range numbers k.middle k.end })
+set_at numbers (Some k) = Some (record {
+  vertices = slice_range numbers k.start k.middle;
+  values =
+      slice_range numbers k.middle k.end;
+})
 
 abbrev pub recorded : Bool → List Entry → List ℕ → Option Place → Recorded
-recorded whole entries numbers short = record { changes = when_whole whole (changes_of numbers entries); short = set_at numbers short }
+recorded whole entries numbers short = record {
+  changes = when_whole whole
+      (changes_of numbers entries);
+  short = set_at numbers short;
+}
 
 -- The set stands among the first n numbers, from the first of these places on.
 pub record IsIn (k : Place) (n : ℕ) : Type 0 where

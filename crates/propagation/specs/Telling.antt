@@ -4,7 +4,7 @@ use Rattle.std.specs.Prelude.{◌≡◌, ℕ, ◌<◌, ◌≤◌, true, false, �
 use Rattle.graph_theory.specs.Graph.{size}
 use Rattle.graph_theory.specs.Embedding.{Problem}
 use Rattle.search_theory.specs.Consistency.{IsFirstValue, AreConsistent}
-use Rattle.domain_bits.specs.BitRows.{has}
+use Rattle.bit_rows.specs.BitRows.{has}
 use Rattle.domain_bits.specs.Removals.{State, in_domain, full, undone}
 use Rattle.all_different.specs.Prefixes.{Short}
 use Rattle.all_different.specs.Pruning.{among}
@@ -28,7 +28,8 @@ HasFirst q p row = (t : ℕ) → IsFirstValue q p t → t < size q.target → ha
 -- ---- nogoods by name
 
 -- One of these lists has the name, and these pairs.
-pub record NamesList (nogoods : List watched.Nogood) (name : ℕ) (pairs : List (ℕ × ℕ)) : Type 0 where
+pub record NamesList (nogoods : List watched.Nogood) (name : ℕ) (pairs : List (ℕ
+    × ℕ)) : Type 0 where
   pub place : ℕ
   pub within : place < length nogoods
   pub name_is : (watched.nogood nogoods place).name ≡ name
@@ -48,7 +49,8 @@ IsNamed (Some s) name pairs = NamesList s.nogoods name pairs ⊎ NamesUnit s.uni
 
 -- What was named is named still.
 abbrev pub KeepsNames : Option watched.State → Option watched.State → Type 0
-KeepsNames old new = (name : ℕ) (pairs : List (ℕ × ℕ)) → IsNamed old name pairs → IsNamed new name pairs
+KeepsNames old new = (name : ℕ) (pairs : List (ℕ × ℕ)) → IsNamed old name pairs
+    → IsNamed new name pairs
 
 -- ---- what a change stands by
 
@@ -67,11 +69,13 @@ pub record IsForbidden (s : Option watched.State) (d : State) (name r u : ℕ) :
   pub place : ℕ
   pub within : place < length pairs
   pub here : literal pairs place ≡ (r, u)
-  pub rest : (k : ℕ) → k < length pairs → (literal pairs k ≡ (r, u)) ⊎ HasAtMost d (literal pairs k).0 (literal pairs k).1
+  pub rest : (k : ℕ) → k < length pairs → (literal pairs k ≡ (r, u))
+      ⊎ HasAtMost d (literal pairs k).0 (literal pairs k).1
 
 -- So it is of each of these pairs with the name beside it.
 abbrev pub AreForbidden : Option watched.State → State → List (ℕ × ℕ × ℕ) → Type 0
-AreForbidden s d pairs = (k : ℕ) → k < length pairs → IsForbidden s d (forced_at pairs k).2 (forced_at pairs k).0 (forced_at pairs k).1
+AreForbidden s d pairs = (k : ℕ) → k < length pairs
+    → IsForbidden s d (forced_at pairs k).2 (forced_at pairs k).0 (forced_at pairs k).1
 
 -- No number stands twice in the list.
 abbrev pub AreDistinct : List ℕ → Type 0
@@ -94,7 +98,8 @@ StandsBy (cause.Nogood name) q d r = r < size q.pattern
 
 abbrev pub Stands : Change → Problem → State → Type 0
 Stands (LeftOne r why from) q d = StandsBy why q d r
-Stands (LeftOthers vertices values from) q d = HaveOnly q d vertices values × (length values ≤ length vertices)
+Stands (LeftOthers vertices values from) q d = HaveOnly q d vertices values
+    × (length values ≤ length vertices)
 
 -- The cause refuses u for r.
 abbrev pub RefusesBy : Cause → Problem → Option watched.State → State → ℕ → ℕ → Type 0
@@ -106,20 +111,24 @@ RefusesBy (cause.Nogood name) q s d r u = IsForbidden s d name r u
 -- So does a change: of its vertex by its cause, or of all vertices but those of a set the values of these.
 abbrev pub Refuses : Change → Problem → Option watched.State → State → ℕ → ℕ → Type 0
 Refuses (LeftOne p why from) q s d r u = (r ≡ p) × RefusesBy why q s d p u
-Refuses (LeftOthers vertices values from) q s d r u = (r < size q.pattern) × (among vertices r ≡ false) × (among values u ≡ true)
+Refuses (LeftOthers vertices values from) q s d r u = (r < size q.pattern)
+    × (among vertices r ≡ false) × (among values u ≡ true)
 
 -- What leaves, if anything does, leaves by the change.
-pub record Leaves (q : Problem) (s : Option watched.State) (old new : State) (c : Change) : Type 0 where
+pub record Leaves (q : Problem) (s : Option watched.State) (old new : State)
+    (c : Change) : Type 0 where
   pub vertices_same : new.vertices ≡ old.vertices
   pub values_same : new.values ≡ old.values
   pub rest : List (ℕ × ℕ)
   pub front : new.removed ≡ old.removed ++ rest
   pub from_is : from_of c ≡ length old.removed
   pub stands : Stands c q old
-  pub refused : (r u : ℕ) → in_domain old r u ≡ true → in_domain new r u ≡ false → Refuses c q s old r u
+  pub refused : (r u : ℕ) → in_domain old r u ≡ true → in_domain new r u ≡ false
+      → Refuses c q s old r u
 
 -- The change has taken place.
-pub record Changed (q : Problem) (s : Option watched.State) (old new : State) (c : Change) : Type 0 where
+pub record Changed (q : Problem) (s : Option watched.State) (old new : State)
+    (c : Change) : Type 0 where
   pub leaves : Leaves q s old new c
   pub some : length old.removed < length new.removed
 
@@ -128,7 +137,8 @@ pub record Changed (q : Problem) (s : Option watched.State) (old new : State) (c
 -- These changes, the last one first, have led from full domains to these.
 pub data Told (q : Problem) (s : Option watched.State) : State → List Change → Type 0 where
   begins : (vertices values : ℕ) → Told q s (full vertices values) []
-  goes_on : (old new : State) (cs : List Change) (c : Change) → Told q s old cs → Changed q s old new c → Told q s new (c ∷ cs)
+  goes_on : (old new : State) (cs : List Change) (c : Change) → Told q s old cs
+      → Changed q s old new c → Told q s new (c ∷ cs)
 
 -- So it is where changes are kept.
 abbrev pub Tells : Problem → Option watched.State → State → Option (List Change) → Type 0
@@ -137,7 +147,8 @@ Tells q s d (Some cs) = Told q s d cs
 
 -- Where what was told of the old domains is true, so is what is told of the new ones, whatever names nogoods have.
 abbrev pub TellsOn : Problem → State → Option (List Change) → State → Option (List Change) → Type 0
-TellsOn q old before new after = (s : Option watched.State) → Tells q s old before → Tells q s new after
+TellsOn q old before new after = (s : Option watched.State) → Tells q s old before
+    → Tells q s new after
 
 -- ---- failures
 
@@ -165,7 +176,8 @@ pub record IsShown (q : Problem) (d : State) (short : Option CountedSet) : Type 
   pub fewer : length set.values < length set.vertices
 
 -- What each failure says of the domains.
-abbrev pub Fails : Problem → Option watched.State → State → Option (List Change) → Option CountedSet → Failure → Type 0
+abbrev pub Fails : Problem → Option watched.State → State → Option (List Change)
+    → Option CountedSet → Failure → Type 0
 Fails q s d changes short (failure.Empty p) = HasNone q d p
 Fails q s d changes short (failure.Whole name) = IsDecided s d name
 Fails q s d changes short (failure.Short n) = Short d n × ((changes ≡ None) ⊎ IsShown q d short)
@@ -174,5 +186,7 @@ Fails q s d changes short (failure.Short n) = Short d n × ((changes ≡ None) �
 
 -- What is told stays true where domains are undone, to whichever mark, and where nogoods keep their names.
 pub record TellingLaws : Type 0 where
-  pub undone : (q : Problem) (s : Option watched.State) (d : State) (told : Option (List Change)) (k : ℕ) → Tells q s d told → Tells q s (undone d k) (cut_at k told)
-  pub named : (q : Problem) (old new : Option watched.State) (d : State) (told : Option (List Change)) → KeepsNames old new → Tells q old d told → Tells q new d told
+  pub undone : (q : Problem) (s : Option watched.State) (d : State) (told : Option (List Change))
+      (k : ℕ) → Tells q s d told → Tells q s (undone d k) (cut_at k told)
+  pub named : (q : Problem) (old new : Option watched.State) (d : State) (told : Option
+      (List Change)) → KeepsNames old new → Tells q old d told → Tells q new d told

@@ -7,7 +7,7 @@ ghost use Rattle.std.specs.Prelude.{◌≡◌, ℕ, ◌*◌, ◌<◌, ◌≤◌,
 ghost use Rattle.graph_theory.specs.Graph.{size};
 ghost use Rattle.graph_theory.specs.Embedding.{Problem};
 ghost use Rattle.graph_rows.specs.Held.{stands_in};
-ghost use Rattle.domain_bits.specs.BitRows.{has, words_for};
+ghost use Rattle.bit_rows.specs.BitRows.{has, words_for};
 ghost use Rattle.domain_bits.specs.Changes as changes;
 ghost use Rattle.domain_bits.specs.Changes.{Keeps};
 ghost use Rattle.domain_bits.specs.Removals.{State, in_domain};

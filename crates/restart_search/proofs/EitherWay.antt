@@ -7,7 +7,7 @@ use Rattle.graph_theory.specs.Graph.{Graph, size, edge}
 use Rattle.graph_theory.specs.Neighbours.{count, degree, in_degree, is_neighbour, is_in_neighbour}
 use Rattle.graph_theory.specs.Reversed.{IsMutual}
 use Rattle.graph_theory.proofs.Counts.{without, count-same, count-without}
-use Rattle.graph_rows.specs.BitRow.{has}
+use Rattle.bit_rows.specs.BitRows.{has}
 use Rattle.restart_search.specs.Degrees.{either_degree, is_either_neighbour}
 
 same_or : (a b : Bool) → a ≡ b → b ≡ (a || b)

@@ -8,7 +8,7 @@ use Rattle.graph_theory.specs.Embedding.{Problem, Embeds}
 use Rattle.graph_theory.specs.Path.{NotOn, IsPath, Extends, Dead}
 use Rattle.graph_theory.specs.Neighbours.{members}
 use Rattle.search_theory.specs.Account.{Account, Step, path, path_of, level_at, level_among, InRange, NotAmong, AllDead, LawfulSteps, LawfulLevel, Honest}
-use Rattle.domain_bits.specs.BitRows.{has}
+use Rattle.bit_rows.specs.BitRows.{has}
 use Rattle.fail_account.proofs.Members.{members_off, off_members}
 use Rattle.nogood_book.specs.Reaching.{MayStand}
 

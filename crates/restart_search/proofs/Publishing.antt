@@ -9,8 +9,8 @@ use Rattle.graph_theory.specs.Embedding.{Problem}
 use Rattle.graph_theory.specs.Path.{NotOn, IsPath}
 use Rattle.graph_theory.specs.Neighbours.{members}
 use Rattle.search_theory.specs.Account.{Account, Step, path, level_at, level_among, InRange, Honest}
-use Rattle.domain_bits.specs.BitRows.{has}
-use Rattle.domain_bits.proofs.Rows.{has_past}
+use Rattle.bit_rows.specs.BitRows.{has}
+use Rattle.bit_rows.proofs.Rows.{has_past}
 use Rattle.fail_account.proofs.Distinct.{path_fewer}
 use Rattle.nogood_book.specs.declared.row.Row.{Row}
 use Rattle.nogood_book.specs.declared.row.RowKind.TheVariants.{Nogood}

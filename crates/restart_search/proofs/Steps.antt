@@ -3,16 +3,15 @@
 use Rattle.std.proofs.Common.{◌≡◌, ℕ, suc, ◌*◌, ◌<◌, ◌≤◌, ◌&&◌, not, Bool, true, false, List, [], ◌∷◌, ◌++◌, length, Option, Some, None, IfSome, refl, sym, ap, ◌∙◌, subst, arith, append_assoc, ◌⊎◌, inl, inr}
 use Rattle.std.proofs.lemmas.Bool.{cases_lt}
 use Rattle.graph_theory.specs.Graph.{size}
-use Rattle.graph_theory.specs.Neighbours.{members}
+use Rattle.graph_theory.specs.Neighbours.{members, count}
 use Rattle.graph_theory.specs.Path.{NotOn}
 use Rattle.graph_theory.specs.Embedding.{Problem}
 use Rattle.search_theory.specs.Claims.{Single, Pins, Quiet}
 use Rattle.search_theory.specs.Account.{Account, Step, Honest, deepened, path, path_of, level_at, level_among, IsAt, NotAmong}
 use Rattle.search_theory.specs.Bounds.{enough}
 use Rattle.domain_bits.specs.Changes as changes
-use Rattle.domain_bits.specs.BitRows.{has}
-use Rattle.domain_bits.specs.Counting.{count}
-use Rattle.domain_bits.proofs.Rows.{has_past}
+use Rattle.bit_rows.specs.BitRows.{has}
+use Rattle.bit_rows.proofs.Rows.{has_past}
 use Rattle.domain_bits.proofs.Sizes.{count_some}
 use Rattle.all_different.specs.Prefixes.{Balanced}
 use Rattle.domain_bits.specs.Removals.{State, in_domain}

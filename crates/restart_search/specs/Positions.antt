@@ -34,17 +34,22 @@ abbrev pub Acts : {T R : Type 0} → Option watched.State → Position T R → T
 Acts nogoods s = Acting s.domains nogoods s.marks.items s.root
 
 -- What was told of its domains is true, and each guess that was told is one of its path.
-abbrev pub ToldAt : {T R : Type 0} → Problem → Option watched.State → Position T R → Option (List Change) → Type 0
+abbrev pub ToldAt : {T R : Type 0} → Problem → Option watched.State → Position T R
+    → Option (List Change) → Type 0
 ToldAt q nogoods s changes = IsTold q nogoods s.domains (path s.account) s.marks.items changes
 
 -- And lines stand for all that its account has refuted.
-abbrev pub LogsAt : {T R : Type 0} → Problem → List Row → Option watched.State → Position T R → Option (List Change) → (Problem → List Row → Account → Type 0) → Type 0
-LogsAt q rows nogoods s changes Writes = IsLogged q rows nogoods s.domains s.account s.marks.items changes Writes
+abbrev pub LogsAt : {T R : Type 0} → Problem → List Row → Option watched.State → Position T R
+    → Option (List Change) → (Problem → List Row → Account → Type 0) → Type 0
+LogsAt q rows nogoods s changes Writes = IsLogged q rows nogoods s.domains s.account s.marks.items
+    changes Writes
 
 -- So it is where embeddings may be left; where none is, the lines refute the problem.
-abbrev pub LogsOnAt : {T R : Type 0} → Bool → Problem → List Row → Option watched.State → Position T R → Option (List Change) → (Problem → List Row → Account → Type 0)
+abbrev pub LogsOnAt : {T R : Type 0} → Bool → Problem → List Row → Option watched.State
+    → Position T R → Option (List Change) → (Problem → List Row → Account → Type 0)
     → (Problem → List Row → Type 0) → Type 0
-LogsOnAt some q rows nogoods s changes Writes Refutes = LogsOn some q rows nogoods s.domains s.account s.marks.items changes Writes Refutes
+LogsOnAt some q rows nogoods s changes Writes Refutes = LogsOn some q rows nogoods s.domains
+    s.account s.marks.items changes Writes Refutes
 
 -- No run has begun from it.
 abbrev pub IsFresh : {T R : Type 0} → Problem → Option watched.State → Position T R → Type 0
@@ -55,13 +60,19 @@ abbrev pub GoesOn : {T R : Type 0} → Problem → Option watched.State → Posi
 GoesOn q nogoods s f = Begun q nogoods s.domains s.undecided s.account s.marks.items s.root f
 
 -- What it is between the runs of a worker.
-abbrev pub IsAtStage : {T R : Type 0} → Stage → Problem → Option watched.State → Position T R → Facts → Type 0
-IsAtStage stage q nogoods s f = AtStage stage q nogoods s.domains s.undecided s.account s.marks.items s.root f
+abbrev pub IsAtStage : {T R : Type 0} → Stage → Problem → Option watched.State → Position T R
+    → Facts → Type 0
+IsAtStage stage q nogoods s f = AtStage stage q nogoods s.domains s.undecided s.account
+    s.marks.items s.root f
 
 -- What taking up the book leaves of it.
-abbrev pub TookUpAt : {T R : Type 0} → Bool → Problem → Option watched.State → Position T R → List Row → Type 0
-TookUpAt some q nogoods s rows = TookUp some q nogoods s.domains s.undecided s.account s.marks.items s.root rows
+abbrev pub TookUpAt : {T R : Type 0} → Bool → Problem → Option watched.State → Position T R
+    → List Row → Type 0
+TookUpAt some q nogoods s rows = TookUp some q nogoods s.domains s.undecided s.account
+    s.marks.items s.root rows
 
 -- What beginning a run leaves of it.
-abbrev pub BeginsAt : {T R : Type 0} → Bool → Problem → Option watched.State → Position T R → Facts → Type 0
-BeginsAt some q nogoods s f = BeganAgain some q nogoods s.domains s.undecided s.account s.marks.items s.root f
+abbrev pub BeginsAt : {T R : Type 0} → Bool → Problem → Option watched.State → Position T R
+    → Facts → Type 0
+BeginsAt some q nogoods s f = BeganAgain some q nogoods s.domains s.undecided s.account
+    s.marks.items s.root f

@@ -57,26 +57,31 @@ pub record HasBeen (d : State) (s : sparse.State) (k : Moment) : Type 0 where
   pub past : k.past ≤ length s.removed
 
 -- At the moment the domains were at rest for the path, and the vertices that had left the set were past.
-pub record RestedAt (q : Problem) (path : List (ℕ × ℕ)) (d : State) (s : sparse.State) (k : Moment) : Type 0 where
+pub record RestedAt (q : Problem) (path : List (ℕ
+    × ℕ)) (d : State) (s : sparse.State) (k : Moment) : Type 0 where
   pub rest : AtRest q path (undone d k.domains)
   pub left : LeavesPast q (undone d k.domains) (sparse.undone s k.past)
 
 -- So it was at each level's moment for the path above it; the moments rise from low.
-abbrev pub Levels : Problem → State → sparse.State → Moment → List (ℕ × ℕ) → List (ℕ × ℕ) → List Moment → Type 0
+abbrev pub Levels : Problem → State → sparse.State → Moment → List (ℕ × ℕ) → List (ℕ × ℕ)
+    → List Moment → Type 0
 Levels q d s low above [] [] = HasBeen d s low
-Levels q d s low above (x ∷ xs) (k ∷ ks) = IsEarlier low k × RestedAt q above d s k × Levels q d s k (above ++ x ∷ []) xs ks
+Levels q d s low above (x ∷ xs) (k ∷ ks) = IsEarlier low k × RestedAt q above d s k
+    × Levels q d s k (above ++ x ∷ []) xs ks
 Levels q d s low above [] (k ∷ ks) = ⊥
 Levels q d s low above (x ∷ xs) [] = ⊥
 
 -- What holds of a search also where its last guess has failed.
-pub record Based (q : Problem) (d : State) (s : sparse.State) (a : Account) (marks : List Moment) (root : Moment) : Type 0 where
+pub record Based (q : Problem) (d : State) (s : sparse.State) (a : Account) (marks : List Moment)
+    (root : Moment) : Type 0 where
   pub is_of : IsOf q d
   pub honest : Honest q a
   pub levels : Levels q d s root [] (path a) marks
   pub root_rest : RestedAt q [] d s root
 
 -- What holds of a search before each step.
-pub record Sound (q : Problem) (d : State) (s : sparse.State) (a : Account) (marks : List Moment) (root : Moment) : Type 0 where
+pub record Sound (q : Problem) (d : State) (s : sparse.State) (a : Account) (marks : List Moment)
+    (root : Moment) : Type 0 where
   pub based : Based q d s a marks root
   pub here : AtRest q (path a) d
   pub left : LeavesPast q d s
@@ -127,7 +132,9 @@ IsUndecided d p = (p < d.vertices) × ((t : ℕ) → Single (in_domain d) p t �
 
 -- Vertex p comes before r: its domain is smaller, or as large and its neighbours in either direction more, or these are alike and its number is less.
 abbrev pub ComesFirst : Problem → State → ℕ → ℕ → Type 0
-ComesFirst q d p r = (size_of d p < size_of d r) ⊎ ((size_of d p ≡ size_of d r) × ((either_degree q.pattern r < either_degree q.pattern p) ⊎ ((either_degree q.pattern p ≡ either_degree q.pattern r) × (p < r))))
+ComesFirst q d p r = (size_of d p < size_of d r) ⊎ ((size_of d p ≡ size_of d r)
+    × ((either_degree q.pattern r < either_degree q.pattern p)
+    ⊎ ((either_degree q.pattern p ≡ either_degree q.pattern r) × (p < r))))
 
 -- Vertex p is undecided, and no undecided vertex comes before it.
 pub record IsFirstUndecided (q : Problem) (d : State) (p : ℕ) : Type 0 where
@@ -141,7 +148,8 @@ IsBest q d (Some p) n = IsFirstUndecided q d p
 
 -- Whatever comes before the next best vertex came before the best one, and is not p where p is undecided.
 abbrev pub IsNextBest : Problem → State → ℕ → Option ℕ → ℕ → Type 0
-IsNextBest q d p best next = (IsUndecided d p → ComesFirst q d p next → ⊥) × IfSome best (λ r. (s : ℕ) → ComesFirst q d s next → ComesFirst q d s r)
+IsNextBest q d p best next = (IsUndecided d p → ComesFirst q d p next
+    → ⊥) × IfSome best (λ r. (s : ℕ) → ComesFirst q d s next → ComesFirst q d s r)
 
 -- The found list is an embedding, or memory was refused.
 abbrev pub FoundOf : Problem → Outcome → Type 0
@@ -173,16 +181,20 @@ Roots true q d = IsOf q d × AtRest q [] d
 Roots false q d = HasNone q
 
 -- The root's domains failed so, and what was told of them is true.
-pub record RootFails (q : Problem) (changes : Option (List Change)) (short : Option CountedSet) (f : Failure) : Type 0 where
+pub record RootFails (q : Problem) (changes : Option (List Change)) (short : Option CountedSet)
+    (f : Failure) : Type 0 where
   pub domains : State
   pub is_of : IsOf q domains
   pub told : IsTold q None domains [] [] changes
   pub fails : Fails q None domains changes short f
 
 -- What the root says: its domains are at rest and hold every embedding; or none exists, and why.
-abbrev pub RootSays : {T R : Type 0} → (R → Option (List Change)) → (R → Option CountedSet) → Rooted T R → Problem → Type 0
-RootSays changes short (rooted.Quiet d told) q = IsOf q d × AtRest q [] d × IsTold q None d [] [] (changes told)
-RootSays changes short (rooted.Failed f told) q = HasNone q × RootFails q (changes told) (short told) f
+abbrev pub RootSays : {T R : Type 0} → (R → Option (List Change)) → (R → Option CountedSet)
+    → Rooted T R → Problem → Type 0
+RootSays changes short (rooted.Quiet d told) q = IsOf q d × AtRest q [] d
+    × IsTold q None d [] [] (changes told)
+RootSays changes short (rooted.Failed f told) q = HasNone q
+    × RootFails q (changes told) (short told) f
 RootSays changes short rooted.NoMemory q = Unit {0}
 
 -- ---- a worker
@@ -199,7 +211,8 @@ pub record Search (S L : Type 0) : Type 0 where
   pub stage : Stage
 
 -- The search stands at the root: its domains are at rest for the empty path, and the root's moment is the present one.
-pub record IsAtRoot (q : Problem) (d : State) (s : sparse.State) (a : Account) (marks : List Moment) (root : Moment) : Type 0 where
+pub record IsAtRoot (q : Problem) (d : State) (s : sparse.State) (a : Account)
+    (marks : List Moment) (root : Moment) : Type 0 where
   pub is_of : IsOf q d
   pub honest : Honest q a
   pub no_path : path a ≡ []
@@ -209,13 +222,15 @@ pub record IsAtRoot (q : Problem) (d : State) (s : sparse.State) (a : Account) (
   pub left : LeavesPast q d s
 
 -- The first run has not begun.
-pub record NotBegun (q : Problem) (nogoods : Option watched.State) (d : State) (s : sparse.State) (a : Account) (marks : List Moment) (root : Moment) : Type 0 where
+pub record NotBegun (q : Problem) (nogoods : Option watched.State) (d : State) (s : sparse.State)
+    (a : Account) (marks : List Moment) (root : Moment) : Type 0 where
   pub at_root : IsAtRoot q d s a marks root
   pub none : nogoods ≡ None
   pub first : a.run ≡ 1
 
 -- What holds of a search before each step: it is sound, and so are the rows that were seen, whose nogoods are kept; nothing is left to follow from them, and the search keeps up with its book.
-pub record Begun (q : Problem) (nogoods : Option watched.State) (d : State) (s : sparse.State) (a : Account) (marks : List Moment) (root : Moment) (f : Facts) : Type 0 where
+pub record Begun (q : Problem) (nogoods : Option watched.State) (d : State) (s : sparse.State)
+    (a : Account) (marks : List Moment) (root : Moment) (f : Facts) : Type 0 where
   pub sound : Sound q d s a marks root
   pub acting : Acting d nogoods marks root
   pub rows : book.Sound q f.seen
@@ -223,17 +238,21 @@ pub record Begun (q : Problem) (nogoods : Option watched.State) (d : State) (s :
   pub keeps : KeepsUp f a.run
 
 -- What taking up the book leaves at the root: all nogoods that were seen are kept and nothing is left to follow from them, or no embedding exists.
-abbrev pub TookUp : Bool → Problem → Option watched.State → State → sparse.State → Account → List Moment → Moment → List Row → Type 0
-TookUp true q nogoods d s a marks root rows = IsAtRoot q d s a marks root × AreActedOn d nogoods × book.Sound q rows × HoldsRows rows nogoods
+abbrev pub TookUp : Bool → Problem → Option watched.State → State → sparse.State → Account
+    → List Moment → Moment → List Row → Type 0
+TookUp true q nogoods d s a marks root rows = IsAtRoot q d s a marks root × AreActedOn d nogoods
+    × book.Sound q rows × HoldsRows rows nogoods
 TookUp false q nogoods d s a marks root rows = HasNone q
 
 -- What beginning again leaves: a search that goes on, or no embedding exists.
-abbrev pub BeganAgain : Bool → Problem → Option watched.State → State → sparse.State → Account → List Moment → Moment → Facts → Type 0
+abbrev pub BeganAgain : Bool → Problem → Option watched.State → State → sparse.State → Account
+    → List Moment → Moment → Facts → Type 0
 BeganAgain true q nogoods d s a marks root f = Begun q nogoods d s a marks root f
 BeganAgain false q nogoods d s a marks root f = HasNone q
 
 -- Where the worker stands between its runs.
-abbrev pub AtStage : Stage → Problem → Option watched.State → State → sparse.State → Account → List Moment → Moment → Facts → Type 0
+abbrev pub AtStage : Stage → Problem → Option watched.State → State → sparse.State → Account
+    → List Moment → Moment → Facts → Type 0
 AtStage Fresh q nogoods d s a marks root f = NotBegun q nogoods d s a marks root
 AtStage Halfway q nogoods d s a marks root f = Begun q nogoods d s a marks root f
 AtStage Over q nogoods d s a marks root f = Unit {0}

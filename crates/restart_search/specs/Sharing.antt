@@ -32,7 +32,8 @@ pub record IsRowOf (owner from : ℕ) (rows : List Row) (xs : Pairs) : Type 0 wh
 
 -- What the account's position has refuted is published: at each level that has a vertex, each value refuted there, with the path above.
 pub record IsPublished (a : Account) (owner from : ℕ) (rows : List Row) : Type 0 where
-  pub each : (i p t : ℕ) → (level_at a i).vertex ≡ Some p → Contains (level_at a i).refuted t → IsRowOf owner from rows (take i (path a) ++ (p, t) ∷ [])
+  pub each : (i p t : ℕ) → (level_at a i).vertex ≡ Some p → Contains (level_at a i).refuted t
+      → IsRowOf owner from rows (take i (path a) ++ (p, t) ∷ [])
 
 -- The path of a row, where it is a nogood.
 abbrev pub if_nogood : RowKind → Pairs → List Pairs
@@ -60,7 +61,8 @@ refuted_at above (Some p) us = map (λ t. above ++ (p, t) ∷ []) us
 -- What the first n levels have refuted, in their order, and the values of each rising.
 abbrev pub refuted_below : Account → ℕ → List Pairs
 refuted_below a zero = []
-refuted_below a (suc n) = refuted_below a n ++ refuted_at (take n (path a)) (level_at a n).vertex (level_at a n).refuted
+refuted_below a (suc n) = refuted_below a n
+    ++ refuted_at (take n (path a)) (level_at a n).vertex (level_at a n).refuted
 
 -- What the position has refuted: at the levels of the path, and at the one after it.
 abbrev pub refuted_in : Account → List Pairs
@@ -68,7 +70,8 @@ refuted_in a = refuted_below a (length (path a) + 1)
 
 -- From the first to the second of these the seat's owner has learned exactly what the position had refuted, in order; or every row of the book is used and seen.
 abbrev pub HasLearned : Account → Facts → Facts → Type 0
-HasLearned a s t = (learned_by s.owner t.seen ≡ learned_by s.owner s.seen ++ refuted_in a) ⊎ (t.size ≤ length t.seen)
+HasLearned a s t = (learned_by s.owner t.seen ≡ learned_by s.owner s.seen ++ refuted_in a)
+    ⊎ (t.size ≤ length t.seen)
 
 -- The same seat has seen no less, and has not looked again.
 pub record Went (s t : Facts) : Type 0 where
@@ -95,4 +98,5 @@ HasLooked (Some looks) n = n ≤ length looks
 
 -- Every row of the book is used and seen; or all runs before this one have left a nogood of the seat's owner, and each run has begun with a look.
 abbrev pub KeepsUp : Facts → ℕ → Type 0
-KeepsUp f run = (f.size ≤ length f.seen) ⊎ ((run ≤ nogoods_by f.owner f.seen + 1) × HasLooked f.looks run)
+KeepsUp f run = (f.size ≤ length f.seen) ⊎ ((run ≤ nogoods_by f.owner f.seen + 1)
+    × HasLooked f.looks run)

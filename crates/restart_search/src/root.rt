@@ -3,7 +3,7 @@
 ghost use Rattle.std.specs.Prelude.{◌≡◌, ℕ, [], ◌<◌, ◌≤◌, length, true, false, None, IfOk, IfErr};
 ghost use Rattle.std.specs.Result.{is_ok};
 ghost use Rattle.graph_theory.specs.Graph.{size};
-ghost use Rattle.domain_bits.specs.BitRows.{words_for};
+ghost use Rattle.bit_rows.specs.BitRows.{words_for};
 ghost use Rattle.domain_bits.specs.Removals.{full};
 ghost use Rattle.sparse_set.specs.Removals.{whole};
 ghost use Rattle.propagation.specs.Learning.{unlearned};

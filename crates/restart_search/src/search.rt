@@ -2,7 +2,7 @@
 
 ghost use Rattle.std.specs.Prelude.{◌≡◌, ◌≢◌, ℕ, ◌<◌, ◌≤◌, ◌^◌, true, length, None, OnOk, IfSome, vec_capacity};
 ghost use Rattle.graph_theory.specs.Graph.{size};
-ghost use Rattle.domain_bits.specs.BitRows.{words_for};
+ghost use Rattle.bit_rows.specs.BitRows.{words_for};
 ghost use Rattle.domain_bits.specs.Removals.{in_domain};
 ghost use Rattle.search_theory.specs.Account.{MayGuess};
 ghost use Rattle.search_theory.specs.Bounds.{cutoff};

@@ -6,7 +6,7 @@
 ghost use Rattle.std.specs.Prelude.{◌≡◌, ℕ, [], ◌∷◌, ◌++◌, ◌+◌, ◌<◌, ◌≤◌, true, false, length, take, Contains, IfOk, Some, None, IfSome, IfNone};
 ghost use Rattle.graph_theory.specs.Graph.{size};
 ghost use Rattle.graph_theory.specs.Path.{NotOn, IsPath, Dead};
-ghost use Rattle.domain_bits.specs.BitRows.{has, words_for};
+ghost use Rattle.bit_rows.specs.BitRows.{has, words_for};
 ghost use Rattle.graph_theory.specs.Neighbours.{members};
 ghost use Rattle.search_theory.specs.Account.{InRange, Honest, path, level_at};
 ghost use Rattle.proof_logger.specs.Logging.{GrowsBeside};

@@ -8,13 +8,14 @@
 ghost use Rattle.std.specs.Prelude.{◌≡◌, ℕ, ◌<◌, ◌≤◌, ◌%◌, true, false, length, IfOk};
 ghost use Rattle.graph_theory.specs.Graph.{size};
 ghost use Rattle.graph_theory.specs.Path.{NotOn};
-ghost use Rattle.domain_bits.specs.BitRows.{has, words_for};
+ghost use Rattle.bit_rows.specs.BitRows.{has, words_for};
 ghost use Rattle.domain_bits.specs.Removals.{in_domain};
 ghost use Rattle.search_theory.specs.Account.{path, NotAmong};
 
 use crate::degrees::either_degree;
 use biased_choice::Chooser;
-use domain_bits::{Domains, Trail, and_not_into};
+use bit_rows::and_not_into;
+use domain_bits::{Domains, Trail};
 use fail_account::Account;
 use graph_rows::Problem;
 use std::alloc::{AllocError, Global};

@@ -54,9 +54,17 @@ impl<'a, T: Trail, R: Recorder> Model for Equipment<'a, T, R> {
 
     ghost Value = { Outfit };
 
-    ghost view = { λ e. record { problem = e.problem.now; number = e.number; domains = e.walk.position.domains; account = e.walk.position.account } };
+    ghost view = { λ e. record {
+      problem = e.problem.now;
+      number = e.number;
+      domains = e.walk.position.domains;
+      account = e.walk.position.account;
+    } };
 
-    ghost invariant = { λ e. Equipped e.problem.now e.number e.walk × IsFresh e.problem.now e.walk.propagator.filters.nogoods e.walk.position × ToldAt e.problem.now e.walk.propagator.filters.nogoods e.walk.position (R.changes e.walk.position.told) };
+    ghost invariant = { λ e. Equipped e.problem.now e.number e.walk
+        × IsFresh e.problem.now e.walk.propagator.filters.nogoods e.walk.position
+        × ToldAt e.problem.now e.walk.propagator.filters.nogoods e.walk.position
+        (R.changes e.walk.position.told) };
 }
 
 /// The set of the vertices that have more than one value in domains at rest. Cost: one step for each vertex.
@@ -156,9 +164,25 @@ impl<'a, S: RowSeat + Drop, T: Trail, L: ProofLogger> Model for Worker<'a, S, T,
 
     ghost Value = { Search S L };
 
-    ghost view = { λ w. record { problem = w.problem.now; number = w.number; seat = w.seat; facts = S.shows w.seat; log = w.log; domains = w.walk.position.domains; account = w.walk.position.account; stage = w.stage } };
+    ghost view = { λ w. record {
+      problem = w.problem.now;
+      number = w.number;
+      seat = w.seat;
+      facts = S.shows w.seat;
+      log = w.log;
+      domains = w.walk.position.domains;
+      account = w.walk.position.account;
+      stage = w.stage;
+    } };
 
-    ghost invariant = { λ w. Equipped w.problem.now w.number w.walk × IsSeatFor w.problem.now w.number (S.shows w.seat) × IsAtStage w.stage w.problem.now w.walk.propagator.filters.nogoods w.walk.position (S.shows w.seat) × (L.owner w.log ≡ w.number) × LoggedAt w.stage (LogsAt w.problem.now (S.shows w.seat).seen w.walk.propagator.filters.nogoods w.walk.position (L.Told.changes w.walk.position.told) (L.writes w.log)) (L.steps w.log w.problem.now (S.shows w.seat).seen) };
+    ghost invariant = { λ w. Equipped w.problem.now w.number w.walk
+        × IsSeatFor w.problem.now w.number (S.shows w.seat)
+        × IsAtStage w.stage w.problem.now w.walk.propagator.filters.nogoods w.walk.position
+        (S.shows w.seat) × (L.owner w.log ≡ w.number)
+        × LoggedAt w.stage (LogsAt w.problem.now
+        (S.shows w.seat).seen w.walk.propagator.filters.nogoods w.walk.position
+        (L.Told.changes w.walk.position.told) (L.writes w.log)) (L.steps w.log w.problem.now
+        (S.shows w.seat).seen) };
 }
 
 impl<'a, S: RowSeat + Drop, T: Trail, L: ProofLogger> Worker<'a, S, T, L> {

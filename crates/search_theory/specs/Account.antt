@@ -66,7 +66,18 @@ pub record HasRefuted (a : Account) : Type 0 where
 
 -- The empty state of these sizes.
 abbrev pub fresh : ℕ → ℕ → ℕ → Account
-fresh p t b = record { pattern = p; target = t; budget = b; steps = []; vertex = None; refuted = []; count = 0; run = 1; all = 0 }
+fresh p t b = record {
+  pattern = p;
+  target = t;
+  budget = b;
+  steps = [];
+  vertex = None;
+  refuted =
+      [];
+  count = 0;
+  run = 1;
+  all = 0;
+}
 
 -- Where the level has a vertex, it is p.
 abbrev pub IsAt : Option ℕ → ℕ → Type 0
@@ -96,7 +107,12 @@ pub record MayGuess (q : Problem) (a : Account) (p t : ℕ) : Type 0 where
 
 -- A guess makes the level after the path its last one, and opens an empty level.
 abbrev pub deepened : Account → ℕ → ℕ → Account
-deepened a p t = record a { steps = a.steps ++ record { vertex = p; value = t; refuted = a.refuted } ∷ []; vertex = None; refuted = [] }
+deepened a p t = record a {
+  steps = a.steps
+      ++ record { vertex = p; value = t; refuted = a.refuted } ∷ [];
+  vertex = None;
+  refuted = [];
+}
 
 -- Neither count stands at its bound.
 abbrev pub counts : Account → Bool
@@ -132,7 +148,8 @@ pub data Event : Type 0 where
 
 -- The event is lawful in the old state, and leads to the new one.
 abbrev pub Happens : Problem → Account → Event → Account → Type 0
-Happens q old (Deepen p t) new = (old.all < old.budget) × (old.count < cutoff old.run) × MayGuess q old p t × (new ≡ deepened old p t)
+Happens q old (Deepen p t) new = (old.all < old.budget) × (old.count < cutoff old.run)
+    × MayGuess q old p t × (new ≡ deepened old p t)
 Happens q old Fail new = Dead q (path old) × FailsTo old new
 Happens q old Restart new = (old.count ≡ cutoff old.run) × (new ≡ restarted old)
 
@@ -156,7 +173,8 @@ AllDead q above p (u ∷ us) = Dead q (above ++ (p, u) ∷ []) × AllDead q abov
 -- Each refuted value of these levels is dead after the path above it.
 abbrev pub LawfulSteps : Problem → List (ℕ × ℕ) → List Step → Type 0
 LawfulSteps q above [] = Unit {0}
-LawfulSteps q above (s ∷ ss) = AllDead q above s.vertex s.refuted × LawfulSteps q (above ++ (s.vertex, s.value) ∷ []) ss
+LawfulSteps q above (s ∷ ss) = AllDead q above s.vertex s.refuted
+    × LawfulSteps q (above ++ (s.vertex, s.value) ∷ []) ss
 
 -- So is each of the level after the path, which has none without a vertex.
 abbrev pub LawfulLevel : Problem → List (ℕ × ℕ) → Option ℕ → List ℕ → Type 0

@@ -33,7 +33,8 @@ fails_to k = 128 * ((k + 1) * 2 ^ k)
 -- Looks from k on, in so many steps, for the first run whose cutoff is above m.
 abbrev pub enough_from : ℕ → ℕ → ℕ → ℕ
 enough_from zero k m = fails_to k
-enough_from (suc steps) k m = if nat_lt m (128 * 2 ^ k) then fails_to k else enough_from steps (k + 1) m
+enough_from (suc steps) k m = if nat_lt m (128 * 2 ^ k) then fails_to k else enough_from steps
+    (k + 1) m
 
 -- A budget that is never spent: the fails of the runs up to the first power of two whose run no search fills.
 abbrev pub enough : ℕ → ℕ → ℕ

@@ -18,12 +18,14 @@ SinglesEmbed = (q : Problem) (D : ℕ → ℕ → Bool) (m : List ℕ) → Quiet
 
 -- Where each value of a vertex's domain is refuted, the path is dead.
 abbrev pub AllRefutedIsDead : Type 0
-AllRefutedIsDead = (q : Problem) (D : ℕ → ℕ → Bool) (path : List (ℕ × ℕ)) (p : ℕ) (us : List ℕ) → Stands q path D → p < size q.pattern
+AllRefutedIsDead = (q : Problem) (D : ℕ → ℕ → Bool) (path : List (ℕ × ℕ)) (p : ℕ) (us : List ℕ)
+    → Stands q path D → p < size q.pattern
     → AllDead q path p us → ((t : ℕ) → D p t ≡ true → NotAmong us t → ⊥) → Dead q path
 
 -- A value of a quiet domain fits the path that the domains are pinned to.
 abbrev pub DomainValuesFit : Type 0
-DomainValuesFit = (q : Problem) (D : ℕ → ℕ → Bool) (path : List (ℕ × ℕ)) (p t : ℕ) → Quiet q D → Pins q path D
+DomainValuesFit = (q : Problem) (D : ℕ → ℕ → Bool) (path : List (ℕ × ℕ)) (p t : ℕ) → Quiet q D
+    → Pins q path D
     → NotOn path p → p < size q.pattern → D p t ≡ true → Fits q path p t
 
 -- What holds of the domains of every problem.
@@ -50,5 +52,6 @@ pub record BoundLaws : Type 0 where
 -- What holds of every account.
 pub record AccountLaws : Type 0 where
   pub lawful : (q : Problem) (a : Account) → Reached q a → Lawful q a
-  pub enough : (a : Account) → Bounded a → a.all ≡ a.budget → BelowEnough a.budget a.pattern a.target
+  pub enough : (a : Account) → Bounded a → a.all ≡ a.budget
+      → BelowEnough a.budget a.pattern a.target
   pub refuted : (q : Problem) (a : Account) → Reached q a → a.count ≡ cutoff a.run → HasRefuted a

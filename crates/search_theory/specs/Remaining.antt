@@ -30,4 +30,5 @@ waits a = if a.count == cutoff a.run then 1 else 0
 
 -- By the fails that are left of the budget, then by whether a restart is due, then by what is left of the run, then by the levels that are left.
 abbrev pub remaining : Account → ℕ
-remaining a = ((2 * (a.budget - a.all) + waits a) * (most a.pattern a.target + 1) + left_of a) * (a.pattern + 1) + (a.pattern - length a.steps)
+remaining a = ((2 * (a.budget - a.all) + waits a) * (most a.pattern a.target + 1) + left_of a) *
+    (a.pattern + 1) + (a.pattern - length a.steps)

@@ -1,5 +1,5 @@
 use Rattle.std.proofs.Common.{ℕ, max, get_or, sym, ap, ◌∙◌}
-use Rattle.domain_bits.specs.BitRows.{has}
+use Rattle.bit_rows.specs.BitRows.{has}
 use Rattle.biased_choice.proofs.Members.{greatest_skip, greatest_next}
 use Rattle.biased_choice.proofs.greatest_degree.Goals as goal
 

@@ -1,5 +1,5 @@
 use Rattle.std.proofs.Common.{ℕ, ◌≡◌, get_or, sym, ap, ◌∙◌, arith}
-use Rattle.domain_bits.specs.BitRows.{has}
+use Rattle.bit_rows.specs.BitRows.{has}
 use Rattle.biased_choice.specs.Bias.{weight, weight_of, top_degree}
 use Rattle.biased_choice.proofs.Totals.{weight_small, total_small}
 use Rattle.biased_choice.proofs.Members.{total_skip, total_next}

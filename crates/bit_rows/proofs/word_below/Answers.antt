@@ -1,6 +1,6 @@
 use Rattle.std.proofs.Common.{ℕ, ◌%◌, ◌-◌, ap, ◌∙◌, arith}
-use Rattle.domain_bits.specs.BitRows.{is_set}
-use Rattle.domain_bits.proofs.Runs.{one_shifted}
+use Rattle.bit_rows.specs.BitRows.{is_set}
+use Rattle.bit_rows.proofs.WordBits.{one_shifted}
 use Rattle.bit_rows.proofs.WordsAt.{all_bits, first_bits, no_bits}
 use Rattle.bit_rows.proofs.word_below.Goals as goal
 

@@ -2,7 +2,7 @@ use Rattle.std.proofs.Common.{◌≡◌, ℕ, ◌-◌, ◌*◌, ◌<◌, ◌≤�
 use Rattle.graph_theory.specs.Graph.{size}
 use Rattle.graph_theory.specs.Neighbours.{count}
 use Rattle.graph_theory.specs.Reversed.{turned}
-use Rattle.graph_rows.specs.BitRow.{has}
+use Rattle.bit_rows.specs.BitRows.{has}
 use Rattle.common_neighbour.proofs.Walked.{of_both}
 use Rattle.common_neighbour.proofs.walk.Given as goal
 

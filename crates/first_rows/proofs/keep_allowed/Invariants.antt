@@ -1,6 +1,6 @@
 use Rattle.std.proofs.Common.{◌≡◌, ◌-◌, ◌*◌, ◌<◌, ◌≤◌, true, length}
 use Rattle.graph_theory.specs.Embedding.{Allowed}
-use Rattle.graph_rows.specs.BitRow.{has}
+use Rattle.bit_rows.specs.BitRows.{has}
 use Rattle.bit_rows.proofs.Sifted.{SiftedBelow}
 use Rattle.first_rows.proofs.keep_allowed.Given as goal
 

@@ -1,5 +1,5 @@
 use Rattle.std.proofs.Common.{◌≡◌, ℕ, ◌<◌, ◌≤◌, false}
-use Rattle.domain_bits.specs.BitRows.{is_set}
+use Rattle.bit_rows.specs.BitRows.{is_set}
 use Rattle.bit_rows.proofs.Counting.{enough}
 use Rattle.bit_rows.proofs.counts.bits_counted.Given as goal
 

@@ -3,9 +3,8 @@ use Rattle.std.proofs.Math.Facts.{Fits-lt-pow}
 use Rattle.std.specs.Int.{from_bool, trailing_zeros}
 use Rattle.std.specs.Int.RustNames.{bit_xor}
 use Rattle.std.proofs.lemmas.Bool.{eq-eqb}
-use Rattle.domain_bits.specs.BitRows.{is_set, word_values}
-use Rattle.domain_bits.proofs.Runs.{one_shifted}
-use Rattle.domain_bits.proofs.WordBits.{word_values-first, low_bit, low_is_set}
+use Rattle.bit_rows.specs.BitRows.{is_set, word_values}
+use Rattle.bit_rows.proofs.WordBits.{one_shifted, word_values-first, low_bit, low_is_set}
 use Rattle.bit_rows.proofs.Counting.{in_word, counted_one, left_in_word, counted_word}
 use Rattle.bit_rows.proofs.counts.count_in_word.Goals as goal
 

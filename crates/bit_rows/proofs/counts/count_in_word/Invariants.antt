@@ -1,6 +1,6 @@
 use Rattle.std.proofs.Common.{◌≡◌, ℕ, ◌+◌, true, length, get_or}
 use Rattle.std.specs.Int.{from_bool}
-use Rattle.domain_bits.specs.BitRows.{is_set, word_values}
+use Rattle.bit_rows.specs.BitRows.{is_set, word_values}
 use Rattle.bit_rows.proofs.Counting.{in_word}
 use Rattle.bit_rows.proofs.counts.count_in_word.Given as goal
 

@@ -1,5 +1,5 @@
 use Rattle.std.proofs.Common.{◌≡◌, ℕ, ◌<◌, ◌≤◌, ◌==◌, false, get_or}
-use Rattle.domain_bits.specs.BitRows.{is_set}
+use Rattle.bit_rows.specs.BitRows.{is_set}
 use Rattle.bit_rows.proofs.numbers.bits_equal.Given as goal
 
 abbrev pub invariant-loop-b : goal.invariant-loop-b

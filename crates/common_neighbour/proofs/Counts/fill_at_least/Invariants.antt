@@ -1,7 +1,7 @@
 use Rattle.std.proofs.Common.{◌≡◌, ℕ, nat_lt, ◌&&◌, not, ◌==◌}
 use Rattle.graph_theory.specs.Neighbours.{common}
 use Rattle.graph_theory.specs.Reversed.{turned}
-use Rattle.graph_rows.specs.BitRow.{has}
+use Rattle.bit_rows.specs.BitRows.{has}
 use Rattle.common_neighbour.proofs.Counts.fill_at_least.Given as goal
 
 abbrev pub invariant-loop-u : goal.invariant-loop-u

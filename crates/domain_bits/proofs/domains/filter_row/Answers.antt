@@ -1,7 +1,7 @@
 use Rattle.std.proofs.Common.{◌∙◌, get_or, sym, arith}
 use Rattle.std.proofs.Math.Facts.{Fits-lt-pow}
-use Rattle.domain_bits.specs.BitRows.{has}
-use Rattle.domain_bits.proofs.Rows.{has_at}
+use Rattle.bit_rows.specs.BitRows.{has}
+use Rattle.bit_rows.proofs.Rows.{has_at}
 use Rattle.domain_bits.proofs.Filtering.{filtering_room, filtering_more, filtering_count, few_gone}
 use Rattle.domain_bits.proofs.domains.filter_row.Goals as goal
 

@@ -1,5 +1,5 @@
 use Rattle.std.proofs.Common.{◌≡◌}
-use Rattle.domain_bits.specs.BitRows.{has}
+use Rattle.bit_rows.specs.BitRows.{has}
 use Rattle.domain_bits.proofs.Filtering.{Filtering}
 use Rattle.domain_bits.proofs.domains.filter_row.Given as goal
 

@@ -4,7 +4,7 @@ use Rattle.std.proofs.lemmas.List.{append-nil, set-get_or}
 use Rattle.std.proofs.lemmas.Nat.{and_le_r}
 use Rattle.std.proofs.Math.Facts.{Fits-lt-pow}
 use Rattle.domain_bits.proofs.Runs.{nothing_gone}
-use Rattle.domain_bits.proofs.WordBits.{word_values-zero, length-word_values}
+use Rattle.bit_rows.proofs.WordBits.{word_values-zero, length-word_values}
 use Rattle.domain_bits.proofs.domains.filter_word.Goals as goal
 
 pub returns-then-gone-eq0-clause-word : goal.returns-then-gone-eq0-clause-word

@@ -1,10 +1,10 @@
 use Rattle.std.proofs.Common.{◌<◌, get_or, ◌∙◌, length, ◌*◌, arith, w64}
 use Rattle.std.specs.Int.{trailing_zeros}
 use Rattle.std.proofs.Math.Facts.{Fits-lt-pow}
-use Rattle.domain_bits.specs.BitRows.{has}
-use Rattle.domain_bits.proofs.Counts.{count_none}
-use Rattle.domain_bits.proofs.Rows.{has_at}
-use Rattle.domain_bits.proofs.WordBits.{low_bit, low_is_set}
+use Rattle.bit_rows.specs.BitRows.{has}
+use Rattle.bit_rows.proofs.Passing.{count_none}
+use Rattle.bit_rows.proofs.Rows.{has_at}
+use Rattle.bit_rows.proofs.WordBits.{low_bit, low_is_set}
 use Rattle.domain_bits.proofs.domains.first_value.Goals as goal
 
 pub returns-then-row-place-ne0 : goal.returns-then-row-place-ne0

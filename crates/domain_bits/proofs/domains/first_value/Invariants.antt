@@ -1,5 +1,5 @@
 use Rattle.std.proofs.Common.{◌≡◌, ℕ, ◌*◌, ◌<◌, false}
-use Rattle.domain_bits.specs.BitRows.{has}
+use Rattle.bit_rows.specs.BitRows.{has}
 use Rattle.domain_bits.proofs.domains.first_value.Given as goal
 
 abbrev pub invariant-loop-place : goal.invariant-loop-place

@@ -1,5 +1,5 @@
 use Rattle.std.proofs.Common.{◌≡◌, ℕ, ◌*◌, ◌<◌, ltb, length, drop}
-use Rattle.domain_bits.specs.BitRows.{has}
+use Rattle.bit_rows.specs.BitRows.{has}
 use Rattle.domain_bits.proofs.domains.full_rows.Given as goal
 
 abbrev pub invariant-loop-p : goal.invariant-loop-p

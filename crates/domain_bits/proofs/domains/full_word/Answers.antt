@@ -1,7 +1,6 @@
 use Rattle.std.proofs.Common.{sym, ◌∙◌, arith}
 use Rattle.std.proofs.lemmas.Bool.{lt-ltb}
-use Rattle.domain_bits.proofs.Runs.{one_shifted}
-use Rattle.domain_bits.proofs.WordBits.{is_set_ones}
+use Rattle.bit_rows.proofs.WordBits.{one_shifted, is_set_ones}
 use Rattle.domain_bits.proofs.domains.full_word.Goals as goal
 
 pub returns-then-bits-lt64 : goal.returns-then-bits-lt64

@@ -1,8 +1,7 @@
 use Rattle.std.proofs.Common.{◌≡◌, ℕ, ◌+◌, ◌*◌, ◌/◌, ◌%◌, ◌^◌, ◌<◌, ◌∷◌, [], ◌++◌, length, ap, ◌∙◌, arith}
-use Rattle.domain_bits.specs.BitRows.{word_values}
+use Rattle.bit_rows.specs.BitRows.{word_values}
 use Rattle.domain_bits.specs.Removals.{at_vertex}
-use Rattle.domain_bits.proofs.Runs.{one_shifted}
-use Rattle.domain_bits.proofs.WordBits.{word_values-pow}
+use Rattle.bit_rows.proofs.WordBits.{one_shifted, word_values-pow}
 use Rattle.domain_bits.proofs.Cutting.{xor_row}
 use Rattle.domain_bits.proofs.domains.take_value.Goals as goal
 

@@ -1,5 +1,5 @@
 use Rattle.std.proofs.Common.{◌≡◌, ◌+◌, ◌-◌, ◌/◌, ◌%◌, ◌++◌, length, take, get_or, subst, sym, ℕ, arith}
-use Rattle.domain_bits.specs.BitRows.{word_values}
+use Rattle.bit_rows.specs.BitRows.{word_values}
 use Rattle.domain_bits.specs.Removals.{at_vertex}
 use Rattle.domain_bits.proofs.Runs.{run_begin, run_on, clear_on, clear_begin}
 use Rattle.domain_bits.proofs.trail.last_run.Goals as goal

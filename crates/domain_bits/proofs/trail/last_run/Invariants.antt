@@ -1,5 +1,5 @@
 use Rattle.std.proofs.Common.{◌≡◌, ℕ, ◌<◌, ◌≤◌, ◌++◌, false, length, take}
-use Rattle.domain_bits.specs.BitRows.{is_set, word_values}
+use Rattle.bit_rows.specs.BitRows.{is_set, word_values}
 use Rattle.domain_bits.specs.Removals.{at_vertex}
 use Rattle.domain_bits.proofs.trail.last_run.Given as goal
 

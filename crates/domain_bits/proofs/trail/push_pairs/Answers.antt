@@ -4,10 +4,10 @@ use Rattle.domain_bits.proofs.Removed.{length-at_vertex}
 use Rattle.std.proofs.Math.Facts.{Fits-lt-pow}
 use Rattle.std.specs.Int.{trailing_zeros}
 use Rattle.std.specs.Int.RustNames.{bit_xor}
-use Rattle.domain_bits.specs.BitRows.{word_values}
+use Rattle.bit_rows.specs.BitRows.{word_values}
 use Rattle.domain_bits.specs.Removals.{at_vertex}
-use Rattle.domain_bits.proofs.Runs.{one_shifted, listed_more}
-use Rattle.domain_bits.proofs.WordBits.{word_values-first, word_values-zero, low_bit}
+use Rattle.domain_bits.proofs.Runs.{listed_more}
+use Rattle.bit_rows.proofs.WordBits.{one_shifted, word_values-first, word_values-zero, low_bit}
 use Rattle.domain_bits.proofs.trail.push_pairs.Goals as goal
 
 -- one value fewer is left

@@ -1,5 +1,5 @@
 use Rattle.std.proofs.Common.{◌≡◌, ◌++◌, length, vec_capacity}
-use Rattle.domain_bits.specs.BitRows.{word_values}
+use Rattle.bit_rows.specs.BitRows.{word_values}
 use Rattle.domain_bits.specs.Removals.{at_vertex}
 use Rattle.domain_bits.proofs.trail.push_pairs.Given as goal
 

@@ -1,6 +1,6 @@
 use Rattle.std.proofs.Common.{◌≡◌, ℕ, ◌-◌, ◌*◌, ◌<◌, ◌≤◌, true, length}
 use Rattle.graph_theory.specs.Neighbours.{IsKeptBy}
-use Rattle.graph_rows.specs.BitRow.{has}
+use Rattle.bit_rows.specs.BitRows.{has}
 use Rattle.bit_rows.proofs.Sifted.{SiftedBelow}
 use Rattle.nds_filter.specs.Sequences.{sequence_at}
 use Rattle.nds_filter.proofs.kept.keep_sequences.Given as goal

@@ -1,7 +1,7 @@
 use Rattle.std.proofs.Common.{ℕ, ◌++◌, [], ◌∷◌, List, sym, ap, ◌∙◌, append_assoc}
 use Rattle.std.proofs.lemmas.List.{append-nil}
-use Rattle.domain_bits.specs.BitRows.{has}
-use Rattle.domain_bits.specs.Counting.{members}
+use Rattle.bit_rows.specs.BitRows.{has}
+use Rattle.graph_theory.specs.Neighbours.{members}
 use Rattle.propagation.proofs.Entries.{members_first, members_next}
 use Rattle.propagation.proofs.sets.put_members.Goals as goal
 

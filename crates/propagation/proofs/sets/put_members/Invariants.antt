@@ -1,6 +1,6 @@
 use Rattle.std.proofs.Common.{◌≡◌, ◌-◌, ◌*◌, ◌<◌, ◌≤◌, true, ◌++◌, length}
-use Rattle.domain_bits.specs.BitRows.{has}
-use Rattle.domain_bits.specs.Counting.{members}
+use Rattle.bit_rows.specs.BitRows.{has}
+use Rattle.graph_theory.specs.Neighbours.{members}
 use Rattle.propagation.proofs.sets.put_members.Given as goal
 
 abbrev pub invariant-loop-t : goal.invariant-loop-t

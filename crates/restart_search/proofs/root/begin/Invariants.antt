@@ -1,6 +1,6 @@
 use Rattle.std.proofs.Common.{◌≡◌, length}
 use Rattle.graph_theory.specs.Graph.{size}
-use Rattle.domain_bits.specs.BitRows.{words_for}
+use Rattle.bit_rows.specs.BitRows.{words_for}
 use Rattle.propagation.specs.Recording.{NoNewGuess}
 use Rattle.propagation.specs.Telling.{TellsOn}
 use Rattle.restart_search.specs.Searching.{Beginning}

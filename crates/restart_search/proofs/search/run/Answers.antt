@@ -1,6 +1,6 @@
 use Rattle.std.proofs.Common.{◌≡◌, true, false, List, vec_capacity, ℕ, ◌<◌, length, sym, ap, ◌∙◌, refl, subst, arith}
 use Rattle.std.proofs.lemmas.Bool.{eqb-true}
-use Rattle.domain_bits.specs.BitRows.{has, words_for}
+use Rattle.bit_rows.specs.BitRows.{has, words_for}
 use Rattle.search_theory.specs.Account.{Account}
 use Rattle.restart_search.specs.Sharing.{KeepsUp}
 use Rattle.propagation.proofs.Holding.{holds_same}

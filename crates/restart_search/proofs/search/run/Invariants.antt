@@ -1,6 +1,6 @@
 use Rattle.std.proofs.Common.{◌≡◌, ◌≤◌, length, vec_capacity}
 use Rattle.graph_theory.specs.Graph.{size}
-use Rattle.domain_bits.specs.BitRows.{words_for}
+use Rattle.bit_rows.specs.BitRows.{words_for}
 use Rattle.search_theory.specs.Remaining.{remaining}
 use Rattle.restart_search.specs.Sharing.{IsSeatFor}
 use Rattle.restart_search.specs.Positions.{GoesOn, LogsAt}

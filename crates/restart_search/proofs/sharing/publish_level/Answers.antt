@@ -1,6 +1,6 @@
 use Rattle.std.proofs.Common.{length, refl, arith, ◌∙◌}
-use Rattle.domain_bits.specs.BitRows.{has}
-use Rattle.domain_bits.proofs.Rows.{has_past}
+use Rattle.bit_rows.specs.BitRows.{has}
+use Rattle.bit_rows.proofs.Rows.{has_past}
 use Rattle.nogood_book.proofs.Reaching.{reaches_more}
 use Rattle.restart_search.specs.Sharing.{IsRowOf, learned_by}
 use Rattle.restart_search.proofs.Publishing.{went_none, level_before, went_more, row_on, row_later, level_more}

@@ -1,6 +1,6 @@
 use Rattle.std.proofs.Common.{◌≡◌, ℕ, ◌-◌, ◌*◌, ◌<◌, ◌≤◌, true, [], ◌∷◌, ◌++◌, length, Some}
 use Rattle.graph_theory.specs.Neighbours.{members}
-use Rattle.domain_bits.specs.BitRows.{has}
+use Rattle.bit_rows.specs.BitRows.{has}
 use Rattle.restart_search.specs.Sharing.{IsRowOf, Went, learned_by, refuted_at}
 use Rattle.restart_search.proofs.sharing.publish_level.Given as goal
 

@@ -1,6 +1,6 @@
 use Rattle.std.proofs.Common.{◌≡◌, ℕ, ◌<◌, ◌&&◌, not, Bool, true, List, length, arith, ap, sym, subst, ◌∙◌}
 use Rattle.search_theory.specs.Account.{level_at}
-use Rattle.domain_bits.specs.BitRows.{has}
+use Rattle.bit_rows.specs.BitRows.{has}
 use Rattle.domain_bits.specs.Removals.{in_domain}
 use Rattle.fail_account.proofs.Distinct.{path_fewer}
 use Rattle.restart_search.proofs.Steps.{level_after, untried_of, all_untried}

@@ -1,8 +1,8 @@
 use Rattle.std.proofs.Common.{◌+◌, ◌*◌, ◌<◌, get_or, ◌∙◌, arith, w64}
 use Rattle.std.specs.Int.{trailing_zeros}
 use Rattle.std.proofs.Math.Facts.{Fits-lt-pow}
-use Rattle.domain_bits.proofs.Rows.{has_at}
-use Rattle.domain_bits.proofs.WordBits.{low_bit, low_is_set}
+use Rattle.bit_rows.proofs.Rows.{has_at}
+use Rattle.bit_rows.proofs.WordBits.{low_bit, low_is_set}
 use Rattle.restart_search.proofs.value_choice.has_value.Goals as goal
 
 pub returns-then-row-place-ne0-clause-some : goal.returns-then-row-place-ne0-clause-some

@@ -1,8 +1,8 @@
 use Rattle.std.proofs.Common.{◌≡◌, ℕ, ◌/◌, ◌%◌, ◌<◌, ◌≤◌, true, ◌∷◌, [], sym, ◌∙◌, arith, inl, inr, ◌⊎◌}
 use Rattle.std.proofs.lemmas.Bool.{cases_lt, false≢true}
 use Rattle.std.proofs.lemmas.Nat.Bits.{bit_at_above}
-use Rattle.domain_bits.specs.BitRows.{has}
-use Rattle.domain_bits.proofs.Rows.{has_past}
+use Rattle.bit_rows.specs.BitRows.{has}
+use Rattle.bit_rows.proofs.Rows.{has_past}
 use Rattle.search_tests.proofs.choice_tests.words_choose_by_the_running_sum.Goals as goal
 
 members_below : (v : ℕ) → has (164 ∷ []) v ≡ true → v < 8

@@ -1,6 +1,6 @@
 use Rattle.std.proofs.Common.{◌≡◌, ◌-◌, ◌<◌, length, set, get_or, refl, ap, ◌∙◌, arith}
 use Rattle.std.proofs.lemmas.List.{length-set}
-use Rattle.domain_bits.specs.BitRows.{has}
+use Rattle.bit_rows.specs.BitRows.{has}
 use Rattle.domain_bits.proofs.Keeping.{row_starts}
 use Rattle.domain_bits.proofs.Cutting.{Cut, part_is, part_room, part_enough, part_length, cut_all, rows_after, sizes_after}
 use Rattle.domain_bits.proofs.Noting.{noted_cut, noted_uncut}

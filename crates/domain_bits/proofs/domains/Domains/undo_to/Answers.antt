@@ -1,6 +1,6 @@
 use Rattle.std.proofs.Common.{◌≡◌, length, set, get_or, refl, ap, ◌∙◌, arith}
 use Rattle.std.proofs.lemmas.List.{length-set}
-use Rattle.domain_bits.proofs.Counts.{count_within}
+use Rattle.bit_rows.proofs.Passing.{count_within}
 use Rattle.domain_bits.specs.Removals.{in_domain}
 use Rattle.domain_bits.proofs.Keeping.{state}
 use Rattle.domain_bits.proofs.Cutting.{sizes_after}

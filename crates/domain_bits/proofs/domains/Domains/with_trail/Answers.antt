@@ -1,4 +1,5 @@
-use Rattle.std.proofs.Common.{◌+◌, ◌/◌, ◌∙◌, ap, refl, arith}
+use Rattle.std.proofs.Common.{◌∙◌, ap, refl, arith}
+use Rattle.bit_rows.specs.BitRows.{words_for}
 use Rattle.domain_bits.proofs.Fresh.{fresh_kept}
 use Rattle.domain_bits.proofs.Noting.{noted_fresh}
 use Rattle.domain_bits.proofs.domains.Domains.with_trail.Goals as goal
@@ -7,7 +8,7 @@ pub invariant_of-result : goal.invariant_of-result
 invariant_of-result g c =
     record {
       kept = fresh_kept c.args.vertices c.args.values _ _ c.in_ok-rows.rows.items c.in_ok-sizes.sizes.items _ c.in_ok-trail.ensures.empty
-          (ap (λ n. (n + 63) / 64) c.from.ensures) (omega (arith, c.from.ensures))
+          (c.words_for-words.ensures ∙ ap words_for c.from.ensures) (omega (arith, c.words_for-words.ensures, c.from.ensures))
           (c.in_ok-rows.ensures.long ∙ rw c.from-2.ensures refl)
           (λ p t hp ht. c.in_ok-rows.ensures.bits p t (rw c.from-2.ensures hp) ht ∙ rw c.from-3.ensures refl)
           (c.in_ok-sizes.ensures.items_if_clones_equal (λ y e. e) ∙ rw c.from-4.ensures refl)

@@ -2,7 +2,7 @@ use Rattle.std.proofs.Common.{◌++◌, ◌-◌, ap, ◌∙◌, sym, arith, leng
 use Rattle.domain_bits.specs.declared.trail.Run.{Run}
 use Rattle.domain_bits.specs.Runs.{pairs_of, AreRuns}
 use Rattle.domain_bits.specs.Removals.{at_vertex}
-use Rattle.domain_bits.specs.BitRows.{word_values}
+use Rattle.bit_rows.specs.BitRows.{word_values}
 use Rattle.domain_bits.proofs.WordRuns.{pairs_of-last, taken, shortened, shortened_pairs, ones_some}
 use Rattle.domain_bits.proofs.word_trail.WordTrailTrail.pop.Goals as goal
 

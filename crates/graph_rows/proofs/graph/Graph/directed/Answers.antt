@@ -1,4 +1,4 @@
-use Rattle.std.proofs.Common.{◌≡◌, ◌+◌, ◌/◌, length, ap, ◌∙◌, arith, rules}
+use Rattle.std.proofs.Common.{◌≡◌, length, ap, ◌∙◌, arith, rules}
 use Rattle.std.proofs.lemmas.List.{with_items_is}
 use Rattle.graph_rows.proofs.Marking.{no_marks_made}
 use Rattle.graph_rows.proofs.Parts.{made-directed, turned_made}
@@ -24,7 +24,7 @@ pub returns : goal.returns
 returns c = record {
   graph = λ apart.
       made-directed c.args.parts.now.kind c.in_ok-labels.labels.items c.args.parts.now.labels c.mark_all_out.new.words _ c.mark_all_out.new.degrees c.in_ok-cells.cells.items (length c.deref_mut-2.result.now)
-      ((c.len-size.result + 63) / 64) c.args.parts.now.neighbours c.args.parts.now.edge_labels apart (c.in_ok-labels.ensures.items ∙ c.as_slice.ensures)
+      (c.words_for-width.result) c.args.parts.now.neighbours c.args.parts.now.edge_labels apart (c.in_ok-labels.ensures.items ∙ c.as_slice.ensures)
       (with_items_is c.in_ok-words.words c.mark_all_out.new.words (search rules)) c.requires.lengths (search rules) c.mark_all_out.ensures.marks c.mark_all_out.ensures.said
       c.in_ok-cells.ensures.none c.in_ok-cells.ensures.cells;
 }

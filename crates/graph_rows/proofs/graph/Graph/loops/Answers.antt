@@ -1,5 +1,5 @@
 use Rattle.std.proofs.Common.{ℕ, List, ap, ◌∙◌}
-use Rattle.graph_rows.specs.BitRow.{has}
+use Rattle.bit_rows.specs.BitRows.{has}
 use Rattle.graph_rows.proofs.HeldGraph.{loops_are}
 use Rattle.graph_rows.proofs.graph.Graph.loops.Goals as goal
 

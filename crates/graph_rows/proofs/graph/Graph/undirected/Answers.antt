@@ -1,4 +1,4 @@
-use Rattle.std.proofs.Common.{◌≡◌, ◌+◌, ◌/◌, length, ap, ◌∙◌, arith, rules}
+use Rattle.std.proofs.Common.{◌≡◌, length, ap, ◌∙◌, arith, rules}
 use Rattle.std.proofs.lemmas.List.{with_items_is}
 use Rattle.graph_rows.proofs.Marking.{no_marks_made}
 use Rattle.graph_rows.proofs.Parts.{graph-made, mutual_made, plain_made}
@@ -14,7 +14,7 @@ mark_all-requires-clause-marks c =
 
 pub returns-clause-graph : goal.returns-clause-graph
 returns-clause-graph c =
-    rw (c.new-3.ensures.items) (graph-made c.in_ok-labels.labels.items c.args.parts.now.labels c.mark_all.new.words _ c.mark_all.new.degrees (length c.deref_mut-2.result.now) ((c.len-size.result + 63) / 64)
+    rw (c.new-3.ensures.items) (graph-made c.in_ok-labels.labels.items c.args.parts.now.labels c.mark_all.new.words _ c.mark_all.new.degrees (length c.deref_mut-2.result.now) (c.words_for-width.result)
     c.args.parts.now.neighbours (c.in_ok-labels.ensures.items ∙ c.as_slice.ensures) (with_items_is c.in_ok-words.words c.mark_all.new.words (search rules)) c.requires.lengths (search rules) c.mark_all.ensures.marks c.mark_all.ensures.said)
 
 pub returns-clause-plain : goal.returns-clause-plain

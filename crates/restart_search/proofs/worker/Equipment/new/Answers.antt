@@ -1,7 +1,7 @@
 use Rattle.std.proofs.Common.{length, ap, ◌∙◌, arith, rules}
 use Rattle.std.proofs.lemmas.List.{length-replicate}
 use Rattle.graph_theory.specs.Graph.{size}
-use Rattle.domain_bits.specs.BitRows.{words_for}
+use Rattle.bit_rows.specs.BitRows.{words_for}
 use Rattle.search_theory.specs.Account.{Account, path}
 use Rattle.propagation.specs.Learning.{Filtering}
 use Rattle.restart_search.proofs.Logging.{told_fresh}

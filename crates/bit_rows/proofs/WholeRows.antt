@@ -2,9 +2,9 @@
 use Rattle.std.proofs.Common.{◌≡◌, ℕ, ◌/◌, ◌%◌, ◌^◌, ◌<◌, ◌≤◌, ◌&&◌, ◌||◌, not, List, length, get_or, refl, arith, inl, inr, ◌⊎◌, bit_and, bit_or, w64}
 use Rattle.std.specs.Int.{bit_not}
 use Rattle.std.proofs.lemmas.Bool.{cases_lt}
-use Rattle.domain_bits.specs.BitRows.{has}
-use Rattle.domain_bits.proofs.WordBits.{is_set_and, is_set_and_not, is_set_or}
-use Rattle.domain_bits.proofs.Rows.{has_past}
+use Rattle.bit_rows.specs.BitRows.{has}
+use Rattle.bit_rows.proofs.WordBits.{is_set_and, is_set_and_not, is_set_or}
+use Rattle.bit_rows.proofs.Rows.{has_past}
 
 pub has_and : (new old from : List ℕ) → length new ≡ length old → length old ≡ length from
     → ((k : ℕ) → k < length new → get_or new k 0 ≡ bit_and (get_or old k 0) (get_or from k 0)) → (v : ℕ) → has new v ≡ (has old v && has from v)

@@ -1,7 +1,7 @@
 -- Sets of numbers as rows of words: value v is bit v % 64 of word v / 64.
 use Rattle.std.specs.Prelude.{◌≡◌, ℕ, ◌+◌, ◌*◌, ◌/◌, ◌%◌, ◌==◌, ◌<◌, ◌≤◌, Bool, List, length, map, slice_index, bit_and}
 use Rattle.std.specs.Int.{bit_at, bit_not, w64}
-use Rattle.domain_bits.specs.Counting.{members}
+use Rattle.graph_theory.specs.Neighbours.{members}
 
 -- whether bit b of a word is set
 abbrev pub is_set : ℕ → ℕ → Bool
@@ -26,6 +26,7 @@ without a b = bit_and a (bit_not w64 b)
 -- the words from one place up to another became those of an operation on them and another row's, and all others are as they were
 pub record AreChanged (op : ℕ → ℕ → ℕ) (start end : ℕ) (old from new : List ℕ) : Type 0 where
   pub long : length new ≡ length old
-  pub changed : (k : ℕ) → start ≤ k → k < end → slice_index new k ≡ op (slice_index old k) (slice_index from k)
+  pub changed : (k : ℕ) → start ≤ k → k < end
+      → slice_index new k ≡ op (slice_index old k) (slice_index from k)
   pub before : (k : ℕ) → k < start → slice_index new k ≡ slice_index old k
   pub behind : (k : ℕ) → end ≤ k → slice_index new k ≡ slice_index old k

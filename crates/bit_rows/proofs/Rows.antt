@@ -4,8 +4,8 @@ use Rattle.std.proofs.lemmas.Bool.{cases_order}
 use native.Mathlib.Nat.{mul-le-mul_right, suc-mul}
 use Rattle.std.proofs.lemmas.List.{get_or-take, get_or-drop, get_or_past, get_or_append_left, get_or-append_right, length-take-le}
 use borrow.Rule.Slice.PartMut.{put_mid}
-use Rattle.domain_bits.specs.BitRows.{is_set, has}
-use Rattle.domain_bits.proofs.WordBits.{is_set-zero}
+use Rattle.bit_rows.specs.BitRows.{is_set, has}
+use Rattle.bit_rows.proofs.WordBits.{is_set-zero}
 
 -- bit b of word w is value 64 w + b
 pub has_at : (row : List ℕ) (w b : ℕ) → b < 64 → has row (64 * w + b) ≡ is_set (get_or row w 0) b
@@ -17,6 +17,10 @@ has_at row w b l =
 -- rows whose words agree hold the same values
 pub has_same : (xs ys : List ℕ) (t : ℕ) → get_or xs (t / 64) 0 ≡ get_or ys (t / 64) 0 → has xs t ≡ has ys t
 has_same xs ys t e = rw e refl
+
+-- and so do words that agree, at two places with the same bit
+pub has_same_at : (xs ys : List ℕ) (v u : ℕ) → get_or xs (v / 64) 0 ≡ get_or ys (u / 64) 0 → v % 64 ≡ u % 64 → has xs v ≡ has ys u
+has_same_at xs ys v u e f = rw (e, f) refl
 
 pub has-take : (n : ℕ) (row : List ℕ) (t : ℕ) → t < 64 * n → has (take n row) t ≡ has row t
 has-take n row t l = has_same (take n row) row t (let within : t / 64 < n = omega arith in get_or-take n row (t / 64) 0 within)

@@ -1,12 +1,12 @@
 use Rattle.std.proofs.Common.{◌≡◌, ℕ, ◌+◌, ◌*◌, ◌%◌, ◌^◌, ◌<◌, List, length, get_or, sym, ap, subst, ◌∙◌, arith}
 use lib.Count.{ones}
 use Rattle.std.proofs.Math.Facts.{Fits-lt-pow}
-use Rattle.domain_bits.specs.BitRows.{has}
-use Rattle.domain_bits.specs.Counting.{count}
-use Rattle.domain_bits.proofs.WordBits.{count_word}
-use Rattle.domain_bits.proofs.Counts.{count_within}
-use Rattle.domain_bits.proofs.Rows.{has_at}
-use Rattle.domain_bits.proofs.kernels.count_ones.Goals as goal
+use Rattle.bit_rows.specs.BitRows.{has}
+use Rattle.graph_theory.specs.Neighbours.{count}
+use Rattle.bit_rows.proofs.WordBits.{count_word}
+use Rattle.bit_rows.proofs.Passing.{count_within}
+use Rattle.bit_rows.proofs.Rows.{has_at}
+use Rattle.bit_rows.proofs.kernels.count_ones.Goals as goal
 
 next-word : (row : List ℕ) (i : ℕ) → get_or row i 0 < 2 ^ 64 → count (has row) (64 * (i + 1)) ≡ count (has row) (64 * i) + ones (get_or row i 0)
 next-word row i small =

@@ -6,10 +6,11 @@ use Rattle.std.proofs.lemmas.Nat.Bits.{bit_at_and, bit_at_or, bit_at_xor, bit_at
 use Rattle.std.proofs.lemmas.Bool.{eqb-true, eq-eqb, ne_eqb, cases_eq, cases_lt, lt-ltb, le-ltb}
 use Rattle.std.proofs.lemmas.Bool.Decides.{nat_tests}
 use Rattle.std.proofs.lemmas.List.{length-map}
+use Rattle.std.proofs.Math.Pow.{pow-lt}
 use lib.Count.{ones, ones_step}
-use Rattle.domain_bits.specs.Counting.{count, members}
-use Rattle.domain_bits.specs.BitRows.{is_set, word_values}
-use Rattle.domain_bits.proofs.Counts.{count_same, members_same, members_add, members_first, count_add, length-members}
+use Rattle.graph_theory.specs.Neighbours.{count, members}
+use Rattle.bit_rows.specs.BitRows.{is_set, word_values}
+use Rattle.bit_rows.proofs.Passing.{count_same, members_same, members_add, members_first, count_add, length-members}
 
 -- a bit is 0 or 1
 pub zero_or_one : (x : ℕ) → x < 2 → (x ≡ 0) ⊎ (x ≡ 1)
@@ -60,6 +61,10 @@ is_set_not a i ha hi = rw (bit_at_not w64 a i ha hi) (other-of (bit_at a i) (bit
 
 pub is_set_and_not : (a b i : ℕ) → b < 2 ^ 64 → i < 64 → is_set (bit_and a (bit_not w64 b)) i ≡ (is_set a i && not (is_set b i))
 is_set_and_not a b i hb hi = is_set_and a (bit_not w64 b) i ∙ rw (is_set_not b i hb hi) refl
+
+-- `1 << k`
+pub one_shifted : (k : ℕ) → k < 64 → 1 * 2 ^ k % 2 ^ 64 ≡ 2 ^ k
+one_shifted k l = let p : 2 ^ k < 2 ^ 64 = pow-lt l in omega arith
 
 -- a power of two has its own bit alone
 pub is_set_pow : (k i : ℕ) → is_set (2 ^ k) i ≡ eqb i k

@@ -1,7 +1,7 @@
 -- Counting and listing the numbers that pass a test.
 use Rattle.std.proofs.Common.{◌≡◌, ℕ, ◌+◌, ◌-◌, ◌<◌, ◌≤◌, zero, suc, Bool, true, false, cond, ◌&&◌, not, [], ◌∷◌, ◌++◌, length, map, refl, sym, ap, ◌∙◌, arith, length-append, append_assoc, add-zero, add-suc}
 use Rattle.std.proofs.lemmas.List.{map-append, append-nil}
-use Rattle.domain_bits.specs.Counting.{count, members}
+use Rattle.graph_theory.specs.Neighbours.{count, members}
 
 -- tests that agree below n count the same
 pub count_same : (f g : ℕ → Bool) (n : ℕ) → ((i : ℕ) → i < n → f i ≡ g i) → count f n ≡ count g n

@@ -2,8 +2,8 @@
 //! what is left one by one.
 
 ghost use Rattle.std.specs.Prelude.{◌≡◌, ℕ, ◌+◌, ◌*◌, ◌%◌, ◌^◌, ◌<◌, ◌≤◌, ◌&&◌, ◌||◌, not, length, bit_and, bit_or};
-ghost use Rattle.domain_bits.specs.BitRows.{has, without, AreChanged};
-ghost use Rattle.domain_bits.specs.Counting.{count};
+ghost use Rattle.bit_rows.specs.BitRows.{has, without, AreChanged};
+ghost use Rattle.graph_theory.specs.Neighbours.{count};
 
 use std::simd::prelude::*;
 

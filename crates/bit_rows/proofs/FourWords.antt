@@ -4,7 +4,7 @@ use Rattle.std.specs.Int.{bit_not}
 use Rattle.std.specs.Simd.Lanes.{chunk, put_chunk, zip2}
 use Rattle.std.proofs.lemmas.List.{get_or-map, length-map}
 use Rattle.std.proofs.lemmas.Simd.{length-zip2, length-chunk, length-put_chunk, get_or-zip2, get_or-chunk, get_or-put_chunk_below, get_or-put_chunk_at, get_or-put_chunk_above}
-use Rattle.domain_bits.specs.BitRows.{AreChanged, without}
+use Rattle.bit_rows.specs.BitRows.{AreChanged, without}
 
 -- What a store of four lanes leaves.
 pub changed_by_lanes : (op : ℕ → ℕ → ℕ) (at : ℕ) (old from lanes : List ℕ) → at + 4 ≤ length old → length lanes ≡ 4

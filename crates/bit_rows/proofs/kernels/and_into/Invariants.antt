@@ -1,6 +1,6 @@
 use Rattle.std.proofs.Common.{◌*◌, bit_and}
-use Rattle.domain_bits.specs.BitRows.{AreChanged}
-use Rattle.domain_bits.proofs.kernels.and_into.Given as goal
+use Rattle.bit_rows.specs.BitRows.{AreChanged}
+use Rattle.bit_rows.proofs.kernels.and_into.Given as goal
 
 abbrev pub invariant-loop-block : goal.invariant-loop-block
 invariant-loop-block l = AreChanged bit_and 0 (4 * l.block) l.fn.into l.from l.into

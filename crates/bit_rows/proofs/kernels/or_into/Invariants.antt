@@ -1,6 +1,6 @@
 use Rattle.std.proofs.Common.{◌*◌, bit_or}
-use Rattle.domain_bits.specs.BitRows.{AreChanged}
-use Rattle.domain_bits.proofs.kernels.or_into.Given as goal
+use Rattle.bit_rows.specs.BitRows.{AreChanged}
+use Rattle.bit_rows.proofs.kernels.or_into.Given as goal
 
 abbrev pub invariant-loop-block : goal.invariant-loop-block
 invariant-loop-block l = AreChanged bit_or 0 (4 * l.block) l.fn.into l.from l.into

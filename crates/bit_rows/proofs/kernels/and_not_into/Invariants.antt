@@ -1,6 +1,6 @@
 use Rattle.std.proofs.Common.{◌*◌}
-use Rattle.domain_bits.specs.BitRows.{AreChanged, without}
-use Rattle.domain_bits.proofs.kernels.and_not_into.Given as goal
+use Rattle.bit_rows.specs.BitRows.{AreChanged, without}
+use Rattle.bit_rows.proofs.kernels.and_not_into.Given as goal
 
 abbrev pub invariant-loop-block : goal.invariant-loop-block
 invariant-loop-block l = AreChanged without 0 (4 * l.block) l.fn.into l.from l.into

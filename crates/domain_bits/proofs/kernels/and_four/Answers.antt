@@ -1,5 +1,0 @@
-use Rattle.domain_bits.proofs.FourWords.{changed_by_two}
-use Rattle.domain_bits.proofs.kernels.and_four.Goals as goal
-
-pub returns : goal.returns
-returns c = changed_by_two _ c.args.at _ _ c.requires.room c.requires.same_length
