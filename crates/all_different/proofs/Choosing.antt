@@ -1,9 +1,9 @@
 -- No injective choice is lost: a set of domains has no more members in a choice than its union has values.
 use Rattle.std.proofs.Common.{◌≡◌, ℕ, ◌+◌, ◌<◌, ◌≤◌, zero, suc, Bool, true, false, cond, eqb, ◌&&◌, ◌||◌, not, refl, sym, subst, arith, inl, inr, ◌⊎◌}
 use Rattle.std.proofs.lemmas.Bool.{or_cases, and_from, eqb-true, eq-eqb, ne_eqb}
-use Rattle.domain_bits.specs.Counting.{count}
+use Rattle.graph_theory.specs.Neighbours.{count}
 use Rattle.domain_bits.specs.Removals.{State, in_domain}
-use Rattle.domain_bits.proofs.Counts.{count_same, count_split}
+use Rattle.bit_rows.proofs.Passing.{count_same, count_split}
 use Rattle.domain_bits.proofs.Sizes.{count_some, counted_one, in_below}
 use Rattle.all_different.specs.Prefixes.{in_prefix, in_union, union_size, Short}
 use Rattle.all_different.specs.Choices.{Chooses}

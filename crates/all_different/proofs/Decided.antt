@@ -2,7 +2,7 @@
 use Rattle.std.proofs.Common.{◌≡◌, ℕ, ◌+◌, ◌<◌, ◌≤◌, zero, suc, true, false, eqb, ltb, ◌&&◌, not, List, get_or, refl, sym, ap, ◌∙◌, arith, inl, inr, ◌⊎◌}
 use Rattle.std.proofs.lemmas.Bool.{cases_order, and_parts, ltb-true, eq-eqb, false≢true, false_from_ne_true}
 use Rattle.domain_bits.specs.Removals.{State, in_domain, size_of}
-use Rattle.domain_bits.proofs.Counts.{count_split, count_le}
+use Rattle.bit_rows.proofs.Passing.{count_split, count_le}
 use Rattle.domain_bits.proofs.Sizes.{count_some, some_counted}
 use Rattle.all_different.specs.Ranks.{rank}
 use Rattle.all_different.specs.Prefixes.{in_prefix, in_union, union_size}

@@ -3,9 +3,9 @@ use Rattle.std.proofs.Common.{◌≡◌, ℕ, ◌+◌, ◌*◌, ◌/◌, ◌%◌
 use Rattle.std.specs.Int.{trailing_zeros}
 use Rattle.std.proofs.lemmas.Bool.{cases_lt, and_parts, false≢true}
 use Rattle.std.proofs.lemmas.Nat.{and_le_l}
-use Rattle.domain_bits.specs.BitRows.{is_set, has}
-use Rattle.domain_bits.proofs.Rows.{has_at}
-use Rattle.domain_bits.proofs.WordBits.{is_set_and, is_set-zero, low_bit, low_is_set}
+use Rattle.bit_rows.specs.BitRows.{is_set, has}
+use Rattle.bit_rows.proofs.Rows.{has_at}
+use Rattle.bit_rows.proofs.WordBits.{is_set_and, is_set-zero, low_bit, low_is_set}
 use Rattle.all_different.specs.Steps.{Shares}
 
 pub shared_word : (row other : List ℕ) (place : ℕ) → get_or row place 0 < 2 ^ 64 → (bit_and (get_or row place 0) (get_or other place 0) ≡ 0 → ⊥) → Shares row other

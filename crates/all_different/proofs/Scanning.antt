@@ -1,10 +1,10 @@
 -- Looking at one prefix after another.
 use Rattle.std.proofs.Common.{◌≡◌, ℕ, ◌+◌, ◌-◌, ◌*◌, ◌<◌, ◌≤◌, suc, Bool, true, false, ◌&&◌, ◌||◌, ltb, List, length, get_or, refl, sym, ap, ◌∙◌, subst, arith, inl, inr, ◌⊎◌}
 use Rattle.std.proofs.lemmas.Bool.{cases_lt, cases_eq, and_parts, lt-ltb, le-ltb, false≢true, false_from_ne_true}
-use Rattle.domain_bits.specs.Counting.{count}
-use Rattle.domain_bits.specs.BitRows.{has, words_for}
+use Rattle.graph_theory.specs.Neighbours.{count}
+use Rattle.bit_rows.specs.BitRows.{has, words_for}
 use Rattle.domain_bits.specs.Removals.{State, in_domain, size_of}
-use Rattle.domain_bits.proofs.Counts.{count_same, count_le}
+use Rattle.bit_rows.proofs.Passing.{count_same, count_le}
 use Rattle.domain_bits.proofs.Removed.{count_bounds}
 use Rattle.domain_bits.proofs.Sizes.{in_below}
 use Rattle.all_different.specs.Ranks.{before, rank}

@@ -1,9 +1,9 @@
 -- Prefixes and their unions, one domain after another.
 use Rattle.std.proofs.Common.{◌≡◌, ℕ, ◌+◌, ◌<◌, ◌≤◌, zero, suc, Bool, true, false, eqb, ltb, ◌&&◌, ◌||◌, not, refl, sym, ap, ◌∙◌, subst, arith, inl, inr, ◌⊎◌}
 use Rattle.std.proofs.lemmas.Bool.{cases_lt, cases_eq, cases_order, and_parts, or_cases, or_left, or_right, and_from, lt-ltb, le-ltb, eqb-true, eq-eqb, ne_eqb}
-use Rattle.domain_bits.specs.Counting.{count}
+use Rattle.graph_theory.specs.Neighbours.{count}
 use Rattle.domain_bits.specs.Removals.{State, in_domain, size_of}
-use Rattle.domain_bits.proofs.Counts.{count_same, count_split, count_none, count_within}
+use Rattle.bit_rows.proofs.Passing.{count_same, count_split, count_none, count_within}
 use Rattle.domain_bits.proofs.Sizes.{counted_one}
 use Rattle.all_different.specs.Ranks.{rank}
 use Rattle.all_different.specs.Prefixes.{any, in_prefix, in_union}

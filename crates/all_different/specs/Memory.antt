@@ -1,6 +1,6 @@
 -- The working memory as its users see it.
 use Rattle.std.specs.Prelude.{◌≡◌, ℕ, ◌+◌, ◌≤◌, List, length, take}
-use Rattle.domain_bits.specs.BitRows.{words_for}
+use Rattle.bit_rows.specs.BitRows.{words_for}
 
 -- for which sizes it is, and the set that was found with the union of its domains
 pub record Memory : Type 0 where
@@ -11,7 +11,13 @@ pub record Memory : Type 0 where
 
 -- the set is a front of the order
 abbrev pub memory : ℕ → ℕ → ℕ → List ℕ → List ℕ → Memory
-memory vertices values found order union = record { vertices = vertices; values = values; set = take found order; union = union }
+memory vertices values found order union = record {
+  vertices = vertices;
+  values = values;
+  set =
+      take found order;
+  union = union;
+}
 
 -- all parts have their lengths
 pub record Holds (vertices values found : ℕ) (starts order union keep : List ℕ) : Type 0 where

@@ -1,7 +1,7 @@
 -- The first n domains by size and number, and what their union tells.
 use Rattle.std.specs.Prelude.{◌≡◌, ℕ, ◌<◌, ◌≤◌, Bool, true, false, nat_lt, ◌&&◌, ◌||◌}
 use Rattle.std.proofs.Common.{zero, suc}
-use Rattle.domain_bits.specs.Counting.{count}
+use Rattle.graph_theory.specs.Neighbours.{count}
 use Rattle.domain_bits.specs.Removals.{State, in_domain, size_of}
 use Rattle.all_different.specs.Ranks.{rank}
 

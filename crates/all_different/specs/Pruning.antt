@@ -1,7 +1,7 @@
 -- What pruning by counting does.
 use Rattle.std.specs.Prelude.{◌≡◌, ℕ, ◌<◌, ◌==◌, Bool, true, false, not, cond, ◌||◌, List, [], ◌∷◌, length}
 use Rattle.std.proofs.Common.{zero, suc}
-use Rattle.domain_bits.specs.BitRows.{has}
+use Rattle.bit_rows.specs.BitRows.{has}
 use Rattle.domain_bits.specs.Removals.{State, filtered, in_domain, size_of}
 use Rattle.all_different.specs.Prefixes.{in_prefix, in_union, First, Short, Tight, Balanced}
 use Rattle.all_different.specs.Choices.{Chooses, LosesNoChoice}
@@ -11,7 +11,8 @@ use Rattle.all_different.specs.declared.Pruned.TheVariants.{Quiet, Hall, Fail}
 -- the values that pass leave the domains of the vertices below n that pass, by rising vertex and then by rising value
 abbrev pub cleared : State → (ℕ → Bool) → (ℕ → Bool) → ℕ → State
 cleared d from gone zero = d
-cleared d from gone (suc p) = cond (from p) (filtered (cleared d from gone p) p (λ u. not (gone u))) (cleared d from gone p)
+cleared d from gone (suc p) = cond (from p) (filtered (cleared d from gone p) p (λ u. not
+    (gone u))) (cleared d from gone p)
 
 -- the union of the first n domains has left all later ones
 abbrev pub without_union : State → ℕ → State
@@ -30,14 +31,17 @@ pub record Shows (d : State) (n : ℕ) (set row : List ℕ) : Type 0 where
 
 -- a value that is all of one domain is in no other
 pub record DecidedApart (d : State) : Type 0 where
-  pub apart : (p r t : ℕ) → p < d.vertices → r < d.vertices → (p ≡ r → ⊥) → size_of d p ≡ 1 → in_domain d p t ≡ true → in_domain d r t ≡ true → ⊥
+  pub apart : (p r t : ℕ) → p < d.vertices → r < d.vertices → (p ≡ r → ⊥) → size_of d p ≡ 1
+      → in_domain d p t ≡ true → in_domain d r t ≡ true → ⊥
 
 -- what each answer says of the domains before and after, and of the set and its union
 abbrev pub Prunes : Pruned → State → State → List ℕ → List ℕ → Type 0
 Prunes Quiet old new set values = Balanced old × (new ≡ old)
 Prunes Hall old new set values =
-    (n : ℕ) × ((m : ℕ) → Short old m → ⊥) × First (Tight old) n × Shows old n set values × (new ≡ without_union old n)
-Prunes Fail old new set values = (n : ℕ) × First (Short old) n × Shows old n set values × (new ≡ old)
+    (n : ℕ) × ((m : ℕ) → Short old m → ⊥) × First (Tight old) n × Shows old n set values
+    × (new ≡ without_union old n)
+Prunes Fail old new set values = (n : ℕ) × First (Short old) n × Shows old n set values
+    × (new ≡ old)
 
 -- what each answer means for a search
 abbrev pub PruneSays : Pruned → State → State → Type 0
@@ -48,4 +52,5 @@ PruneSays Fail old new = (new ≡ old) × ((m : ℕ → ℕ) → Chooses old m �
 -- what counting refuses lies in no injective choice
 pub record CountingLaws : Type 0 where
   pub short : (d : State) (n : ℕ) → Short d n → (m : ℕ → ℕ) → Chooses d m → ⊥
-  pub tight : (d : State) (n : ℕ) → Tight d n → (m : ℕ → ℕ) → Chooses d m → Chooses (without_union d n) m
+  pub tight : (d : State) (n : ℕ) → Tight d n → (m : ℕ → ℕ) → Chooses d m
+      → Chooses (without_union d n) m

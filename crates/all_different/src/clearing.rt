@@ -1,8 +1,8 @@
 //! Taking the values of a set of domains from all later ones.
 
 ghost use Rattle.std.specs.Prelude.{◌≡◌, ℕ, ◌+◌, ◌*◌, ◌<◌, ◌≤◌, true, false, not, length, if◌then◌else◌};
-ghost use Rattle.domain_bits.specs.BitRows.{has, words_for};
-ghost use Rattle.domain_bits.specs.Counting.{count};
+ghost use Rattle.bit_rows.specs.BitRows.{has, words_for};
+ghost use Rattle.graph_theory.specs.Neighbours.{count};
 ghost use Rattle.domain_bits.specs.Removals.{intersected, size_of};
 ghost use Rattle.all_different.specs.Pruning.{without_union};
 ghost use Rattle.all_different.specs.Ranks.{before, rank};
@@ -11,7 +11,8 @@ ghost use Rattle.all_different.specs.Steps.{Apart, BalancedTo, Ordered, Shares, 
 
 use crate::ordering::is_later;
 use crate::uniting::{meets, unite_first, unite_rest};
-use domain_bits::{Domains, Trail, count_ones, or_into};
+use bit_rows::{count_ones, or_into};
+use domain_bits::{Domains, Trail};
 
 /// Finds the first prefix with just enough values that a later domain has one of, which is none of at most `from` domains, and takes
 /// them from all later domains. Gives the size of the prefix, and leaves its union in `union`.

@@ -1,16 +1,17 @@
 //! The look at the unions of the first domains: where one has too few values, and where one has just enough.
 
-ghost use Rattle.std.specs.Prelude.{◌≡◌, ℕ, ◌+◌, ◌<◌, ◌≤◌, true, false, length, IfSome, IfNone};
-ghost use Rattle.domain_bits.specs.BitRows.{has, words_for};
+ghost use Rattle.std.specs.Prelude.{◌≡◌, ℕ, ◌+◌, ◌*◌, ◌<◌, ◌≤◌, true, false, length, IfSome, IfNone};
+ghost use Rattle.graph_theory.specs.Neighbours.{count};
+ghost use Rattle.bit_rows.specs.BitRows.{has, words_for};
 ghost use Rattle.domain_bits.specs.Removals.{size_of};
 ghost use Rattle.all_different.specs.Ranks.{rank};
 ghost use Rattle.all_different.specs.Prefixes.{in_union, First, Short};
-ghost use Rattle.all_different.specs.Steps.{BalancedTo, Meets, MissesAt, Ordered, Scans};
+ghost use Rattle.all_different.specs.Steps.{BalancedTo, Meets, MissesAt, Ordered, Scans, Shares};
 
 use crate::ordering::is_later;
 use crate::uniting::{meets, unite_first};
-use bit_rows::clear;
-use domain_bits::{Domains, Trail, count_ones, or_into};
+use bit_rows::{clear, count_ones, or_into};
+use domain_bits::{Domains, Trail};
 
 /// How far the first domains were looked at.
 #[derive(Clone, Copy)]
@@ -25,8 +26,9 @@ pub(crate) enum Scan {
 }
 
 /// Looks at the unions of the first domains in turn, from place `from` on. The last one of a prefix with as many values as members is
-/// kept in `full`, and the next domain is held against it, so that one look at each domain is enough. Cost: four steps for each word of
-/// these domains, and that of `unite_first` for those before.
+/// kept in `full`, and the next domain is held against it, so that one look at each domain is enough. Cost: one step for each word of
+/// these domains, another once one is kept, and two where the union may have as few values as members; that of `unite_first` for those
+/// before.
 pub(crate) fn look<T: Trail>(
     d: &Domains<T>,
     from: usize,
@@ -44,13 +46,15 @@ pub(crate) fn look<T: Trail>(
     unite_first(d, order, from, union);
     clear(full);
     let mut last = 0;
+    let mut least = 0;
     for k in from..order.len() {
         let row = d.row(order[k]);
-        if meets(full, row) {
+        if meets_last(full, last, row) {
             return Scan::Met(k);
         }
         or_into(union, row);
-        let size = count_ones(union);
+        let size = size_up_to(union, least, k as u64 + 1);
+        least = size;
         if size < k as u64 + 1 {
             return Scan::Short(k + 1);
         }
@@ -60,6 +64,33 @@ pub(crate) fn look<T: Trail>(
         }
     }
     Scan::Clear(last)
+}
+
+/// Whether a row has a value of the union of the last prefix that was kept, of `last` domains. Where none was kept no word is read.
+fn meets_last(full: &[u64], last: usize, row: &[u64]) -> bool
+    requires long { length full.now ≡ length row.now }
+    requires empty { last ≡ 0 → (t : ℕ) → has full.now t ≡ false }
+    ensures found { result ≡ true → Shares full.now row.now }
+    ensures none { result ≡ false → (t : ℕ) → has full.now t ≡ true → has row.now t ≡ true → ⊥ }
+{
+    if last == 0 {
+        return false;
+    }
+    meets(full, row)
+}
+
+/// How many values a row has, if they are no more than `few`, and else a number of them that is more. It has `least` at any rate: where
+/// these are more than `few`, no word is read.
+fn size_up_to(row: &[u64], least: u64, few: u64) -> u64
+    requires short { length row.now ≤ 1024 }
+    requires least { least ≤ count (has row.now) (64 * length row.now) }
+    ensures within { result ≤ count (has row.now) (64 * length row.now) }
+    ensures exact { result ≤ few → result ≡ count (has row.now) (64 * length row.now) }
+{
+    if few < least {
+        return least;
+    }
+    count_ones(row)
 }
 
 /// The first prefix with too few values, which is none of at most `from` domains. Its union is left in `union`.

@@ -1,15 +1,15 @@
 //! Unions of domains, as rows of bits.
 
 ghost use Rattle.std.specs.Prelude.{◌≡◌, ℕ, ◌+◌, ◌<◌, ◌≤◌, ◌&&◌, ◌||◌, true, false, not, length};
-ghost use Rattle.domain_bits.specs.BitRows.{has, words_for};
+ghost use Rattle.bit_rows.specs.BitRows.{has, words_for};
 ghost use Rattle.domain_bits.specs.Removals.{in_domain, size_of};
 ghost use Rattle.all_different.specs.Ranks.{rank};
 ghost use Rattle.all_different.specs.Prefixes.{in_prefix, in_union};
 ghost use Rattle.all_different.specs.Steps.{Ordered, Shares, in_rest};
 
 use crate::ordering::is_later;
-use bit_rows::{clear, set_bit};
-use domain_bits::{Domains, Trail, or_into};
+use bit_rows::{clear, or_into, set_bit};
+use domain_bits::{Domains, Trail};
 
 /// Adds a domain to the row. Cost: one step for a domain of one value, else one for each word.
 fn add_domain<T: Trail>(d: &Domains<T>, p: u16, row: &mut [u64])

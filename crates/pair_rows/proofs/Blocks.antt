@@ -1,21 +1,21 @@
 -- Blocks of rows, and what a row says of its pair.
 
-use Rattle.std.proofs.Common.{◌≡◌, ℕ, ◌+◌, ◌*◌, ◌<◌, ◌≤◌, Bool, true, false, List, ◌++◌, length, take, drop, get_or, set, replicate, refl, sym, ap, ◌∙◌, subst, arith, inl, inr, ◌⊎◌, Some, zero-add}
+use Rattle.std.proofs.Common.{◌≡◌, ℕ, suc, ◌+◌, ◌*◌, ◌<◌, ◌≤◌, Bool, true, false, List, [], ◌∷◌, ◌++◌, eqb, length, take, drop, get_or, set, replicate, refl, sym, ap, ◌∙◌, subst, arith, inl, inr, ◌⊎◌, Some, zero-add}
 use Rattle.std.specs.Prelude.{slice_get, slice_index_or}
 use Rattle.std.proofs.lemmas.Bool.{cases_eq, cases_order, eqb-true, eq-eqb}
-use Rattle.std.proofs.lemmas.List.{get_or-set_same, get_or-set_other, length-set, get_or_read, take-append-le, get_or-replicate, length-replicate}
+use Rattle.std.proofs.lemmas.List.{get_or-set_same, get_or-set_other, length-set, get_or_read, take-append-le, get_or-replicate, length-replicate, get_or_append_left, length-append, append-nil, append_assoc}
 use Rattle.std.proofs.lemmas.List.FromFn.{get_or-map-range_with_len}
 use Rattle.std.proofs.lemmas.Option.{slice_get_within, get_or_from_slice_get}
 use Rattle.std.proofs.Math.Seq.{take-length}
-use native.Mathlib.Nat.{mul-le-mul_right, mul_assoc}
-use Rattle.graph_rows.specs.BitRow.{has, words_for}
+use native.Mathlib.Nat.{mul-le-mul_right, suc-mul}
+use Rattle.bit_rows.specs.BitRows.{has, words_for}
 use Rattle.graph_rows.proofs.Places.{place_within}
 use Rattle.graph_theory.specs.Graph.{Graph, size}
 use Rattle.graph_theory.specs.Embedding.{Problem}
 use Rattle.search_theory.specs.Consistency.{AreConsistent}
 use Rattle.pair_rows.specs.declared.kinds.PairKind.{PairKind}
 use Rattle.pair_rows.specs.Kinds.{kind_of, Joins, RowIs, HasRow, WordsStay}
-use Rattle.pair_rows.specs.Held.{owns, made_in, Held}
+use Rattle.pair_rows.specs.Held.{owns, made_in, Held, IsAdded}
 use Rattle.pair_rows.specs.Rows.{Rows, IsMade}
 use Rattle.pair_rows.specs.Shape.{Shaped}
 use Rattle.pair_rows.proofs.Rowing.{next_row, row_same, part_same}
@@ -40,11 +40,11 @@ pub record RowGiven (q : Problem) (p r t from width : ℕ) (words : List ℕ) : 
 pub row_within : (blocks kinds width block place : ℕ) → block < blocks → place < kinds → (block * kinds + place) * width + width ≤ blocks * kinds * width
 row_within blocks kinds width block place b_in p_in = next_row (block * kinds + place) (blocks * kinds) width (place_within blocks kinds block place b_in p_in)
 
-pub row_given : (q : Problem) (vertices width : ℕ) (kinds : List PairKind) (places block_of owners counts in_counts pool : List ℕ) (both_ways : Bool)
-    → Held q vertices width kinds places block_of owners counts in_counts pool both_ways → (rows : Rows) → record { problem = q; made = made_in block_of owners } ≡ rows
+pub row_given : (q : Problem) (vertices width : ℕ) (kinds : List PairKind) (places : List ℕ) (most : ℕ) (block_of owners counts in_counts pool : List ℕ) (both_ways : Bool)
+    → Held q vertices width kinds places most block_of owners counts in_counts pool both_ways → (rows : Rows) → record { problem = q; made = made_in block_of owners } ≡ rows
     → (p r t : ℕ) → p < size rows.problem.pattern → r < size rows.problem.pattern → (p ≡ r → ⊥) → t < size rows.problem.target → IsMade rows t
     → RowGiven rows.problem p r t ((get_or block_of t 0 * length kinds + get_or places (p * vertices + r) 0) * width) width pool
-row_given q vertices width kinds places block_of owners counts in_counts pool both_ways held rows is =
+row_given q vertices width kinds places most block_of owners counts in_counts pool both_ways held rows is =
     subst (λ (x : Rows). (p r t : ℕ) → p < size x.problem.pattern → r < size x.problem.pattern → (p ≡ r → ⊥) → t < size x.problem.target → IsMade x t
     → RowGiven x.problem p r t ((get_or block_of t 0 * length kinds + get_or places (p * vertices + r) 0) * width) width pool) is given
   where
@@ -62,12 +62,12 @@ row_given q vertices width kinds places block_of owners counts in_counts pool bo
         }
 
 -- the same where the parts are read one by one
-pub row_read : (q : Problem) (vertices width : ℕ) (kinds : List PairKind) (places block_of owners counts in_counts pool : List ℕ) (both_ways : Bool)
-    → Held q vertices width kinds places block_of owners counts in_counts pool both_ways → (rows : Rows) → record { problem = q; made = made_in block_of owners } ≡ rows
+pub row_read : (q : Problem) (vertices width : ℕ) (kinds : List PairKind) (places : List ℕ) (most : ℕ) (block_of owners counts in_counts pool : List ℕ) (both_ways : Bool)
+    → Held q vertices width kinds places most block_of owners counts in_counts pool both_ways → (rows : Rows) → record { problem = q; made = made_in block_of owners } ≡ rows
     → (p r t : ℕ) → p < size rows.problem.pattern → r < size rows.problem.pattern → (p ≡ r → ⊥) → t < size rows.problem.target → IsMade rows t
     → (i j s place block len : ℕ) (words : List ℕ) → i ≡ p → j ≡ r → s ≡ t → place ≡ get_or places (i * vertices + j) place → block ≡ get_or block_of s block
     → len ≡ length kinds → words ≡ pool → RowGiven rows.problem p r t ((block * len + place) * width) width words
-row_read q vertices width kinds places block_of owners counts in_counts pool both_ways held rows is p r t p_in r_in apart t_in made i j s place block len words i_is j_is s_is place_is block_is len_is words_is =
+row_read q vertices width kinds places most block_of owners counts in_counts pool both_ways held rows is p r t p_in r_in apart t_in made i j s place block len words i_is j_is s_is place_is block_is len_is words_is =
     let same : q ≡ rows.problem = ap (λ (x : Rows). x.problem) is in
     let p_below : p < size q.pattern = subst (λ (x : Problem). p < size x.pattern) (sym same) p_in in
     let r_below : r < size q.pattern = subst (λ (x : Problem). r < size x.pattern) (sym same) r_in in
@@ -79,7 +79,7 @@ row_read q vertices width kinds places block_of owners counts in_counts pool bot
     let place_at : place ≡ get_or places (p * vertices + r) 0 = get_or_read places (i * vertices + j) place inside place_is 0 ∙ ap (λ n. get_or places n 0) number in
     let s_in : s < length block_of = omega (arith, held.block_of_are) in
     let block_at : block ≡ get_or block_of t 0 = get_or_read block_of s block s_in block_is 0 ∙ ap (λ n. get_or block_of n 0) s_is in
-    rw (place_at, block_at, len_is, words_is) (row_given q vertices width kinds places block_of owners counts in_counts pool both_ways held rows is p r t p_in r_in apart t_in made)
+    rw (place_at, block_at, len_is, words_is) (row_given q vertices width kinds places most block_of owners counts in_counts pool both_ways held rows is p r t p_in r_in apart t_in made)
 
 -- the kind of a pair, where the parts are read one by one
 pub kind_read : (q : Problem) (vertices width : ℕ) (kinds : List PairKind) (places : List ℕ) (counted in_counted : Graph) (both_ways : Bool)
@@ -101,10 +101,10 @@ pub block_within : (blocks kinds width block : ℕ) → block < blocks → (bloc
 block_within blocks kinds width block b_in =
     mul-le-mul_right {m = block * kinds + kinds} {n = blocks * kinds} width (next_row block blocks kinds b_in)
 
-pub room_given : (q : Problem) (vertices width : ℕ) (kinds : List PairKind) (places block_of owners counts in_counts pool : List ℕ) (both_ways : Bool)
-    → Held q vertices width kinds places block_of owners counts in_counts pool both_ways → (block len : ℕ) (ks : List PairKind) (words : List ℕ) → block < length owners
+pub room_given : (q : Problem) (vertices width : ℕ) (kinds : List PairKind) (places : List ℕ) (most : ℕ) (block_of owners counts in_counts pool : List ℕ) (both_ways : Bool)
+    → Held q vertices width kinds places most block_of owners counts in_counts pool both_ways → (block len : ℕ) (ks : List PairKind) (words : List ℕ) → block < length owners
     → len ≡ length kinds → ks ≡ kinds → words ≡ pool → (block * len + length ks) * width ≤ length words
-room_given q vertices width kinds places block_of owners counts in_counts pool both_ways held block len ks words b_in len_is ks_is words_is =
+room_given q vertices width kinds places most block_of owners counts in_counts pool both_ways held block len ks words b_in len_is ks_is words_is =
     rw (len_is, ks_is, words_is) (omega (arith, held.pool_is, block_within (length owners) (length kinds) width block b_in))
 
 -- a list that takes the place of another of its length
@@ -155,12 +155,12 @@ other_block kinds width block b i old new stay ne i_in =
         inr (omega arith)
 
 -- the rows after a vertex has taken a block
-pub held_more : (q : Problem) (vertices width : ℕ) (kinds : List PairKind) (places block_of owners counts in_counts pool : List ℕ) (both_ways : Bool)
-    → Held q vertices width kinds places block_of owners counts in_counts pool both_ways → (t block : ℕ) (counts' in_counts' pool' : List ℕ) → t < size q.target → block < length owners
+pub held_more : (q : Problem) (vertices width : ℕ) (kinds : List PairKind) (places : List ℕ) (most : ℕ) (block_of owners counts in_counts pool : List ℕ) (both_ways : Bool)
+    → Held q vertices width kinds places most block_of owners counts in_counts pool both_ways → (t block : ℕ) (counts' in_counts' pool' : List ℕ) → t < size q.target → block < length owners
     → length counts' ≡ length counts → length in_counts' ≡ length in_counts → length pool' ≡ length pool → ((i : ℕ) → HasRow q kinds width t i (drop ((block * length kinds + i) * width) pool'))
     → WordsStay (block * length kinds * width) ((block * length kinds + length kinds) * width) pool pool'
-    → Held q vertices width kinds places (set block_of t block) (set owners block t) counts' in_counts' pool' both_ways
-held_more q vertices width kinds places block_of owners counts in_counts pool both_ways held t block counts' in_counts' pool' t_in b_in counts_long in_counts_long pool_long made stay = record {
+    → Held q vertices width kinds places most (set block_of t block) (set owners block t) counts' in_counts' pool' both_ways
+held_more q vertices width kinds places most block_of owners counts in_counts pool both_ways held t block counts' in_counts' pool' t_in b_in counts_long in_counts_long pool_long made stay = record {
   few_pattern = held.few_pattern;
   few_target = held.few_target;
   vertices_are = held.vertices_are;
@@ -170,9 +170,10 @@ held_more q vertices width kinds places block_of owners counts in_counts pool bo
   in_counts_are = λ told. in_counts_long ∙ held.in_counts_are told;
   block_of_are = length-set block_of t block ∙ held.block_of_are;
   owners_few = omega (arith, length-set owners block t, held.owners_few);
+  most_few = held.most_few;
   owners_some = λ some. omega (arith, length-set owners block t, b_in);
   blocks_in = λ s s_in. blocks s s_in (cases_eq s t);
-  pool_is = rw (length-set owners block t) (pool_long ∙ held.pool_is);
+  pool_is = rw (length-set owners block t, pool_long) held.pool_is;
   rows = λ s i s_in owned. rows s i s_in owned (cases_eq s t);
 }
   where
@@ -216,11 +217,90 @@ made_taken block_of owners s t block same t_in b_in =
     subst (λ (v : ℕ). slice_index_or (made_in (set block_of v block) (set owners block t)) t false ≡ true) (sym same)
     (owns_made (set block_of t block) (set owners block t) t (omega (arith, length-set block_of t block)) ∙ owns_taken block_of owners t block t_in b_in)
 
--- the rows before any is made: each block has an owner that is no target vertex
+-- so many words stand behind the old ones
+pub record Lengthened (old new : List ℕ) (n : ℕ) : Type 0 where
+  pub words : List ℕ
+  pub is : new ≡ old ++ words
+  pub long : length words ≡ n
+
+pub lengthened_none : (old : List ℕ) → Lengthened old old 0
+lengthened_none old = record { words = []; is = sym (append-nil old); long = refl }
+
+pub lengthened_more : (old new new' : List ℕ) (n : ℕ) → Lengthened old new n → new' ≡ new ++ 0 ∷ [] → Lengthened old new' (n + 1)
+lengthened_more old new new' n l is = record {
+  words = l.words ++ 0 ∷ [];
+  is = is ∙ ap (λ (xs : List ℕ). xs ++ 0 ∷ []) l.is ∙ append_assoc old l.words (0 ∷ []);
+  long = length-append l.words (0 ∷ []) ∙ ap (λ (k : ℕ). k + 1) l.long;
+}
+
+pub lengthened_room : (owners old new : List ℕ) (words n : ℕ) → Lengthened old new n → length owners * words ≤ length old → length owners * words ≤ length new
+lengthened_room owners old new words n l room = omega (arith, room, ap length l.is, length-append old l.words)
+
+pub added_words : (owners owners' old new : List ℕ) (n : ℕ) → Lengthened old new n → owners' ≡ owners → IsAdded owners old owners' new
+added_words owners owners' old new n l same = record { owners_are = inl same; words = l.words; pool_is = l.is }
+
+pub added_block : (owners owners' old new : List ℕ) (n : ℕ) → Lengthened old new n → owners' ≡ owners ++ 65535 ∷ [] → IsAdded owners old owners' new
+added_block owners owners' old new n l more = record { owners_are = inr more; words = l.words; pool_is = l.is }
+
+pub added_room : (owners owners' old new : List ℕ) (words : ℕ) → Lengthened old new words → owners' ≡ owners ++ 65535 ∷ [] → length owners * words ≤ length old
+    → length owners' * words ≤ length new
+added_room owners owners' old new words l more room =
+    let long : length owners' ≡ suc (length owners) = omega (arith, ap length more, length-append owners (65535 ∷ [])) in
+    rw long (omega (arith, suc-mul (length owners) words, room, ap length l.is, length-append old l.words, l.long))
+
+-- a block that is added is nobody's, and the rows of the others stay
+pub held_added : (q : Problem) (vertices width : ℕ) (kinds : List PairKind) (places : List ℕ) (most : ℕ) (block_of owners counts in_counts pool : List ℕ) (both_ways : Bool)
+    → Held q vertices width kinds places most block_of owners counts in_counts pool both_ways → (owners' pool' : List ℕ) → IsAdded owners pool owners' pool' → length owners' ≤ most
+    → (words : ℕ) → words ≡ length kinds * width → length owners' * words ≤ length pool' → Held q vertices width kinds places most block_of owners' counts in_counts pool' both_ways
+held_added q vertices width kinds places most block_of owners counts in_counts pool both_ways held owners' pool' added few words words_is room = record {
+  few_pattern = held.few_pattern;
+  few_target = held.few_target;
+  vertices_are = held.vertices_are;
+  width_is = held.width_is;
+  classed = held.classed;
+  counts_are = held.counts_are;
+  in_counts_are = held.in_counts_are;
+  block_of_are = held.block_of_are;
+  owners_few = few;
+  most_few = held.most_few;
+  owners_some = λ some. omega (arith, more, held.owners_some some);
+  blocks_in = λ t t_in. omega (arith, more, held.blocks_in t t_in);
+  pool_is = subst (λ (n : ℕ). length owners' * n ≤ length pool') words_is room;
+  rows = λ t i t_in owned. row t i t_in (ap (λ o. eqb o t) (sym (owner t t_in)) ∙ owned);
+}
+  where
+    more_by : (owners' ≡ owners) ⊎ (owners' ≡ owners ++ 65535 ∷ []) → length owners ≤ length owners'
+    more_by (inl e) = omega (arith, ap length e)
+    more_by (inr e) = omega (arith, ap length e, length-append owners (65535 ∷ []))
+
+    more : length owners ≤ length owners'
+    more = more_by added.owners_are
+
+    owner_by : (b : ℕ) → b < length owners → (owners' ≡ owners) ⊎ (owners' ≡ owners ++ 65535 ∷ []) → get_or owners' b 0 ≡ get_or owners b 0
+    owner_by b b_in (inl e) = ap (λ (xs : List ℕ). get_or xs b 0) e
+    owner_by b b_in (inr e) = ap (λ (xs : List ℕ). get_or xs b 0) e ∙ get_or_append_left owners (65535 ∷ []) 0 b b_in
+
+    owner : (t : ℕ) → t < size q.target → get_or owners' (get_or block_of t 0) 0 ≡ get_or owners (get_or block_of t 0) 0
+    owner t t_in = owner_by (get_or block_of t 0) (held.blocks_in t t_in) added.owners_are
+
+    stays : (a : ℕ) → a + width ≤ length pool → (j : ℕ) → j < width → get_or pool' (a + j) 0 ≡ get_or pool (a + j) 0
+    stays a ends j j_in = ap (λ (xs : List ℕ). get_or xs (a + j) 0) added.pool_is ∙ get_or_append_left pool added.words 0 (a + j) (omega arith)
+
+    row : (t i : ℕ) → t < size q.target → owns block_of owners t ≡ true → HasRow q kinds width t i (drop ((get_or block_of t 0 * length kinds + i) * width) pool')
+    row t i t_in owned = record {
+      each = λ k k_is.
+          let ends = row_within (length owners) (length kinds) width (get_or block_of t 0) i (held.blocks_in t t_in) (slice_get_within kinds i k k_is) in
+          row_same q k t (take width (drop ((get_or block_of t 0 * length kinds + i) * width) pool)) (take width (drop ((get_or block_of t 0 * length kinds + i) * width) pool'))
+          (part_same width ((get_or block_of t 0 * length kinds + i) * width) pool pool' (stays ((get_or block_of t 0 * length kinds + i) * width) (omega (arith, ends, held.pool_is))))
+          ((held.rows t i t_in owned).each k k_is);
+    }
+
+-- the rows before any is made: a block, if there is memory for any, has an owner that is no target vertex
 pub held_none : (q : Problem) (vertices width : ℕ) (kinds : List PairKind) (places : List ℕ) (counted in_counted : Graph) (both_ways : Bool) → Shaped q vertices width kinds places counted in_counted both_ways
-    → (n blocks : ℕ) (block_of owners counts in_counts pool : List ℕ) → block_of ≡ replicate n 0 → owners ≡ replicate blocks 65535 → n ≡ size q.target → blocks ≤ n → (0 < n → 0 < blocks)
-    → length counts ≡ n → (both_ways ≡ false → length in_counts ≡ n) → length pool ≡ blocks * (length kinds * width) → Held q vertices width kinds places block_of owners counts in_counts pool both_ways
-held_none q vertices width kinds places counted in_counted both_ways shaped n blocks block_of owners counts in_counts pool block_of_is owners_is n_is few some counts_long in_counts_long pool_long = record {
+    → (n most words : ℕ) (block_of owners counts in_counts pool : List ℕ) → block_of ≡ replicate n 0 → n ≡ size q.target → most ≤ n → (0 < n → 0 < most) → length owners ≤ most
+    → (0 < most → 0 < length owners) → ((k : ℕ) → k < length owners → get_or owners k 0 ≡ 65535) → length counts ≡ n → (both_ways ≡ false → length in_counts ≡ n)
+    → words ≡ length kinds * width → length owners * words ≤ length pool → Held q vertices width kinds places most block_of owners counts in_counts pool both_ways
+held_none q vertices width kinds places counted in_counted both_ways shaped n most words block_of owners counts in_counts pool block_of_is n_is most_few most_some few some nobody counts_long in_counts_long words_is room = record {
   few_pattern = shaped.few_pattern;
   few_target = shaped.few_target;
   vertices_are = shaped.vertices_are;
@@ -229,24 +309,25 @@ held_none q vertices width kinds places counted in_counted both_ways shaped n bl
   counts_are = counts_long ∙ n_is;
   in_counts_are = λ told. in_counts_long told ∙ n_is;
   block_of_are = block_of_long ∙ n_is;
-  owners_few = omega (arith, owners_long);
-  owners_some = λ more. omega (arith, owners_long, some (omega arith));
-  blocks_in = λ t t_in. omega (arith, owners_long, some (omega arith), first t t_in);
-  pool_is = pool_long ∙ sym (ap (λ m. m * length kinds * width) owners_long ∙ mul_assoc blocks (length kinds) width);
+  owners_few = few;
+  most_few = omega (arith, most_few, n_is);
+  owners_some = λ more. some (most_some (omega (arith, more, n_is)));
+  blocks_in = λ t t_in. omega (arith, first t t_in, any t t_in);
+  pool_is = subst (λ (n : ℕ). length owners * n ≤ length pool) words_is room;
   rows = λ t i t_in owned. absurd (no_owner t t_in owned);
 }
   where
     block_of_long : length block_of ≡ n
     block_of_long = ap length block_of_is ∙ length-replicate n 0
 
-    owners_long : length owners ≡ blocks
-    owners_long = ap length owners_is ∙ length-replicate blocks 65535
+    any : (t : ℕ) → t < size q.target → 0 < length owners
+    any t t_in = some (most_some (omega (arith, t_in, n_is)))
 
     first : (t : ℕ) → t < size q.target → get_or block_of t 0 ≡ 0
     first t t_in = ap (λ (xs : List ℕ). get_or xs t 0) block_of_is ∙ get_or-replicate n t 0 0 (omega arith)
 
     owner : (t : ℕ) → t < size q.target → get_or owners (get_or block_of t 0) 0 ≡ 65535
-    owner t t_in = ap (λ i. get_or owners i 0) (first t t_in) ∙ ap (λ (xs : List ℕ). get_or xs 0 0) owners_is ∙ get_or-replicate blocks 0 65535 0 (some (omega arith))
+    owner t t_in = ap (λ i. get_or owners i 0) (first t t_in) ∙ nobody 0 (any t t_in)
 
     no_owner : (t : ℕ) → t < size q.target → owns block_of owners t ≡ true → ⊥
     no_owner t t_in owned =

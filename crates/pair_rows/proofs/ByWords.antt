@@ -6,7 +6,7 @@ use Rattle.graph_theory.specs.Graph.{size, edge}
 use Rattle.graph_theory.specs.Embedding.{Problem, KeepsEdge, Matches}
 use Rattle.graph_theory.specs.Neighbours.{is_neighbour, common}
 use Rattle.graph_theory.specs.Reversed.{reversed, IsMutual, MutualShared}
-use Rattle.graph_rows.specs.BitRow.{has}
+use Rattle.bit_rows.specs.BitRows.{has}
 use Rattle.pair_rows.specs.declared.kinds.PairKind.{PairKind}
 use Rattle.pair_rows.specs.Kinds.{Joins, RowIs, Shares, HasNoEdge, AreShared}
 use Rattle.bit_rows.proofs.Filled.{FilledBelow}

@@ -4,12 +4,14 @@ use Rattle.std.proofs.Common.{◌≡◌, ℕ, ◌+◌, ◌-◌, ◌*◌, ◌<◌
 use Rattle.std.specs.Prelude.{slice_get}
 use Rattle.std.proofs.lemmas.Bool.{cases_lt, eq-eqb, eqb-true, and_parts}
 use Rattle.std.proofs.lemmas.List.{get_or_append_left, get_or-append_right}
+use Rattle.std.proofs.lemmas.Option.{get_or_from_slice_get}
 use native.Mathlib.Nat.{mul-le-mul}
 use Rattle.graph_rows.proofs.Places.{eqb-places, place_within}
 use Rattle.graph_theory.specs.Graph.{size}
 use Rattle.graph_theory.specs.Embedding.{Problem}
 use Rattle.pair_rows.specs.declared.kinds.PairKind.{PairKind}
 use Rattle.pair_rows.specs.Kinds.{kind_of, AreKinds, KindsStay}
+use Rattle.pair_rows.proofs.Rowing.{next_row}
 
 -- the number of a pair is small
 pub pair_small : (n p r : ℕ) → n ≤ 1024 → p < n → r < n → p * n + r < 1048576
@@ -53,3 +55,12 @@ kinds_more q kinds kinds' places p r place m before m_is r_in stay more found = 
         ap (λ (i : ℕ). slice_get kinds' i) there
         ∙ subst (λ (v : ℕ). slice_get kinds' place ≡ Some (kind_of q v y)) pair.0
         (subst (λ (v : ℕ). slice_get kinds' place ≡ Some (kind_of q p v)) pair.1 (found (λ e. apart (sym pair.0 ∙ e ∙ pair.1))))
+
+-- the pair turned round has its kind before
+pub turned_before : (q : Problem) (kinds : List PairKind) (places : List ℕ) (p r pair : ℕ) (other : PairKind) → AreKinds q kinds places (p * size q.pattern + r) → r < p → p < size q.pattern
+    → pair ≡ r * size q.pattern + p → get_or kinds (get_or places pair 0) other ≡ kind_of q r p
+turned_before q kinds places p r pair other before less p_in pair_is =
+    rw pair_is (get_or_from_slice_get kinds (get_or places (r * size q.pattern + p) 0) (kind_of q r p) other (before.each r p p_in below (λ same. omega (arith, same, less))))
+  where
+    below : r * size q.pattern + p < p * size q.pattern + r
+    below = let m = next_row r p (size q.pattern) less in omega (arith, m, p_in)

@@ -6,8 +6,8 @@ use Rattle.std.proofs.lemmas.Bool.{cases_lt}
 use Rattle.std.proofs.lemmas.List.{get_or-take, get_or-drop, length-take, length-take-le}
 use native.Mathlib.Nat.{mul-le-mul_right, suc-mul}
 use borrow.Rule.Slice.PartMut.{put_mid}
-use Rattle.graph_rows.specs.BitRow.{has}
-use Rattle.domain_bits.proofs.Rows.{has_same, has-take, has_past, has-put_inside, get_or-put_outside, length-put_mid}
+use Rattle.bit_rows.specs.BitRows.{has}
+use Rattle.bit_rows.proofs.Rows.{has_same, has-take, has_past, has-put_inside, get_or-put_outside, length-put_mid}
 use Rattle.graph_theory.specs.Embedding.{Problem}
 use Rattle.pair_rows.specs.declared.kinds.PairKind.{PairKind}
 use Rattle.pair_rows.specs.Kinds.{RowIs, HasRow, WordsStay}

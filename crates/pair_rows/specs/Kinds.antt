@@ -5,7 +5,7 @@ use Rattle.graph_theory.specs.Graph.{Graph, size, edge}
 use Rattle.graph_theory.specs.Embedding.{Problem, Matches}
 use Rattle.graph_theory.specs.Neighbours.{common}
 use Rattle.graph_theory.specs.Reversed.{reversed, IsMutual}
-use Rattle.graph_rows.specs.BitRow.{has}
+use Rattle.bit_rows.specs.BitRows.{has}
 use Rattle.pair_rows.specs.declared.kinds.PairKind.{PairKind}
 
 -- The edges between two pattern vertices, and how many neighbours they share in each direction.
@@ -40,7 +40,8 @@ pub record AreShared (g : Graph) (t : ℕ) (counts back : List ℕ) (both_ways :
   pub long : length counts ≡ size g
   pub back_long : length back ≡ size g
   pub counted : (u : ℕ) → u < size g → (t ≡ u → ⊥) → slice_index counts u ≡ common g t u
-  pub back_counted : (u : ℕ) → u < size g → (t ≡ u → ⊥) → slice_index back u ≡ common (reversed g) t u
+  pub back_counted : (u : ℕ) → u < size g → (t ≡ u → ⊥)
+      → slice_index back u ≡ common (reversed g) t u
   pub both : both_ways ≡ true → IsMutual g
 
 -- The row holds the u that join t in a pair of this kind.
@@ -49,7 +50,8 @@ pub record RowIs (q : Problem) (k : PairKind) (t : ℕ) (row : List ℕ) : Type 
   pub complete : (u : ℕ) → u < size q.target → Joins q k t u → has row u ≡ true
 
 -- The next words are the row of the kind that stands at place i.
-pub record HasRow (q : Problem) (kinds : List PairKind) (width t i : ℕ) (words : List ℕ) : Type 0 where
+pub record HasRow (q : Problem) (kinds : List PairKind) (width t i : ℕ)
+    (words : List ℕ) : Type 0 where
   pub each : (k : PairKind) → slice_get kinds i ≡ Some k → RowIs q k t (take width words)
 
 -- The words before the first place and from the last one on are as they were.

@@ -4,7 +4,7 @@ use Rattle.std.specs.Prelude.{◌≡◌, ℕ, ◌*◌, ◌<◌, nat_lt, Bool, tr
 use Rattle.graph_theory.specs.Graph.{size}
 use Rattle.graph_theory.specs.Embedding.{Problem}
 use Rattle.graph_theory.specs.Neighbours.{degree, is_neighbour}
-use Rattle.graph_rows.specs.BitRow.{words_for}
+use Rattle.bit_rows.specs.BitRows.{words_for}
 use Rattle.graph_rows.specs.Held.{stands_in}
 
 -- The neighbours of t are listed: the copy is to be an induced one, and they are less than twice the words of a row.
@@ -14,4 +14,5 @@ is_listed q t = q.induced && nat_lt (degree q.target t) (2 * words_for (size q.t
 -- Each of the first n target vertices has a list, of its neighbours where they are listed.
 pub record AreNear (q : Problem) (lists : List (List ℕ)) (n : ℕ) : Type 0 where
   pub long : length lists ≡ n
-  pub each : (t : ℕ) → t < n → is_listed q t ≡ true → (u : ℕ) → stands_in (slice_index_or lists t []) u ≡ is_neighbour q.target t u
+  pub each : (t : ℕ) → t < n → is_listed q t ≡ true → (u : ℕ)
+      → stands_in (slice_index_or lists t []) u ≡ is_neighbour q.target t u

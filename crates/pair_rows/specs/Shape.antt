@@ -4,7 +4,7 @@ use Rattle.std.specs.Prelude.{◌≡◌, ℕ, ◌*◌, ◌≤◌, Bool, true, Li
 use Rattle.graph_theory.specs.Graph.{Graph, size}
 use Rattle.graph_theory.specs.Embedding.{Problem}
 use Rattle.graph_theory.specs.Reversed.{reversed, IsMutual}
-use Rattle.graph_rows.specs.BitRow.{words_for}
+use Rattle.bit_rows.specs.BitRows.{words_for}
 use Rattle.pair_rows.specs.declared.kinds.PairKind.{PairKind}
 use Rattle.pair_rows.specs.Kinds.{AreKinds}
 
@@ -21,7 +21,8 @@ pub record Shape : Type 0 where
   pub both_ways : Bool
 
 -- They are those of the problem.
-pub record Shaped (q : Problem) (vertices width : ℕ) (kinds : List PairKind) (places : List ℕ) (counted in_counted : Graph) (both_ways : Bool) : Type 0 where
+pub record Shaped (q : Problem) (vertices width : ℕ) (kinds : List PairKind) (places : List ℕ)
+    (counted in_counted : Graph) (both_ways : Bool) : Type 0 where
   pub few_pattern : size q.pattern ≤ 1024
   pub few_target : size q.target ≤ 8192
   pub vertices_are : vertices ≡ size q.pattern

@@ -5,12 +5,11 @@ ghost use Rattle.graph_theory.specs.Graph.{size, edge};
 ghost use Rattle.graph_theory.specs.Neighbours.{common, is_neighbour};
 ghost use Rattle.graph_theory.specs.Embedding.{Matches};
 ghost use Rattle.graph_theory.specs.Reversed.{reversed, IsMutual};
-ghost use Rattle.graph_rows.specs.BitRow.{has, words_for};
+ghost use Rattle.bit_rows.specs.BitRows.{has, words_for};
 ghost use Rattle.pair_rows.specs.Kinds.{kind_of, Joins, Shares, HasNoEdge, AreShared, RowIs, HasRow, AreKinds, KindsStay, WordsStay};
 
-use bit_rows::{clear, fill_below, keep_counted, next_member, set_bit, unset_bit};
+use bit_rows::{and_not_into, clear, fill_below, keep_counted, next_member, set_bit, unset_bit};
 use common_neighbour::Counts;
-use domain_bits::and_not_into;
 use graph_rows::Problem;
 use graph_theory::direction::{Direction, reversed_laws};
 use std::alloc::{AllocError, Global};
@@ -39,19 +38,34 @@ pub(crate) struct SharedCounts<'a> {
     pub(crate) both_ways: bool,
 }
 
+/// How many neighbours the pattern's vertices share.
+#[derive(Drop)]
+struct PatternCounts<'a> {
+    /// How many vertices edges lead to from both.
+    out: Counts<'a>,
+    /// How many vertices edges lead from to both.
+    back: Counts<'a>,
+}
+
+/// How many first guesses are kept of where a kind stands.
+const GUESSES: usize = 256;
+
 /// The kinds that occur, and for each two vertices the place of their kind among them, pair after pair. Cost: one step
-/// for each pair, for each kind before its own and for each word of a row.
+/// for each pair, one for each word of a row for each two vertices, and where the first guess of a kind fails one for each kind.
 pub(crate) fn classify(alloc: Global, q: &Problem) -> Result<(Vec<PairKind>, Vec<u32>), AllocError>
     requires few { size q.now.pattern ≤ 1024 }
     ensures classes { IfOk result
         (λ c. AreKinds q.now c.0.items c.1.items (size q.now.pattern * size q.now.pattern)) }
 {
-    let counts = Counts::new(alloc, q.pattern(), Direction::Out)?;
-    let in_counts = Counts::new(alloc, q.pattern(), Direction::In)?;
+    let counts = PatternCounts {
+        out: Counts::new(alloc, q.pattern(), Direction::Out)?,
+        back: Counts::new(alloc, q.pattern(), Direction::In)?,
+    };
     let mut kinds = Vec::new(alloc);
     let mut places = Vec::new(alloc);
+    let mut guesses = vec![in alloc; 0u32; GUESSES]?;
     for p in 0..q.pattern().size() {
-        classify_from(q, &counts, &in_counts, p, &mut kinds, &mut places)?;
+        classify_from(q, &counts, p, &mut kinds, &mut places, &mut guesses)?;
     }
     Ok((kinds, places))
 }
@@ -59,22 +73,23 @@ pub(crate) fn classify(alloc: Global, q: &Problem) -> Result<(Vec<PairKind>, Vec
 /// Adds the places of the pairs whose first vertex is `p`, and the kinds that are new.
 fn classify_from(
     q: &Problem,
-    counts: &Counts,
-    in_counts: &Counts,
+    counts: &PatternCounts,
     p: u16,
     kinds: &mut Vec<PairKind>,
     places: &mut Vec<u32>,
+    guesses: &mut [u32],
 ) -> Result<(), AllocError>
     requires few { size q.now.pattern ≤ 1024 }
-    requires same { counts.now ≡ q.now.pattern }
-    requires in_same { in_counts.now ≡ reversed q.now.pattern }
+    requires same { counts.now.out ≡ q.now.pattern }
+    requires in_same { counts.now.back ≡ reversed q.now.pattern }
     requires p_in { p < size q.now.pattern }
     requires before { AreKinds q.now kinds.old.items places.old.items (p * size q.now.pattern) }
+    requires guesses { length guesses.old ≡ 256 }
     ensures { IfOk result
         (λ _. AreKinds q.now kinds.new.items places.new.items ((p + 1) * size q.now.pattern)) }
 {
     for r in 0..q.pattern().size() {
-        let place = place_for(q, counts, in_counts, p, r, kinds)?;
+        let place = place_for(q, counts, p, r, kinds, places, guesses)?;
         places.push(place)?;
     }
     Ok(())
@@ -83,17 +98,20 @@ fn classify_from(
 /// The place of a pair's kind, which is added where it is new; for a vertex and itself any number.
 fn place_for(
     q: &Problem,
-    counts: &Counts,
-    in_counts: &Counts,
+    counts: &PatternCounts,
     p: u16,
     r: u16,
     kinds: &mut Vec<PairKind>,
+    places: &[u32],
+    guesses: &mut [u32],
 ) -> Result<u32, AllocError>
-    requires same { counts.now ≡ q.now.pattern }
-    requires in_same { in_counts.now ≡ reversed q.now.pattern }
+    requires same { counts.now.out ≡ q.now.pattern }
+    requires in_same { counts.now.back ≡ reversed q.now.pattern }
     requires p_in { p < size q.now.pattern }
     requires r_in { r < size q.now.pattern }
     requires few { length kinds.old.items < 2 ^ 32 }
+    requires before { AreKinds q.now kinds.old.items places.now (p * size q.now.pattern + r) }
+    requires guesses { length guesses.old ≡ 256 }
     ensures found { IfOk result
         (λ i. (p ≡ r → ⊥) → slice_get kinds.new.items i ≡ Some (kind_of q.now p r)) }
     ensures stay { KindsStay kinds.old.items kinds.new.items }
@@ -102,25 +120,61 @@ fn place_for(
     if p == r {
         return Ok(0);
     }
-    place_of(kinds, pair_kind(q, counts, in_counts, p, r))
+    let kind = pair_kind(q, counts, p, r, kinds, places);
+    place_of(kinds, kind, guesses)
 }
 
 /// The kind of a pair.
-fn pair_kind(q: &Problem, counts: &Counts, in_counts: &Counts, p: u16, r: u16) -> PairKind
-    requires same { counts.now ≡ q.now.pattern }
-    requires in_same { in_counts.now ≡ reversed q.now.pattern }
+fn pair_kind(
+    q: &Problem,
+    counts: &PatternCounts,
+    p: u16,
+    r: u16,
+    kinds: &[PairKind],
+    places: &[u32],
+) -> PairKind
+    requires same { counts.now.out ≡ q.now.pattern }
+    requires in_same { counts.now.back ≡ reversed q.now.pattern }
     requires p_in { p < size q.now.pattern }
     requires r_in { r < size q.now.pattern }
     requires apart { p ≡ r → ⊥ }
+    requires before { AreKinds q.now kinds.now places.now (p * size q.now.pattern + r) }
     ensures { result ≡ kind_of q.now p r }
 {
-    let shared = counts.count(p, r);
+    let (shared, in_shared) = shared_by(q, counts, p, r, kinds, places);
     PairKind {
         out: q.pattern().edge(p, r),
         back: q.pattern().edge(r, p),
         shared,
-        in_shared: in_shared(q, in_counts, p, r, shared),
+        in_shared,
     }
+}
+
+/// How many neighbours a pair shares in each direction: as many as the pair turned round, where that one has its kind already.
+fn shared_by(
+    q: &Problem,
+    counts: &PatternCounts,
+    p: u16,
+    r: u16,
+    kinds: &[PairKind],
+    places: &[u32],
+) -> (u16, u16)
+    requires same { counts.now.out ≡ q.now.pattern }
+    requires in_same { counts.now.back ≡ reversed q.now.pattern }
+    requires p_in { p < size q.now.pattern }
+    requires r_in { r < size q.now.pattern }
+    requires apart { p ≡ r → ⊥ }
+    requires before { AreKinds q.now kinds.now places.now (p * size q.now.pattern + r) }
+    ensures out { result.0 ≡ common q.now.pattern p r }
+    ensures back { result.1 ≡ common (reversed q.now.pattern) p r }
+{
+    if r < p {
+        let pair = usize::from(r) * usize::from(q.pattern().size()) + usize::from(p);
+        let turned = kinds[places[pair] as usize];
+        return (turned.shared, turned.in_shared);
+    }
+    let shared = counts.out.count(p, r);
+    (shared, in_shared(q, &counts.back, p, r, shared))
 }
 
 /// How many vertices edges lead from to both, where edges lead to so many from both: nothing is counted where edges stand both ways.
@@ -140,8 +194,57 @@ fn in_shared(q: &Problem, in_counts: &Counts, p: u16, r: u16, shared: u16) -> u1
     }
 }
 
-/// The place of the kind, which is added where it is new.
-fn place_of(kinds: &mut Vec<PairKind>, kind: PairKind) -> Result<u32, AllocError>
+/// The place of the kind, which is added where it is new. The guess for it is looked at first, and is that place from then on.
+fn place_of(
+    kinds: &mut Vec<PairKind>,
+    kind: PairKind,
+    guesses: &mut [u32],
+) -> Result<u32, AllocError>
+    requires few { length kinds.old.items < 2 ^ 32 }
+    requires guesses { length guesses.old ≡ 256 }
+    ensures found { IfOk result (λ i. slice_get kinds.new.items i ≡ Some kind) }
+    ensures stay { KindsStay kinds.old.items kinds.new.items }
+    ensures more { length kinds.new.items ≤ length kinds.old.items + 1 }
+{
+    let guess = remainder(kind);
+    let first = guesses[guess];
+    if is_at(kinds, first, kind) {
+        return Ok(first);
+    }
+    let place = find_or_add(kinds, kind)?;
+    guesses[guess] = place;
+    Ok(place)
+}
+
+/// The number under which the guess for a kind stands: mostly another one for another kind.
+fn remainder(kind: PairKind) -> usize
+    ensures { result < 256 }
+{
+    let edges = label_or_none(kind.out) + 61 * label_or_none(kind.back);
+    let shared = usize::from(kind.shared) + 16 * usize::from(kind.in_shared);
+    (edges + 4 * shared) % GUESSES
+}
+
+/// A number for the label of an edge, and another where there is none.
+fn label_or_none(edge: Option<u32>) -> usize
+    ensures { result ≤ 4294967296 }
+{
+    match edge {
+        None => 0,
+        Some(label) => label as usize + 1,
+    }
+}
+
+/// Whether the kind stands at the place.
+fn is_at(kinds: &[PairKind], place: u32, kind: PairKind) -> bool
+    ensures { IsTrue result → slice_get kinds.now place ≡ Some kind }
+{
+    let i = place as usize;
+    i < kinds.len() && kinds[i] == kind
+}
+
+/// The place of the kind, which is added where it is new. Cost: one step for each kind.
+fn find_or_add(kinds: &mut Vec<PairKind>, kind: PairKind) -> Result<u32, AllocError>
     requires few { length kinds.old.items < 2 ^ 32 }
     ensures found { IfOk result (λ i. slice_get kinds.new.items i ≡ Some kind) }
     ensures stay { KindsStay kinds.old.items kinds.new.items }

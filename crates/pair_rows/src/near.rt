@@ -3,11 +3,11 @@
 ghost use Rattle.std.specs.Prelude.{◌≡◌, ℕ, ◌<◌, ◌*◌, ◌==◌, ◌&&◌, ◌||◌, not, nat_lt, true, map, is_some, IfOk, IfSome};
 ghost use Rattle.graph_theory.specs.Graph.{size as size_of};
 ghost use Rattle.graph_theory.specs.Neighbours.{degree, is_neighbour};
-ghost use Rattle.graph_rows.specs.BitRow.{words_for};
+ghost use Rattle.bit_rows.specs.BitRows.{words_for};
 ghost use Rattle.graph_rows.specs.Held.{stands_in};
 ghost use Rattle.pair_rows.specs.Near.{is_listed, AreNear};
 
-use bit_rows::next_member;
+use bit_rows::{next_member, words_for};
 use graph_rows::{Graph, Problem};
 use std::alloc::{AllocError, Global};
 use std::marker::Model;
@@ -30,7 +30,8 @@ impl<'a> Model for NearLists<'a> {
 
     ghost view = { λ n. n.problem.now };
 
-    ghost invariant = { λ n. AreNear n.problem.now (map (λ us. us.items) n.lists.items) (size_of n.problem.now.target) };
+    ghost invariant = { λ n. AreNear n.problem.now (map (λ us. us.items) n.lists.items)
+        (size_of n.problem.now.target) };
 }
 
 impl<'a> NearLists<'a> {
@@ -68,7 +69,7 @@ fn has_list(q: &Problem, t: u16) -> bool
     requires t_in { t < size_of q.now.target }
     ensures { result ≡ is_listed q.now t }
 {
-    let words = (usize::from(q.target().size()) + 63) / 64;
+    let words = words_for(usize::from(q.target().size()));
     q.induced() && usize::from(q.target().degree(t)) < 2 * words
 }
 

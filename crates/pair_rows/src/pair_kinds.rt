@@ -3,13 +3,14 @@
 ghost use Rattle.std.specs.Prelude.{◌≡◌, ℕ, ◌<◌, ◌↔◌, true, false, length, is_some, IsTrue, IfOk, IfSome};
 ghost use Rattle.graph_theory.specs.Graph.{size};
 ghost use Rattle.graph_theory.specs.Neighbours.{is_neighbour};
-ghost use Rattle.graph_rows.specs.BitRow.{words_for};
+ghost use Rattle.bit_rows.specs.BitRows.{words_for};
 ghost use Rattle.graph_rows.specs.Held.{stands_in};
 ghost use Rattle.search_theory.specs.Consistency.{AreConsistent};
 ghost use Rattle.pair_rows.specs.Near.{is_listed};
 
 use crate::kinds::{PairKind, asks_no_edge, asks_nothing, classify};
 use crate::near::NearLists;
+use bit_rows::words_for;
 use common_neighbour::Counts;
 use graph_rows::Problem;
 use graph_theory::direction::Direction;
@@ -36,9 +37,19 @@ impl<'a> Model for PairKinds<'a> {
 
     ghost Value = { Shape };
 
-    ghost view = { λ k. record { problem = k.problem.now; vertices = k.vertices; width = k.width; kinds = k.kinds.items; places = k.places.items; counted = k.sharing; in_counted = k.in_sharing; both_ways = k.both_ways } };
+    ghost view = { λ k. record {
+      problem = k.problem.now;
+      vertices = k.vertices;
+      width = k.width;
+      kinds = k.kinds.items;
+      places = k.places.items;
+      counted = k.sharing;
+      in_counted = k.in_sharing;
+      both_ways = k.both_ways;
+    } };
 
-    ghost invariant = { λ k. Shaped k.problem.now k.vertices k.width k.kinds.items k.places.items k.sharing k.in_sharing k.both_ways × (k.near ≡ k.problem.now) };
+    ghost invariant = { λ k. Shaped k.problem.now k.vertices k.width k.kinds.items k.places.items
+        k.sharing k.in_sharing k.both_ways × (k.near ≡ k.problem.now) };
 }
 
 impl<'a> PairKinds<'a> {
@@ -49,7 +60,7 @@ impl<'a> PairKinds<'a> {
     {
         let vertices = usize::from(problem.pattern().size());
         let (kinds, places) = classify(alloc, problem)?;
-        let width = (usize::from(problem.target().size()) + 63) / 64;
+        let width = words_for(usize::from(problem.target().size()));
         let sharing = Counts::new(alloc, problem.target(), Direction::Out)?;
         let in_sharing = Counts::new(alloc, problem.target(), Direction::In)?;
         let both_ways = problem.target().is_mutual();

@@ -1,15 +1,15 @@
 //! Rows of consistent values, made at a target vertex when it is first needed.
 
-ghost use Rattle.std.specs.Prelude.{◌≡◌, ℕ, ◌<◌, ◌≤◌, ◌==◌, ◌↔◌, true, false, length, is_some, IsTrue, IfOk, IfSome, slice_index};
+ghost use Rattle.std.specs.Prelude.{◌≡◌, ℕ, ◌<◌, ◌≤◌, ◌==◌, ◌↔◌, ◌++◌, ◌∷◌, ◌*◌, [], true, false, length, is_some, IsTrue, IfOk, IfSome, OnOk, slice_index};
 ghost use Rattle.graph_theory.specs.Graph.{size};
 ghost use Rattle.graph_theory.specs.Neighbours.{common, is_neighbour};
 ghost use Rattle.graph_theory.specs.Reversed.{reversed};
-ghost use Rattle.graph_rows.specs.BitRow.{has, words_for};
+ghost use Rattle.bit_rows.specs.BitRows.{has, words_for};
 ghost use Rattle.graph_rows.specs.Held.{stands_in};
 ghost use Rattle.search_theory.specs.Consistency.{AreConsistent};
 ghost use Rattle.pair_rows.specs.Rows.{IsMade};
 ghost use Rattle.pair_rows.specs.Near.{is_listed};
-ghost use Rattle.pair_rows.specs.Held.{owns};
+ghost use Rattle.pair_rows.specs.Held.{owns, IsAdded};
 ghost use Rattle.pair_rows.specs.Kinds.{AreShared};
 
 use crate::kinds::{SharedCounts, fill_block};
@@ -26,14 +26,16 @@ const NO_OWNER: u16 = 65535;
 
 /// Rows of consistent values of a problem. Contracts see the problem, and for which target vertices the rows are made.
 ///
-/// A block is the rows of all kinds at one target vertex. `block_of[t]` is the block of `t` where `owners` says so. The kinds are
-/// only read, so that the rows of several searches over one problem can share them.
+/// A block is the rows of all kinds at one target vertex. `block_of[t]` is the block of `t` where `owners` says so. Blocks are added as
+/// they are needed, in memory that was taken before and not touched till then; once there are `most` they are taken again in turn, so that
+/// the rows made last stay longest. The kinds are only read, so that the rows of several searches over one problem can share them.
 #[derive(Drop)]
 pub struct PairRows<'a> {
     kinds: &'a PairKinds<'a>,
     block_of: Vec<u32>,
     owners: Vec<u16>,
-    used: usize,
+    most: usize,
+    next: usize,
     counts: Vec<u16>,
     in_counts: Vec<u16>,
     pool: Vec<u64>,
@@ -45,14 +47,19 @@ impl<'a> Model for PairRows<'a> {
 
     ghost Value = { Rows };
 
-    ghost view = { λ r. record { problem = r.kinds.now.problem; made = made_in r.block_of.items r.owners.items } };
+    ghost view = { λ r. record {
+      problem = r.kinds.now.problem;
+      made = made_in r.block_of.items r.owners.items;
+    } };
 
-    ghost invariant = { λ r. Held r.kinds.now.problem r.kinds.now.vertices r.kinds.now.width r.kinds.now.kinds r.kinds.now.places r.block_of.items r.owners.items r.counts.items r.in_counts.items r.pool.items r.kinds.now.both_ways };
+    ghost invariant = { λ r. Held r.kinds.now.problem r.kinds.now.vertices r.kinds.now.width
+        r.kinds.now.kinds r.kinds.now.places r.most r.block_of.items r.owners.items r.counts.items
+        r.in_counts.items r.pool.items r.kinds.now.both_ways };
 }
 
 impl<'a> PairRows<'a> {
     /// No rows yet, and the memory for them: a block for each target vertex, but not more than `most` words in all unless one block
-    /// has more. Cost: one step for each target vertex and for each word.
+    /// has more. Of this memory no more is touched than rows are made in. Cost: one step for each target vertex and for each word of a block.
     pub fn new(
         alloc: Global,
         kinds: &'a PairKinds<'a>,
@@ -62,25 +69,26 @@ impl<'a> PairRows<'a> {
     {
         let size = usize::from(kinds.problem.target().size());
         let block = kinds.kinds.len() * kinds.width;
-        let blocks = blocks_for(size, block, most);
+        let most = blocks_for(size, block, most);
         let block_of = vec![in alloc; 0u32; size]?;
-        let owners = vec![in alloc; NO_OWNER; blocks]?;
+        let (owners, pool) = begin_blocks(alloc, most, block, most * block)?;
         let counts = vec![in alloc; 0u16; size]?;
         let in_counts = vec![in alloc; 0u16; in_counts_for(kinds, size)]?;
-        let pool = vec![in alloc; 0u64; blocks * block]?;
         Ok(PairRows {
             kinds,
             block_of,
             owners,
-            used: 0,
+            most,
+            next: 0,
             counts,
             in_counts,
             pool,
         })
     }
 
-    /// Makes the rows at `t`, unless they are made. They take the next free block; where there is none they take the last, and
-    /// the vertex that had it has its rows no longer. It takes no memory. Cost where they are made already: two steps; else the counts
+    /// Makes the rows at `t`, unless they are made. They take a block that is added; once there are as many as there is memory for, the
+    /// block that was taken longest ago, and the vertex that had it has its rows no longer. It takes no memory beside that which
+    /// `new` took. Cost where they are made already: two steps; else the counts
     /// of `t`, in both directions unless the target's edges are known to stand both ways, and for each kind one step for each word of a row,
     /// with one for each neighbour of `t` in a direction that the kind has an edge in, or for each target vertex where it has none and
     /// shares neighbours.
@@ -93,7 +101,13 @@ impl<'a> PairRows<'a> {
         if is_owner(&self.block_of, &self.owners, t) {
             return;
         }
-        let block = next_block(self.used, self.owners.len());
+        let block = take_block(
+            &mut self.owners,
+            &mut self.pool,
+            self.most,
+            kinds.kinds.len() * kinds.width,
+            self.next,
+        );
         count_shared(kinds, t, &mut self.counts, &mut self.in_counts);
         let counts = shared_counts(kinds, t, &self.counts, &self.in_counts);
         fill_block(
@@ -107,7 +121,7 @@ impl<'a> PairRows<'a> {
         );
         self.owners[block] = t;
         self.block_of[usize::from(t)] = block as u32;
-        self.used = block + 1;
+        self.next = block + 1;
     }
 
     /// The values u of `r` that go together with `t` of `p`, as a bit row. Cost: two steps.
@@ -226,12 +240,62 @@ fn is_owner(block_of: &[u32], owners: &[u16], t: u16) -> bool
     owners[block_of[usize::from(t)] as usize] == t
 }
 
-/// The next free block, or the last.
-fn next_block(used: usize, blocks: usize) -> usize
-    requires { 0 < blocks }
-    ensures { result < blocks }
+/// Memory for so many blocks and for all their words, and the first block, where there is to be one. Cost: one step for each word of it.
+fn begin_blocks(
+    alloc: Global,
+    most: usize,
+    words: usize,
+    all: usize,
+) -> Result<(Vec<u16>, Vec<u64>), AllocError>
+    ensures some { IfOk result (λ b. 0 < most → 0 < length b.0.items) }
+    ensures few { IfOk result (λ b. length b.0.items ≤ most) }
+    ensures nobody { IfOk result
+        (λ b. (k : ℕ) → k < length b.0.items → slice_index b.0.items k ≡ 65535) }
+    ensures room { IfOk result (λ b. length b.0.items * words ≤ length b.1.items) }
 {
-    if used < blocks { used } else { blocks - 1 }
+    let mut owners = Vec::with_capacity(alloc, most)?;
+    let mut pool = Vec::with_capacity(alloc, all)?;
+    if most != 0 {
+        add_block(&mut owners, &mut pool, words)?;
+    }
+    Ok((owners, pool))
+}
+
+/// Adds a block of so many words that has no owner. Cost: one step for each word.
+fn add_block(owners: &mut Vec<u16>, pool: &mut Vec<u64>, words: usize) -> Result<(), AllocError>
+    requires room { length owners.old.items * words ≤ length pool.old.items }
+    ensures more { IsAdded owners.old.items pool.old.items owners.new.items pool.new.items }
+    ensures added { OnOk result (owners.new.items ≡ owners.old.items ++ 65535 ∷ []) }
+    ensures room { length owners.new.items * words ≤ length pool.new.items }
+{
+    for _word in 0..words {
+        pool.push(0)?;
+    }
+    owners.push(NO_OWNER)?;
+    Ok(())
+}
+
+/// The block that is taken next: one that is added where there are less than `most`; else the one in turn, where that is `next`, and else
+/// the first.
+fn take_block(
+    owners: &mut Vec<u16>,
+    pool: &mut Vec<u64>,
+    most: usize,
+    words: usize,
+    next: usize,
+) -> usize
+    requires some { 0 < length owners.old.items }
+    requires room { length owners.old.items * words ≤ length pool.old.items }
+    ensures more { IsAdded owners.old.items pool.old.items owners.new.items pool.new.items }
+    ensures few { length owners.old.items ≤ most → length owners.new.items ≤ most }
+    ensures room { length owners.new.items * words ≤ length pool.new.items }
+    ensures within { result < length owners.new.items }
+{
+    let blocks = owners.len();
+    if blocks < most && add_block(owners, pool, words).is_ok() {
+        return blocks;
+    }
+    if next < blocks { next } else { 0 }
 }
 
 /// How many blocks of so many words are made room for, where all take no more than `most` unless one alone does.

@@ -1,7 +1,10 @@
-use Rattle.std.proofs.Common.{◌+◌, ◌*◌}
+use Rattle.std.proofs.Common.{◌≡◌, ◌+◌, ◌*◌, length}
 use Rattle.graph_theory.specs.Graph.{size}
 use Rattle.pair_rows.specs.Kinds.{AreKinds}
 use Rattle.pair_rows.proofs.kinds.classify_from.Given as goal
 
 abbrev pub invariant-loop-r : goal.invariant-loop-r
-invariant-loop-r l = AreKinds l.q l.kinds.items l.places.items (l.p * size l.q.pattern + l.r)
+invariant-loop-r l = record {
+  kinds : AreKinds l.q l.kinds.items l.places.items (l.p * size l.q.pattern + l.r);
+  guesses : length l.guesses ≡ 256;
+}

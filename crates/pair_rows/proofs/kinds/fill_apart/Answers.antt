@@ -1,6 +1,6 @@
 use Rattle.std.proofs.Common.{◌≡◌, ◌==◌, ◌&&◌, not, nat_lt, ℕ, ◌∙◌, ap}
 use Rattle.graph_theory.specs.Graph.{size}
-use Rattle.graph_rows.specs.BitRow.{has}
+use Rattle.bit_rows.specs.BitRows.{has}
 use Rattle.pair_rows.proofs.ByWords.{apart_whole}
 use Rattle.pair_rows.proofs.kinds.fill_apart.Goals as goal
 

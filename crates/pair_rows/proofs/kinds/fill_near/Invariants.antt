@@ -1,5 +1,5 @@
 use Rattle.std.proofs.Common.{◌≡◌, ◌-◌, ◌*◌, ◌<◌, ◌≤◌, true, length}
-use Rattle.graph_rows.specs.BitRow.{has}
+use Rattle.bit_rows.specs.BitRows.{has}
 use Rattle.bit_rows.proofs.Filled.{FilledBelow}
 use Rattle.pair_rows.specs.Kinds.{Joins}
 use Rattle.pair_rows.proofs.kinds.fill_near.Given as goal

@@ -1,5 +1,5 @@
 use Rattle.std.proofs.Common.{◌≡◌, ◌-◌, ◌*◌, ◌<◌, ◌≤◌, true, length}
-use Rattle.graph_rows.specs.BitRow.{has}
+use Rattle.bit_rows.specs.BitRows.{has}
 use Rattle.pair_rows.proofs.Nearing.{ListedBelow}
 use Rattle.pair_rows.proofs.near.list_neighbours.Given as goal
 
