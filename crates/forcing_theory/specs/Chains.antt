@@ -36,17 +36,20 @@ pub record Reason : Type 0 where
 
 -- The reason explains a change from domains d to e: other vertices keep their values; and from every setting above the base in which
 -- the needed domains' missing values are false, its forms lead to a conflict or set false what was taken.
-pub record Explains (x : ℕ → ℕ → ℕ) (n : ℕ) (base : Setting) (d e : Domains) (why : Reason) : Type 0 where
+pub record Explains (x : ℕ → ℕ → ℕ) (n : ℕ) (base : Setting) (d e : Domains)
+    (why : Reason) : Type 0 where
   pub others : (r u : ℕ) → why.takes r ≡ false → e r u ≡ d r u
   pub forces : (s : Setting) → Within base s → ((r : ℕ) → why.needs r ≡ true → AreOut x n s d r)
-      → (refutes s why.forms ≡ true) ⊎ ((r u : ℕ) → why.takes r ≡ true → u < n → d r u ≡ true → e r u ≡ false → run s why.forms (x r u) ≡ Some false)
+      → (refutes s why.forms ≡ true) ⊎ ((r u : ℕ) → why.takes r ≡ true → u < n → d r u ≡ true
+      → e r u ≡ false → run s why.forms (x r u) ≡ Some false)
 
 -- ---- changes in their order
 
 -- Changes lead from full domains to these, the last change first, each explained by its reason.
 pub data Chain (x : ℕ → ℕ → ℕ) (n : ℕ) (base : Setting) : Domains → List Reason → Type 0 where
   begins : (d : Domains) → ((r u : ℕ) → d r u ≡ true) → Chain x n base d []
-  goes_on : (d e : Domains) (whys : List Reason) (why : Reason) → Chain x n base d whys → Explains x n base d e why → Chain x n base e (why ∷ whys)
+  goes_on : (d e : Domains) (whys : List Reason) (why : Reason) → Chain x n base d whys
+      → Explains x n base d e why → Chain x n base e (why ∷ whys)
 
 -- A reason, and whether it is kept.
 pub record Kept : Type 0 where
@@ -71,7 +74,8 @@ either m n r = m r || n r
 
 abbrev pub IsClosedBy : Bool → Reason → (ℕ → Bool) → ((ℕ → Bool) → Type 0) → Type 0
 IsClosedBy true why needed before = before (either needed why.needs)
-IsClosedBy false why needed before = ((r : ℕ) → why.takes r ≡ true → needed r ≡ false) × before needed
+IsClosedBy false why needed before = ((r : ℕ) → why.takes r ≡ true
+    → needed r ≡ false) × before needed
 
 -- Going back from the last change: a kept reason's needs are needed before it, and one that is not kept takes no value of a vertex that is needed.
 abbrev pub IsClosed : List Kept → (ℕ → Bool) → Type 0
@@ -80,13 +84,16 @@ IsClosed (k ∷ ks) needed = IsClosedBy k.kept k.reason needed (IsClosed ks)
 
 -- The end's forms lead to a conflict wherever the needed domains' missing values are false.
 abbrev pub EndsAt : (ℕ → ℕ → ℕ) → ℕ → Setting → Domains → (ℕ → Bool) → List Form → Type 0
-EndsAt x n base d needed end = (s : Setting) → Within base s → ((r : ℕ) → needed r ≡ true → AreOut x n s d r) → refutes s end ≡ true
+EndsAt x n base d needed end = (s : Setting) → Within base s → ((r : ℕ) → needed r ≡ true
+    → AreOut x n s d r) → refutes s end ≡ true
 
 -- The kept reasons' forms and then the end's refute the base.
 abbrev pub ChainLaw : Type 0
-ChainLaw = (x : ℕ → ℕ → ℕ) (n : ℕ) (base : Setting) (d : Domains) (ks : List Kept) (needed : ℕ → Bool) (end : List Form) → Chain x n base d (reasons_of ks) → IsClosed ks needed
+ChainLaw = (x : ℕ → ℕ → ℕ) (n : ℕ) (base : Setting) (d : Domains) (ks : List Kept) (needed : ℕ
+    → Bool) (end : List Form) → Chain x n base d (reasons_of ks) → IsClosed ks needed
     → EndsAt x n base d needed end → refutes base (forms_of ks ++ end) ≡ true
 
 -- Fewer needed vertices are closed too.
 abbrev pub FewerLaw : Type 0
-FewerLaw = (ks : List Kept) (more fewer : ℕ → Bool) → ((r : ℕ) → fewer r ≡ true → more r ≡ true) → IsClosed ks more → IsClosed ks fewer
+FewerLaw = (ks : List Kept) (more fewer : ℕ → Bool) → ((r : ℕ) → fewer r ≡ true → more r ≡ true)
+    → IsClosed ks more → IsClosed ks fewer

@@ -51,9 +51,13 @@ AreTight s (f ∷ fs) = IsTight s f × AreTight s fs
 -- A line of summing operations makes the sum, where the sizes of its forms add up to no more than exact arithmetic bears; and a sum of
 -- tight forms is in conflict or sets each value that they all say together.
 pub record SumLaws : Type 0 where
-  pub made : (look : Lookup) (name : Name) (r : Ref) (rs : List Ref) (f : Form) (gs : List Form) (n : ℕ) → find_all look (r ∷ rs) ≡ Ok (f ∷ gs) → AreSmall n (f ∷ gs)
+  pub made : (look : Lookup) (name : Name) (r : Ref) (rs : List Ref) (f : Form) (gs : List Form)
+      (n : ℕ) → find_all look (r ∷ rs) ≡ Ok (f ∷ gs) → AreSmall n (f ∷ gs)
       → length (f ∷ gs) * n ≤ 2 ^ 125 → makes look (P name (summing r rs)) ≡ Ok (sum_from f gs)
-  pub tight : (s : Setting) (f : Form) (gs : List Form) → IsTight s f → AreTight s gs → IsTight s (sum_from f gs)
-  pub each : (s : Setting) (f : Form) (gs : List Form) (a : ℕ → Bool) → IsTight s f → AreTight s gs → Follows s a → Holds (sum_from f gs) a → Holds f a × Satisfies gs a
-  pub forces : (s : Setting) (f : Form) (gs : List Form) (v : ℕ) (b : Bool) → IsTight s f → AreTight s gs → ((a : ℕ → Bool) → Follows s a → Holds f a → Satisfies gs a → a v ≡ b)
+  pub tight : (s : Setting) (f : Form) (gs : List Form) → IsTight s f → AreTight s gs
+      → IsTight s (sum_from f gs)
+  pub each : (s : Setting) (f : Form) (gs : List Form) (a : ℕ → Bool) → IsTight s f
+      → AreTight s gs → Follows s a → Holds (sum_from f gs) a → Holds f a × Satisfies gs a
+  pub forces : (s : Setting) (f : Form) (gs : List Form) (v : ℕ) (b : Bool) → IsTight s f
+      → AreTight s gs → ((a : ℕ → Bool) → Follows s a → Holds f a → Satisfies gs a → a v ≡ b)
       → (conflict s (sum_from f gs) ≡ true) ⊎ (after s (sum_from f gs) v ≡ Some b)

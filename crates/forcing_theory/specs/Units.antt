@@ -15,4 +15,5 @@ pub record Implies (s : Setting) (f : Form) (v : ℕ) (b : Bool) : Type 0 where
 
 -- Then the form is in conflict, or sets it.
 abbrev pub UnitLaw : Type 0
-UnitLaw = (s : Setting) (f : Form) (v : ℕ) (b : Bool) → Implies s f v b → (conflict s f ≡ true) ⊎ (after s f v ≡ Some b)
+UnitLaw = (s : Setting) (f : Form) (v : ℕ) (b : Bool) → Implies s f v b
+    → (conflict s f ≡ true) ⊎ (after s f v ≡ Some b)

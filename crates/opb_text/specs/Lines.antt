@@ -17,7 +17,8 @@ use Rattle.opb_text.specs.Parts.{after_terms}
 
 -- The terms of a line, and what follows `>=`. Want of memory is free here and below.
 abbrev pub TermsSay : ℕ → List ℕ → List (ℕ × ℤ) → Result (Bor (List ℕ)) LineFault → Type 0
-TermsSay n line ts (Ok rest) = constraint_words n First (kinds line) ≡ after_terms ts (bound_words n (kinds rest.now))
+TermsSay n line ts (Ok rest) = constraint_words n First (kinds line) ≡ after_terms ts
+    (bound_words n (kinds rest.now))
 TermsSay n line ts (Err (Faulty cause)) = constraint_words n First (kinds line) ≡ Err cause
 TermsSay n line ts (Err NoMemory) = Unit {0}
 
@@ -51,12 +52,14 @@ LineSays n line (Err (Faulty cause)) = later_line n (opb_words line) ≡ Err cau
 LineSays n line (Err NoMemory) = Unit {0}
 
 -- The forms of lines after those that stand in front of them.
-abbrev pub after_forms : List Form → Result (List Form) (ℕ × OpbCause) → Result (List Form) (ℕ × OpbCause)
+abbrev pub after_forms : List Form → Result (List Form) (ℕ × OpbCause)
+    → Result (List Form) (ℕ × OpbCause)
 after_forms fs forms = forms >>= λ gs. Ok (fs ++ gs)
 
 -- The constraints of all lines after the first, and the number of the line after the last.
 abbrev pub LinesSay : ℕ → List ℕ → Result (Vec Form Global × ℕ) OpbFault → Type 0
-LinesSay n text (Ok (fs, k)) = (later_lines n 2 (opb_lines text) ≡ Ok fs.items) × (k ≡ length (opb_lines text) + 2)
+LinesSay n text (Ok (fs, k)) = (later_lines n 2 (opb_lines text) ≡ Ok fs.items)
+    × (k ≡ length (opb_lines text) + 2)
 LinesSay n text (Err (fault.Line k cause)) = later_lines n 2 (opb_lines text) ≡ Err (k, cause)
 LinesSay n text (Err fault.NoMemory) = Unit {0}
 

@@ -27,13 +27,17 @@ place_of false = Later
 
 -- A variable that is due and what follows it, or the cause of its fault.
 abbrev pub VariableSays : ℕ → List ℕ → Result (ℕ × Bor (List ℕ)) OpbCause → Type 0
-VariableSays n line (Ok (v, rest)) = ((c : ℤ) → constraint_words n (Due c) (kinds line) ≡ after_terms ((v, c) ∷ []) (constraint_words n Later (kinds rest.now))) × ((1 ≤ v) × (v ≤ n))
+VariableSays n line (Ok (v, rest)) = ((c : ℤ)
+    → constraint_words n (Due c) (kinds line) ≡ after_terms ((v, c) ∷ [])
+    (constraint_words n Later (kinds rest.now))) × ((1 ≤ v) × (v ≤ n))
 VariableSays n line (Err cause) = (c : ℤ) → constraint_words n (Due c) (kinds line) ≡ Err cause
 
 -- The next part of a line and what follows it, or the cause of its fault.
 abbrev pub PartSays : ℕ → Place → List ℕ → Result (Part × Bor (List ℕ)) OpbCause → Type 0
-PartSays n place line (Ok (Term v c, rest)) = (constraint_words n place (kinds line) ≡ after_terms ((v, c) ∷ []) (constraint_words n Later (kinds rest.now))) × ((1 ≤ v) × (v ≤ n))
-PartSays n place line (Ok (Bound, rest)) = constraint_words n place (kinds line) ≡ bound_words n (kinds rest.now)
+PartSays n place line (Ok (Term v c, rest)) = (constraint_words n place (kinds line) ≡ after_terms
+    ((v, c) ∷ []) (constraint_words n Later (kinds rest.now))) × ((1 ≤ v) × (v ≤ n))
+PartSays n place line (Ok (Bound, rest)) = constraint_words n place (kinds line) ≡ bound_words n
+    (kinds rest.now)
 PartSays n place line (Err cause) = constraint_words n place (kinds line) ≡ Err cause
 
 -- Nothing more is due: the bound, or what is wrong with the first word that is left.

@@ -25,7 +25,9 @@ fn head_numbers(variables: &[u8], constraints: &[u8]) -> Option<(u32, u64)>
 
 /// Whether the words that are no numbers are those of a first line.
 fn are_head_words(star: &[u8], variable: &[u8], constraint: &[u8]) -> bool
-    ensures { result ≡ (same_word star.now (codes "*") && same_word variable.now (codes "#variable=") && same_word constraint.now (codes "#constraint=")) }
+    ensures { result ≡ (same_word star.now (codes "*")
+        && same_word variable.now (codes "#variable=")
+        && same_word constraint.now (codes "#constraint=")) }
 {
     is_same(star, b"*") && is_same(variable, b"#variable=") && is_same(constraint, b"#constraint=")
 }

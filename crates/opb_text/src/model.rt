@@ -19,7 +19,10 @@ impl std::marker::Model for Model {
 
     ghost view = { λ m. record { variables = m.variables; constraints = m.constraints.items } };
 
-    ghost invariant = { λ m. IsOpbModel (record { variables = m.variables; constraints = m.constraints.items }) };
+    ghost invariant = { λ m. IsOpbModel (record {
+      variables = m.variables;
+      constraints = m.constraints.items;
+    }) };
 }
 
 impl Model {

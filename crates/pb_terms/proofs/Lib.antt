@@ -5,3 +5,4 @@ pub mod Mapping
 pub mod Trails
 pub mod Ruled
 pub mod Forcing
+pub mod Joining

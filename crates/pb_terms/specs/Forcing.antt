@@ -9,8 +9,10 @@ term_at f place = slice_index_or f.terms place (0, pos 0)
 
 -- Where no variable has two terms, a form forces the literal of a term exactly where its variable has no value before the form, and after it the value that makes the literal true.
 abbrev pub ForcesWhatIsSetAfter : Type 0
-ForcesWhatIsSetAfter = (s : Setting) (f : Form) (place : ℕ) → Rises 0 f.terms → place < length f.terms
-    → Forces s f (term_at f place) ↔ ((s (term_at f place).0 ≡ None) × (after s f (term_at f place).0 ≡ Some (wanted (term_at f place).1)))
+ForcesWhatIsSetAfter = (s : Setting) (f : Form) (place : ℕ) → Rises 0 f.terms
+    → place < length f.terms
+    → Forces s f (term_at f place) ↔ ((s (term_at f place).0 ≡ None)
+    × (after s f (term_at f place).0 ≡ Some (wanted (term_at f place).1)))
 
 -- The greatest that a term can still add to the sum, its variable being set like this.
 abbrev pub greatest_at : Option Bool → ℤ → ℤ

@@ -1,3 +1,4 @@
 pub mod Faults
 pub mod Trail
 pub mod Forcing
+pub mod Sums

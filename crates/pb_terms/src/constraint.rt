@@ -105,6 +105,15 @@ impl Constraint {
         Ok(Constraint { terms, bound })
     }
 
+    /// The terms and the bound, of which the terms are moved.
+    pub(crate) fn into_parts(self) -> (Vec<(u32, i128)>, i128)
+        ensures parts { (result.0.items ≡ self.terms) × (result.1 ≡ self.bound) }
+        ensures rises { Rises 0 result.0.items }
+        ensures narrow { IsNarrow result.0.items result.1 }
+    {
+        (self.terms, self.bound)
+    }
+
     /// A copy.
     pub fn copy(&self, alloc: Global) -> Result<Constraint, AllocError>
         ensures { IfOk result (λ made. made ≡ self.now) }
@@ -174,6 +183,15 @@ impl Constraint {
         ensures { result ≡ self.now.bound }
     {
         self.bound
+    }
+
+    /// The terms and the bound.
+    pub(crate) fn parts(&self) -> (&[(u32, i128)], i128)
+        ensures parts { (result.0.now ≡ self.now.terms) × (result.1 ≡ self.now.bound) }
+        ensures rises { Rises 0 result.0.now }
+        ensures narrow { IsNarrow result.0.now result.1 }
+    {
+        (&self.terms, self.bound)
     }
 
     /// By how much the sum of what can still be true exceeds the degree. One pass.

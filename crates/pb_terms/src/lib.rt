@@ -10,6 +10,7 @@ mod fault;
 mod literals;
 mod rules;
 mod slack;
+mod sum;
 mod sums;
 mod width;
 
@@ -18,3 +19,4 @@ pub use fault::PbFault;
 pub use literals::Literals;
 pub use proof_theory::Literal;
 pub use slack::forcing_law;
+pub use sum::Sum;

@@ -26,7 +26,7 @@ pub fn is_narrow(terms: &[(u32, i128)], bound: i128) -> bool
 }
 
 /// The sum of the absolute coefficients. One pass.
-fn size_of(terms: &[(u32, i128)]) -> u128
+pub fn size_of(terms: &[(u32, i128)]) -> u128
     requires { size terms.now ≤ 2 ^ 125 }
     ensures { result ≡ size terms.now }
 {

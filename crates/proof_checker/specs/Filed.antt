@@ -6,7 +6,8 @@ use Rattle.proof_checker.specs.declared.log_file.Checked.{Checked}
 use Rattle.proof_checker.specs.declared.log_file.Checked.TheVariants.{Verdict as Judged, Failed, TooLong}
 
 -- The content, of at most so many bytes, was read to its end, and its verdict is this one.
-pub record IsJudged (verdict_of_text : List ℕ → Verdict) (most : ℕ) (content : Option (List ℕ)) (v : Verdict) : Type 0 where
+pub record IsJudged (verdict_of_text : List ℕ
+    → Verdict) (most : ℕ) (content : Option (List ℕ)) (v : Verdict) : Type 0 where
   pub bytes : List ℕ
   pub there : content ≡ Some bytes
   pub short : length bytes ≤ most

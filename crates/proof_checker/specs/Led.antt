@@ -17,7 +17,8 @@ pub record Widens (u : Setting) (gs : List Form) (t : Setting) : Type 0 where
 
 -- The assumptions s lead to t over the forms: whoever has s, over these forms and any others, comes to no other conflict by having t too.
 pub record Led (s : Setting) (fs : List Form) (t : Setting) : Type 0 where
-  pub widens : (gs : List Form) → ((f : Form) → IsAmong f fs → IsAmong f gs) → (u : Setting) → Extends u s → closes u gs ≡ false → Widens u gs t
+  pub widens : (gs : List Form) → ((f : Form) → IsAmong f fs → IsAmong f gs) → (u : Setting)
+      → Extends u s → closes u gs ≡ false → Widens u gs t
 
 -- The assumptions lead to a conflict, or to t.
 abbrev pub Comes : Bool → Setting → List Form → Setting → Type 0

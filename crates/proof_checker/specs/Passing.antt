@@ -15,10 +15,12 @@ pub record Taken (s : Setting) (f : Form) (t : Setting) : Type 0 where
 -- Each form was taken; over these forms and any others propagation comes to what it came to before.
 pub record PassedOver (s : Setting) (fs : List Form) (t : Setting) : Type 0 where
   pub wider : Extends t s
-  pub same : (gs : List Form) → ((f : Form) → IsAmong f fs → IsAmong f gs) → closes t gs ≡ closes s gs
+  pub same : (gs : List Form) → ((f : Form) → IsAmong f fs → IsAmong f gs)
+      → closes t gs ≡ closes s gs
   pub taken : (f : Form) → IsAmong f fs → Taken s f t
 
 -- Propagation over the forms comes to a conflict, or each was taken.
 abbrev pub Passed : Bool → Setting → List Form → Setting → Type 0
-Passed true s fs t = (gs : List Form) → ((f : Form) → IsAmong f fs → IsAmong f gs) → closes s gs ≡ true
+Passed true s fs t = (gs : List Form) → ((f : Form) → IsAmong f fs → IsAmong f gs)
+    → closes s gs ≡ true
 Passed false s fs t = PassedOver s fs t

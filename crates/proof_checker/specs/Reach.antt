@@ -43,5 +43,6 @@ Follows false s f t = (conflict s f ≡ false) × ((v : ℕ) → t v ≡ after s
 
 -- The literal's variable was unset, and now the literal is false; or it was set.
 abbrev pub NegatesOne : Bool → Setting → Literal → Setting → Type 0
-NegatesOne true s l t = (s l.variable ≡ None) × ((v : ℕ) → t v ≡ cond (l.variable == v) (Some l.negated) (s v))
+NegatesOne true s l t = (s l.variable ≡ None) × ((v : ℕ)
+    → t v ≡ cond (l.variable == v) (Some l.negated) (s v))
 NegatesOne false s l t = is_some (s l.variable) ≡ true

@@ -42,4 +42,5 @@ Splits text (Some p) = (text ≡ p.0 ++ 10 ∷ p.1) × NoFeed p.0
 -- The first LF stands here, or there is none.
 abbrev pub FirstFeed : List ℕ → Option ℕ → Type 0
 FirstFeed text None = (k : ℕ) → k < length text → slice_index text k ≢ 10
-FirstFeed text (Some i) = (i < length text) × (slice_index text i ≡ 10) × ((k : ℕ) → k < i → slice_index text k ≢ 10)
+FirstFeed text (Some i) = (i < length text) × (slice_index text i ≡ 10) × ((k : ℕ) → k < i
+    → slice_index text k ≢ 10)

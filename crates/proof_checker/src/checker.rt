@@ -46,7 +46,13 @@ impl<'a> Model for Checker<'a> {
 
     ghost Value = { Fed };
 
-    ghost view = { λ c. record { is_dead = c.is_dead; standing = c.standing; lines = c.lines; number = c.number; tail = c.tail.items } };
+    ghost view = { λ c. record {
+      is_dead = c.is_dead;
+      standing = c.standing;
+      lines = c.lines;
+      number = c.number;
+      tail = c.tail.items;
+    } };
 
     ghost invariant = { λ c. NoFeed c.tail.items };
 }

@@ -8,6 +8,7 @@ use super::following::greatest_of;
 use super::levels::Levels;
 use super::propagate::reach;
 use super::table::Table;
+use super::uses::{Use, Uses};
 use log_theory::{Name, Ref};
 use pb_terms::Constraint;
 use std::alloc::{AllocError, Global};
@@ -19,20 +20,6 @@ pub struct Counter {
     widest: i64,
 }
 
-/// A constraint in which a literal stands, and its coefficient there.
-#[derive(Clone, Copy, Debug)]
-pub struct Use {
-    number: u32,
-    size: u32,
-}
-
-impl Use {
-    /// The constraint's number.
-    pub fn number(&self) -> usize {
-        self.number as usize
-    }
-}
-
 /// The counter and the name of each constraint, by its number; the uses of each literal; how many constraints of the model and of each
 /// owner have a number; up to which number all that they force at the root was set; and how many literals of the queue were taken
 /// from the counters.
@@ -40,23 +27,10 @@ impl Use {
 pub struct Counters {
     pub slacks: Vec<Counter>,
     pub names: Vec<Ref>,
-    pub uses: Vec<Vec<Use>>,
+    pub uses: Uses,
     counted: Vec<usize>,
     pub settled: usize,
     pub taken: usize,
-}
-
-/// The place of the uses of the literal that is false where a variable has a value.
-fn place_of(variable: u32, value: bool) -> usize {
-    variable as usize * 2 + usize::from(value)
-}
-
-/// The uses of the literal that is false where a variable has a value.
-pub fn uses_of(uses: &[Vec<Use>], variable: u32, value: bool) -> &[Use] {
-    match uses.get(place_of(variable, value)) {
-        Some(list) => list,
-        None => &[],
-    }
 }
 
 /// The greatest absolute coefficient. One pass.
@@ -116,27 +90,6 @@ fn raise_all(slacks: &mut [Counter], uses: &[Use]) {
     }
 }
 
-/// Lists for the literals of all variables below a number.
-fn make_room(alloc: Global, uses: &mut Vec<Vec<Use>>, variables: u64) -> Result<(), AllocError> {
-    let places = variables.saturating_mul(2) as usize;
-    for _ in uses.len()..places {
-        uses.push(Vec::new(alloc))?;
-    }
-    Ok(())
-}
-
-/// Notes the uses of a constraint's literals. One pass.
-fn note_uses(uses: &mut [Vec<Use>], number: u32, terms: &[(u32, i128)]) -> Result<(), AllocError> {
-    for &(variable, coefficient) in terms {
-        let place = place_of(variable, coefficient < 0);
-        if place < uses.len() {
-            let size = u32::try_from(coefficient.unsigned_abs()).unwrap_or(u32::MAX);
-            uses[place].push(Use { number, size })?;
-        }
-    }
-    Ok(())
-}
-
 /// How many constraints of a list have a number.
 fn counted_of(counted: &[usize], list: usize) -> usize {
     match counted.get(list) {
@@ -162,7 +115,7 @@ impl Counters {
         Counters {
             slacks: Vec::new(alloc),
             names: Vec::new(alloc),
-            uses: Vec::new(alloc),
+            uses: Uses::new(alloc),
             counted: Vec::new(alloc),
             settled: 0,
             taken: 0,
@@ -180,8 +133,8 @@ impl Counters {
         let Ok(number) = u32::try_from(self.slacks.len()) else {
             return Ok(());
         };
-        make_room(alloc, &mut self.uses, reach(next.terms()))?;
-        note_uses(&mut self.uses, number, next.terms())?;
+        self.uses.make_room(reach(next.terms()))?;
+        self.uses.note_all(alloc, number, next.terms())?;
         self.names.push(name)?;
         self.slacks.push(counter_of(set, next))?;
         Ok(())
@@ -240,7 +193,7 @@ impl Counters {
 
     /// The number after the greatest variable of all constraints.
     pub fn reach(&self) -> usize {
-        self.uses.len() / 2
+        self.uses.reach()
     }
 
     /// Gives the counters back all that the queue's literals took from them.
@@ -249,7 +202,7 @@ impl Counters {
             let Some((variable, value)) = set.at(place) else {
                 return;
             };
-            raise_all(&mut self.slacks, uses_of(&self.uses, variable, value));
+            raise_all(&mut self.slacks, self.uses.of(variable, value));
         }
     }
 }

@@ -24,6 +24,7 @@ mod propagator;
 mod ranges;
 mod stack;
 mod table;
+mod uses;
 mod whole_log;
 
 pub use checker::Checker;

@@ -46,9 +46,14 @@ impl<'a> Model for LineChecker<'a> {
 
     ghost Value = { Checking };
 
-    ghost view = { λ c. record { variables = c.variables; model = c.model.now; stage = stage_of c.place c.table } };
+    ghost view = { λ c. record {
+      variables = c.variables;
+      model = c.model.now;
+      stage = stage_of c.place c.table;
+    } };
 
-    ghost invariant = { λ c. StandsWith c.place c.table × IsRooted c.model.now c.table c.work.levels };
+    ghost invariant = { λ c. StandsWith c.place c.table
+        × IsRooted c.model.now c.table c.work.levels };
 }
 
 /// Whether a line is this text.

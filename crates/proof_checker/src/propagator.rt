@@ -13,11 +13,12 @@ ghost use Rattle.proof_checker.specs.Led.{Comes, Led, nothing};
 ghost use Rattle.proof_checker.specs.Levels.{Keeps, now, root};
 ghost use Rattle.proof_checker.specs.Rooted.{IsRooted};
 
-use super::counters::{Counter, Counters, Use, is_due, lower, uses_of};
+use super::counters::{Counter, Counters, is_due, lower};
 use super::following::follow;
 use super::levels::Levels;
 use super::propagate::{above, clear, negate_all};
 use super::table::Table;
+use super::uses::Use;
 use log_theory::Ref;
 use pb_terms::{Constraint, Literal, Literals};
 use std::alloc::{AllocError, Global};
@@ -106,7 +107,7 @@ fn run(set: &mut Levels, counters: &mut Counters, model: &[Constraint], table: &
             return false;
         };
         counters.taken = place.saturating_add(1);
-        let uses = uses_of(&counters.uses, variable, value);
+        let uses = counters.uses.of(variable, value);
         if touch(
             set,
             &mut counters.slacks,

@@ -14,14 +14,15 @@ use super::clauses::axiom;
 use super::fault::LineFault;
 use super::table::Table;
 use log_theory::{Cause, Name, Op, Ref};
-use pb_terms::{Constraint, PbFault};
+use pb_terms::{Constraint, PbFault, Sum};
 use std::alloc::{AllocError, Global};
 use std::marker::Model;
 
-/// A stack of constraints. Contracts see the list of them, the top one first.
+/// A stack of constraints, each a sum that is put in order where more than a sum is asked of it. Contracts see the list of them, the top
+/// one first.
 #[derive(Drop)]
 struct Stack {
-    items: Vec<Constraint>,
+    items: Vec<Sum>,
 }
 
 impl Model for Stack {
@@ -44,6 +45,17 @@ fn narrowed(made: Result<Constraint, PbFault>) -> Result<Constraint, LineFault>
     }
 }
 
+/// The answer of a sum as a line's.
+fn summed(made: Result<Sum, PbFault>) -> Result<Sum, LineFault>
+    ensures { (f : Form) → Gives made f → Told result (narrow f) }
+{
+    match made {
+        Ok(made) => Ok(made),
+        Err(PbFault::Wide) => Err(LineFault::Cause(Cause::Wide)),
+        Err(PbFault::NoMemory) => Err(LineFault::NoMemory),
+    }
+}
+
 impl Stack {
     /// No constraint.
     fn new(alloc: Global) -> Stack
@@ -55,7 +67,7 @@ impl Stack {
     }
 
     /// Puts one on top.
-    fn push(&mut self, top: Constraint) -> Result<(), AllocError>
+    fn push(&mut self, top: Sum) -> Result<(), AllocError>
         ensures { OnOk result (self.new ≡ top ∷ self.old) }
     {
         self.items.push(top)?;
@@ -63,13 +75,13 @@ impl Stack {
     }
 
     /// Takes the top one.
-    fn pop(&mut self) -> Option<Constraint>
+    fn pop(&mut self) -> Option<Sum>
         ensures { MatchOption result (self.old ≡ []) (λ top. self.old ≡ top ∷ self.new) }
     {
         self.items.pop()
     }
 
-    /// The sum of the upper two. One pass over their terms.
+    /// The sum of the upper two. Moves the terms of the one with fewer, in no order.
     fn add(&mut self, alloc: Global) -> Result<(), LineFault>
         ensures { (look : Lookup) → Leads result (operate look self.old Add) self.new }
     {
@@ -79,7 +91,7 @@ impl Stack {
         let Some(lower) = self.pop() else {
             return Err(LineFault::Cause(Cause::Stack));
         };
-        self.push(narrowed(lower.add(alloc, &upper))?)?;
+        self.push(summed(lower.add(alloc, upper))?)?;
         Ok(())
     }
 
@@ -93,7 +105,8 @@ impl Stack {
         let Some(top) = self.pop() else {
             return Err(LineFault::Cause(Cause::Stack));
         };
-        self.push(narrowed(top.times(alloc, n))?)?;
+        let made = narrowed(top.constraint(alloc)?.times(alloc, n))?;
+        self.push(Sum::from_constraint(made))?;
         Ok(())
     }
 
@@ -107,7 +120,8 @@ impl Stack {
         let Some(top) = self.pop() else {
             return Err(LineFault::Cause(Cause::Stack));
         };
-        self.push(narrowed(top.divide(alloc, n))?)?;
+        let made = narrowed(top.constraint(alloc)?.divide(alloc, n))?;
+        self.push(Sum::from_constraint(made))?;
         Ok(())
     }
 
@@ -118,7 +132,8 @@ impl Stack {
         let Some(top) = self.pop() else {
             return Err(LineFault::Cause(Cause::Stack));
         };
-        self.push(narrowed(top.saturate(alloc))?)?;
+        let made = narrowed(top.constraint(alloc)?.saturate(alloc))?;
+        self.push(Sum::from_constraint(made))?;
         Ok(())
     }
 
@@ -135,7 +150,7 @@ impl Stack {
         let Some(named) = table.find(model, at) else {
             return Err(LineFault::Cause(Cause::NoSuchName));
         };
-        self.push(named.copy(alloc)?)?;
+        self.push(Sum::of(alloc, named)?)?;
         Ok(())
     }
 
@@ -152,7 +167,7 @@ impl Stack {
         match op {
             Op::Push(at) => self.push_named(alloc, model, table, at),
             Op::Axiom(literal) => {
-                self.push(axiom(alloc, literal)?)?;
+                self.push(Sum::from_constraint(axiom(alloc, literal)?))?;
                 Ok(())
             }
             Op::Add => self.add(alloc),
@@ -162,8 +177,8 @@ impl Stack {
         }
     }
 
-    /// The one constraint that is left.
-    fn only_one(&mut self) -> Result<Constraint, LineFault>
+    /// The one constraint that is left, put in order.
+    fn only_one(&mut self, alloc: Global) -> Result<Constraint, LineFault>
         ensures { Told result (only_one self.old) }
     {
         let Some(top) = self.pop() else {
@@ -172,12 +187,12 @@ impl Stack {
         if self.pop().is_some() {
             return Err(LineFault::Cause(Cause::Stack));
         }
-        Ok(top)
+        Ok(top.constraint(alloc)?)
     }
 }
 
-/// The constraint that operations make, or the first fault, operation by operation. Each operation costs the terms that it touches;
-/// what a reference names is copied once.
+/// The constraint that operations make, or the first fault, operation by operation. What a reference names is copied once; sums cost the
+/// terms that they read times a logarithm, however they are nested, and each other operation the terms that it touches.
 pub fn evaluate(
     alloc: Global,
     model: &[Constraint],
@@ -190,5 +205,5 @@ pub fn evaluate(
     for op in ops {
         stack.operate(alloc, model, table, *op)?;
     }
-    stack.only_one()
+    stack.only_one(alloc)
 }

@@ -38,9 +38,13 @@ impl Model for Table {
 
     ghost Value = { TheTable };
 
-    ghost view = { λ t. record { made = map (λ v. v.items) t.made.items; shared = rows_of (map (λ v. v.items) t.made.items) t.rows.items t.places.items } };
+    ghost view = { λ t. record {
+      made = map (λ v. v.items) t.made.items;
+      shared = rows_of (map (λ v. v.items) t.made.items) t.rows.items t.places.items;
+    } };
 
-    ghost invariant = { λ t. AreKept (map (λ v. v.items) t.made.items) t.rows.items t.places.items };
+    ghost invariant = { λ t. AreKept (map
+        (λ v. v.items) t.made.items) t.rows.items t.places.items };
 }
 
 /// How many owners have a list: those from 0 to 64.

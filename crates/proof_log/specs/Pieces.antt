@@ -26,4 +26,5 @@ is_led w = not (is_empty w) && (not (begins_with (48 ∷ []) w) || same_word w (
 
 -- The number that digits write, leading zeros allowed, below `most`.
 abbrev pub value_below : ℕ → List ℕ → Option ℕ
-value_below most w = cond (all_ascii_digits w && nat_lt (digits_value 10 w) most) (Some (digits_value 10 w)) None
+value_below most w = cond (all_ascii_digits w
+    && nat_lt (digits_value 10 w) most) (Some (digits_value 10 w)) None

@@ -25,11 +25,13 @@ behind front None = None
 -- The items that the words tell up to the first `;`.
 abbrev pub items_told : {A : Type 0} → (List ℕ → Option A) → List (List ℕ) → Option (Listed A)
 items_told tell [] = None
-items_told tell (w ∷ ws) = cond (same_word w (59 ∷ [])) (Some (record { items = []; rest = ws })) (one_more (tell w) (items_told tell ws))
+items_told tell (w ∷ ws) = cond (same_word w (59 ∷ [])) (Some (record { items = []; rest = ws }))
+    (one_more (tell w) (items_told tell ws))
 
 -- The operation of a word that is no operand.
 abbrev pub plain_op : List ℕ → Option Op
-plain_op w = cond (same_word w (43 ∷ [])) (Some Add) (cond (same_word w (115 ∷ [])) (Some Saturate) (push_op (literal_of w) (ref_of w)))
+plain_op w = cond (same_word w (43 ∷ [])) (Some Add) (cond (same_word w (115 ∷ []))
+    (Some Saturate) (push_op (literal_of w) (ref_of w)))
 
 -- The operations that the words tell up to the first `;`: in front of `*` and `d` stands a number, their operand.
 abbrev pub ops_told : List (List ℕ) → Option (Listed Op)
@@ -38,7 +40,8 @@ ops_told (w ∷ []) = cond (same_word w (59 ∷ [])) (Some (record { items = [];
 ops_told (w ∷ v ∷ vs) =
     cond (same_word w (59 ∷ [])) (Some (record { items = []; rest = v ∷ vs }))
     (cond (same_word v (42 ∷ [])) (one_more (number_op Times (numeral_of w)) (ops_told vs))
-    (cond (same_word v (100 ∷ [])) (one_more (number_op Divide (numeral_of w)) (ops_told vs)) (one_more (plain_op w) (ops_told (v ∷ vs)))))
+    (cond (same_word v (100 ∷ [])) (one_more (number_op Divide (numeral_of w)) (ops_told vs))
+    (one_more (plain_op w) (ops_told (v ∷ vs)))))
 
 -- The items of a list with nothing behind it.
 abbrev pub closed_items : {A : Type 0} → Option (Listed A) → Option (List A)
@@ -50,7 +53,8 @@ closed_items (Some l) = at_end l.rest l.items
     at_end (w ∷ ws) xs = None
 
 -- What a reader of a list answers, with these words left, where it was told a list.
-abbrev pub IsListed : {A : Type 0} → Result (List A) StepFault → List (List ℕ) → Option (Listed A) → Type 0
+abbrev pub IsListed : {A : Type 0} → Result (List A) StepFault → List (List ℕ)
+    → Option (Listed A) → Type 0
 IsListed (Ok items) rest told = told ≡ Some (record { items = items; rest = rest })
 IsListed (Err Form) rest told = told ≡ None
 IsListed (Err NoMemory) rest told = ⊤
