@@ -37,7 +37,7 @@ pub unknown_words : list_all is_refused (
 unfolding command grammar answering solve_grammar verify_grammar encode_grammar check_grammar reading demo_grammar with_graphs with_kind with_mapping with_search with_proof clap_on_literals
 unknown_words = refl
 
--- a proof with one file alone, with two that are one or one of the graphs', or in a format with directions, and a profile without one or out of range
+-- a proof with one file alone, or with two that are one or one of the graphs', and a profile without one or out of range
 pub wrong_proofs : list_all is_refused (
     codes "subgraph solve p t --prove e" ∷ codes "subgraph solve p t --log l" ∷ codes "subgraph solve p t --prove a --log a"
     ∷ codes "subgraph solve p t --prove p --log l" ∷ codes "subgraph solve p t --prove t --log l" ∷ codes "subgraph solve p t --prove e --log p"
@@ -46,7 +46,6 @@ pub wrong_proofs : list_all is_refused (
     ∷ codes "subgraph demo 7 --prove e --log l" ∷ codes "subgraph solve p t --profile 2" ∷ codes "subgraph solve p t --profile 1"
     ∷ codes "subgraph solve p t --prove e --log l --profile 3" ∷ codes "subgraph solve p t --prove e --log l --profile 0"
     ∷ codes "subgraph solve p t --prove e --log l --profile 2 --profile 2" ∷ codes "subgraph solve p t --prove e --profile 2"
-    ∷ codes "subgraph solve p t --format directedlad --prove e --log l" ∷ codes "subgraph solve p t --prove e --log l --format labelledlad"
     ∷ codes "subgraph solve p t --prove e --log l --profile=" ∷ codes "subgraph check e l --profile 2" ∷ []) ≡ true
 unfolding command grammar answering solve_grammar verify_grammar encode_grammar check_grammar reading demo_grammar with_graphs with_kind with_mapping with_search with_proof clap_on_literals
 wrong_proofs = refl
@@ -95,11 +94,14 @@ solves = refl
 -- solves with a proof
 pub proves : map (λ (text : List ℕ). command (words text)) (
     codes "subgraph solve p t --prove e --log l" ∷ codes "subgraph solve --log=t --prove= p p"
-    ∷ codes "subgraph solve p t --prove e --log l --profile 1" ∷ codes "subgraph solve --profile=02 p t --prove e --log l" ∷ [])
+    ∷ codes "subgraph solve p t --prove e --log l --profile 1" ∷ codes "subgraph solve --profile=02 p t --prove e --log l"
+    ∷ codes "subgraph solve p t --format directedlad --prove e --log l" ∷ codes "subgraph solve p t --prove e --log l --format labelledlad" ∷ [])
     ≡ Some (Solve (record { pattern = codes "p"; target = codes "t"; induced = false; format = Lad; threads = 1; seed = 0; budget = 9223372036854775807; book = 65536; prove = Some (record { encoding = codes "e"; log = codes "l"; profile = Hinted }) }))
     ∷ Some (Solve (record { pattern = codes "p"; target = codes "p"; induced = false; format = Lad; threads = 1; seed = 0; budget = 9223372036854775807; book = 65536; prove = Some (record { encoding = []; log = codes "t"; profile = Hinted }) }))
     ∷ Some (Solve (record { pattern = codes "p"; target = codes "t"; induced = false; format = Lad; threads = 1; seed = 0; budget = 9223372036854775807; book = 65536; prove = Some (record { encoding = codes "e"; log = codes "l"; profile = Hinted }) }))
     ∷ Some (Solve (record { pattern = codes "p"; target = codes "t"; induced = false; format = Lad; threads = 1; seed = 0; budget = 9223372036854775807; book = 65536; prove = Some (record { encoding = codes "e"; log = codes "l"; profile = Plain }) }))
+    ∷ Some (Solve (record { pattern = codes "p"; target = codes "t"; induced = false; format = DirectedLad; threads = 1; seed = 0; budget = 9223372036854775807; book = 65536; prove = Some (record { encoding = codes "e"; log = codes "l"; profile = Hinted }) }))
+    ∷ Some (Solve (record { pattern = codes "p"; target = codes "t"; induced = false; format = LabelledLad; threads = 1; seed = 0; budget = 9223372036854775807; book = 65536; prove = Some (record { encoding = codes "e"; log = codes "l"; profile = Hinted }) }))
     ∷ []
 unfolding command grammar answering solve_grammar verify_grammar encode_grammar check_grammar reading demo_grammar with_graphs with_kind with_mapping with_search with_proof clap_on_literals
 proves = refl

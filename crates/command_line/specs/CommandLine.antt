@@ -9,7 +9,6 @@ use Rattle.log_theory.specs.declared.profile.Profile.{Profile}
 use Rattle.log_theory.specs.declared.profile.Profile.TheVariants.{Hinted}
 use Rattle.graph_theory.specs.declared.lad_text.LadKind.{LadKind}
 use Rattle.graph_theory.specs.declared.lad_text.LadKind.TheVariants.{Lad, VertexLabelledLad, DirectedLad, LabelledLad}
-use Rattle.graph_theory.specs.Plain.{IsUndirected}
 use Rattle.command_line.specs.Words.{file_name, threads, budget, seed, book, profile, format}
 use Rattle.command_line.specs.Grammar.{grammar}
 use Rattle.command_line.specs.declared.commands.Command.{Command}
@@ -72,46 +71,44 @@ prove_from _ _ _ = None
 -- Whether the files of a proof differ from each other, and from the pattern's and the target's.
 abbrev pub are_apart : Text → Text → Option ProveWords → Bool
 are_apart p t None = true
-are_apart p t (Some w) = not (bytes_eq w.encoding w.log) && (not (bytes_eq w.encoding p) && (not (bytes_eq w.encoding t)
+are_apart p t (Some w) = not (bytes_eq w.encoding w.log) && (not (bytes_eq w.encoding p)
+    && (not (bytes_eq w.encoding t)
     && (not (bytes_eq w.log p) && not (bytes_eq w.log t))))
-
--- Whether a proof may be asked for: there are logs for formats without directions alone.
-abbrev pub may_prove : LadKind → Option ProveWords → Bool
-may_prove format None = true
-may_prove Lad (Some w) = true
-may_prove VertexLabelledLad (Some w) = true
-may_prove DirectedLad (Some w) = false
-may_prove LabelledLad (Some w) = false
 
 -- The files of a proof that the words name, `--prove` and `--log` together, and `--profile` only beside them.
 abbrev pub prove_at : List Row → Option (Option ProveWords)
-prove_at rows = prove_from (first_of (codes "prove") rows) (first_of (codes "log") rows) (first_of (codes "profile") rows)
+prove_at rows = prove_from (first_of (codes "prove") rows) (first_of (codes "log") rows) (first_of
+    (codes "profile") rows)
 
--- A solve, where each of its words is good, the files of its proof are apart, and there are logs for its format where one is asked for.
-abbrev pub solve_from : Option Text → Option Text → Bool → Option LadKind → Option ℕ → Option ℕ → Option ℕ → Option ℕ
+-- A solve, where each of its words is good, and the files of its proof are apart.
+abbrev pub solve_from : Option Text → Option Text → Bool → Option LadKind → Option ℕ → Option ℕ
+    → Option ℕ → Option ℕ
     → Option (Option ProveWords) → Option Command
-solve_from (Some p) (Some t) induced (Some f) (Some n) (Some s) (Some b) (Some k) (Some w) = if are_apart p t w && may_prove f w then Some (Solve (record {
-  pattern = p;
-  target = t;
-  induced = induced;
-  format = f;
-  threads = n;
-  seed = s;
-  budget = b;
-  book = k;
-  prove = w;
-})) else None
+solve_from (Some p) (Some t) induced (Some f) (Some n) (Some s) (Some b) (Some k)
+    (Some w) = if are_apart p t w then Some (Solve (record {
+      pattern = p;
+      target = t;
+      induced = induced;
+      format = f;
+      threads = n;
+      seed = s;
+      budget = b;
+      book = k;
+      prove = w;
+    })) else None
 solve_from _ _ _ _ _ _ _ _ _ = None
 
 -- A verify, where each of its words is good.
-abbrev pub verify_from : Option Text → Option Text → Option Text → Bool → Option LadKind → Option Command
+abbrev pub verify_from : Option Text → Option Text → Option Text → Bool → Option LadKind
+    → Option Command
 verify_from (Some p) (Some t) (Some m) induced (Some f) =
     Some (Verify (record { pattern = p; target = t; mapping = m; induced = induced; format = f }))
 verify_from _ _ _ _ _ = None
 
 -- An encode, where each of its words is good.
 abbrev pub encode_from : Option Text → Option Text → Bool → Option LadKind → Option Command
-encode_from (Some p) (Some t) induced (Some f) = Some (Encode (record { pattern = p; target = t; induced = induced; format = f }))
+encode_from (Some p) (Some t) induced (Some f) = Some (Encode
+    (record { pattern = p; target = t; induced = induced; format = f }))
 encode_from _ _ _ _ = None
 
 -- A check, where both of its words are good.
@@ -127,7 +124,8 @@ demo_from _ _ _ = None
 -- The solve that the words after `solve` are.
 abbrev pub solve_of : List Row → Option Command
 solve_of rows = solve_from (name_at (codes "pattern") rows) (name_at (codes "target") rows)
-    (flag_at (codes "induced") rows) (format_at rows) (threads_at rows) (seed_at rows) (budget_at rows) (book_at rows) (prove_at rows)
+    (flag_at (codes "induced") rows) (format_at rows) (threads_at rows) (seed_at rows)
+    (budget_at rows) (book_at rows) (prove_at rows)
 
 -- The verify that the words after `verify` are.
 abbrev pub verify_of : List Row → Option Command
@@ -136,7 +134,8 @@ verify_of rows = verify_from (name_at (codes "pattern") rows) (name_at (codes "t
 
 -- The encode that the words after `encode` are.
 abbrev pub encode_of : List Row → Option Command
-encode_of rows = encode_from (name_at (codes "pattern") rows) (name_at (codes "target") rows) (flag_at (codes "induced") rows) (format_at rows)
+encode_of rows = encode_from (name_at (codes "pattern") rows) (name_at (codes "target") rows)
+    (flag_at (codes "induced") rows) (format_at rows)
 
 -- The check that the words after `check` are.
 abbrev pub check_of : List Row → Option Command
@@ -144,13 +143,15 @@ check_of rows = check_from (name_at (codes "encoding") rows) (name_at (codes "lo
 
 -- The demo that the words after `demo` are; its seed is the first of them.
 abbrev pub demo_of : List Row → Option Command
-demo_of rows = demo_from (option_and_then seed (first_of (codes "seed") rows)) (threads_at rows) (budget_at rows)
+demo_of rows = demo_from (option_and_then seed (first_of (codes "seed") rows)) (threads_at rows)
+    (budget_at rows)
 
 -- The command of this name, with what was found for it.
 abbrev pub named_command : Text → List Row → Option Command
 named_command name rows = if bytes_eq name (codes "solve") then solve_of rows
     else (if bytes_eq name (codes "verify") then verify_of rows
-    else (if bytes_eq name (codes "encode") then encode_of rows else (if bytes_eq name (codes "check") then check_of rows
+    else (if bytes_eq name (codes "encode") then encode_of rows else (if bytes_eq name
+    (codes "check") then check_of rows
     else (if bytes_eq name (codes "demo") then demo_of rows else None))))
 
 -- The command that a parse entered, if it entered one.
@@ -160,7 +161,8 @@ entered_command (Some p) = named_command p.0 p.1
 
 -- The command that the words are, the program's name first among them: what `clap`'s function of the words gives, where that passes the tests.
 unfoldable pub command : List Text → Option Command
-command words = if is_empty (fault_of grammar words) then entered_command (subcommand_of grammar words) else None
+command words = if is_empty (fault_of grammar words) then entered_command
+    (subcommand_of grammar words) else None
 
 -- The names of a proof's files have at most 4,095 bytes, and differ from each other and from the pattern's and the target's.
 pub record IsProveInRange (pattern target : List ℕ) (w : ProveWords) : Type 0 where
@@ -181,7 +183,6 @@ pub record IsSolveInRange (w : SolveWords) : Type 0 where
   pub least : 1 ≤ w.budget
   pub most : w.budget < 2 ^ 63
   pub book : w.book ≤ 4194304
-  pub format : IfSome w.prove (λ p. IsUndirected w.format)
   pub prove : IfSome w.prove (λ p. IsProveInRange w.pattern w.target p)
 
 pub record IsVerifyInRange (w : VerifyWords) : Type 0 where

@@ -31,7 +31,8 @@ with_mapping a = with_rule a (positional (codes "mapping"))
 
 -- What steers the search and bounds it.
 unfoldable pub with_search : App → App
-with_search a = with_rule (with_rule (with_rule a (option (codes "threads"))) (option (codes "seed"))) (option (codes "budget"))
+with_search a = with_rule (with_rule (with_rule a (option (codes "threads"))) (option
+    (codes "seed"))) (option (codes "budget"))
 
 -- The files of a proof, and the profile of its log.
 unfoldable pub with_proof : App → App
@@ -41,7 +42,8 @@ with_proof a = with_rule (with_rule (with_rule a (option (codes "prove"))) (opti
 -- `solve P T [--induced] [--format F] [--threads N] [--seed N] [--budget N] [--book N]`
 -- `[--prove ENC --log LOG [--profile N]]`
 unfoldable pub solve_grammar : App
-solve_grammar = with_proof (with_rule (with_search (with_kind (with_graphs (new_app (codes "solve"))))) (option (codes "book")))
+solve_grammar = with_proof (with_rule (with_search (with_kind (with_graphs (new_app
+    (codes "solve"))))) (option (codes "book")))
 
 -- `verify P T MAP [--induced] [--format F]`
 unfoldable pub verify_grammar : App
@@ -53,20 +55,27 @@ encode_grammar = with_kind (with_graphs (new_app (codes "encode")))
 
 -- `check ENC LOG`
 unfoldable pub check_grammar : App
-check_grammar = with_rule (with_rule (new_app (codes "check")) (positional (codes "encoding"))) (positional (codes "log"))
+check_grammar = with_rule (with_rule (new_app (codes "check")) (positional (codes "encoding")))
+    (positional (codes "log"))
 
 -- `demo K [--threads N] [--budget N]`
 unfoldable pub demo_grammar : App
-demo_grammar = with_rule (with_rule (with_rule (new_app (codes "demo")) (positional (codes "seed"))) (option (codes "threads")))
+demo_grammar = with_rule (with_rule (with_rule (new_app (codes "demo")) (positional
+    (codes "seed"))) (option (codes "threads")))
     (option (codes "budget"))
 
 -- A command without help flag, help command and version flag; its subcommands have none either.
 abbrev pub quiet : App → App
-quiet a = on_top (λ s. record s { disable_help_flag = true; disable_help_subcommand = true; disable_version_flag = true }) a
+quiet a = on_top (λ s. record s {
+  disable_help_flag = true;
+  disable_help_subcommand = true;
+  disable_version_flag = true;
+}) a
 
 -- The commands that answer questions of a pattern and a target.
 unfoldable pub answering : App
-answering = with_subcommand (with_subcommand (quiet (new_app (codes "subgraph"))) solve_grammar.top) verify_grammar.top
+answering = with_subcommand (with_subcommand (quiet (new_app
+    (codes "subgraph"))) solve_grammar.top) verify_grammar.top
 
 -- The commands that read files.
 unfoldable pub reading : App

@@ -15,7 +15,8 @@ file_name text = if nat_le (length text) 4095 then Some text else None
 -- A number is one or more decimal digits and nothing else, with a value from `least` to `most`; leading zeros count for nothing.
 abbrev pub number_within : ℕ → ℕ → List ℕ → Option ℕ
 number_within least most text =
-    if nat_lt 0 (length text) && (all_ascii_digits text && (nat_le least (digits_value 10 text) && nat_le (digits_value 10 text) most))
+    if nat_lt 0 (length text) && (all_ascii_digits text && (nat_le least (digits_value 10 text)
+    && nat_le (digits_value 10 text) most))
     then Some (digits_value 10 text) else None
 
 -- A budget is a number from 1 to 2^63 - 1.

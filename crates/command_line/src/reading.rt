@@ -7,7 +7,6 @@ ghost use Rattle.clap.specs.Words.{fault_of, first_of, found_of, rows_of, subcom
 ghost use Rattle.clap.specs.Walk.{is_empty};
 ghost use Rattle.clap.specs.Values.{kind_of};
 ghost use Rattle.clap.specs.declared.error.kind.ErrorKind.TheVariants.{OutOfMemory};
-ghost use Rattle.graph_theory.specs.Plain.{IsUndirected};
 ghost use Rattle.command_line.specs.Words.{number_within};
 ghost use Rattle.command_line.specs.Words as word;
 ghost use Rattle.command_line.specs.Grammar.{grammar};
@@ -162,7 +161,8 @@ fn seed_at(matches: &ArgMatches) -> Option<u64>
 
 /// The seed that stands in its place.
 fn given_seed(matches: &ArgMatches) -> Option<u64>
-    ensures { result ≡ option_and_then word.seed (first_of (codes "seed") (rows_of (found_of matches.now))) }
+    ensures { result ≡ option_and_then word.seed (first_of (codes "seed") (rows_of
+        (found_of matches.now))) }
 {
     match word_at(matches, "seed") {
         Some(text) => number_of(text, 0, LARGEST_SEED),
@@ -273,20 +273,6 @@ fn are_apart(pattern: &FileName, target: &FileName, prove: &Option<ProveWords>) 
     encoding != log && encoding != pattern && encoding != target && log != pattern && log != target
 }
 
-/// Whether a proof may be asked for: there are logs for formats without directions alone.
-fn may_prove(format: LadKind, prove: &Option<ProveWords>) -> bool
-    ensures answer { result ≡ line.may_prove format prove.now }
-    ensures undirected { IsTrue result → IfSome prove.now (λ p. IsUndirected format) }
-{
-    if prove.is_none() {
-        return true;
-    }
-    match format {
-        LadKind::Lad | LadKind::VertexLabelledLad => true,
-        LadKind::DirectedLad | LadKind::LabelledLad => false,
-    }
-}
-
 /// The solve that was found.
 fn solve_words<'a>(matches: &ArgMatches<'a>) -> Option<Command<'a>>
     ensures words { result ≡ line.solve_of (rows_of (found_of matches.now)) }
@@ -301,7 +287,7 @@ fn solve_words<'a>(matches: &ArgMatches<'a>) -> Option<Command<'a>>
     let budget = budget_at(matches)?;
     let book = book_at(matches)?;
     let prove = prove_at(matches)?;
-    if !are_apart(&pattern, &target, &prove) || !may_prove(format, &prove) {
+    if !are_apart(&pattern, &target, &prove) {
         return None;
     }
     Some(Command::Solve(SolveWords {

@@ -3,7 +3,7 @@
 use Rattle.std.specs.Prelude.{◌≡◌, ℕ, ◌<◌, ◌⊎◌, ◌||◌, not, nat_lt, Bool, true, false, List, [], ◌∷◌, map, length, slice_index}
 use Rattle.graph_theory.specs.Embedding.{Problem}
 use Rattle.log_theory.specs.Lookups.{is_among}
-use Rattle.domain_bits.specs.BitRows.{has}
+use Rattle.bit_rows.specs.BitRows.{has}
 use Rattle.needed_values.specs.Needed.{needs}
 use Rattle.nogood_book.specs.declared.row.Row.{Row}
 use Rattle.nogood_book.specs.Places.{IsNogoodRow}
@@ -27,7 +27,8 @@ no_value = 65535
 
 -- Where a value stands at a vertex, both are one of the pairs.
 abbrev pub AreAt : List ℕ → List (ℕ × ℕ) → Type 0
-AreAt at pairs = (p t : ℕ) → p < length at → slice_index at p ≡ t → (t ≡ no_value → ⊥) → IsOneOf pairs (p, t)
+AreAt at pairs = (p t : ℕ) → p < length at → slice_index at p ≡ t → (t ≡ no_value → ⊥)
+    → IsOneOf pairs (p, t)
 
 -- ---- changes of entries
 
@@ -50,20 +51,24 @@ AreNameable q rows (c ∷ cs) = (IsInProblem q c × IsOfRow rows c) × AreNameab
 
 -- One step back from a change. A true answer: it is chosen, and a line can be named for it. A false one: it may be passed, and all that was
 -- needed still is.
-abbrev pub IsStep : Bool → Problem → List Row → List (ℕ × ℕ) → Change → (ℕ → ℕ → Bool) → (ℕ → ℕ → Bool) → Type 0
+abbrev pub IsStep : Bool → Problem → List Row → List (ℕ × ℕ) → Change → (ℕ → ℕ → Bool) → (ℕ → ℕ
+    → Bool) → Type 0
 IsStep true q rows path c old now = RestsOn q rows path c old now × IsOfRow rows c
 IsStep false q rows path c old now = MayPass q rows c old × IsWithin old now
 
 -- Of what was needed the rest is what a set takes from a vertex that is none of these: a value that its row has not.
 abbrev pub AreLeft : ℕ → List ℕ → List ℕ → (ℕ → ℕ → Bool) → (ℕ → ℕ → Bool) → Type 0
 AreLeft n vertices set old new =
-    (r u : ℕ) → u < n → old r u ≡ true → (new r u ≡ true) ⊎ ((is_among r vertices ≡ false) × (has set u ≡ false))
+    (r u : ℕ) → u < n → old r u ≡ true → (new r u ≡ true) ⊎ ((is_among r vertices ≡ false)
+    × (has set u ≡ false))
 
 -- Each needed value of a vertex that is none of these is in the row.
 abbrev pub AreInside : ℕ → List ℕ → List ℕ → (ℕ → ℕ → Bool) → Type 0
-AreInside n vertices set needed = (r u : ℕ) → is_among r vertices ≡ false → u < n → needed r u ≡ true → has set u ≡ true
+AreInside n vertices set needed = (r u : ℕ) → is_among r vertices ≡ false → u < n
+    → needed r u ≡ true → has set u ≡ true
 
 -- The walk has come so far, and lines can be named for what it chose.
-pub record HasCome (q : Problem) (rows : List Row) (path : List (ℕ × ℕ)) (seen chosen : List Change) (needed now : ℕ → ℕ → Bool) : Type 0 where
+pub record HasCome (q : Problem) (rows : List Row) (path : List (ℕ
+    × ℕ)) (seen chosen : List Change) (needed now : ℕ → ℕ → Bool) : Type 0 where
   pub walked : Walked q rows path seen chosen needed now
   pub nameable : AreNameable q rows chosen

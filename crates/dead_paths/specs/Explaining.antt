@@ -34,7 +34,8 @@ pub record IsLimited (q : Problem) : Type 0 where
 -- ---- changes
 
 -- The references name forms that explain the changes, and those of nogood rows their clauses.
-pub record Explained (q : Problem) (rows : List Row) (path : List (ℕ × ℕ)) (w : Frame) (names : ℕ → Ref) (cs : List Change) (refs : List Ref) (forms : List Form) : Type 0 where
+pub record Explained (q : Problem) (rows : List Row) (path : List (ℕ × ℕ)) (w : Frame) (names : ℕ
+    → Ref) (cs : List Change) (refs : List Ref) (forms : List Form) : Type 0 where
   pub rows_named : AreRowsNamed q rows w names forms
   pub own : List Form
   pub explained : ExplainAll q rows path cs own
@@ -45,7 +46,8 @@ abbrev pub Knowing : (List Form → Type 0) → (List Form → Type 0) → List 
 Knowing knows claim forms = knows forms × claim forms
 
 -- So it is where memory sufficed.
-abbrev pub Sufficing : Result (Unit {0}) AllocError → (List Form → Type 0) → (List Form → Type 0) → List Form → Type 0
+abbrev pub Sufficing : Result (Unit {0}) AllocError → (List Form → Type 0) → (List Form → Type 0)
+    → List Form → Type 0
 Sufficing result knows claim forms = OnOk result (knows forms × claim forms)
 
 -- ---- ends
@@ -63,20 +65,23 @@ IsEndIn q rows (Short vertices values) = AreVertices q vertices × AreValues q v
 IsEndIn q rows (Exhausted p values) = p < size q.pattern
 
 -- Of the changes these are chosen for some needed values, among them all that the end needs.
-pub record IsChosenFor (q : Problem) (rows : List Row) (path : List (ℕ × ℕ)) (cs chosen : List Change) (e : End) : Type 0 where
+pub record IsChosenFor (q : Problem) (rows : List Row) (path : List (ℕ
+    × ℕ)) (cs chosen : List Change) (e : End) : Type 0 where
   pub needed : ℕ → ℕ → Bool
   pub needs : EndNeeds rows path e needed
   pub choice : IsChoice q rows path cs chosen needed
 
 -- The references of refuted values name their clauses.
 abbrev pub AreRefuted : Problem → List (ℕ × ℕ) → End → Frame → List Ref → List Form → Type 0
-AreRefuted q path (Exhausted p values) w refs forms = AreNamed w forms refs (value_clauses q path p values)
+AreRefuted q path (Exhausted p values) w refs forms = AreNamed w forms refs
+    (value_clauses q path p values)
 AreRefuted q path (Empty p) w refs forms = Unit {0}
 AreRefuted q path (Whole name) w refs forms = Unit {0}
 AreRefuted q path (Short vertices values) w refs forms = Unit {0}
 
 -- The references name forms that explain the changes, and then those that the end comes to.
-pub record EndExplained (q : Problem) (rows : List Row) (w : Frame) (path : List (ℕ × ℕ)) (cs : List Change) (e : End) (refs : List Ref) (forms : List Form) : Type 0 where
+pub record EndExplained (q : Problem) (rows : List Row) (w : Frame) (path : List (ℕ
+    × ℕ)) (cs : List Change) (e : End) (refs : List Ref) (forms : List Form) : Type 0 where
   pub own : List Form
   pub ends : List Form
   pub explained : ExplainAll q rows path cs own
@@ -86,13 +91,16 @@ pub record EndExplained (q : Problem) (rows : List Row) (w : Frame) (path : List
 -- ---- dead paths
 
 -- What has to be so of the forms before: what the maker knows, and that the references of rows and of refuted values name their clauses.
-pub record IsBegun (q : Problem) (rows : List Row) (w : Frame) (names : ℕ → Ref) (path : List (ℕ × ℕ)) (e : End) (refuted : List Ref) (forms : List Form) : Type 0 where
+pub record IsBegun (q : Problem) (rows : List Row) (w : Frame) (names : ℕ
+    → Ref) (path : List (ℕ × ℕ)) (e : End) (refuted : List Ref) (forms : List Form) : Type 0 where
   pub rows_named : AreRowsNamed q rows w names forms
   pub refuted_named : AreRefuted q path e w refuted forms
 
 -- The name that is answered is that of the path's clause. There is one wherever lines are kept.
-abbrev pub IsDeadName : Problem → List (ℕ × ℕ) → Frame → (List Form → Type 0) → Result (Option Name) AllocError → List Form → Type 0
-IsDeadName q path w knows (Ok (Some n)) forms = knows forms × IsNamed w forms (Made n) (pairs_clause q path)
+abbrev pub IsDeadName : Problem → List (ℕ × ℕ) → Frame → (List Form → Type 0)
+    → Result (Option Name) AllocError → List Form → Type 0
+IsDeadName q path w knows (Ok (Some n)) forms = knows forms
+    × IsNamed w forms (Made n) (pairs_clause q path)
 IsDeadName q path w knows (Ok None) forms = ⊥
 IsDeadName q path w knows (Err e) forms = Unit {0}
 
@@ -110,14 +118,16 @@ pub record Adds (w : Frame) (old new : List Ref) (fs : List Form) (forms : List 
   pub named : AreNamed w forms more fs
 
 -- To the lines of vertices that bear the first of these pairs, where the known pairs hold.
-pub record AddsBorne (q : Problem) (known : List (ℕ × ℕ)) (but : Option ℕ) (pairs : List (ℕ × ℕ)) (count : ℕ) (old new : List Ref) : Type 0 where
+pub record AddsBorne (q : Problem) (known : List (ℕ × ℕ)) (but : Option ℕ) (pairs : List (ℕ
+    × ℕ)) (count : ℕ) (old new : List Ref) : Type 0 where
   pub vertices : List ℕ
   pub inside : AreVertices q vertices
   pub front : new ≡ old ++ at_least_refs q vertices
   pub borne : (k : ℕ) → k < count → IsBorne known vertices but (literal pairs k)
 
 -- To the lines that a nogood row needs: those of vertices that bear its pairs, and its own.
-pub record AddsNogood (q : Problem) (rows : List Row) (names : ℕ → Ref) (known : List (ℕ × ℕ)) (but : Option ℕ) (name : ℕ) (old new : List Ref) : Type 0 where
+pub record AddsNogood (q : Problem) (rows : List Row) (names : ℕ
+    → Ref) (known : List (ℕ × ℕ)) (but : Option ℕ) (name : ℕ) (old new : List Ref) : Type 0 where
   pub vertices : List ℕ
   pub inside : AreVertices q vertices
   pub front : new ≡ old ++ (at_least_refs q vertices ++ names name ∷ [])
@@ -125,34 +135,47 @@ pub record AddsNogood (q : Problem) (rows : List Row) (names : ℕ → Ref) (kno
 
 -- To the line of a vertex, unless its pair is known.
 abbrev pub MayAdd : Problem → List (ℕ × ℕ) → ℕ → ℕ → List Ref → List Ref → Type 0
-MayAdd q known p t old new = ((new ≡ old) × IsOneOf known (p, t)) ⊎ (new ≡ old ++ at_least_ref q p ∷ [])
+MayAdd q known p t old new = ((new ≡ old)
+    × IsOneOf known (p, t)) ⊎ (new ≡ old ++ at_least_ref q p ∷ [])
 
 -- To the line of a set.
-abbrev pub IsSetPushed : Problem → List ℕ → List ℕ → Frame → List Ref → List Ref → (List Form → Type 0) → Result (Unit {0}) AllocError → List Form → Type 0
-IsSetPushed q vertices values w old new knows result forms = OnOk result (knows forms × Adds w old new (set_forms q vertices values) forms)
+abbrev pub IsSetPushed : Problem → List ℕ → List ℕ → Frame → List Ref → List Ref → (List Form
+    → Type 0) → Result (Unit {0}) AllocError → List Form → Type 0
+IsSetPushed q vertices values w old new knows result forms = OnOk result (knows forms
+    × Adds w old new (set_forms q vertices values) forms)
 
 -- To forms that explain a change.
-pub record AddsFor (q : Problem) (rows : List Row) (known : List (ℕ × ℕ)) (c : Change) (w : Frame) (old new : List Ref) (forms : List Form) : Type 0 where
+pub record AddsFor (q : Problem) (rows : List Row) (known : List (ℕ
+    × ℕ)) (c : Change) (w : Frame) (old new : List Ref) (forms : List Form) : Type 0 where
   pub own : List Form
   pub explains : ExplainsChange q rows known c own
   pub adds : Adds w old new own forms
 
-abbrev pub IsChangePushed : Problem → List Row → List (ℕ × ℕ) → Change → Frame → List Ref → List Ref → (List Form → Type 0) → Result (Unit {0}) AllocError → List Form → Type 0
-IsChangePushed q rows known c w old new knows result forms = OnOk result (knows forms × AddsFor q rows known c w old new forms)
+abbrev pub IsChangePushed : Problem → List Row → List (ℕ × ℕ) → Change → Frame → List Ref
+    → List Ref → (List Form → Type 0) → Result (Unit {0}) AllocError → List Form → Type 0
+IsChangePushed q rows known c w old new knows result forms = OnOk result (knows forms
+    × AddsFor q rows known c w old new forms)
 
 -- To forms that explain changes.
-abbrev pub AreChangesPushed : Problem → List Row → List (ℕ × ℕ) → Frame → (ℕ → Ref) → List Change → List Ref → (List Form → Type 0) → Result (Unit {0}) AllocError → List Form → Type 0
-AreChangesPushed q rows path w names cs refs knows result forms = OnOk result (knows forms × Explained q rows path w names cs refs forms)
+abbrev pub AreChangesPushed : Problem → List Row → List (ℕ × ℕ) → Frame → (ℕ → Ref) → List Change
+    → List Ref → (List Form → Type 0) → Result (Unit {0}) AllocError → List Form → Type 0
+AreChangesPushed q rows path w names cs refs knows result forms = OnOk result (knows forms
+    × Explained q rows path w names cs refs forms)
 
 -- To the forms that an end comes to, where the known pairs hold.
-pub record AddsEnd (q : Problem) (rows : List Row) (path known : List (ℕ × ℕ)) (e : End) (w : Frame) (old new : List Ref) (forms : List Form) : Type 0 where
+pub record AddsEnd (q : Problem) (rows : List Row) (path known : List (ℕ
+    × ℕ)) (e : End) (w : Frame) (old new : List Ref) (forms : List Form) : Type 0 where
   pub ends : List Form
   pub in_end : EndsIn q rows path known e ends
   pub adds : Adds w old new ends forms
 
-abbrev pub IsEndPushed : Problem → List Row → List (ℕ × ℕ) → List (ℕ × ℕ) → End → Frame → List Ref → List Ref → (List Form → Type 0) → Result (Unit {0}) AllocError → List Form → Type 0
-IsEndPushed q rows path known e w old new knows result forms = OnOk result (knows forms × AddsEnd q rows path known e w old new forms)
+abbrev pub IsEndPushed : Problem → List Row → List (ℕ × ℕ) → List (ℕ × ℕ) → End → Frame
+    → List Ref → List Ref → (List Form → Type 0) → Result (Unit {0}) AllocError → List Form → Type 0
+IsEndPushed q rows path known e w old new knows result forms = OnOk result (knows forms
+    × AddsEnd q rows path known e w old new forms)
 
 -- To the forms that explain changes, and then to those that the end comes to.
-abbrev pub AreGathered : Problem → List Row → Frame → List (ℕ × ℕ) → List Change → End → List Ref → (List Form → Type 0) → Result (Unit {0}) AllocError → List Form → Type 0
-AreGathered q rows w path cs e refs knows result forms = OnOk result (knows forms × EndExplained q rows w path cs e refs forms)
+abbrev pub AreGathered : Problem → List Row → Frame → List (ℕ × ℕ) → List Change → End → List Ref
+    → (List Form → Type 0) → Result (Unit {0}) AllocError → List Form → Type 0
+AreGathered q rows w path cs e refs knows result forms = OnOk result (knows forms
+    × EndExplained q rows w path cs e refs forms)

@@ -38,6 +38,7 @@ abbrev pub AreValues : Problem → List ℕ → Type 0
 AreValues q values = (u : ℕ) → is_among u values ≡ true → u < size q.target
 
 -- The name that is answered is that of the set's form.
-abbrev pub IsSetKept : Problem → List ℕ → List ℕ → Frame → Result Name AllocError → List Form → Type 0
+abbrev pub IsSetKept : Problem → List ℕ → List ℕ → Frame → Result Name AllocError → List Form
+    → Type 0
 IsSetKept q [] values w result forms = ⊥
 IsSetKept q (p ∷ rest) values w result forms = IsKept w result (set_form q p rest values) forms

@@ -14,31 +14,38 @@ use Rattle.kept_lines.specs.Frames.{Frame, IsNamed}
 use Rattle.dead_paths.specs.Lines.{IsSetKept}
 
 -- The reference names a form that takes from p whatever is not in its first domain.
-pub record IsFirstLine (q : Problem) (w : Frame) (p : ℕ) (r : Ref) (forms : List Form) : Type 0 where
+pub record IsFirstLine (q : Problem) (w : Frame) (p : ℕ) (r : Ref)
+    (forms : List Form) : Type 0 where
   pub line : Form
   pub forces : ForcesFirst q line p
   pub named : IsNamed w forms r line
 
 -- The reference names a form that, where p is at t, takes from r whatever is not consistent with this.
-pub record IsRowLine (q : Problem) (w : Frame) (p t r : ℕ) (ref : Ref) (forms : List Form) : Type 0 where
+pub record IsRowLine (q : Problem) (w : Frame) (p t r : ℕ) (ref : Ref)
+    (forms : List Form) : Type 0 where
   pub line : Form
   pub forces : ForcesBeside q line p t r
   pub named : IsNamed w forms ref line
 
 -- The answer is such a reference, and the maker knows what it is to know of the forms.
-abbrev pub GivesFirst : Problem → Frame → ℕ → Result Ref AllocError → (List Form → Type 0) → List Form → Type 0
+abbrev pub GivesFirst : Problem → Frame → ℕ → Result Ref AllocError → (List Form → Type 0)
+    → List Form → Type 0
 GivesFirst q w p (Ok ref) knows forms = knows forms × IsFirstLine q w p ref forms
 GivesFirst q w p (Err e) knows forms = Unit {0}
 
-abbrev pub GivesRow : Problem → Frame → ℕ → ℕ → ℕ → Result Ref AllocError → (List Form → Type 0) → List Form → Type 0
+abbrev pub GivesRow : Problem → Frame → ℕ → ℕ → ℕ → Result Ref AllocError → (List Form → Type 0)
+    → List Form → Type 0
 GivesRow q w p t r (Ok ref) knows forms = knows forms × IsRowLine q w p t r ref forms
 GivesRow q w p t r (Err e) knows forms = Unit {0}
 
 -- The answer is the name of the set's form, and the maker knows what it is to know of the forms.
-abbrev pub GivesSet : Problem → Frame → List ℕ → List ℕ → Result Name AllocError → (List Form → Type 0) → List Form → Type 0
-GivesSet q w vertices values (Ok n) knows forms = knows forms × IsSetKept q vertices values w (Ok n) forms
+abbrev pub GivesSet : Problem → Frame → List ℕ → List ℕ → Result Name AllocError → (List Form
+    → Type 0) → List Form → Type 0
+GivesSet q w vertices values (Ok n) knows forms = knows forms
+    × IsSetKept q vertices values w (Ok n) forms
 GivesSet q w vertices values (Err e) knows forms = Unit {0}
 
 -- Each nogood row's reference names the clause of its path.
 abbrev pub AreRowsNamed : Problem → List Row → Frame → (ℕ → Ref) → List Form → Type 0
-AreRowsNamed q rows w names forms = (k : ℕ) → IsNogoodRow rows k → IsNamed w forms (names k) (pairs_clause q (path_at rows k))
+AreRowsNamed q rows w names forms = (k : ℕ) → IsNogoodRow rows k
+    → IsNamed w forms (names k) (pairs_clause q (path_at rows k))

@@ -2,7 +2,6 @@
 
 ghost use Rattle.std.specs.Prelude.{◌≡◌, ℕ, ◌^◌, ◌≤◌, ◌<◌, ◌++◌, [], List, length, map, OnOk, IfOk, IfSome};
 ghost use Rattle.graph_theory.specs.Graph.{size};
-ghost use Rattle.graph_theory.specs.Plain.{ArePlain};
 ghost use Rattle.log_theory.specs.LogText.{IsName, AreRefs, AreLiterals};
 ghost use Rattle.reason_theory.specs.Reasons.{not_there};
 ghost use Rattle.nogood_book.specs.Rows.{Sound, AreInRange};
@@ -18,16 +17,16 @@ ghost use Rattle.dead_paths.specs.Explaining.{IsLimited, Knowing, AreChangesPush
 
 use crate::known::fill_at;
 use crate::lines::push_at_least;
-use crate::maker::{LineMaker, RowNames};
+use crate::lookups::part;
+use crate::maker::{Basis, LineMaker, RowNames};
 use crate::needs::{Walk, count_values, need_out, uphold_row};
 use crate::pushes::{push_change, push_nogood, push_set};
-use crate::walk::{Room, Scratch, choose, fit_rows, part};
+use crate::room::{Room, Scratch, fit_rows};
+use crate::walk::choose;
 use graph_rows::Problem;
 use journals::Keeper;
 use log_theory::{Clause, Name, Ref, Refs, Step};
 use needed_values::{need_all, unmark_all};
-use nogood_book::Row;
-use pb_encoding::Encoding;
 use proof_theory::Literal;
 use propagation::{Entry, Failure, Place};
 use std::alloc::{AllocError, Global};
@@ -39,6 +38,21 @@ pub enum PathEnd {
     Failed(Failure),
     /// Each value of this vertex was refuted below the path.
     Exhausted(u16),
+}
+
+/// A dead path, as a search tells of it.
+#[derive(Clone, Copy)]
+pub struct DeadPath<'a> {
+    /// Its pairs, in their order.
+    pub path: &'a [(u16, u16)],
+    /// The changes since the domains were full, in their order.
+    pub entries: &'a [Entry],
+    /// How it ended.
+    pub end: PathEnd,
+    /// The set that was found short, where that is the end.
+    pub short: Option<Place>,
+    /// Names of the lines of the values that were refuted below the path, in their order.
+    pub refuted: &'a [Ref],
 }
 
 /// The name of a step that is given to a keeper, which gives it the next one.
@@ -107,12 +121,7 @@ fn mark_end(
 
 /// Puts references to forms that explain the chosen changes, the last one first, after lines were kept that they need.
 fn push_chosen<M: LineMaker, N: RowNames, K: Keeper>(
-    alloc: Global,
-    q: &Problem,
-    lines: &Encoding<'_>,
-    rows: &[Row],
-    names: &N,
-    numbers: &[u16],
+    basis: &Basis<'_, N>,
     chosen: &[Entry],
     at: &mut [u16],
     maker: &mut M,
@@ -120,21 +129,23 @@ fn push_chosen<M: LineMaker, N: RowNames, K: Keeper>(
     pairs: &mut Vec<(u16, u16)>,
     refs: &mut Vec<Ref>,
 ) -> Result<(), AllocError>
-    requires limited { IsLimited q.now }
-    requires sound { Sound q.now rows.now }
-    requires few { length rows.now ≤ 2 ^ 22 }
-    requires lines { lines.now ≡ q.now }
-    requires plain { ArePlain q.now }
-    requires nameable { AreNameable q.now rows.now (changes_in numbers.now chosen.now) }
-    requires long { size q.now.pattern ≤ length at.old }
+    requires limited { IsLimited basis.now.lines.now }
+    requires sound { Sound basis.now.lines.now basis.now.rows.now }
+    requires few { length basis.now.rows.now ≤ 2 ^ 22 }
+    requires nameable { AreNameable basis.now.lines.now basis.now.rows.now
+        (changes_in basis.now.numbers.now chosen.now) }
+    requires long { size basis.now.lines.now.pattern ≤ length at.old }
     requires none { refs.old.items ≡ [] }
     ensures goes { (w : Frame) (path : List (ℕ × ℕ)) → AreAt at.old path
-        → IsFrameOf q.now (K.owner keeper.old) w → Goes w (K.kept keeper.old) (K.kept keeper.new)
-        (Knowing (M.knows maker.old q.now w) (AreRowsNamed q.now rows.now w (N.names names.now)))
-        (AreChangesPushed q.now rows.now path w (N.names names.now)
-        (changes_in numbers.now chosen.now) refs.new.items (M.knows maker.new q.now w) result) }
-    ensures known { (path : List (ℕ × ℕ)) → AreAt at.old path
-        → OnOk result (AreAt at.new (known_after path (changes_in numbers.now chosen.now))) }
+        → IsFrameOf basis.now.lines.now (K.owner keeper.old) w
+        → Goes w (K.kept keeper.old) (K.kept keeper.new)
+        (Knowing (M.knows maker.old basis.now.lines.now w)
+        (AreRowsNamed basis.now.lines.now basis.now.rows.now w (N.names basis.now.names.now)))
+        (AreChangesPushed basis.now.lines.now basis.now.rows.now path w
+        (N.names basis.now.names.now) (changes_in basis.now.numbers.now chosen.now)
+        refs.new.items (M.knows maker.new basis.now.lines.now w) result) }
+    ensures known { (path : List (ℕ × ℕ)) → AreAt at.old path → OnOk result
+        (AreAt at.new (known_after path (changes_in basis.now.numbers.now chosen.now))) }
     ensures fits { OnOk result (AreRefs refs.new.items) }
     ensures owner { K.owner keeper.new ≡ K.owner keeper.old }
     ensures notes { K.notes keeper.new ≡ K.notes keeper.old }
@@ -143,84 +154,64 @@ fn push_chosen<M: LineMaker, N: RowNames, K: Keeper>(
     let mut left = chosen.len();
     while left > 0 {
         left -= 1;
-        push_change(
-            alloc,
-            q,
-            lines,
-            rows,
-            names,
-            numbers,
-            &chosen[left],
-            at,
-            maker,
-            keeper,
-            pairs,
-            refs,
-        )?;
+        push_change(basis, &chosen[left], at, maker, keeper, pairs, refs)?;
     }
     Ok(())
 }
 
 /// Puts references to the forms that an end comes to.
 fn push_end<M: LineMaker, N: RowNames, K: Keeper>(
-    alloc: Global,
-    q: &Problem,
-    lines: &Encoding<'_>,
-    rows: &[Row],
-    names: &N,
-    numbers: &[u16],
-    short: Option<Place>,
-    path: &[(u16, u16)],
-    end: PathEnd,
-    refuted: &[Ref],
+    basis: &Basis<'_, N>,
+    dead: &DeadPath<'_>,
     at: &[u16],
     maker: &mut M,
     keeper: &mut K,
     pairs: &mut Vec<(u16, u16)>,
     refs: &mut Vec<Ref>,
 ) -> Result<(), AllocError>
-    requires limited { IsLimited q.now }
-    requires sound { Sound q.now rows.now }
-    requires few { length rows.now ≤ 2 ^ 22 }
-    requires lines { lines.now ≡ q.now }
-    requires end { IsEndIn q.now rows.now (end_by end (set_at numbers.now short) []) }
-    requires refuted { AreRefs refuted.now }
+    requires limited { IsLimited basis.now.lines.now }
+    requires sound { Sound basis.now.lines.now basis.now.rows.now }
+    requires few { length basis.now.rows.now ≤ 2 ^ 22 }
+    requires end { IsEndIn basis.now.lines.now basis.now.rows.now
+        (end_by dead.now.end (set_at basis.now.numbers.now dead.now.short) []) }
+    requires refuted { AreRefs dead.now.refuted.now }
     requires fits { AreRefs refs.old.items }
     ensures goes { (w : Frame) (values : List ℕ) (known : List (ℕ × ℕ)) → AreAt at.now known
-        → IsFrameOf q.now (K.owner keeper.old) w → Goes w (K.kept keeper.old) (K.kept keeper.new)
-        (Knowing (M.knows maker.old q.now w)
-        (IsBegun q.now rows.now w (N.names names.now) path.now
-        (end_by end (set_at numbers.now short) values) refuted.now))
-        (IsEndPushed q.now rows.now path.now known (end_by end (set_at numbers.now short) values) w
-        refs.old.items refs.new.items (M.knows maker.new q.now w) result) }
+        → IsFrameOf basis.now.lines.now (K.owner keeper.old) w
+        → Goes w (K.kept keeper.old) (K.kept keeper.new)
+        (Knowing (M.knows maker.old basis.now.lines.now w)
+        (IsBegun basis.now.lines.now basis.now.rows.now w (N.names basis.now.names.now)
+        dead.now.path.now
+        (end_by dead.now.end (set_at basis.now.numbers.now dead.now.short) values)
+        dead.now.refuted.now))
+        (IsEndPushed basis.now.lines.now basis.now.rows.now dead.now.path.now known
+        (end_by dead.now.end (set_at basis.now.numbers.now dead.now.short) values) w
+        refs.old.items refs.new.items (M.knows maker.new basis.now.lines.now w) result) }
     ensures fits { OnOk result (AreRefs refs.new.items) }
     ensures owner { K.owner keeper.new ≡ K.owner keeper.old }
     ensures notes { K.notes keeper.new ≡ K.notes keeper.old }
     ensures spare { K.spare keeper.new ≡ K.spare keeper.old }
 {
-    match end {
+    match dead.end {
         PathEnd::Failed(failure) => match failure {
-            Failure::Empty(p) => push_at_least(lines, &[p], refs),
-            Failure::Whole(name) => {
-                push_nogood(q, lines, rows, names, name, None, at, pairs, refs)
-            }
-            Failure::Short(_) => match short {
+            Failure::Empty(p) => push_at_least(basis.lines, &[p], refs),
+            Failure::Whole(name) => push_nogood(basis, name, None, at, pairs, refs),
+            Failure::Short(_) => match dead.short {
                 Some(place) => push_set(
-                    alloc,
-                    q,
-                    lines,
+                    basis.alloc,
+                    basis.lines,
                     maker,
                     keeper,
-                    part(numbers, place.start, place.middle),
-                    part(numbers, place.middle, place.end),
+                    part(basis.numbers, place.start, place.middle),
+                    part(basis.numbers, place.middle, place.end),
                     refs,
                 ),
                 None => Ok(()),
             },
         },
         PathEnd::Exhausted(p) => {
-            refs.extend_from_slice(refuted)?;
-            push_at_least(lines, &[p], refs)
+            refs.extend_from_slice(dead.refuted)?;
+            push_at_least(basis.lines, &[p], refs)
         }
     }
 }
@@ -262,7 +253,6 @@ fn choose_in(
     room: &mut Room,
     chosen: &mut Vec<Entry>,
 ) -> Result<(), AllocError>
-    requires plain { ArePlain walk.now.q.now }
     requires sound { Sound walk.now.q.now walk.now.rows.now }
     requires in_problem { AreInProblem walk.now.q.now (changes_of walk.now.numbers.now
         entries.now) }
@@ -294,7 +284,6 @@ fn choose_for(
     room: &mut Room,
     chosen: &mut Vec<Entry>,
 ) -> Result<(), AllocError>
-    requires plain { ArePlain walk.now.q.now }
     requires sound { Sound walk.now.q.now walk.now.rows.now }
     requires in_problem { AreInProblem walk.now.q.now (changes_of walk.now.numbers.now
         entries.now) }
@@ -314,95 +303,99 @@ fn choose_for(
     choose_in(walk, entries, end, marked, needed, room, chosen)
 }
 
-/// Puts references to the forms that explain the chosen changes, and then to those that the end comes to.
+/// Puts references to the forms that explain the changes that were chosen, and then to those that the end comes to. Both the changes and the
+/// path's values at their vertices stand in the scratch.
 fn gather<M: LineMaker, N: RowNames, K: Keeper>(
-    alloc: Global,
-    q: &Problem,
-    lines: &Encoding<'_>,
-    rows: &[Row],
-    names: &N,
-    numbers: &[u16],
-    short: Option<Place>,
-    chosen: &[Entry],
-    path: &[(u16, u16)],
-    end: PathEnd,
-    refuted: &[Ref],
-    at: &mut [u16],
+    basis: &Basis<'_, N>,
+    dead: &DeadPath<'_>,
+    scratch: &mut Scratch,
     maker: &mut M,
     keeper: &mut K,
-    pairs: &mut Vec<(u16, u16)>,
     refs: &mut Vec<Ref>,
 ) -> Result<(), AllocError>
-    requires limited { IsLimited q.now }
-    requires sound { Sound q.now rows.now }
-    requires few { length rows.now ≤ 2 ^ 22 }
-    requires lines { lines.now ≡ q.now }
-    requires plain { ArePlain q.now }
-    requires long { size q.now.pattern ≤ length at.old }
-    requires known { AreAt at.old path.now }
-    requires nameable { AreNameable q.now rows.now (changes_in numbers.now chosen.now) }
-    requires end { IsEndIn q.now rows.now (end_by end (set_at numbers.now short) []) }
-    requires refuted { AreRefs refuted.now }
+    requires limited { IsLimited basis.now.lines.now }
+    requires sound { Sound basis.now.lines.now basis.now.rows.now }
+    requires few { length basis.now.rows.now ≤ 2 ^ 22 }
+    requires long { size basis.now.lines.now.pattern ≤ length scratch.old.at.items }
+    requires known { AreAt scratch.old.at.items dead.now.path.now }
+    requires nameable { AreNameable basis.now.lines.now basis.now.rows.now
+        (changes_in basis.now.numbers.now scratch.old.chosen.items) }
+    requires end { IsEndIn basis.now.lines.now basis.now.rows.now
+        (end_by dead.now.end (set_at basis.now.numbers.now dead.now.short) []) }
+    requires refuted { AreRefs dead.now.refuted.now }
     requires none { refs.old.items ≡ [] }
-    ensures goes { (w : Frame) (values : List ℕ) → IsFrameOf q.now (K.owner keeper.old) w
+    ensures goes { (w : Frame) (values : List ℕ)
+        → IsFrameOf basis.now.lines.now (K.owner keeper.old) w
         → Goes w (K.kept keeper.old) (K.kept keeper.new)
-        (Knowing (M.knows maker.old q.now w)
-        (IsBegun q.now rows.now w (N.names names.now) path.now
-        (end_by end (set_at numbers.now short) values) refuted.now))
-        (AreGathered q.now rows.now w path.now (changes_in numbers.now chosen.now)
-        (end_by end (set_at numbers.now short) values) refs.new.items
-        (M.knows maker.new q.now w) result) }
+        (Knowing (M.knows maker.old basis.now.lines.now w)
+        (IsBegun basis.now.lines.now basis.now.rows.now w (N.names basis.now.names.now)
+        dead.now.path.now
+        (end_by dead.now.end (set_at basis.now.numbers.now dead.now.short) values)
+        dead.now.refuted.now))
+        (AreGathered basis.now.lines.now basis.now.rows.now w dead.now.path.now
+        (changes_in basis.now.numbers.now scratch.old.chosen.items)
+        (end_by dead.now.end (set_at basis.now.numbers.now dead.now.short) values)
+        refs.new.items (M.knows maker.new basis.now.lines.now w) result) }
     ensures fits { OnOk result (AreRefs refs.new.items) }
     ensures owner { K.owner keeper.new ≡ K.owner keeper.old }
     ensures notes { K.notes keeper.new ≡ K.notes keeper.old }
     ensures spare { K.spare keeper.new ≡ K.spare keeper.old }
 {
+    let chosen = scratch.chosen.as_slice();
+    let at = scratch.at.as_mut_slice();
     push_chosen(
-        alloc, q, lines, rows, names, numbers, chosen, at, maker, keeper, pairs, refs,
+        basis,
+        chosen,
+        at,
+        maker,
+        keeper,
+        &mut scratch.room.pairs,
+        refs,
     )?;
     push_end(
-        alloc, q, lines, rows, names, numbers, short, path, end, refuted, at, maker, keeper, pairs,
+        basis,
+        dead,
+        at,
+        maker,
+        keeper,
+        &mut scratch.room.pairs,
         refs,
     )
 }
 
 /// Keeps the line of a dead path, the clause that not all pairs of the path hold, and before it those lines that it needs and that are not
-/// there yet. The changes are those since the domains were full, the set that was found short is that of the end, and the references are
-/// those of the values that were refuted below the path. The answer is the line's name, or none where lines are not kept. Cost: one
-/// step for each change, and for each chosen one its lines.
+/// there yet. The answer is the line's name, or none where lines are not kept. Cost: one step for each change, and for each chosen one its
+/// lines.
 pub fn explain<M: LineMaker, N: RowNames, K: Keeper>(
-    alloc: Global,
-    q: &Problem,
-    lines: &Encoding<'_>,
-    rows: &[Row],
-    names: &N,
-    entries: &[Entry],
-    numbers: &[u16],
-    short: Option<Place>,
-    path: &[(u16, u16)],
-    end: PathEnd,
-    refuted: &[Ref],
+    basis: &Basis<'_, N>,
+    dead: &DeadPath<'_>,
     maker: &mut M,
     keeper: &mut K,
     scratch: &mut Scratch,
 ) -> Result<Option<Name>, AllocError>
-    requires sound { Sound q.now rows.now }
-    requires few { length rows.now ≤ 2 ^ 22 }
-    requires lines { lines.now ≡ q.now }
-    requires plain { ArePlain q.now }
-    requires in_problem { AreInProblem q.now (changes_of numbers.now entries.now) }
-    requires path { AreInRange q.now path.now }
-    requires end { IsEndIn q.now rows.now (end_by end (set_at numbers.now short) []) }
-    requires refuted { AreRefs refuted.now }
-    ensures goes { (w : Frame) (values : List ℕ) → IsFrameOf q.now (K.owner keeper.old) w
-        → Dies q.now rows.now path.now (changes_of numbers.now entries.now)
-        (end_by end (set_at numbers.now short) values)
-        → AreGuessed path.now (changes_of numbers.now entries.now)
+    requires sound { Sound basis.now.lines.now basis.now.rows.now }
+    requires few { length basis.now.rows.now ≤ 2 ^ 22 }
+    requires in_problem { AreInProblem basis.now.lines.now
+        (changes_of basis.now.numbers.now dead.now.entries.now) }
+    requires path { AreInRange basis.now.lines.now dead.now.path.now }
+    requires end { IsEndIn basis.now.lines.now basis.now.rows.now
+        (end_by dead.now.end (set_at basis.now.numbers.now dead.now.short) []) }
+    requires refuted { AreRefs dead.now.refuted.now }
+    ensures goes { (w : Frame) (values : List ℕ)
+        → IsFrameOf basis.now.lines.now (K.owner keeper.old) w
+        → Dies basis.now.lines.now basis.now.rows.now dead.now.path.now
+        (changes_of basis.now.numbers.now dead.now.entries.now)
+        (end_by dead.now.end (set_at basis.now.numbers.now dead.now.short) values)
+        → AreGuessed dead.now.path.now
+        (changes_of basis.now.numbers.now dead.now.entries.now)
         → Goes w (K.kept keeper.old) (K.kept keeper.new)
-        (Knowing (M.knows maker.old q.now w)
-        (IsBegun q.now rows.now w (N.names names.now) path.now
-        (end_by end (set_at numbers.now short) values) refuted.now))
-        (IsDeadName q.now path.now w (M.knows maker.new q.now w) result) }
+        (Knowing (M.knows maker.old basis.now.lines.now w)
+        (IsBegun basis.now.lines.now basis.now.rows.now w (N.names basis.now.names.now)
+        dead.now.path.now
+        (end_by dead.now.end (set_at basis.now.numbers.now dead.now.short) values)
+        dead.now.refuted.now))
+        (IsDeadName basis.now.lines.now dead.now.path.now w
+        (M.knows maker.new basis.now.lines.now w) result) }
     ensures name { IfOk result (λ o. IfSome o IsName) }
     ensures last { IfOk result (λ o. IfSome o (IsLastOf (K.kept keeper.new))) }
     ensures owner { K.owner keeper.new ≡ K.owner keeper.old }
@@ -412,44 +405,28 @@ pub fn explain<M: LineMaker, N: RowNames, K: Keeper>(
     if !keeper.is_on() {
         return Ok(None);
     }
+    let q = basis.lines.problem();
     let size = size_of(q);
-    fill_at(&mut scratch.at, size, path)?;
+    fill_at(&mut scratch.at, size, dead.path)?;
     let walk = Walk {
-        alloc,
+        alloc: basis.alloc,
         q,
-        rows,
-        numbers,
+        rows: basis.rows,
+        numbers: basis.numbers,
         at: &scratch.at,
     };
     choose_for(
         &walk,
-        entries,
-        (end, short),
+        dead.entries,
+        (dead.end, dead.short),
         &mut scratch.marked,
         &mut scratch.needed,
         &mut scratch.room,
         &mut scratch.chosen,
     )?;
-    let mut refs = Vec::new(alloc);
-    gather(
-        alloc,
-        q,
-        lines,
-        rows,
-        names,
-        numbers,
-        short,
-        &scratch.chosen,
-        path,
-        end,
-        refuted,
-        &mut scratch.at,
-        maker,
-        keeper,
-        &mut scratch.room.pairs,
-        &mut refs,
-    )?;
-    let lits = literals_of(alloc, q, path)?;
+    let mut refs = Vec::new(basis.alloc);
+    gather(basis, dead, scratch, maker, keeper, &mut refs)?;
+    let lits = literals_of(basis.alloc, q, dead.path)?;
     let name = keeper.keep(Step::U {
         name: NO_NAME,
         lits,

@@ -11,13 +11,15 @@
 mod dead_line;
 mod known;
 mod lines;
+mod lookups;
 mod maker;
 mod needs;
 mod pushes;
+mod room;
 mod takes;
 mod walk;
 
-pub use dead_line::{PathEnd, explain};
+pub use dead_line::{DeadPath, PathEnd, explain};
 pub use lines::keep_set;
-pub use maker::{LineMaker, RowNames};
-pub use walk::Scratch;
+pub use maker::{Basis, LineMaker, RowNames};
+pub use room::Scratch;

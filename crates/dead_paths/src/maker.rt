@@ -3,7 +3,6 @@
 ghost use Rattle.std.specs.Prelude.{◌≡◌, ℕ, ◌^◌, ◌<◌, ◌++◌, List, length, IfOk};
 ghost use Rattle.graph_theory.specs.Graph.{size};
 ghost use Rattle.graph_theory.specs.Embedding.{Problem as TheProblem};
-ghost use Rattle.graph_theory.specs.Plain.{ArePlain};
 ghost use Rattle.proof_theory.specs.Forms.{Form};
 ghost use Rattle.log_theory.specs.LogText.{IsName, IsRef};
 ghost use Rattle.kept_lines.specs.Frames.{Frame, IsFrameOf, Goes, Lasts};
@@ -12,9 +11,9 @@ ghost use Rattle.dead_paths.specs.Lines.{AreVertices, AreValues};
 ghost use Rattle.dead_paths.specs.Making.{GivesFirst, GivesRow, GivesSet};
 ghost use Rattle.dead_paths.specs.Explaining.{IsLimited};
 
-use graph_rows::Problem;
 use journals::Keeper;
 use log_theory::{Name, Ref};
+use nogood_book::Row;
 use pb_encoding::Encoding;
 use std::alloc::{AllocError, Global};
 
@@ -33,16 +32,15 @@ pub trait LineMaker: Drop {
     fn first<K: Keeper>(
         &mut self,
         alloc: Global,
-        q: &Problem,
         lines: &Encoding<'_>,
         keeper: &mut K,
         p: u16,
     ) -> Result<Ref, AllocError>
-        requires lines { lines.now ≡ q.now }
-        requires p_in { p < size q.now.pattern }
-        ensures goes { (w : Frame) → IsFrameOf q.now (K.owner keeper.old) w
+        requires p_in { p < size lines.now.pattern }
+        ensures goes { (w : Frame) → IsFrameOf lines.now (K.owner keeper.old) w
             → Goes w (K.kept keeper.old) (K.kept keeper.new)
-            (knows self.old q.now w) (GivesFirst q.now w p result (knows self.new q.now w)) }
+            (knows self.old lines.now w) (GivesFirst lines.now w p result
+            (knows self.new lines.now w)) }
         ensures fits { IfOk result IsRef }
         ensures owner { K.owner keeper.new ≡ K.owner keeper.old }
         ensures notes { K.notes keeper.new ≡ K.notes keeper.old }
@@ -52,22 +50,20 @@ pub trait LineMaker: Drop {
     fn row<K: Keeper>(
         &mut self,
         alloc: Global,
-        q: &Problem,
         lines: &Encoding<'_>,
         keeper: &mut K,
         p: u16,
         t: u16,
         r: u16,
     ) -> Result<Ref, AllocError>
-        requires lines { lines.now ≡ q.now }
-        requires plain { ArePlain q.now }
-        requires p_in { p < size q.now.pattern }
-        requires t_in { t < size q.now.target }
-        requires r_in { r < size q.now.pattern }
+        requires p_in { p < size lines.now.pattern }
+        requires t_in { t < size lines.now.target }
+        requires r_in { r < size lines.now.pattern }
         requires apart { p ≡ r → ⊥ }
-        ensures goes { (w : Frame) → IsFrameOf q.now (K.owner keeper.old) w
+        ensures goes { (w : Frame) → IsFrameOf lines.now (K.owner keeper.old) w
             → Goes w (K.kept keeper.old) (K.kept keeper.new)
-            (knows self.old q.now w) (GivesRow q.now w p t r result (knows self.new q.now w)) }
+            (knows self.old lines.now w) (GivesRow lines.now w p t r result
+            (knows self.new lines.now w)) }
         ensures fits { IfOk result IsRef }
         ensures owner { K.owner keeper.new ≡ K.owner keeper.old }
         ensures notes { K.notes keeper.new ≡ K.notes keeper.old }
@@ -77,21 +73,19 @@ pub trait LineMaker: Drop {
     fn set<K: Keeper>(
         &mut self,
         alloc: Global,
-        q: &Problem,
         lines: &Encoding<'_>,
         keeper: &mut K,
         vertices: &[u16],
         values: &[u16],
     ) -> Result<Name, AllocError>
-        requires limited { IsLimited q.now }
-        requires lines { lines.now ≡ q.now }
+        requires limited { IsLimited lines.now }
         requires some { 0 < length vertices.now }
-        requires vertices { AreVertices q.now vertices.now }
-        requires values { AreValues q.now values.now }
-        ensures goes { (w : Frame) → IsFrameOf q.now (K.owner keeper.old) w
+        requires vertices { AreVertices lines.now vertices.now }
+        requires values { AreValues lines.now values.now }
+        ensures goes { (w : Frame) → IsFrameOf lines.now (K.owner keeper.old) w
             → Goes w (K.kept keeper.old) (K.kept keeper.new)
-            (knows self.old q.now w)
-            (GivesSet q.now w vertices.now values.now result (knows self.new q.now w)) }
+            (knows self.old lines.now w)
+            (GivesSet lines.now w vertices.now values.now result (knows self.new lines.now w)) }
         ensures fits { IfOk result IsName }
         ensures owner { K.owner keeper.new ≡ K.owner keeper.old }
         ensures notes { K.notes keeper.new ≡ K.notes keeper.old }
@@ -118,4 +112,15 @@ pub trait RowNames {
         requires { k < 2 ^ 22 }
         ensures name { result ≡ names self.now k }
         ensures fits { IsRef result };
+}
+
+/// What the lines of dead paths are made from: the encoding, the rows of a book with the names of their clauses, and the numbers of the sets
+/// that were counted together.
+#[derive(Drop)]
+pub struct Basis<'a, N: RowNames> {
+    pub alloc: Global,
+    pub lines: &'a Encoding<'a>,
+    pub rows: &'a [Row],
+    pub names: &'a N,
+    pub numbers: &'a [u16],
 }

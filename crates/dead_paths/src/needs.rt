@@ -3,7 +3,7 @@
 ghost use Rattle.std.specs.Prelude.{◌≡◌, ℕ, ◌*◌, ◌<◌, ◌≤◌, true, false, List, length, OnOk};
 ghost use Rattle.graph_theory.specs.Graph.{size};
 ghost use Rattle.log_theory.specs.Lookups.{is_among};
-ghost use Rattle.domain_bits.specs.BitRows.{has, words_for};
+ghost use Rattle.bit_rows.specs.BitRows.{has, words_for};
 ghost use Rattle.nogood_watch.specs.Nogoods.{literal};
 ghost use Rattle.nogood_book.specs.Rows.{Sound, path_at};
 ghost use Rattle.nogood_book.specs.Places.{IsNogoodRow};

@@ -2,7 +2,6 @@
 
 ghost use Rattle.std.specs.Prelude.{◌≡◌, ℕ, ◌^◌, ◌≤◌, ◌<◌, List, Some, length, OnOk};
 ghost use Rattle.graph_theory.specs.Graph.{size};
-ghost use Rattle.graph_theory.specs.Plain.{ArePlain};
 ghost use Rattle.log_theory.specs.LogText.{AreRefs};
 ghost use Rattle.nogood_book.specs.Rows.{Sound};
 ghost use Rattle.nogood_book.specs.Places.{IsNogoodRow};
@@ -15,12 +14,11 @@ ghost use Rattle.dead_paths.specs.Choosing.{AreAt, IsOfRow};
 ghost use Rattle.dead_paths.specs.Explaining.{IsLimited, Knowing, AddsNogood, IsSetPushed, IsChangePushed};
 
 use crate::known::{push_bearing_all, push_decided};
-use crate::maker::{LineMaker, RowNames};
-use crate::walk::part;
-use graph_rows::Problem;
+use crate::lookups::part;
+use crate::maker::{Basis, LineMaker, RowNames};
 use journals::Keeper;
 use log_theory::Ref;
-use nogood_book::{Row, push_path};
+use nogood_book::push_path;
 use pb_encoding::Encoding;
 use propagation::{Cause, Entry, What};
 use std::alloc::{AllocError, Global};
@@ -28,38 +26,33 @@ use std::alloc::{AllocError, Global};
 /// Puts references to the lines that a nogood row needs: those by which its vertices go somewhere, but where a pair is known to hold or the
 /// vertex is left out, and its own.
 pub(crate) fn push_nogood<N: RowNames>(
-    q: &Problem,
-    lines: &Encoding<'_>,
-    rows: &[Row],
-    names: &N,
+    basis: &Basis<'_, N>,
     name: u32,
     but: Option<u16>,
     at: &[u16],
     pairs: &mut Vec<(u16, u16)>,
     refs: &mut Vec<Ref>,
 ) -> Result<(), AllocError>
-    requires limited { IsLimited q.now }
-    requires sound { Sound q.now rows.now }
-    requires few { length rows.now ≤ 2 ^ 22 }
-    requires lines { lines.now ≡ q.now }
-    requires nogood { IsNogoodRow rows.now name }
+    requires limited { IsLimited basis.now.lines.now }
+    requires sound { Sound basis.now.lines.now basis.now.rows.now }
+    requires few { length basis.now.rows.now ≤ 2 ^ 22 }
+    requires nogood { IsNogoodRow basis.now.rows.now name }
     requires fits { AreRefs refs.old.items }
     ensures pushed { (known : List (ℕ × ℕ)) → AreAt at.now known
-        → OnOk result (AddsNogood q.now rows.now (N.names names.now) known but name refs.old.items
-        refs.new.items) }
+        → OnOk result (AddsNogood basis.now.lines.now basis.now.rows.now
+        (N.names basis.now.names.now) known but name refs.old.items refs.new.items) }
     ensures fits { OnOk result (AreRefs refs.new.items) }
 {
     pairs.clear();
-    push_path(q, rows, name, pairs)?;
-    push_bearing_all(lines, at, but, pairs, refs)?;
-    refs.push(names.name(name))?;
+    push_path(basis.lines.problem(), basis.rows, name, pairs)?;
+    push_bearing_all(basis.lines, at, but, pairs, refs)?;
+    refs.push(basis.names.name(name))?;
     Ok(())
 }
 
 /// Puts the reference to the line of a set, if it has a vertex.
 pub(crate) fn push_set<M: LineMaker, K: Keeper>(
     alloc: Global,
-    q: &Problem,
     lines: &Encoding<'_>,
     maker: &mut M,
     keeper: &mut K,
@@ -67,15 +60,14 @@ pub(crate) fn push_set<M: LineMaker, K: Keeper>(
     values: &[u16],
     refs: &mut Vec<Ref>,
 ) -> Result<(), AllocError>
-    requires limited { IsLimited q.now }
-    requires lines { lines.now ≡ q.now }
-    requires vertices { AreVertices q.now vertices.now }
-    requires values { AreValues q.now values.now }
+    requires limited { IsLimited lines.now }
+    requires vertices { AreVertices lines.now vertices.now }
+    requires values { AreValues lines.now values.now }
     requires fits { AreRefs refs.old.items }
-    ensures goes { (w : Frame) → IsFrameOf q.now (K.owner keeper.old) w
-        → Goes w (K.kept keeper.old) (K.kept keeper.new) (M.knows maker.old q.now w)
-        (IsSetPushed q.now vertices.now values.now w refs.old.items refs.new.items
-        (M.knows maker.new q.now w) result) }
+    ensures goes { (w : Frame) → IsFrameOf lines.now (K.owner keeper.old) w
+        → Goes w (K.kept keeper.old) (K.kept keeper.new) (M.knows maker.old lines.now w)
+        (IsSetPushed lines.now vertices.now values.now w refs.old.items refs.new.items
+        (M.knows maker.new lines.now w) result) }
     ensures fits { OnOk result (AreRefs refs.new.items) }
     ensures owner { K.owner keeper.new ≡ K.owner keeper.old }
     ensures notes { K.notes keeper.new ≡ K.notes keeper.old }
@@ -84,19 +76,14 @@ pub(crate) fn push_set<M: LineMaker, K: Keeper>(
     if vertices.is_empty() {
         return Ok(());
     }
-    let name = maker.set(alloc, q, lines, keeper, vertices, values)?;
+    let name = maker.set(alloc, lines, keeper, vertices, values)?;
     refs.push(Ref::Made(name))?;
     Ok(())
 }
 
 /// Puts references to forms that explain a change, after lines were kept that it needs.
 pub(crate) fn push_change<M: LineMaker, N: RowNames, K: Keeper>(
-    alloc: Global,
-    q: &Problem,
-    lines: &Encoding<'_>,
-    rows: &[Row],
-    names: &N,
-    numbers: &[u16],
+    basis: &Basis<'_, N>,
     entry: &Entry,
     at: &mut [u16],
     maker: &mut M,
@@ -104,22 +91,24 @@ pub(crate) fn push_change<M: LineMaker, N: RowNames, K: Keeper>(
     pairs: &mut Vec<(u16, u16)>,
     refs: &mut Vec<Ref>,
 ) -> Result<(), AllocError>
-    requires limited { IsLimited q.now }
-    requires sound { Sound q.now rows.now }
-    requires few { length rows.now ≤ 2 ^ 22 }
-    requires lines { lines.now ≡ q.now }
-    requires plain { ArePlain q.now }
-    requires in_problem { IsInProblem q.now (change_of numbers.now entry.now) }
-    requires of_row { IsOfRow rows.now (change_of numbers.now entry.now) }
-    requires long { size q.now.pattern ≤ length at.old }
+    requires limited { IsLimited basis.now.lines.now }
+    requires sound { Sound basis.now.lines.now basis.now.rows.now }
+    requires few { length basis.now.rows.now ≤ 2 ^ 22 }
+    requires in_problem { IsInProblem basis.now.lines.now
+        (change_of basis.now.numbers.now entry.now) }
+    requires of_row { IsOfRow basis.now.rows.now (change_of basis.now.numbers.now entry.now) }
+    requires long { size basis.now.lines.now.pattern ≤ length at.old }
     requires fits { AreRefs refs.old.items }
     ensures goes { (w : Frame) (known : List (ℕ × ℕ)) → AreAt at.old known
-        → IsFrameOf q.now (K.owner keeper.old) w → Goes w (K.kept keeper.old) (K.kept keeper.new)
-        (Knowing (M.knows maker.old q.now w) (AreRowsNamed q.now rows.now w (N.names names.now)))
-        (IsChangePushed q.now rows.now known (change_of numbers.now entry.now) w refs.old.items
-        refs.new.items (M.knows maker.new q.now w) result) }
-    ensures shown { (known : List (ℕ × ℕ)) → AreAt at.old known
-        → OnOk result (AreAt at.new (shown_of (change_of numbers.now entry.now) known)) }
+        → IsFrameOf basis.now.lines.now (K.owner keeper.old) w
+        → Goes w (K.kept keeper.old) (K.kept keeper.new)
+        (Knowing (M.knows maker.old basis.now.lines.now w)
+        (AreRowsNamed basis.now.lines.now basis.now.rows.now w (N.names basis.now.names.now)))
+        (IsChangePushed basis.now.lines.now basis.now.rows.now known
+        (change_of basis.now.numbers.now entry.now) w refs.old.items refs.new.items
+        (M.knows maker.new basis.now.lines.now w) result) }
+    ensures shown { (known : List (ℕ × ℕ)) → AreAt at.old known → OnOk result
+        (AreAt at.new (shown_of (change_of basis.now.numbers.now entry.now) known)) }
     ensures fits { OnOk result (AreRefs refs.new.items) }
     ensures owner { K.owner keeper.new ≡ K.owner keeper.old }
     ensures notes { K.notes keeper.new ≡ K.notes keeper.old }
@@ -128,32 +117,29 @@ pub(crate) fn push_change<M: LineMaker, N: RowNames, K: Keeper>(
     match entry.what {
         What::One(r, cause) => match cause {
             Cause::First => {
-                let line = maker.first(alloc, q, lines, keeper, r)?;
+                let line = maker.first(basis.alloc, basis.lines, keeper, r)?;
                 refs.push(line)?;
                 Ok(())
             }
             Cause::Guess(_) => {
-                refs.push(Ref::Line(lines.at_most(r)))?;
+                refs.push(Ref::Line(basis.lines.at_most(r)))?;
                 Ok(())
             }
             Cause::Vertex(p, t) => {
-                push_decided(lines, at, p, t, refs)?;
-                let line = maker.row(alloc, q, lines, keeper, p, t, r)?;
+                push_decided(basis.lines, at, p, t, refs)?;
+                let line = maker.row(basis.alloc, basis.lines, keeper, p, t, r)?;
                 refs.push(line)?;
                 Ok(())
             }
-            Cause::Nogood(name) => {
-                push_nogood(q, lines, rows, names, name, Some(r), at, pairs, refs)
-            }
+            Cause::Nogood(name) => push_nogood(basis, name, Some(r), at, pairs, refs),
         },
         What::Others(place) => push_set(
-            alloc,
-            q,
-            lines,
+            basis.alloc,
+            basis.lines,
             maker,
             keeper,
-            part(numbers, place.start, place.middle),
-            part(numbers, place.middle, place.end),
+            part(basis.numbers, place.start, place.middle),
+            part(basis.numbers, place.middle, place.end),
             refs,
         ),
     }

@@ -2,9 +2,8 @@
 
 ghost use Rattle.std.specs.Prelude.{◌≡◌, ℕ, ◌<◌, ◌⊎◌, ◌||◌, Bool, true, false, List, length, OnOk, IfOk};
 ghost use Rattle.graph_theory.specs.Graph.{size};
-ghost use Rattle.graph_theory.specs.Plain.{ArePlain};
 ghost use Rattle.log_theory.specs.Lookups.{is_among};
-ghost use Rattle.domain_bits.specs.BitRows.{has, words_for};
+ghost use Rattle.bit_rows.specs.BitRows.{has, words_for};
 ghost use Rattle.nogood_book.specs.declared.row.Row.{Row as TheRow};
 ghost use Rattle.nogood_book.specs.Rows.{Sound};
 ghost use Rattle.nogood_book.specs.Places.{IsNogoodRow};
@@ -14,9 +13,10 @@ ghost use Rattle.needed_values.specs.Needed.{needs, AreRows, StaysNeeded};
 ghost use Rattle.dead_theory.specs.Changes.{IsInProblem};
 ghost use Rattle.dead_paths.specs.Choosing.{values_of, AreAt, IsStep, AreLeft, AreInside};
 
+use crate::lookups::{holds, is_nogood_row, part};
 use crate::needs::{Walk, count_values, fill_without, need_each, uphold, uphold_row};
-use crate::walk::{Room, holds, is_nogood_row, part};
-use domain_bits::and_into;
+use crate::room::Room;
+use bit_rows::and_into;
 use graph_rows::Problem;
 use needed_values::{copy_needed, is_any_needed, keep_consistent, put_needed, unmark};
 use propagation::{Cause, Entry, What};
@@ -46,45 +46,53 @@ fn by_guess(q: &Problem, r: u16, t: u16, marked: &mut [bool], needed: &[u64]) ->
     true
 }
 
-/// The vertex of the pair takes what is not consistent with its value.
+/// Two vertices, the first of them at a value.
+#[derive(Clone, Copy)]
+struct Beside {
+    p: u16,
+    t: u16,
+    r: u16,
+}
+
+/// A vertex at its value takes from another what is not consistent with this.
 fn by_vertex(
     walk: &Walk<'_>,
-    x: (u16, u16),
-    r: u16,
+    beside: Beside,
     marked: &mut [bool],
     needed: &mut [u64],
     spare: &mut [u64],
     other: &mut [u64],
     counts: &mut [u16],
 ) -> Result<bool, AllocError>
-    requires plain { ArePlain walk.now.q.now }
     requires held { AreRows (size walk.now.q.now.target) marked.old needed.old }
     requires size { length marked.old ≡ size walk.now.q.now.pattern }
-    requires x_in { x.0 < size walk.now.q.now.pattern }
-    requires value { x.1 < size walk.now.q.now.target }
-    requires r_in { r < size walk.now.q.now.pattern }
-    requires apart { x.0 ≡ r → ⊥ }
+    requires p_in { beside.p < size walk.now.q.now.pattern }
+    requires t_in { beside.t < size walk.now.q.now.target }
+    requires r_in { beside.r < size walk.now.q.now.pattern }
+    requires apart { beside.p ≡ beside.r → ⊥ }
     requires spare { length spare.old ≡ words_for (size walk.now.q.now.target) }
     requires other { length other.old ≡ words_for (size walk.now.q.now.target) }
     requires counts { length counts.old ≡ size walk.now.q.now.target }
     ensures { (path : List (ℕ × ℕ)) (from : ℕ) → AreAt walk.now.at.now path
         → IfOk result (λ b. IsStep b walk.now.q.now walk.now.rows.now path
-        (LeftOne r (cause.Vertex x.0 x.1) from)
+        (LeftOne beside.r (cause.Vertex beside.p beside.t) from)
         (values_of (size walk.now.q.now.target) marked.old needed.old)
         (values_of (size walk.now.q.now.target) marked.new needed.new)) }
 {
     let values = count_values(walk.q);
-    if !is_any_needed(marked, needed, values, r) {
+    if !is_any_needed(marked, needed, values, beside.r) {
         return Ok(false);
     }
-    copy_needed(marked, needed, values, r, other);
+    copy_needed(marked, needed, values, beside.r, other);
     spare.copy_from_slice(other);
-    let all = keep_consistent(walk.alloc, walk.q, x.0, x.1, r, spare, counts)?;
+    let all = keep_consistent(
+        walk.alloc, walk.q, beside.p, beside.t, beside.r, spare, counts,
+    )?;
     if all && is_same(other, spare) {
         return Ok(false);
     }
-    put_needed(marked, needed, values, r, spare);
-    uphold(walk, None, x, marked, needed, other);
+    put_needed(marked, needed, values, beside.r, spare);
+    uphold(walk, None, (beside.p, beside.t), marked, needed, other);
     Ok(true)
 }
 
@@ -159,74 +167,79 @@ fn take_row(
     true
 }
 
+/// Vertices that were counted together, and the row of all values but theirs.
+#[derive(Clone, Copy)]
+struct Apart<'a> {
+    q: &'a Problem,
+    vertices: &'a [u16],
+    row: &'a [u64],
+}
+
 /// The same, unless the vertex is one of these.
 fn take_other(
-    q: &Problem,
-    vertices: &[u16],
+    apart: &Apart<'_>,
     r: u16,
-    set: &[u64],
     marked: &mut [bool],
     needed: &mut [u64],
     spare: &mut [u64],
     other: &mut [u64],
 ) -> bool
-    requires held { AreRows (size q.now.target) marked.old needed.old }
+    requires held { AreRows (size apart.now.q.now.target) marked.old needed.old }
     requires r_in { r < length marked.old }
-    requires set { length set.now ≡ words_for (size q.now.target) }
-    requires spare { length spare.old ≡ words_for (size q.now.target) }
-    requires other { length other.old ≡ words_for (size q.now.target) }
-    ensures inside { result ≡ false → is_among r vertices.now ≡ false → (u : ℕ)
-        → u < size q.now.target
-        → needs (size q.now.target) marked.old needed.old r u ≡ true → has set.now u ≡ true }
-    ensures stays { result ≡ false → StaysNeeded (size q.now.target)
-        (needs (size q.now.target) marked.old needed.old)
-        (needs (size q.now.target) marked.new needed.new) }
-    ensures left { AreLeft (size q.now.target) vertices.now set.now
-        (needs (size q.now.target) marked.old needed.old)
-        (needs (size q.now.target) marked.new needed.new) }
+    requires row { length apart.now.row.now ≡ words_for (size apart.now.q.now.target) }
+    requires spare { length spare.old ≡ words_for (size apart.now.q.now.target) }
+    requires other { length other.old ≡ words_for (size apart.now.q.now.target) }
+    ensures inside { result ≡ false → is_among r apart.now.vertices.now ≡ false → (u : ℕ)
+        → u < size apart.now.q.now.target
+        → needs (size apart.now.q.now.target) marked.old needed.old r u ≡ true
+        → has apart.now.row.now u ≡ true }
+    ensures stays { result ≡ false → StaysNeeded (size apart.now.q.now.target)
+        (needs (size apart.now.q.now.target) marked.old needed.old)
+        (needs (size apart.now.q.now.target) marked.new needed.new) }
+    ensures left { AreLeft (size apart.now.q.now.target) apart.now.vertices.now apart.now.row.now
+        (needs (size apart.now.q.now.target) marked.old needed.old)
+        (needs (size apart.now.q.now.target) marked.new needed.new) }
 {
-    if holds(vertices, usize::from(r)) {
+    if holds(apart.vertices, usize::from(r)) {
         return false;
     }
-    take_row(q, r, set, marked, needed, spare, other)
+    take_row(apart.q, r, apart.row, marked, needed, spare, other)
 }
 
 /// Keeps of the needed values of all vertices but these those that the row has, and tells whether there were others.
 fn take_others(
-    q: &Problem,
-    vertices: &[u16],
-    set: &[u64],
+    apart: &Apart<'_>,
     marked: &mut [bool],
     needed: &mut [u64],
     spare: &mut [u64],
     other: &mut [u64],
 ) -> bool
-    requires held { AreRows (size q.now.target) marked.old needed.old }
-    requires set { length set.now ≡ words_for (size q.now.target) }
-    requires spare { length spare.old ≡ words_for (size q.now.target) }
-    requires other { length other.old ≡ words_for (size q.now.target) }
-    ensures inside { result ≡ false → AreInside (size q.now.target) vertices.now set.now
-        (needs (size q.now.target) marked.old needed.old) }
-    ensures stays { result ≡ false → StaysNeeded (size q.now.target)
-        (needs (size q.now.target) marked.old needed.old)
-        (needs (size q.now.target) marked.new needed.new) }
-    ensures left { AreLeft (size q.now.target) vertices.now set.now
-        (needs (size q.now.target) marked.old needed.old)
-        (needs (size q.now.target) marked.new needed.new) }
+    requires held { AreRows (size apart.now.q.now.target) marked.old needed.old }
+    requires row { length apart.now.row.now ≡ words_for (size apart.now.q.now.target) }
+    requires spare { length spare.old ≡ words_for (size apart.now.q.now.target) }
+    requires other { length other.old ≡ words_for (size apart.now.q.now.target) }
+    ensures inside { result ≡ false
+        → AreInside (size apart.now.q.now.target) apart.now.vertices.now apart.now.row.now
+        (needs (size apart.now.q.now.target) marked.old needed.old) }
+    ensures stays { result ≡ false → StaysNeeded (size apart.now.q.now.target)
+        (needs (size apart.now.q.now.target) marked.old needed.old)
+        (needs (size apart.now.q.now.target) marked.new needed.new) }
+    ensures left { AreLeft (size apart.now.q.now.target) apart.now.vertices.now apart.now.row.now
+        (needs (size apart.now.q.now.target) marked.old needed.old)
+        (needs (size apart.now.q.now.target) marked.new needed.new) }
 {
     let mut taken = false;
     for r in 0..marked.len() {
-        let here = take_other(q, vertices, r as u16, set, marked, needed, spare, other);
+        let here = take_other(apart, r as u16, marked, needed, spare, other);
         taken = taken || here;
     }
     taken
 }
 
-/// A set of vertices takes its values from all others.
+/// A set of vertices, the first of the two, takes its values, the second, from all others.
 fn by_set(
     q: &Problem,
-    vertices: &[u16],
-    values: &[u16],
+    counted: (&[u16], &[u16]),
     marked: &mut [bool],
     needed: &mut [u64],
     set: &mut [u64],
@@ -235,17 +248,24 @@ fn by_set(
 ) -> bool
     requires held { AreRows (size q.now.target) marked.old needed.old }
     requires size { length marked.old ≡ size q.now.pattern }
-    requires in_problem { IsInProblem q.now (LeftOthers vertices.now values.now 0) }
+    requires in_problem { IsInProblem q.now (LeftOthers counted.0.now counted.1.now 0) }
     requires set { length set.old ≡ words_for (size q.now.target) }
     requires spare { length spare.old ≡ words_for (size q.now.target) }
     requires other { length other.old ≡ words_for (size q.now.target) }
     ensures { (rows : List TheRow) (path : List (ℕ × ℕ)) (from : ℕ)
-        → IsStep result q.now rows path (LeftOthers vertices.now values.now from)
+        → IsStep result q.now rows path
+        (LeftOthers counted.entry.0.now counted.entry.1.now from)
         (values_of (size q.now.target) marked.old needed.old)
         (values_of (size q.now.target) marked.new needed.new) }
 {
+    let (vertices, values) = counted;
     fill_without(q, values, set);
-    if !take_others(q, vertices, set, marked, needed, spare, other) {
+    let apart = Apart {
+        q,
+        vertices,
+        row: set,
+    };
+    if !take_others(&apart, marked, needed, spare, other) {
         return false;
     }
     need_each(q, vertices, set, marked, needed, spare);
@@ -262,7 +282,6 @@ pub(crate) fn go_back(
     needed: &mut [u64],
     room: &mut Room,
 ) -> Result<bool, AllocError>
-    requires plain { ArePlain walk.now.q.now }
     requires sound { Sound walk.now.q.now walk.now.rows.now }
     requires in_problem { IsInProblem walk.now.q.now (change_of walk.now.numbers.now entry.now) }
     requires held { AreRows (size walk.now.q.now.target) marked.old needed.old }
@@ -281,8 +300,7 @@ pub(crate) fn go_back(
             Cause::Guess(t) => Ok(by_guess(walk.q, r, t, marked, needed)),
             Cause::Vertex(p, t) => by_vertex(
                 walk,
-                (p, t),
-                r,
+                Beside { p, t, r },
                 marked,
                 needed,
                 &mut room.spare,
@@ -301,8 +319,10 @@ pub(crate) fn go_back(
         },
         What::Others(place) => Ok(by_set(
             walk.q,
-            part(walk.numbers, place.start, place.middle),
-            part(walk.numbers, place.middle, place.end),
+            (
+                part(walk.numbers, place.start, place.middle),
+                part(walk.numbers, place.middle, place.end),
+            ),
             marked,
             needed,
             &mut room.set,

@@ -22,7 +22,8 @@ use Rattle.propagation.specs.Telling.{IsNamed}
 
 -- A nogood that is kept under a name is a nogood row at that place, and has the row's path.
 abbrev pub NamesRows : List Row → Option watched.State → Type 0
-NamesRows rows s = (name : ℕ) (pairs : List (ℕ × ℕ)) → IsNamed s name pairs → IsNogoodRow rows name × (path_at rows name ≡ pairs)
+NamesRows rows s = (name : ℕ) (pairs : List (ℕ × ℕ)) → IsNamed s name pairs
+    → IsNogoodRow rows name × (path_at rows name ≡ pairs)
 
 -- ---- pairs that hold
 
@@ -55,23 +56,30 @@ IsLeftOut None p = ⊥
 IsLeftOut (Some r) p = p ≡ r
 
 abbrev pub IsBorne : List (ℕ × ℕ) → List ℕ → Option ℕ → ℕ × ℕ → Type 0
-IsBorne known vertices but x = IsLeftOut but x.0 ⊎ (IsOneOf known x ⊎ (is_among x.0 vertices ≡ true))
+IsBorne known vertices but x = IsLeftOut but x.0 ⊎ (IsOneOf known x
+    ⊎ (is_among x.0 vertices ≡ true))
 
 abbrev pub AreBorne : List (ℕ × ℕ) → List ℕ → Option ℕ → List (ℕ × ℕ) → Type 0
-AreBorne known vertices but pairs = (k : ℕ) → k < length pairs → IsBorne known vertices but (literal pairs k)
+AreBorne known vertices but pairs = (k : ℕ) → k < length pairs
+    → IsBorne known vertices but (literal pairs k)
 
 -- That some vertices go somewhere, and that not all of these pairs hold.
 abbrev pub NogoodForms : Problem → List (ℕ × ℕ) → Option ℕ → List (ℕ × ℕ) → List Form → Type 0
-NogoodForms q known but pairs forms = (vertices : List ℕ) × (forms ≡ at_leasts q vertices ++ pairs_clause q pairs ∷ []) × AreBorne known vertices but pairs
+NogoodForms q known but pairs forms = (vertices : List ℕ)
+    × (forms ≡ at_leasts q vertices ++ pairs_clause q pairs ∷ [])
+    × AreBorne known vertices but pairs
 
 -- The forms explain what the cause takes from r, where the known pairs hold: a line for its first domain; that it goes to one place; that p
 -- goes somewhere, unless it is known to be at t, and then a line for p beside r; or what a nogood row needs.
 abbrev pub ExplainsBy : Cause → Problem → List Row → List (ℕ × ℕ) → ℕ → List Form → Type 0
-ExplainsBy cause.First q rows known r forms = (line : Form) × (forms ≡ line ∷ []) × ForcesFirst q line r
+ExplainsBy cause.First q rows known r forms = (line : Form) × (forms ≡ line ∷ [])
+    × ForcesFirst q line r
 ExplainsBy (cause.Guess t) q rows known r forms = forms ≡ at_most q r ∷ []
 ExplainsBy (cause.Vertex p t) q rows known r forms =
-    (line : Form) × (((forms ≡ line ∷ []) × IsOneOf known (p, t)) ⊎ (forms ≡ at_least q p ∷ line ∷ [])) × ForcesBeside q line p t r
-ExplainsBy (cause.Nogood name) q rows known r forms = NogoodForms q known (Some r) (path_at rows name) forms
+    (line : Form) × (((forms ≡ line ∷ [])
+    × IsOneOf known (p, t)) ⊎ (forms ≡ at_least q p ∷ line ∷ [])) × ForcesBeside q line p t r
+ExplainsBy (cause.Nogood name) q rows known r forms = NogoodForms q known (Some r)
+    (path_at rows name) forms
 
 -- One line for a set; a set of no vertices takes nothing.
 abbrev pub set_forms : Problem → List ℕ → List ℕ → List Form
@@ -81,13 +89,15 @@ set_forms q (p ∷ rest) values = set_form q p rest values ∷ []
 -- So it is of a change.
 abbrev pub ExplainsChange : Problem → List Row → List (ℕ × ℕ) → Change → List Form → Type 0
 ExplainsChange q rows known (LeftOne r why from) forms = ExplainsBy why q rows known r forms
-ExplainsChange q rows known (LeftOthers vertices values from) forms = forms ≡ set_forms q vertices values
+ExplainsChange q rows known (LeftOthers vertices values from) forms = forms ≡ set_forms q vertices
+    values
 
 -- The forms explain these changes, the last one first, under a path; those of the earlier changes stand first.
 abbrev pub ExplainAll : Problem → List Row → List (ℕ × ℕ) → List Change → List Form → Type 0
 ExplainAll q rows path [] forms = forms ≡ []
 ExplainAll q rows path (c ∷ cs) forms =
-    (before own : List Form) × (forms ≡ before ++ own) × ExplainAll q rows path cs before × ExplainsChange q rows (known_after path cs) c own
+    (before own : List Form) × (forms ≡ before ++ own) × ExplainAll q rows path cs before
+    × ExplainsChange q rows (known_after path cs) c own
 
 -- ---- which values a change is about
 
@@ -97,11 +107,13 @@ abbrev pub MayTakeBy : Cause → Problem → List Row → ℕ → ℕ → Type 0
 MayTakeBy cause.First q rows r u = IsFirstValue q r u → ⊥
 MayTakeBy (cause.Guess t) q rows r u = u ≡ t → ⊥
 MayTakeBy (cause.Vertex p t) q rows r u = AreConsistent q p t r u → ⊥
-MayTakeBy (cause.Nogood name) q rows r u = IsNogoodRow rows name × IsOneOf (path_at rows name) (r, u)
+MayTakeBy (cause.Nogood name) q rows r u = IsNogoodRow rows name
+    × IsOneOf (path_at rows name) (r, u)
 
 abbrev pub MayTake : Problem → List Row → Change → ℕ → ℕ → Type 0
 MayTake q rows (LeftOne p why from) r u = (r ≡ p) × MayTakeBy why q rows r u
-MayTake q rows (LeftOthers vertices values from) r u = (is_among r vertices ≡ false) × (is_among u values ≡ true)
+MayTake q rows (LeftOthers vertices values from) r u = (is_among r vertices ≡ false)
+    × (is_among u values ≡ true)
 
 -- Its forms take u from r whether or not it did: they do so of what the cause refuses. A guessed value was there, so it need not be out.
 abbrev pub CoversBy : Cause → Problem → ℕ → ℕ → Type 0
@@ -112,20 +124,24 @@ CoversBy (cause.Nogood name) q r u = ⊥
 
 abbrev pub Covers : Problem → Change → ℕ → ℕ → Type 0
 Covers q (LeftOne p why from) r u = (r ≡ p) × CoversBy why q r u
-Covers q (LeftOthers vertices values from) r u = (r < size q.pattern) × (is_among r vertices ≡ false) × (is_among u values ≡ true)
+Covers q (LeftOthers vertices values from) r u = (r < size q.pattern)
+    × (is_among r vertices ≡ false) × (is_among u values ≡ true)
 
 -- ---- which values have to be out before a change
 
 -- All values of the pair's vertex but its own are needed, unless the path has the pair, or it is of the vertex that is left out.
 abbrev pub IsUpheld : List (ℕ × ℕ) → Option ℕ → (ℕ → ℕ → Bool) → ℕ × ℕ → Type 0
-IsUpheld path but needed x = IsLeftOut but x.0 ⊎ (IsOneOf path x ⊎ ((u : ℕ) → (u ≡ x.1 → ⊥) → needed x.0 u ≡ true))
+IsUpheld path but needed x = IsLeftOut but x.0 ⊎ (IsOneOf path x ⊎ ((u : ℕ) → (u ≡ x.1 → ⊥)
+    → needed x.0 u ≡ true))
 
 abbrev pub AreUpheld : List (ℕ × ℕ) → Option ℕ → (ℕ → ℕ → Bool) → List (ℕ × ℕ) → Type 0
-AreUpheld path but needed pairs = (k : ℕ) → k < length pairs → IsUpheld path but needed (literal pairs k)
+AreUpheld path but needed pairs = (k : ℕ) → k < length pairs
+    → IsUpheld path but needed (literal pairs k)
 
 -- All values of the vertices that are none of these.
 abbrev pub AreKeptIn : List ℕ → List ℕ → (ℕ → ℕ → Bool) → Type 0
-AreKeptIn vertices values needed = (r u : ℕ) → is_among r vertices ≡ true → is_among u values ≡ false → needed r u ≡ true
+AreKeptIn vertices values needed = (r u : ℕ) → is_among r vertices ≡ true
+    → is_among u values ≡ false → needed r u ≡ true
 
 -- What the reason of a change rests on is needed.
 abbrev pub NeedsBy : Cause → List Row → List (ℕ × ℕ) → ℕ → (ℕ → ℕ → Bool) → Type 0
@@ -158,13 +174,15 @@ AreGuessed path (c ∷ cs) = IsGuessed path c × AreGuessed path cs
 abbrev pub IsInBy : Cause → Problem → ℕ → Type 0
 IsInBy cause.First q r = r < size q.pattern
 IsInBy (cause.Guess t) q r = (r < size q.pattern) × (t < size q.target)
-IsInBy (cause.Vertex p t) q r = (p < size q.pattern) × (t < size q.target) × (r < size q.pattern) × (p ≡ r → ⊥)
+IsInBy (cause.Vertex p t) q r = (p < size q.pattern) × (t < size q.target) × (r < size q.pattern)
+    × (p ≡ r → ⊥)
 IsInBy (cause.Nogood name) q r = r < size q.pattern
 
 abbrev pub IsInProblem : Problem → Change → Type 0
 IsInProblem q (LeftOne r why from) = IsInBy why q r
 IsInProblem q (LeftOthers vertices values from) =
-    ((p : ℕ) → is_among p vertices ≡ true → p < size q.pattern) × ((u : ℕ) → is_among u values ≡ true → u < size q.target)
+    ((p : ℕ) → is_among p vertices ≡ true → p < size q.pattern) × ((u : ℕ)
+    → is_among u values ≡ true → u < size q.target)
 
 abbrev pub AreInProblem : Problem → List Change → Type 0
 AreInProblem q [] = Unit {0}

@@ -37,7 +37,8 @@ end_of (failure.Short n) None = Short [] []
 abbrev pub EndsBy : End → Problem → Option watched.State → State → Type 0
 EndsBy (Empty p) q s d = HasNone q d p
 EndsBy (Whole name) q s d = IsDecided s d name
-EndsBy (Short vertices values) q s d = HaveOnly q d vertices values × (length values < length vertices)
+EndsBy (Short vertices values) q s d = HaveOnly q d vertices values
+    × (length values < length vertices)
 EndsBy (Exhausted p values) q s d = (u : ℕ) → in_domain d p u ≡ true → is_among u values ≡ true
 
 -- The forms that it comes to, in their order, where the known pairs hold.
@@ -45,7 +46,8 @@ abbrev pub EndsIn : Problem → List Row → List (ℕ × ℕ) → List (ℕ × 
 EndsIn q rows path known (Empty p) forms = forms ≡ at_least q p ∷ []
 EndsIn q rows path known (Whole name) forms = NogoodForms q known None (path_at rows name) forms
 EndsIn q rows path known (Short vertices values) forms = forms ≡ set_forms q vertices values
-EndsIn q rows path known (Exhausted p values) forms = forms ≡ value_clauses q path p values ++ at_least q p ∷ []
+EndsIn q rows path known (Exhausted p values) forms = forms ≡ value_clauses q path p values
+    ++ at_least q p ∷ []
 
 -- The values that have to be out are needed.
 abbrev pub EndNeeds : List Row → List (ℕ × ℕ) → End → (ℕ → ℕ → Bool) → Type 0
@@ -59,5 +61,6 @@ abbrev pub IsEndIn : Problem → List Row → End → Type 0
 IsEndIn q rows (Empty p) = p < size q.pattern
 IsEndIn q rows (Whole name) = IsNogoodRow rows name
 IsEndIn q rows (Short vertices values) =
-    ((p : ℕ) → is_among p vertices ≡ true → p < size q.pattern) × ((u : ℕ) → is_among u values ≡ true → u < size q.target) × (length values < length vertices)
+    ((p : ℕ) → is_among p vertices ≡ true → p < size q.pattern) × ((u : ℕ)
+    → is_among u values ≡ true → u < size q.target) × (length values < length vertices)
 IsEndIn q rows (Exhausted p values) = Unit {0}

@@ -9,26 +9,34 @@ use Rattle.dead_theory.specs.Changes.{MayTake, Covers, Needs}
 
 -- The change takes none of the needed values that there are.
 abbrev pub MayPass : Problem → List Row → Change → (ℕ → ℕ → Bool) → Type 0
-MayPass q rows c needed = (r u : ℕ) → u < size q.target → needed r u ≡ true → MayTake q rows c r u → ⊥
+MayPass q rows c needed = (r u : ℕ) → u < size q.target → needed r u ≡ true
+    → MayTake q rows c r u → ⊥
 
 -- Of the needed values those that the change does not take by itself are needed before it too, and so is what it rests on.
-pub record RestsOn (q : Problem) (rows : List Row) (path : List (ℕ × ℕ)) (c : Change) (needed now : ℕ → ℕ → Bool) : Type 0 where
+pub record RestsOn (q : Problem) (rows : List Row) (path : List (ℕ
+    × ℕ)) (c : Change) (needed now : ℕ → ℕ → Bool) : Type 0 where
   pub carried : (r u : ℕ) → needed r u ≡ true → (now r u ≡ true) ⊎ Covers q c r u
   pub needs : Needs rows path c now
 
 -- Of these changes, the last one first, some are chosen for the needed values of a path: one that is chosen has others needed before it, and one
 -- that is not may be passed.
-pub data IsChoice (q : Problem) (rows : List Row) (path : List (ℕ × ℕ)) : List Change → List Change → (ℕ → ℕ → Bool) → Type 0 where
+pub data IsChoice (q : Problem) (rows : List Row) (path : List (ℕ × ℕ)) : List Change
+    → List Change → (ℕ → ℕ → Bool) → Type 0 where
   nothing : (needed : ℕ → ℕ → Bool) → IsChoice q rows path [] [] needed
-  keeps : (c : Change) (cs chosen : List Change) (needed now : ℕ → ℕ → Bool) → RestsOn q rows path c needed now → IsChoice q rows path cs chosen now
+  keeps : (c : Change) (cs chosen : List Change) (needed now : ℕ → ℕ → Bool)
+      → RestsOn q rows path c needed now → IsChoice q rows path cs chosen now
       → IsChoice q rows path (c ∷ cs) (c ∷ chosen) needed
-  passes : (c : Change) (cs chosen : List Change) (needed : ℕ → ℕ → Bool) → MayPass q rows c needed → IsChoice q rows path cs chosen needed
+  passes : (c : Change) (cs chosen : List Change) (needed : ℕ → ℕ → Bool)
+      → MayPass q rows c needed → IsChoice q rows path cs chosen needed
       → IsChoice q rows path (c ∷ cs) chosen needed
 
 -- Going back over the changes that were seen has chosen some of them, and come from the needed values to others: whatever is chosen of the
 -- changes before them for these, both together are chosen.
-abbrev pub Walked : Problem → List Row → List (ℕ × ℕ) → List Change → List Change → (ℕ → ℕ → Bool) → (ℕ → ℕ → Bool) → Type 0
-Walked q rows path seen chosen needed now = (rest more : List Change) → IsChoice q rows path rest more now → IsChoice q rows path (seen ++ rest) (chosen ++ more) needed
+abbrev pub Walked : Problem → List Row → List (ℕ × ℕ) → List Change → List Change → (ℕ → ℕ
+    → Bool) → (ℕ → ℕ → Bool) → Type 0
+Walked q rows path seen chosen needed now = (rest more : List Change)
+    → IsChoice q rows path rest more now
+    → IsChoice q rows path (seen ++ rest) (chosen ++ more) needed
 
 -- All of the one test passes the other.
 abbrev pub IsWithin : (ℕ → ℕ → Bool) → (ℕ → ℕ → Bool) → Type 0

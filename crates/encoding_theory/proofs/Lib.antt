@@ -7,4 +7,5 @@ pub mod SolutionsEmbed
 pub mod EmbeddingsSolve
 pub mod SolutionProofs
 pub mod PlaceProofs
+pub mod ReversedForms
 mod WorkedRows

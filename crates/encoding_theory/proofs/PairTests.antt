@@ -4,7 +4,7 @@ use Rattle.std.proofs.Common.{◌≡◌, ℕ, ◌==◌, Bool, true, false, ◌&&
 use Rattle.std.proofs.lemmas.Bool.{eqb-true, eqb-false, eq-eqb, ne_eqb, and_parts, and_from, or_parts, not-true, not_from_false}
 use Rattle.graph_theory.specs.Graph.{label, edge}
 use Rattle.graph_theory.specs.Embedding.{Problem, KeepsEdge, Matches, Allowed, Compatible}
-use Rattle.encoding_theory.specs.Pairs.{is_kept, is_match, is_allowed, is_compatible, is_linked, TestLaws, PlainLaws}
+use Rattle.encoding_theory.specs.Pairs.{is_kept, is_match, is_allowed, is_compatible, is_linked, keeps_loop, TestLaws, PlainLaws}
 use Rattle.graph_theory.specs.Plain.{IsPlain}
 
 kept_from : (e f : Option ℕ) → is_kept e f ≡ true → KeepsEdge e f
@@ -92,8 +92,21 @@ some_edge (Some l) h z = ap Some (z l refl)
 both_match : (b : Bool) (e d f g : Option ℕ) → e ≡ d → f ≡ g → (is_match b e f && is_match b d g) ≡ (is_match b e f && is_match b e f)
 both_match b e d f g s t = rw (← s, ← t) refl
 
+-- loops of plain graphs agree wherever they are there or not
+loop_match : (b : Bool) (e f : Option ℕ) → ((l : ℕ) → e ≡ Some l → l ≡ 0) → ((l : ℕ) → f ≡ Some l → l ≡ 0) → is_match b e f ≡ keeps_loop b (is_some e) (is_some f)
+loop_match false None None y z = refl
+loop_match false None (Some k) y z = refl
+loop_match false (Some l) None y z = refl
+loop_match false (Some l) (Some k) y z = let d : l ≡ 0 = y l refl in let e : k ≡ 0 = z k refl in rw (d, e) refl
+loop_match true None None y z = refl
+loop_match true None (Some k) y z = refl
+loop_match true (Some l) None y z = refl
+loop_match true (Some l) (Some k) y z = let d : l ≡ 0 = y l refl in let e : k ≡ 0 = z k refl in rw (d, e) refl
+
 pub plain_laws : (q : Problem) → IsPlain q.pattern → IsPlain q.target → PlainLaws q
 plain_laws q h k = record {
+  alone = λ p t. ap (λ (x : Bool). (label q.target t == label q.pattern p) && x)
+      (loop_match q.induced (edge q.pattern p p) (edge q.target t t) (h.zeros p p) (k.zeros t t));
   pair = λ p r. ap (λ (x : Bool). not (p == r) && x)
       (ap (λ (e : Option ℕ). is_some (edge q.pattern p r) || is_some e) (h.both r p) ∙ or_same (is_some (edge q.pattern p r)));
   edge_kept = λ p r t u n.

@@ -37,7 +37,8 @@ vertex_group q = collect (vertex_forms q) (size q.pattern)
 -- ---- group 2: each target vertex is the image of one pattern vertex at most
 
 abbrev pub at_most_target : Problem → ℕ → Form
-at_most_target q t = form_of (terms_where (negsuc 0) every (λ p. variable q p t) (size q.pattern)) (negsuc 0)
+at_most_target q t = form_of (terms_where (negsuc 0) every (λ p. variable q p t) (size q.pattern))
+    (negsuc 0)
 
 abbrev pub target_forms : Problem → ℕ → List Form
 target_forms q t = at_most_target q t ∷ []
@@ -69,7 +70,8 @@ refused_group q = collect (refused_of q) (size q.pattern)
 
 -- Where p goes to t, another vertex r goes to one of the places that are compatible with it.
 abbrev pub pair_form : Problem → ℕ → ℕ → ℕ → Form
-pair_form q p r t = form_of ((variable q p t, negsuc 0) ∷ terms_where (pos 1) (is_compatible q p t r) (variable q r) (size q.target)) (pos 0)
+pair_form q p r t = form_of ((variable q p t, negsuc 0) ∷ terms_where (pos 1)
+    (is_compatible q p t r) (variable q r) (size q.target)) (pos 0)
 
 abbrev pub pair_at : Problem → ℕ → ℕ → ℕ → List Form
 pair_at q p r t = pair_form q p r t ∷ []
@@ -99,4 +101,5 @@ non_edge_group q = pair_group (is_non_edge_pair q) q
 
 -- The encoding: its groups in this order.
 abbrev pub encoding : Problem → List Form
-encoding q = vertex_group q ++ (target_group q ++ (refused_group q ++ (edge_group q ++ non_edge_group q)))
+encoding q = vertex_group q ++ (target_group q ++ (refused_group q ++ (edge_group q
+    ++ non_edge_group q)))

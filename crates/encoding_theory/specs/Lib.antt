@@ -3,3 +3,4 @@ pub mod Pairs
 pub mod Encoding
 pub mod Solutions
 pub mod Places
+pub mod Reversal

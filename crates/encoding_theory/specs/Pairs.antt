@@ -19,12 +19,14 @@ is_match true e f = is_kept e f && is_kept f e
 
 -- Vertex p may go to t, as far as label and loop tell.
 abbrev pub is_allowed : Problem → ℕ → ℕ → Bool
-is_allowed q p t = (label q.target t == label q.pattern p) && is_match q.induced (edge q.pattern p p) (edge q.target t t)
+is_allowed q p t = (label q.target t == label q.pattern p)
+    && is_match q.induced (edge q.pattern p p) (edge q.target t t)
 
 -- With p at t, another vertex r may go to u: it is another place, and the edges between p and r agree with those between t and u.
 abbrev pub is_compatible : Problem → ℕ → ℕ → ℕ → ℕ → Bool
 is_compatible q p t r u =
-    not (t == u) && (is_match q.induced (edge q.pattern p r) (edge q.target t u) && is_match q.induced (edge q.pattern r p) (edge q.target u t))
+    not (t == u) && (is_match q.induced (edge q.pattern p r) (edge q.target t u)
+    && is_match q.induced (edge q.pattern r p) (edge q.target u t))
 
 -- An edge stands between the two vertices, in one direction or the other.
 abbrev pub is_linked : Graph → ℕ → ℕ → Bool
@@ -43,11 +45,22 @@ is_non_edge_pair q p r = q.induced && (not (p == r) && not (is_linked q.pattern 
 -- The two tests are those by which a problem is a binary constraint problem.
 pub record TestLaws : Type 0 where
   pub allowed : (q : Problem) (p t : ℕ) → IsTrue (is_allowed q p t) ↔ Allowed q p t
-  pub compatible : (q : Problem) (p t r u : ℕ) → IsTrue (is_compatible q p t r u) ↔ Compatible q p t r u
+  pub compatible : (q : Problem) (p t r u : ℕ)
+      → IsTrue (is_compatible q p t r u) ↔ Compatible q p t r u
 
--- On graphs without directions and without labels of edges an edge goes to neighbours, and in the induced kind a missing edge to two
--- others without an edge.
+-- A loop is kept, and in the induced kind none is there that was not before.
+abbrev pub keeps_loop : Bool → Bool → Bool → Bool
+keeps_loop false loop image = not loop || image
+keeps_loop true loop image = (not loop || image) && (not image || loop)
+
+-- On graphs without directions and without labels of edges a vertex is refused a place by its label and its loop alone, an edge goes to
+-- neighbours, and in the induced kind a missing edge to two others without an edge.
 pub record PlainLaws (q : Problem) : Type 0 where
+  pub alone : (p t : ℕ) → is_allowed q p t
+      ≡ ((label q.target t == label q.pattern p)
+      && keeps_loop q.induced (is_some (edge q.pattern p p)) (is_some (edge q.target t t)))
   pub pair : (p r : ℕ) → is_edge_pair q p r ≡ is_neighbour q.pattern p r
-  pub edge_kept : (p r t u : ℕ) → is_neighbour q.pattern p r ≡ true → is_compatible q p t r u ≡ is_neighbour q.target t u
-  pub non_edge_kept : (p r t u : ℕ) → is_non_edge_pair q p r ≡ true → is_compatible q p t r u ≡ (not (t == u) && not (is_some (edge q.target t u)))
+  pub edge_kept : (p r t u : ℕ) → is_neighbour q.pattern p r ≡ true
+      → is_compatible q p t r u ≡ is_neighbour q.target t u
+  pub non_edge_kept : (p r t u : ℕ) → is_non_edge_pair q p r ≡ true
+      → is_compatible q p t r u ≡ (not (t == u) && not (is_some (edge q.target t u)))

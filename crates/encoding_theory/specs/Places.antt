@@ -27,13 +27,15 @@ abbrev pub refused_start : Problem → ℕ
 refused_start q = target_start q + length (target_group q)
 
 abbrev pub refused_place : Problem → ℕ → ℕ → ℕ
-refused_place q p t = refused_start q + (length (collect (refused_of q) p) + length (collect (refused_at q p) t))
+refused_place q p t = refused_start q + (length (collect (refused_of q) p) + length (collect
+    (refused_at q p) t))
 
 -- In a group of pairs there stand before the form of p and r at t those of the vertices before p, those of p with the vertices
 -- before r, and those of p and r at the places before t.
 abbrev pub pair_place : (ℕ → ℕ → Bool) → Problem → ℕ → ℕ → ℕ → ℕ
 pair_place test q p r t =
-    length (collect (pairs_of test q) p) + (length (collect (pairs_at test q p) r) + length (collect (pair_at q p r) t))
+    length (collect (pairs_of test q) p) + (length (collect (pairs_at test q p) r) + length
+    (collect (pair_at q p r) t))
 
 -- Group 4.
 abbrev pub edge_start : Problem → ℕ
@@ -51,12 +53,17 @@ non_edge_place q p r t = non_edge_start q + pair_place (is_non_edge_pair q) q p 
 
 -- At each of these places stands the form that it is named for.
 pub record PlaceLaws (q : Problem) : Type 0 where
-  pub at_least : (p : ℕ) → p < size q.pattern → slice_get (encoding q) (at_least_place q p) ≡ Some (at_least q p)
-  pub at_most : (p : ℕ) → p < size q.pattern → slice_get (encoding q) (at_most_place q p) ≡ Some (at_most q p)
-  pub at_most_target : (t : ℕ) → t < size q.target → slice_get (encoding q) (at_most_target_place q t) ≡ Some (at_most_target q t)
+  pub at_least : (p : ℕ) → p < size q.pattern
+      → slice_get (encoding q) (at_least_place q p) ≡ Some (at_least q p)
+  pub at_most : (p : ℕ) → p < size q.pattern
+      → slice_get (encoding q) (at_most_place q p) ≡ Some (at_most q p)
+  pub at_most_target : (t : ℕ) → t < size q.target
+      → slice_get (encoding q) (at_most_target_place q t) ≡ Some (at_most_target q t)
   pub refused : (p t : ℕ) → p < size q.pattern → t < size q.target → is_refused q p t ≡ true
       → slice_get (encoding q) (refused_place q p t) ≡ Some (refusal q p t)
-  pub edge : (p r t : ℕ) → p < size q.pattern → r < size q.pattern → t < size q.target → is_edge_pair q p r ≡ true
+  pub edge : (p r t : ℕ) → p < size q.pattern → r < size q.pattern → t < size q.target
+      → is_edge_pair q p r ≡ true
       → slice_get (encoding q) (edge_place q p r t) ≡ Some (pair_form q p r t)
-  pub non_edge : (p r t : ℕ) → p < size q.pattern → r < size q.pattern → t < size q.target → is_non_edge_pair q p r ≡ true
+  pub non_edge : (p r t : ℕ) → p < size q.pattern → r < size q.pattern → t < size q.target
+      → is_non_edge_pair q p r ≡ true
       → slice_get (encoding q) (non_edge_place q p r t) ≡ Some (pair_form q p r t)

@@ -15,7 +15,8 @@ pub record ShowsEmbedding (q : Problem) (a : List Bool) : Type 0 where
 
 -- A 0/1 list satisfies the encoding exactly where it is the list of a map that embeds.
 abbrev pub SolutionsAreEmbeddings : Type 0
-SolutionsAreEmbeddings = (q : Problem) (a : List Bool) → IsSolution (variables q) (encoding q) a ↔ ShowsEmbedding q a
+SolutionsAreEmbeddings = (q : Problem) (a : List Bool)
+    → IsSolution (variables q) (encoding q) a ↔ ShowsEmbedding q a
 
 -- So no 0/1 list satisfies it exactly where no embedding exists.
 abbrev pub UnsatisfiableIsNone : Type 0

@@ -12,6 +12,7 @@ ghost use Rattle.graph_theory.specs.Graph.{size};
 ghost use Rattle.graph_theory.specs.Plain.{IsPlain};
 ghost use Rattle.encoding_theory.specs.Pairs.{TestLaws, PlainLaws};
 ghost use Rattle.encoding_theory.specs.Places.{PlaceLaws};
+ghost use Rattle.encoding_theory.specs.Reversal.{ReversedEncoding};
 ghost use Rattle.encoding_theory.specs.Solutions.{SolutionLaws};
 
 /// A 0/1 list satisfies the encoding exactly where it is the list of a map that embeds. So a checker that finds the
@@ -33,4 +34,10 @@ pub fn tests_are_exact()
 /// On graphs without directions and labels of edges the tests are about neighbours alone.
 pub fn tests_on_plain_graphs()
     ensures { (q : Problem) → IsPlain q.pattern → IsPlain q.target → PlainLaws q }
+{}
+
+/// A problem and its reversed problem have one encoding, with the same forms in the same places. So a line of a log that is made
+/// for the edges out of vertices serves for those that lead in.
+pub fn reversed_encoding()
+    ensures { (q : Problem) → ReversedEncoding q }
 {}

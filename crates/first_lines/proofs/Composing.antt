@@ -1,15 +1,16 @@
 -- How the calls that give the lines of single values fit together.
-use Rattle.std.proofs.Common.{◌≡◌, ℕ, zero, suc, ◌+◌, ◌*◌, ◌^◌, ◌<◌, ◌≤◌, ◌==◌, nat_lt, nat_le, Bool, true, false, ◌&&◌, ◌||◌, not, is_some, List, [], ◌∷◌, ◌++◌, length, map, refl, sym, ap, subst, ◌∙◌, arith, Option, Some, None, Result, Ok, Err, inl, inr, ◌⊎◌}
-use Rattle.std.proofs.lemmas.Bool.{cases_eq, lt-ltb, le-leb, and_from, eq-eqb, or_cases}
+use Rattle.std.proofs.Common.{◌≡◌, ℕ, suc, ◌+◌, ◌*◌, ◌^◌, ◌<◌, ◌≤◌, ◌==◌, nat_lt, nat_le, Bool, true, false, ◌&&◌, ◌||◌, not, is_some, List, [], ◌∷◌, ◌++◌, length, refl, sym, ap, subst, ◌∙◌, arith, Option, Some, None, Result, Ok, Err, inl, inr, ◌⊎◌}
+use Rattle.std.proofs.lemmas.Bool.{cases_eq, lt-ltb, le-leb, and_from, eq-eqb}
 use Rattle.std.specs.declared.alloc.AllocError.{AllocError}
+use Rattle.std.specs.Prelude.{IfOk, IfNone}
 use Rattle.std.specs.Result.{IsErr}
 use native.Mathlib.Nat.{mul-le-mul_right, suc-mul}
 use Rattle.graph_theory.specs.Graph.{size}
 use Rattle.graph_theory.specs.Embedding.{Problem}
 use Rattle.search_theory.specs.Consistency.{IsFirstValue}
-use Rattle.search_theory.proofs.Pairs.{plain_first_value}
-use Rattle.graph_theory.specs.Plain.{ArePlain}
-use Rattle.graph_theory.specs.Neighbours.{degree, sequence, IsKeptBy}
+use Rattle.graph_theory.specs.Reversed.{reversed_problem, turned_problem, AreMutual}
+use Rattle.graph_theory.specs.declared.direction.Direction.{Direction}
+use Rattle.graph_theory.proofs.ReversedGraphs.{degree-mutual, sequence-mutual}
 use Rattle.encoding_theory.specs.Pairs.{is_allowed}
 use Rattle.encoding_theory.proofs.PairTests.{allowed_from}
 use Rattle.unit_theory.proofs.FirstValues.{refusals_small, forces_first}
@@ -24,8 +25,8 @@ use Rattle.log_theory.specs.Lookups.{is_among}
 use Rattle.log_theory.specs.Verdicts.{in_range}
 use Rattle.encoding_theory.specs.Variables.{variable, variables}
 use Rattle.encoding_theory.specs.Encoding.{refusal, is_refused}
-use Rattle.forcing_theory.specs.Sums.{AreSmall, sum_from}
-use Rattle.reason_theory.specs.Reasons.{not_there, ForcesFirst}
+use Rattle.forcing_theory.specs.Sums.{sum_from}
+use Rattle.reason_theory.specs.Reasons.{not_there}
 use Rattle.kept_lines.specs.Frames.{Frame, IsFrameOf, IsNamed, AreNamed, Goes, Lasts, AnyForms, Named, IsKept, IsAddable}
 use Rattle.kept_lines.proofs.Going.{goes_stay, goes_then, goes_beside, goes_as}
 use Rattle.kept_lines.proofs.Naming.{named_later, are_named_later, named_pushed, named_count}
@@ -33,18 +34,19 @@ use Rattle.unit_theory.specs.Sums.{summed}
 use Rattle.unit_theory.specs.Crowds.{refused_pairs, refused_values, crowd_forms, is_high, high_neighbours, high_count, HasAllLower}
 use Rattle.unit_theory.proofs.Crowding.{value_refuted}
 use Rattle.unit_theory.proofs.HighNeighbours.{members_count, crowded}
+use Rattle.first_lines.proofs.Turning.{frame_turned}
 use Rattle.first_lines.proofs.Crowds.{crowd_long, pairs_none}
 use Rattle.first_lines.specs.Named.{AreUnits}
-use Rattle.first_lines.specs.Given.{IsGiven, IsMade, HasPairs, ArePushed, IsSeen, HasValues, AreCollected, IsFirstLine, IsCrowd}
+use Rattle.first_lines.specs.Given.{IsFrameFor, IsGiven, IsMade, HasPairs, ArePushed, IsSeen, IsLarge, HasValues, AreCollected, IsFirstLine, IsCrowd}
 
 -- ---- ranges
 
 -- A variable of the problem is in range.
-pub variable_in : (q r : Problem) (p u : ℕ) → r ≡ q → p < size q.pattern → u < size q.target → in_range (variables r) (variable q p u ∷ []) ≡ true
+pub variable_in : (q r : Problem) (p u : ℕ) → variables r ≡ variables q → p < size q.pattern → u < size q.target → in_range (variables r) (variable q p u ∷ []) ≡ true
 variable_in q r p u same p_in u_in =
     let m : suc p * size q.target ≤ size q.pattern * size q.target = mul-le-mul_right (size q.target) (let e : suc p ≤ size q.pattern = omega (arith, p_in) in e) in
     let s = suc-mul p (size q.target) in
-    ap (λ (x : Problem). in_range (variables x) (variable q p u ∷ [])) same
+    ap (λ (n : ℕ). in_range n (variable q p u ∷ [])) same
     ∙ and_from (nat_lt 0 (variable q p u) && nat_le (variable q p u) (variables q)) true
     (and_from (nat_lt 0 (variable q p u)) (nat_le (variable q p u) (variables q)) (lt-ltb 0 (variable q p u) (omega arith)) (le-leb (variable q p u) (variables q) (omega (arith, m, s, u_in)))) refl
 
@@ -208,10 +210,10 @@ module _ (w : Frame) (q : Problem) (a b : Option (List Step)) (p u : ℕ) (refs 
       (λ forms. IsSeen w q p u result now forms × HasValues w q p refs u old forms) (λ forms has. (has.units, has)) (λ forms both. both)
       (goes_beside w a b (AreUnits w old) (IsSeen w q p u result now) (HasValues w q p refs u old) (values_last w q p refs u old) goes)
 
-  pub value_passed : Goes w a b (AreUnits w old) (IsSeen w q p u (Ok None) now) → Goes w a b (HasValues w q p refs u old) (HasValues w q p refs (u + 1) now)
-  value_passed goes =
+  pub value_passed : IsFirstValue q p u → Goes w a b (AreUnits w old) (IsSeen w q p u (Ok None) now) → Goes w a b (HasValues w q p refs u old) (HasValues w q p refs (u + 1) now)
+  value_passed is_first goes =
       goes_as w a b (HasValues w q p refs u old) (λ forms. IsSeen w q p u (Ok None) now forms × HasValues w q p refs u old forms) (HasValues w q p refs u old) (HasValues w q p refs (u + 1) now)
-      (λ forms has. has) (λ forms both. none_more w q p u refs now forms old both.1 both.0.0 both.0.1) (beside (Ok None) goes)
+      (λ forms has. has) (λ forms both. none_more w q p u refs now forms old both.1 is_first both.0) (beside (Ok None) goes)
 
   pub value_pushed : (r : Ref) (new : List Ref) → new ≡ refs ++ r ∷ [] → Goes w a b (AreUnits w old) (IsSeen w q p u (Ok (Some r)) now)
       → Goes w a b (HasValues w q p refs u old) (HasValues w q p new (u + 1) now)
@@ -258,7 +260,7 @@ pub crowd_refutes : (q : Problem) (p u d : ℕ) (pairs : List (ℕ × ℕ)) → 
 crowd_refutes q p u d pairs fewer lower =
     value_refuted q p u (high_neighbours q.pattern p d) (high_neighbours q.target u d) pairs (crowded q p u d pairs fewer lower)
 
-pub crowd_named : (q : Problem) (p u d : ℕ) (made refs : List Ref) (w : Frame) (owner : ℕ) (forms : List Form) → refs ≡ made → IsCrowd q p u d made → IsFrameOf q owner w
+pub crowd_named : (q : Problem) (p u d : ℕ) (made refs : List Ref) (w : Frame) (owner : ℕ) (forms : List Form) → refs ≡ made → IsCrowd q p u d made → IsFrameFor q owner w
     → AreNamed w forms refs (crowd_forms q p u (high_neighbours q.pattern p d) (high_neighbours q.target u d))
 crowd_named q p u d made refs w owner forms is crowd frame =
     subst (λ (rs : List Ref). AreNamed w forms rs (crowd_forms q p u (high_neighbours q.pattern p d) (high_neighbours q.target u d))) (sym is) (crowd.named w owner forms frame)
@@ -266,6 +268,9 @@ crowd_named q p u d made refs w owner forms is crowd frame =
 -- The owner stays.
 pub frame_moved : (q : Problem) (old new : ℕ) (w : Frame) → new ≡ old → IsFrameOf q old w → IsFrameOf q new w
 frame_moved q old new w same frame = record { problem_is = frame.problem_is; owner_is = frame.owner_is ∙ sym same; model = frame.model }
+
+pub frame_for_moved : (q : Problem) (old new : ℕ) (w : Frame) → new ≡ old → IsFrameFor q old w → IsFrameFor q new w
+frame_for_moved q old new w same frame = record { variables_are = frame.variables_are; owner_is = frame.owner_is ∙ sym same; model = frame.model }
 
 pub refused_err : (w : Frame) (a b : Option (List Step)) (made : Result Name AllocError) (answer : Result Ref AllocError) (f : Form) (old now : List (ℕ × Name)) → IsErr answer → Goes w a b AnyForms (IsKept w made f) → Goes w a b (AreUnits w old) (IsGiven w answer f now)
 refused_err w a b made answer f old now err goes =
@@ -276,14 +281,48 @@ pub pairs_stay : (w : Frame) (q : Problem) (a : Option (List Step)) (refs : List
 pairs_stay w q a refs pairs named =
     goes_stay w a a (HasPairs w q refs pairs named) (HasPairs w q refs (pairs ++ []) named) refl (λ forms has. subst (λ (ps : List (ℕ × ℕ)). HasPairs w q refs ps named forms) (sym (pairs_none pairs)) has)
 
--- A value that passes all tests is in the first domain.
-pub first_value : (q : Problem) (p u : ℕ) → ArePlain q → p < size q.pattern → u < size q.target → is_refused q p u ≡ false → degree q.pattern p ≤ degree q.target u
-    → IsKeptBy (sequence q.pattern p) (sequence q.target u) → IsFirstValue q p u
-first_value q p u plain p_in u_in allowed enough kept = plain_first_value q p u plain p_in u_in (allowed_from q p u (is_true (is_allowed q p u) allowed)) enough kept
+-- A value that passes all tests, in both directions, is in the first domain.
+pub first_value : (q : Problem) (p u : ℕ) → is_refused q p u ≡ false → IsLarge q p u → IsLarge (reversed_problem q) p u → IsFirstValue q p u
+first_value q p u allowed along against = record {
+  alone = allowed_from q p u (is_true (is_allowed q p u) allowed);
+  in_degree = against.degree;
+  degree = along.degree;
+  in_sequence = against.sequence;
+  sequence = along.sequence;
+}
   where
     is_true : (b : Bool) → not b ≡ false → b ≡ true
     is_true true h = refl
     is_true false h = absurd cc
+
+-- Where edges stand both ways, what passes the tests along them passes those against them.
+pub large_mutual : (q : Problem) (p u : ℕ) → AreMutual q → p < size q.pattern → u < size q.target → IsLarge q p u → IsLarge (reversed_problem q) p u
+large_mutual q p u ways p_in u_in large = record {
+  degree = rw (degree-mutual q.pattern p ways.pattern_mutual p_in, degree-mutual q.target u ways.target_mutual u_in) large.degree;
+  sequence = rw (sequence-mutual q.pattern p ways.pattern_mutual p_in, sequence-mutual q.target u ways.target_mutual u_in) large.sequence;
+}
+
+-- What was answered in a direction, of the problem.
+seen_turned : (direction : Direction) (w : Frame) (q : Problem) (p u : ℕ) (result : Result (Option Ref) AllocError) (named : List (ℕ × Name)) (forms : List Form)
+    → IsSeen w (turned_problem direction q) p u result named forms → IsSeen w q p u result named forms
+seen_turned direction w q p u (Ok (Some r)) named forms seen = seen
+seen_turned direction w q p u (Ok None) named forms seen = seen
+seen_turned direction w q p u (Err e) named forms seen = seen
+
+pub goes_turned : (direction : Direction) (w : Frame) (a b : Option (List Step)) (owner : ℕ) (q made : Problem) (p u : ℕ) (result : Result (Option Ref) AllocError) (old now : List (ℕ × Name))
+    → made ≡ turned_problem direction q → IsFrameOf q owner w → (IsFrameFor made owner w → Goes w a b (AreUnits w old) (IsSeen w made p u result now)) → Goes w a b (AreUnits w old) (IsSeen w q p u result now)
+goes_turned direction w a b owner q made p u result old now is frame goes =
+    goes_as w a b (AreUnits w old) (IsSeen w made p u result now) (AreUnits w old) (IsSeen w q p u result now) (λ forms units. units)
+    (λ forms seen. seen_turned direction w q p u result now forms (subst (λ (x : Problem). IsSeen w x p u result now forms) is seen))
+    (goes (subst (λ (x : Problem). IsFrameFor x owner w) (sym is) (frame_turned direction q owner w frame)))
+
+-- A value that is not refused in either direction.
+pub first_found : (q out : Problem) (p u : ℕ) (result : Result (Option Ref) AllocError) → out ≡ q → is_refused out p u ≡ false → IsLarge out p u → IfOk result (λ found. IfNone found (IsLarge (reversed_problem q) p u))
+    → IfOk result (λ found. IfNone found (IsFirstValue q p u))
+first_found q out p u (Ok (Some r)) is allowed along against = tt
+first_found q out p u (Ok None) is allowed along against =
+    first_value q p u (subst (λ (x : Problem). is_refused x p u ≡ false) is allowed) (subst (λ (x : Problem). IsLarge x p u) is along) against
+first_found q out p u (Err e) is allowed along against = tt
 
 -- ---- the line of a first domain
 

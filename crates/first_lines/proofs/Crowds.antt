@@ -1,32 +1,31 @@
 -- The lines of a crowd: which they are, that they can be named, and which pairs are to be refused besides.
-use Rattle.std.proofs.Common.{◌≡◌, ℕ, zero, suc, ◌+◌, ◌-◌, ◌*◌, ◌^◌, ◌<◌, ◌≤◌, ◌==◌, nat_lt, Bool, true, false, ◌&&◌, ◌||◌, not, is_some, if◌then◌else◌, List, [], ◌∷◌, ◌++◌, length, map, take, slice_get, slice_index, refl, sym, ap, subst, ◌∙◌, arith, Some, Result, Ok, Err, inl, inr, ◌⊎◌}
+use Rattle.std.proofs.Common.{◌≡◌, ℕ, zero, suc, ◌+◌, ◌-◌, ◌^◌, ◌<◌, ◌≤◌, ◌==◌, nat_lt, Bool, true, false, ◌&&◌, ◌||◌, not, is_some, if◌then◌else◌, List, [], ◌∷◌, ◌++◌, length, map, take, slice_get, slice_index, refl, sym, ap, subst, ◌∙◌, arith, Some, Result, Ok, Err, inl, inr, ◌⊎◌}
 use Rattle.std.specs.Prelude.{IfOk}
 use Rattle.std.specs.declared.alloc.AllocError.{AllocError}
-use Rattle.std.proofs.lemmas.Bool.{and_parts, and_from, cases_lt, le-ltb, lt-ltb, ltb-true, eq-eqb, eqb-true, or_cases}
+use Rattle.std.proofs.lemmas.Bool.{and_parts, and_from, cases_lt, lt-ltb, ltb-true, eq-eqb, eqb-true, or_cases}
 use Rattle.std.proofs.lemmas.Option.{slice_get_within}
 use Rattle.graph_theory.specs.Graph.{Graph, size, edge}
 use Rattle.graph_theory.specs.Embedding.{Problem}
-use Rattle.graph_theory.specs.Neighbours.{count, members, is_neighbour, degree, fails_at}
+use Rattle.graph_theory.specs.Neighbours.{count, is_neighbour, degree, fails_at}
 use Rattle.proof_theory.specs.Forms.{Form}
 use Rattle.log_theory.specs.declared.step.Ref.{Ref}
 use Rattle.log_theory.specs.declared.step.Ref.TheVariants.{Line}
-use Rattle.log_theory.specs.LogText.{IsRef, AreRefs}
+use Rattle.log_theory.specs.LogText.{AreRefs}
 use Rattle.log_theory.specs.Lookups.{is_among}
 use Rattle.encoding_theory.specs.Pairs.{is_edge_pair}
 use Rattle.encoding_theory.specs.Encoding.{encoding, at_most_target, pair_form}
-use Rattle.encoding_theory.specs.Places.{edge_place, at_most_target_place, PlaceLaws}
+use Rattle.encoding_theory.specs.Places.{edge_place, at_most_target_place}
 use Rattle.encoding_theory.proofs.PlaceProofs.{place_laws}
 use Rattle.pb_encoding.proofs.Counts.{starts}
 use Rattle.pb_encoding.proofs.Bounds.{few}
-use Rattle.kept_lines.specs.Frames.{Frame, IsFrameOf, HoldsModel, IsNamed, AreNamed, IsAddable}
+use Rattle.kept_lines.specs.Frames.{Frame, IsNamed, AreNamed, IsAddable}
 use Rattle.kept_lines.proofs.Naming.{named_behind}
-use Rattle.journal_theory.specs.Journals.{Finds}
 use Rattle.unit_theory.specs.Crowds.{IsOneOf, is_high, high_neighbours, high_count, HasAllLower, beside_forms, crowd_forms}
 use Rattle.unit_theory.proofs.Crowding.{crowd_small}
 use Rattle.unit_theory.proofs.HighNeighbours.{member_passes, passing_listed, members_count}
 use Rattle.first_lines.specs.Choosing.{is_chosen, chosen}
 use Rattle.first_lines.specs.Operands.{beside_refs, value_refs, crowd_refs, AreBeside, AreValues}
-use Rattle.first_lines.specs.Given.{pairs_with, all_pairs, AreLower, AreAllLower, IsCrowd, IsSet}
+use Rattle.first_lines.specs.Given.{IsFrameFor, pairs_with, all_pairs, AreAllLower, IsCrowd, IsSet}
 
 -- ---- ranges
 
@@ -197,14 +196,22 @@ take_whole xs n le = take_whole_of xs n le
 
 -- ---- what is kept
 
-pub set_seen : (q seen lines : Problem) (pattern target : List (List ℕ)) → q ≡ seen → IsSet q lines pattern target → IsSet seen lines pattern target
-set_seen q seen lines pattern target is h = subst (λ (r : Problem). IsSet r lines pattern target) is h
+pub set_seen : (q seen : Problem) (pattern target : List (List ℕ)) → q ≡ seen → IsSet q pattern target → IsSet seen pattern target
+set_seen q seen pattern target is h = subst (λ (r : Problem). IsSet r pattern target) is h
 
 -- A place that fails is one of the first list's.
 pub fails_in : (xs ys : List ℕ) (i : ℕ) → fails_at xs ys i ≡ true → i < length xs
 fails_in xs ys i fails = ltb-true i (length xs) (and_parts (nat_lt i (length xs)) (not (nat_lt i (length ys) && not (nat_lt (slice_index ys i) (slice_index xs i)))) fails).0
 
 -- ---- lines
+
+line : (q : Problem) (owner : ℕ) (w : Frame) (forms : List Form) (k : ℕ) (f : Form) → IsFrameFor q owner w → slice_get (encoding q) k ≡ Some f → IsNamed w forms (Line (k + 1)) f
+line q owner w forms k f frame at = record { found = λ look finds own. finds.alike (Line (k + 1)) f (frame.model.line k f at); foreign = λ i is. absurd cc }
+
+-- A number of the encoding names its line.
+pub line_found : (q : Problem) (owner : ℕ) (w : Frame) (forms : List Form) (n place : ℕ) (f : Form) → n ≡ place + 1 → IsFrameFor q owner w → slice_get (encoding q) (n - 1) ≡ Some f → IsNamed w forms (Line n) f
+line_found q owner w forms n place f is frame at =
+    subst (λ (m : ℕ). IsNamed w forms (Line m) f) (let e : n - 1 + 1 ≡ n = omega (arith, is) in e) (line q owner w forms (n - 1) f frame at)
 
 module _ (q : Problem) (p u : ℕ) (p_in : p < size q.pattern) (u_in : u < size q.target) where
   beside_fit : (vs : List ℕ) → size q.pattern ≤ 1024 → size q.target ≤ 8192 → AreBeside q p vs → (rest : List Ref) → AreRefs rest → AreRefs (beside_refs q p u vs ++ rest)
@@ -220,21 +227,18 @@ module _ (q : Problem) (p u : ℕ) (p_in : p < size q.pattern) (u_in : u < size 
       let s = place_small q (at_most_target_place q w) (at_most_target q w) ps ts ((place_laws q).at_most_target w (values 0 (omega arith))) in
       (omega (arith, s), values_fit ws ps ts (λ i i_in. values (suc i) (omega (arith, i_in))))
 
-  line : (owner : ℕ) (w : Frame) (forms : List Form) (k : ℕ) (f : Form) → IsFrameOf q owner w → slice_get (encoding q) k ≡ Some f → IsNamed w forms (Line (k + 1)) f
-  line owner w forms k f frame at = record { found = λ look finds own. finds.alike (Line (k + 1)) f (frame.model.line k f at); foreign = λ i is. absurd cc }
-
-  beside_named : (owner : ℕ) (w : Frame) (forms : List Form) → IsFrameOf q owner w → (vs : List ℕ) → AreBeside q p vs → AreNamed w forms (beside_refs q p u vs) (beside_forms q p u vs)
+  beside_named : (owner : ℕ) (w : Frame) (forms : List Form) → IsFrameFor q owner w → (vs : List ℕ) → AreBeside q p vs → AreNamed w forms (beside_refs q p u vs) (beside_forms q p u vs)
   beside_named owner w forms frame [] beside = tt
   beside_named owner w forms frame (r ∷ rs) beside =
       let h = beside 0 (omega arith) in (
-        line owner w forms (edge_place q p r u) (pair_form q p r u) frame ((place_laws q).edge p r u p_in h.0 u_in h.1),
+        line q owner w forms (edge_place q p r u) (pair_form q p r u) frame ((place_laws q).edge p r u p_in h.0 u_in h.1),
         beside_named owner w forms frame rs (λ i i_in. beside (suc i) (omega (arith, i_in))),
       )
 
-  values_named : (owner : ℕ) (w : Frame) (forms : List Form) → IsFrameOf q owner w → (ws : List ℕ) → AreValues q ws → AreNamed w forms (value_refs q ws) (map (at_most_target q) ws)
+  values_named : (owner : ℕ) (w : Frame) (forms : List Form) → IsFrameFor q owner w → (ws : List ℕ) → AreValues q ws → AreNamed w forms (value_refs q ws) (map (at_most_target q) ws)
   values_named owner w forms frame [] values = tt
   values_named owner w forms frame (v ∷ vs) values = (
-    line owner w forms (at_most_target_place q v) (at_most_target q v) frame ((place_laws q).at_most_target v (values 0 (omega arith))),
+    line q owner w forms (at_most_target_place q v) (at_most_target q v) frame ((place_laws q).at_most_target v (values 0 (omega arith))),
     values_named owner w forms frame vs (λ i i_in. values (suc i) (omega (arith, i_in))),
   )
 

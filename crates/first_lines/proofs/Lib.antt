@@ -1,3 +1,4 @@
 pub mod Members
+pub mod Turning
 pub mod Crowds
 pub mod Composing

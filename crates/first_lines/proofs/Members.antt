@@ -1,9 +1,9 @@
 -- Members of a test, listed by a walk over the members of a row.
-use Rattle.std.proofs.Common.{◌≡◌, ℕ, zero, suc, ◌+◌, ◌<◌, ◌≤◌, ◌==◌, nat_lt, Bool, true, false, ◌&&◌, not, is_some, if◌then◌else◌, List, [], ◌∷◌, ◌++◌, length, refl, sym, ap, ◌∙◌, arith, inl, inr, ◌⊎◌}
+use Rattle.std.proofs.Common.{◌≡◌, ℕ, zero, suc, ◌+◌, ◌<◌, ◌≤◌, ◌==◌, Bool, true, false, ◌&&◌, not, is_some, if◌then◌else◌, List, [], ◌∷◌, ◌++◌, refl, sym, ap, ◌∙◌, arith, inl, inr, ◌⊎◌}
 use Rattle.std.proofs.lemmas.Bool.{cases_eq}
 use Rattle.graph_theory.specs.Graph.{Graph, size, edge}
-use Rattle.graph_theory.specs.Neighbours.{members, is_neighbour, degree}
-use Rattle.graph_rows.specs.BitRow.{has}
+use Rattle.graph_theory.specs.Neighbours.{members, degree}
+use Rattle.bit_rows.specs.BitRows.{has}
 use Rattle.encoding_theory.specs.Variables.{when}
 use Rattle.first_lines.specs.Choosing.{is_side, is_chosen}
 

@@ -1,6 +1,6 @@
 -- Clauses against single values that an owner has named, by their variables.
 
-use Rattle.std.specs.Prelude.{◌≡◌, ℕ, cond, ◌==◌, List, [], ◌∷◌, Option, Some, None}
+use Rattle.std.specs.Prelude.{◌≡◌, ℕ, List, [], ◌∷◌, Option, Some}
 use Rattle.std.specs.Ordering.{nat_cmp}
 use Rattle.std.specs.BTreeMap.{is_at}
 use Rattle.std.specs.Map.{lookup}
@@ -25,4 +25,5 @@ is_false v = form_of ((v, negsuc 0) ∷ []) (pos 0)
 
 -- Each name is that of the clause of its variable.
 abbrev pub AreUnits : Frame → List (ℕ × Name) → List Form → Type 0
-AreUnits w named forms = (v : ℕ) (n : Name) → name_at named v ≡ Some n → IsNamed w forms (Made n) (is_false v)
+AreUnits w named forms = (v : ℕ) (n : Name) → name_at named v ≡ Some n
+    → IsNamed w forms (Made n) (is_false v)

@@ -1,6 +1,6 @@
 -- The references that lines for single values name.
 
-use Rattle.std.specs.Prelude.{◌≡◌, ℕ, ◌+◌, ◌<◌, true, List, [], ◌∷◌, ◌++◌, length, map, slice_index}
+use Rattle.std.specs.Prelude.{◌≡◌, ℕ, ◌+◌, ◌<◌, true, List, ◌++◌, length, map, slice_index}
 use Rattle.graph_theory.specs.Graph.{size}
 use Rattle.graph_theory.specs.Embedding.{Problem}
 use Rattle.log_theory.specs.declared.step.Ref.{Ref}
@@ -22,7 +22,8 @@ crowd_refs q p u vertices values = beside_refs q p u vertices ++ value_refs q va
 
 -- Each of these is a vertex of the pattern with an edge to p.
 abbrev pub AreBeside : Problem → ℕ → List ℕ → Type 0
-AreBeside q p vertices = (i : ℕ) → i < length vertices → (slice_index vertices i < size q.pattern) × (is_edge_pair q p (slice_index vertices i) ≡ true)
+AreBeside q p vertices = (i : ℕ) → i < length vertices
+    → (slice_index vertices i < size q.pattern) × (is_edge_pair q p (slice_index vertices i) ≡ true)
 
 -- Each of these is a value.
 abbrev pub AreValues : Problem → List ℕ → Type 0

@@ -1,440 +1,84 @@
-//! The lines of first domains and of single values.
+//! The lines of first domains.
 
-ghost use Rattle.std.specs.Prelude.{◌≡◌, ℕ, ◌+◌, ◌<◌, ◌≤◌, [], ◌∷◌, ◌++◌, true, false, List, length, IfOk, IfSome, IfNone, slice_index};
+ghost use Rattle.std.specs.Prelude.{◌≡◌, ◌+◌, ◌<◌, false, IfOk, IfSome, IfNone};
 ghost use Rattle.graph_theory.specs.Graph.{size};
-ghost use Rattle.graph_theory.specs.Neighbours.{degree, sequence, fails_at, IsKeptBy};
-ghost use Rattle.graph_theory.specs.Plain.{ArePlain};
-ghost use Rattle.proof_theory.specs.Forms.{Form};
-ghost use Rattle.proof_theory.specs.Slack.{refutes, negations};
+ghost use Rattle.graph_theory.specs.Reversed.{reversed_problem, AreMutual};
+ghost use Rattle.search_theory.specs.Consistency.{IsFirstValue};
 ghost use Rattle.log_theory.specs.LogText.{IsName, IsRef, AreRefs};
-ghost use Rattle.encoding_theory.specs.Variables.{variable as variable_of};
-ghost use Rattle.encoding_theory.specs.Encoding.{is_refused, refusal};
-ghost use Rattle.reason_theory.specs.Reasons.{not_there};
-ghost use Rattle.kept_lines.specs.Frames.{Frame, IsFrameOf, IsNamed, Goes, AnyForms, Named, IsKept};
-ghost use Rattle.unit_theory.specs.Crowds.{refused_pairs, high_count, HasAllLower};
-ghost use Rattle.first_lines.specs.Named.{is_false, AreUnits};
-ghost use Rattle.first_lines.specs.Given.{IsGiven, IsMade, HasPairs, ArePushed, pairs_with, all_pairs, IsSeen, HasValues, AreCollected, IsFirstLine, AreLower, AreAllLower, IsCrowd};
+ghost use Rattle.encoding_theory.specs.Encoding.{is_refused};
+ghost use Rattle.kept_lines.specs.Frames.{Frame, IsFrameOf, Goes};
+ghost use Rattle.first_lines.specs.Named.{AreUnits};
+ghost use Rattle.first_lines.specs.Given.{IsSeen, IsLarge, HasValues, AreCollected, IsFirstLine};
 
-use crate::choosing::chosen;
-use crate::operands::crowd_refs;
 use crate::units::Units;
-use degree_filter::keeps_by;
+use crate::value_clauses::ValueClauses;
 use graph_rows::Problem;
 use graph_theory::direction::Direction;
 use journals::Keeper;
 use kept_lines::keep_sum;
-use log_theory::{Clause, Name, Ref, Refs, Step};
-use nds_filter::{SequenceAnswer, Sequences};
+use log_theory::{Name, Ref};
 use pb_encoding::Encoding;
-use proof_theory::Literal;
 use std::alloc::{AllocError, Global};
 use std::marker::Model;
 
-/// The name of a step that is given to a keeper, which gives it the next one.
-const NO_NAME: Name = Name {
-    owner: 0,
-    number: 0,
-};
-
-/// What the lines of a problem's first domains are made from. Contracts see the problem.
+/// What the lines of a problem's first domains are made from. Contracts see the problem. Where edges are known to stand both ways, the
+/// clauses of one direction are all.
 #[derive(Drop)]
 pub struct FirstLines<'a> {
     problem: &'a Problem,
-    lines: &'a Encoding<'a>,
-    pattern: Sequences,
-    target: Sequences,
+    out: ValueClauses<'a>,
+    back: Option<ValueClauses<'a>>,
 }
 
 impl<'a> Model for FirstLines<'a> {
+    ghost use Rattle.std.specs.Prelude.{◌≡◌, IfSome, IfNone};
     ghost use Rattle.graph_theory.specs.Embedding.{Problem as TheProblem};
-    ghost use Rattle.first_lines.specs.Given.{IsSet};
+    ghost use Rattle.graph_theory.specs.Reversed.{reversed_problem, AreMutual};
 
     ghost Value = { TheProblem };
 
     ghost view = { λ s. s.problem.now };
 
-    ghost invariant = { λ s. IsSet s.problem.now s.lines.now s.pattern s.target };
+    ghost invariant = { λ s. (s.out ≡ s.problem.now)
+        × IfSome s.back (λ b. b ≡ reversed_problem s.problem.now)
+        × IfNone s.back (AreMutual s.problem.now) };
 }
 
-/// Keeps the name of a clause against a value, and refers to it.
-fn remember(units: &mut Units, variable: u32, name: Name) -> Result<Ref, AllocError>
-    requires { IsName name }
-    ensures given { (w : Frame) (forms : List Form) → AreUnits w units.old forms
-        → IsNamed w forms (Ref.Made name) (is_false variable)
-        → IsGiven w result (is_false variable) units.new forms }
-    ensures fits { IfOk result IsRef }
+/// The clauses by the edges that lead in, where edges are not known to stand both ways.
+fn clauses_back<'a>(
+    alloc: Global,
+    problem: &'a Problem,
+    lines: &'a Encoding<'a>,
+) -> Result<Option<ValueClauses<'a>>, AllocError>
+    requires { lines.now ≡ problem.now }
+    ensures some { IfOk result (λ back. IfSome back (λ b. b ≡ reversed_problem problem.now)) }
+    ensures none { IfOk result (λ back. IfNone back (AreMutual problem.now)) }
 {
-    units.add(variable, name)?;
-    Ok(Ref::Made(name))
+    if problem.is_mutual() {
+        return Ok(None);
+    }
+    let back = ValueClauses::new(alloc, problem, lines, Direction::In)?;
+    Ok(Some(back))
 }
 
 impl<'a> FirstLines<'a> {
-    /// For this problem of graphs without directions, and its encoding. Cost: that of the sequences of neighbours' degrees.
+    /// For this problem and its encoding. Cost: that of the sequences of neighbours' degrees, twice where edges are not known to stand
+    /// both ways.
     pub fn new(
         alloc: Global,
         problem: &'a Problem,
         lines: &'a Encoding<'a>,
     ) -> Result<FirstLines<'a>, AllocError>
-        requires encoding { lines.now ≡ problem.now }
-        requires plain { ArePlain problem.now }
+        requires { lines.now ≡ problem.now }
         ensures { IfOk result (λ s. s ≡ problem.now) }
     {
-        let pattern = Sequences::new(alloc, problem.pattern(), Direction::Out)?;
-        let target = Sequences::new(alloc, problem.target(), Direction::Out)?;
-        Ok(FirstLines {
-            problem,
-            lines,
-            pattern,
-            target,
-        })
+        let out = ValueClauses::new(alloc, problem, lines, Direction::Out)?;
+        let back = clauses_back(alloc, problem, lines)?;
+        Ok(FirstLines { problem, out, back })
     }
 
-    /// The problem.
-    fn problem(&self) -> &Problem
-        ensures same { result.now ≡ self.now }
-        ensures plain { ArePlain self.now }
-        ensures few_pattern { size self.now.pattern ≤ 1024 }
-        ensures few_target { size self.now.target ≤ 8192 }
-    {
-        let _pattern = self.problem.pattern();
-        let _target = self.problem.target();
-        self.problem
-    }
-
-    /// Its encoding.
-    fn lines(&self) -> &Encoding<'a>
-        ensures same { result.now ≡ self.now }
-        ensures few_pattern { size self.now.pattern ≤ 1024 }
-        ensures few_target { size self.now.target ≤ 8192 }
-    {
-        let _problem = self.problem();
-        self.lines
-    }
-
-    /// The variable of `p` and `u`.
-    fn variable(&self, p: u16, u: u16) -> u32
-        requires p_in { p < size self.now.pattern }
-        requires u_in { u < size self.now.target }
-        ensures { result ≡ variable_of self.now p u }
-    {
-        let problem = self.problem();
-        u32::from(p) * u32::from(problem.target().size()) + u32::from(u) + 1
-    }
-
-    /// The clause against `u` for `p` that is there already: the encoding's own line, or one that was made. Cost: logarithmic.
-    fn known(&self, units: &Units, p: u16, u: u16) -> Option<Ref>
-        requires p_in { p < size self.now.pattern }
-        requires u_in { u < size self.now.target }
-        ensures named { (w : Frame) (owner : ℕ) (forms : List Form) → IsFrameOf self.now owner w
-            → AreUnits w units.now forms
-            → IfSome result (λ r. IsNamed w forms r (refusal self.now p u)) }
-        ensures fits { IfSome result IsRef }
-        ensures allowed { IfNone result (is_refused self.now p u ≡ false) }
-    {
-        let lines = self.lines();
-        if let Some(line) = lines.refused(p, u) {
-            return Some(Ref::Line(line));
-        }
-        match units.name_of(self.variable(p, u)) {
-            Some(name) => Some(Ref::Made(name)),
-            None => None,
-        }
-    }
-
-    /// Keeps the line that the clause against `u` for `p` follows from these references.
-    fn keep_clause<K: Keeper>(
-        &self,
-        alloc: Global,
-        keeper: &mut K,
-        p: u16,
-        u: u16,
-        refs: Vec<Ref>,
-    ) -> Result<Name, AllocError>
-        requires p_in { p < size self.now.pattern }
-        requires u_in { u < size self.now.target }
-        requires fits { AreRefs refs.items }
-        ensures goes { (w : Frame) (fs : List Form) → IsFrameOf self.now (K.owner keeper.old) w
-            → refutes (negations (not_there self.now (p, u) ∷ [])) fs ≡ true
-            → Goes w (K.kept keeper.old) (K.kept keeper.new) (Named w refs.items fs)
-            (IsKept w result (refusal self.now p u)) }
-        ensures name { IfOk result IsName }
-        ensures owner { K.owner keeper.new ≡ K.owner keeper.old }
-        ensures notes { K.notes keeper.new ≡ K.notes keeper.old }
-        ensures spare { K.spare keeper.new ≡ K.spare keeper.old }
-    {
-        let variable = self.variable(p, u);
-        let mut lits = Vec::new(alloc);
-        lits.push(Literal {
-            variable,
-            negated: true,
-        })?;
-        keeper.keep(Step::U {
-            name: NO_NAME,
-            lits: Clause::new(lits),
-            refs: Refs::new(refs),
-        })
-    }
-
-    /// The lines of the encoding for the neighbours of `p` and of `u` of degree `d` and more.
-    fn crowd(&self, alloc: Global, p: u16, u: u16, d: u16) -> Result<Vec<Ref>, AllocError>
-        requires p_in { p < size self.now.pattern }
-        requires u_in { u < size self.now.target }
-        ensures { IfOk result (λ refs. IsCrowd self.now p u d refs.items) }
-    {
-        let problem = self.problem();
-        let vertices = chosen(alloc, problem.pattern(), p, d, false)?;
-        let values = chosen(alloc, problem.target(), u, d, false)?;
-        crowd_refs(alloc, self.lines(), p, u, &vertices, &values)
-    }
-
-    /// Sums the lines of the neighbours of `p` and of `u` of degree `d` and more, and keeps the clause against `u` that follows from it behind
-    /// these clauses.
-    fn crowd_line<K: Keeper>(
-        &self,
-        alloc: Global,
-        keeper: &mut K,
-        p: u16,
-        u: u16,
-        d: u16,
-        clauses: Vec<Ref>,
-    ) -> Result<Name, AllocError>
-        requires p_in { p < size self.now.pattern }
-        requires u_in { u < size self.now.target }
-        requires fits { AreRefs clauses.items }
-        requires fewer { high_count self.now.target u d < high_count self.now.pattern p d }
-        ensures goes { (w : Frame) (pairs : List (ℕ × ℕ))
-            → IsFrameOf self.now (K.owner keeper.old) w → HasAllLower self.now p u d pairs
-            → Goes w (K.kept keeper.old) (K.kept keeper.new)
-            (Named w clauses.items (refused_pairs self.now pairs))
-            (IsKept w result (refusal self.now p u)) }
-        ensures name { IfOk result IsName }
-        ensures owner { K.owner keeper.new ≡ K.owner keeper.old }
-        ensures notes { K.notes keeper.new ≡ K.notes keeper.old }
-        ensures spare { K.spare keeper.new ≡ K.spare keeper.old }
-    {
-        let crowd = self.crowd(alloc, p, u, d)?;
-        let sum = keep_sum(alloc, keeper, &crowd)?;
-        let mut refs = clauses;
-        refs.push(Ref::Made(sum))?;
-        self.keep_clause(alloc, keeper, p, u, refs)
-    }
-
-    /// The two lines of a value whose degree is too small, and the name of the clause against it. Cost: a step for each neighbour of `p` and of
-    /// `u`, for each word of their rows, and for an edge line a search by halves.
-    pub fn degree_line<K: Keeper>(
-        &self,
-        alloc: Global,
-        keeper: &mut K,
-        p: u16,
-        u: u16,
-    ) -> Result<Name, AllocError>
-        requires p_in { p < size self.now.pattern }
-        requires u_in { u < size self.now.target }
-        requires less { degree self.now.target u < degree self.now.pattern p }
-        ensures goes { (w : Frame) → IsFrameOf self.now (K.owner keeper.old) w
-            → Goes w (K.kept keeper.old) (K.kept keeper.new) AnyForms
-            (IsKept w result (refusal self.now p u)) }
-        ensures name { IfOk result IsName }
-        ensures owner { K.owner keeper.new ≡ K.owner keeper.old }
-        ensures notes { K.notes keeper.new ≡ K.notes keeper.old }
-        ensures spare { K.spare keeper.new ≡ K.spare keeper.old }
-    {
-        self.crowd_line(alloc, keeper, p, u, 0, Vec::new(alloc))
-    }
-
-    /// Keeps the lines of a value whose degree is too small, and the name of its clause.
-    fn degree_ref<K: Keeper>(
-        &self,
-        alloc: Global,
-        keeper: &mut K,
-        units: &mut Units,
-        p: u16,
-        u: u16,
-    ) -> Result<Ref, AllocError>
-        requires p_in { p < size self.now.pattern }
-        requires u_in { u < size self.now.target }
-        requires less { degree self.now.target u < degree self.now.pattern p }
-        ensures goes { (w : Frame) → IsFrameOf self.now (K.owner keeper.old) w
-            → Goes w (K.kept keeper.old) (K.kept keeper.new) (AreUnits w units.old)
-            (IsGiven w result (refusal self.now p u) units.new) }
-        ensures fits { IfOk result IsRef }
-        ensures owner { K.owner keeper.new ≡ K.owner keeper.old }
-        ensures notes { K.notes keeper.new ≡ K.notes keeper.old }
-        ensures spare { K.spare keeper.new ≡ K.spare keeper.old }
-    {
-        let name = self.degree_line(alloc, keeper, p, u)?;
-        remember(units, self.variable(p, u), name)
-    }
-
-    /// The clause against a value whose degree is too small: the one that is there, or one that is made now.
-    fn lower_ref<K: Keeper>(
-        &self,
-        alloc: Global,
-        keeper: &mut K,
-        units: &mut Units,
-        p: u16,
-        u: u16,
-    ) -> Result<Ref, AllocError>
-        requires p_in { p < size self.now.pattern }
-        requires u_in { u < size self.now.target }
-        requires less { degree self.now.target u < degree self.now.pattern p }
-        ensures goes { (w : Frame) → IsFrameOf self.now (K.owner keeper.old) w
-            → Goes w (K.kept keeper.old) (K.kept keeper.new) (AreUnits w units.old)
-            (IsGiven w result (refusal self.now p u) units.new) }
-        ensures fits { IfOk result IsRef }
-        ensures owner { K.owner keeper.new ≡ K.owner keeper.old }
-        ensures notes { K.notes keeper.new ≡ K.notes keeper.old }
-        ensures spare { K.spare keeper.new ≡ K.spare keeper.old }
-    {
-        if let Some(found) = self.known(units, p, u) {
-            return Ok(found);
-        }
-        self.degree_ref(alloc, keeper, units, p, u)
-    }
-
-    /// Refers to the clause against one more value of `r`, whose degree is too small.
-    fn push_lower<K: Keeper>(
-        &self,
-        alloc: Global,
-        keeper: &mut K,
-        units: &mut Units,
-        r: u16,
-        w: u16,
-        refs: &mut Vec<Ref>,
-    ) -> Result<(), AllocError>
-        requires r_in { r < size self.now.pattern }
-        requires w_in { w < size self.now.target }
-        requires less { degree self.now.target w < degree self.now.pattern r }
-        requires fits { AreRefs refs.old.items }
-        ensures goes { (v : Frame) (pairs : List (ℕ × ℕ))
-            → IsFrameOf self.now (K.owner keeper.old) v
-            → Goes v (K.kept keeper.old) (K.kept keeper.new)
-            (HasPairs v self.now refs.old.items pairs units.old)
-            (ArePushed v self.now result refs.new.items (pairs ++ (r, w) ∷ []) units.new) }
-        ensures fits { IfOk result (λ _. AreRefs refs.new.items) }
-        ensures owner { K.owner keeper.new ≡ K.owner keeper.old }
-        ensures notes { K.notes keeper.new ≡ K.notes keeper.old }
-        ensures spare { K.spare keeper.new ≡ K.spare keeper.old }
-    {
-        let clause = self.lower_ref(alloc, keeper, units, r, w)?;
-        refs.push(clause)?;
-        Ok(())
-    }
-
-    /// Refers to the clauses against these values of `r`, whose degrees are too small.
-    fn push_all_lower<K: Keeper>(
-        &self,
-        alloc: Global,
-        keeper: &mut K,
-        units: &mut Units,
-        r: u16,
-        lower: &[u16],
-        refs: &mut Vec<Ref>,
-    ) -> Result<(), AllocError>
-        requires r_in { r < size self.now.pattern }
-        requires lower { AreLower self.now r lower.now }
-        requires fits { AreRefs refs.old.items }
-        ensures goes { (v : Frame) (pairs : List (ℕ × ℕ))
-            → IsFrameOf self.now (K.owner keeper.old) v
-            → Goes v (K.kept keeper.old) (K.kept keeper.new)
-            (HasPairs v self.now refs.old.items pairs units.old)
-            (ArePushed v self.now result refs.new.items (pairs ++ pairs_with r lower.now)
-            units.new) }
-        ensures fits { IfOk result (λ _. AreRefs refs.new.items) }
-        ensures owner { K.owner keeper.new ≡ K.owner keeper.old }
-        ensures notes { K.notes keeper.new ≡ K.notes keeper.old }
-        ensures spare { K.spare keeper.new ≡ K.spare keeper.old }
-    {
-        for w in lower {
-            self.push_lower(alloc, keeper, units, r, *w, refs)?;
-        }
-        Ok(())
-    }
-
-    /// Refers to the clauses against the pairs of one of these vertices and one of these values, whose degrees are too small for all of them.
-    fn push_pairs<K: Keeper>(
-        &self,
-        alloc: Global,
-        keeper: &mut K,
-        units: &mut Units,
-        vertices: &[u16],
-        lower: &[u16],
-        refs: &mut Vec<Ref>,
-    ) -> Result<(), AllocError>
-        requires lower { AreAllLower self.now vertices.now lower.now }
-        requires fits { AreRefs refs.old.items }
-        ensures goes { (v : Frame) (pairs : List (ℕ × ℕ))
-            → IsFrameOf self.now (K.owner keeper.old) v
-            → Goes v (K.kept keeper.old) (K.kept keeper.new)
-            (HasPairs v self.now refs.old.items pairs units.old)
-            (ArePushed v self.now result refs.new.items (pairs ++ all_pairs vertices.now lower.now)
-            units.new) }
-        ensures fits { IfOk result (λ _. AreRefs refs.new.items) }
-        ensures owner { K.owner keeper.new ≡ K.owner keeper.old }
-        ensures notes { K.notes keeper.new ≡ K.notes keeper.old }
-        ensures spare { K.spare keeper.new ≡ K.spare keeper.old }
-    {
-        for r in vertices {
-            self.push_all_lower(alloc, keeper, units, *r, lower, refs)?;
-        }
-        Ok(())
-    }
-
-    /// The degree at a place of the sequence of `p` at which that of `u` is too small.
-    fn degree_at(&self, p: u16, u: u16, place: u16) -> u16
-        requires p_in { p < size self.now.pattern }
-        requires fails { fails_at (sequence self.now.pattern p) (sequence self.now.target u) place
-            ≡ true }
-        ensures { result ≡ slice_index (sequence self.now.pattern p) place }
-    {
-        self.pattern.of(p)[usize::from(place)]
-    }
-
-    /// Whether the sequence of `u` keeps that of `p`, or a place at which it does not.
-    fn compared(&self, p: u16, u: u16) -> SequenceAnswer
-        requires p_in { p < size self.now.pattern }
-        requires u_in { u < size self.now.target }
-        ensures kept { result ≡ SequenceAnswer.Kept
-            → IsKeptBy (sequence self.now.pattern p) (sequence self.now.target u) }
-        ensures fails { (i : ℕ) → result ≡ SequenceAnswer.FailsAt i
-            → fails_at (sequence self.now.pattern p) (sequence self.now.target u) i ≡ true }
-    {
-        nds_filter::keeps(&self.pattern, &self.target, p, u)
-    }
-
-    /// The lines of a value whose sequence of neighbours' degrees is too small at a place, and the name of the clause against it.
-    pub fn nds_line<K: Keeper>(
-        &self,
-        alloc: Global,
-        keeper: &mut K,
-        units: &mut Units,
-        p: u16,
-        u: u16,
-        place: u16,
-    ) -> Result<Name, AllocError>
-        requires p_in { p < size self.now.pattern }
-        requires u_in { u < size self.now.target }
-        requires fails { fails_at (sequence self.now.pattern p) (sequence self.now.target u) place
-            ≡ true }
-        ensures goes { (w : Frame) → IsFrameOf self.now (K.owner keeper.old) w
-            → Goes w (K.kept keeper.old) (K.kept keeper.new) (AreUnits w units.old)
-            (IsMade w result (refusal self.now p u) units.new) }
-        ensures name { IfOk result IsName }
-        ensures owner { K.owner keeper.new ≡ K.owner keeper.old }
-        ensures notes { K.notes keeper.new ≡ K.notes keeper.old }
-        ensures spare { K.spare keeper.new ≡ K.spare keeper.old }
-    {
-        let d = self.degree_at(p, u, place);
-        let problem = self.problem();
-        let vertices = chosen(alloc, problem.pattern(), p, d, false)?;
-        let lower = chosen(alloc, problem.target(), u, d, true)?;
-        let mut clauses = Vec::new(alloc);
-        self.push_pairs(alloc, keeper, units, &vertices, &lower, &mut clauses)?;
-        self.crowd_line(alloc, keeper, p, u, d, clauses)
-    }
-
-    /// The clause against a value that the encoding allows, and whose degree is large enough, or none where it is in the first domain.
-    fn sequence_ref<K: Keeper>(
+    /// The clause against a value that passes all tests along the edges, or none where it passes those against them too.
+    fn back_ref<K: Keeper>(
         &self,
         alloc: Global,
         keeper: &mut K,
@@ -444,23 +88,20 @@ impl<'a> FirstLines<'a> {
     ) -> Result<Option<Ref>, AllocError>
         requires p_in { p < size self.now.pattern }
         requires u_in { u < size self.now.target }
-        requires plain { ArePlain self.now }
-        requires allowed { is_refused self.now p u ≡ false }
-        requires enough { degree self.now.pattern p ≤ degree self.now.target u }
+        requires large { IsLarge self.now p u }
         ensures goes { (w : Frame) → IsFrameOf self.now (K.owner keeper.old) w
             → Goes w (K.kept keeper.old) (K.kept keeper.new) (AreUnits w units.old)
             (IsSeen w self.now p u result units.new) }
+        ensures large { IfOk result (λ found. IfNone found (IsLarge
+            (reversed_problem self.now) p u)) }
         ensures fits { IfOk result (λ found. IfSome found IsRef) }
         ensures owner { K.owner keeper.new ≡ K.owner keeper.old }
         ensures notes { K.notes keeper.new ≡ K.notes keeper.old }
         ensures spare { K.spare keeper.new ≡ K.spare keeper.old }
     {
-        match self.compared(p, u) {
-            SequenceAnswer::Kept => Ok(None),
-            SequenceAnswer::FailsAt(place) => {
-                let name = self.nds_line(alloc, keeper, units, p, u, place)?;
-                Ok(Some(remember(units, self.variable(p, u), name)?))
-            }
+        match &self.back {
+            Some(back) => back.large_ref(alloc, keeper, units, p, u),
+            None => Ok(None),
         }
     }
 
@@ -478,18 +119,19 @@ impl<'a> FirstLines<'a> {
         ensures goes { (w : Frame) → IsFrameOf self.now (K.owner keeper.old) w
             → Goes w (K.kept keeper.old) (K.kept keeper.new) (AreUnits w units.old)
             (IsSeen w self.now p u result units.new) }
+        ensures first { IfOk result (λ found. IfNone found (IsFirstValue self.now p u)) }
         ensures fits { IfOk result (λ found. IfSome found IsRef) }
         ensures owner { K.owner keeper.new ≡ K.owner keeper.old }
         ensures notes { K.notes keeper.new ≡ K.notes keeper.old }
         ensures spare { K.spare keeper.new ≡ K.spare keeper.old }
     {
-        if let Some(found) = self.known(units, p, u) {
+        if let Some(found) = self.out.known(units, p, u) {
             return Ok(Some(found));
         }
-        if keeps_by(self.problem(), Direction::Out, p, u) {
-            return self.sequence_ref(alloc, keeper, units, p, u);
+        if let Some(made) = self.out.large_ref(alloc, keeper, units, p, u)? {
+            return Ok(Some(made));
         }
-        Ok(Some(self.degree_ref(alloc, keeper, units, p, u)?))
+        self.back_ref(alloc, keeper, units, p, u)
     }
 
     /// Refers to the clause against `u` where that is not in the first domain of `p`.
@@ -546,7 +188,7 @@ impl<'a> FirstLines<'a> {
             return Ok(None);
         }
         let mut refs = Vec::new(alloc);
-        let problem = self.problem();
+        let problem = self.problem;
         for u in 0..problem.target().size() {
             self.push_value(alloc, keeper, units, p, u, &mut refs)?;
         }

@@ -4,13 +4,13 @@ ghost use Rattle.std.specs.Prelude.{◌≡◌, ◌<◌, ◌++◌, OnOk, IfOk};
 ghost use Rattle.graph_theory.specs.Graph.{size};
 ghost use Rattle.first_lines.specs.Operands.{beside_refs, value_refs, crowd_refs as crowd_refs_of, AreBeside, AreValues};
 
+use crate::turned::Turned;
 use log_theory::Ref;
-use pb_encoding::Encoding;
 use std::alloc::{AllocError, Global};
 
 /// Names the edge lines of `p` with these vertices where `p` is at `u`.
 fn push_beside(
-    lines: &Encoding,
+    lines: &Turned,
     p: u16,
     u: u16,
     vertices: &[u16],
@@ -29,7 +29,7 @@ fn push_beside(
 }
 
 /// Names the lines by which one vertex at most has each of these values.
-fn push_values(lines: &Encoding, values: &[u16], refs: &mut Vec<Ref>) -> Result<(), AllocError>
+fn push_values(lines: &Turned, values: &[u16], refs: &mut Vec<Ref>) -> Result<(), AllocError>
     requires { AreValues lines.now values.now }
     ensures { OnOk result (refs.new.items ≡ refs.old.items ++ value_refs lines.now values.now) }
 {
@@ -42,7 +42,7 @@ fn push_values(lines: &Encoding, values: &[u16], refs: &mut Vec<Ref>) -> Result<
 /// The lines of a crowd. Cost: a step for each, and for an edge line a search by halves.
 pub(crate) fn crowd_refs(
     alloc: Global,
-    lines: &Encoding,
+    lines: &Turned,
     p: u16,
     u: u16,
     vertices: &[u16],

@@ -40,9 +40,11 @@ pub record IsFrameOf (q : Problem) (owner : ℕ) (w : Frame) : Type 0 where
 -- The lines make the forms; the rows that they name are others'; and all their numbers are in their ranges.
 pub record Stands (w : Frame) (lines : List Step) (forms : List Form) : Type 0 where
   pub journal : IsJournal w.base w.owner lines forms
-  pub rows : (i k : ℕ) (s : Step) → slice_get lines i ≡ Some s → NamesRow (step_refs s) k → w.foreign k ≡ true
+  pub rows : (i k : ℕ) (s : Step) → slice_get lines i ≡ Some s → NamesRow (step_refs s) k
+      → w.foreign k ≡ true
   pub fits : (i : ℕ) (s : Step) → slice_get lines i ≡ Some s → IsLine s
-  pub ranges : (i : ℕ) (s : Step) → slice_get lines i ≡ Some s → in_range (variables w.problem) (step_variables s) ≡ true
+  pub ranges : (i : ℕ) (s : Step) → slice_get lines i ≡ Some s
+      → in_range (variables w.problem) (step_variables s) ≡ true
 
 -- ---- what references name
 
@@ -60,14 +62,16 @@ AreNamed w forms (r ∷ rs) [] = ⊥
 
 -- The step may be kept behind lines that make these forms, and makes this one.
 pub record MayFollow (w : Frame) (forms : List Form) (step : Step) (f : Form) : Type 0 where
-  pub made : (look : Lookup) → Finds w.base look → HoldsOwn w.owner forms look → makes look step ≡ Ok f
+  pub made : (look : Lookup) → Finds w.base look → HoldsOwn w.owner forms look
+      → makes look step ≡ Ok f
   pub rows : (k : ℕ) → NamesRow (step_refs step) k → w.foreign k ≡ true
   pub ranges : in_range (variables w.problem) (step_variables step) ≡ true
 
 -- ---- what a call does to lines
 
 -- Lines were added that make further forms, and this is so of all forms.
-pub record After (w : Frame) (old new : List Step) (forms : List Form) (Claim : List Form → Type 0) : Type 0 where
+pub record After (w : Frame) (old new : List Step) (forms : List Form) (Claim : List Form
+    → Type 0) : Type 0 where
   pub rest : List Step
   pub front : new ≡ old ++ rest
   pub more : List Form
@@ -75,8 +79,10 @@ pub record After (w : Frame) (old new : List Step) (forms : List Form) (Claim : 
   pub claim : Claim (forms ++ more)
 
 -- From lines that stand, of whose forms the one thing is so, to lines that stand, of whose forms the other is so. Nothing where nothing is kept.
-abbrev pub Goes : Frame → Option (List Step) → Option (List Step) → (List Form → Type 0) → (List Form → Type 0) → Type 0
-Goes w (Some old) (Some new) Before Claim = (forms : List Form) → Stands w old forms → Before forms → After w old new forms Claim
+abbrev pub Goes : Frame → Option (List Step) → Option (List Step) → (List Form → Type 0)
+    → (List Form → Type 0) → Type 0
+Goes w (Some old) (Some new) Before Claim = (forms : List Form) → Stands w old forms
+    → Before forms → After w old new forms Claim
 Goes w None None Before Claim = Unit {0}
 Goes w (Some old) None Before Claim = ⊥
 Goes w None (Some new) Before Claim = ⊥

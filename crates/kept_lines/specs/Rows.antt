@@ -18,7 +18,13 @@ is_of_other rows owner k = is_nogood_of_other owner (slice_get rows k)
 -- The frame of an owner beside rows, their clauses, and owner 0's forms.
 abbrev pub frame_of : Problem → List Row → (ℕ → Form) → List Form → ℕ → Frame
 frame_of q rows clause root owner =
-    record { problem = q; base = base_of (encoding q) root clause (length rows); owner = owner; foreign = is_of_other rows owner }
+    record {
+      problem = q;
+      base = base_of (encoding q) root clause
+          (length rows);
+      owner = owner;
+      foreign = is_of_other rows owner;
+    }
 
 -- More is found, and more rows are others'.
 pub record Widens (w v : Frame) : Type 0 where

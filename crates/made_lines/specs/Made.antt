@@ -7,7 +7,6 @@ use Rattle.log_theory.specs.declared.step.Name.{Name}
 use Rattle.log_theory.specs.declared.step.Ref.TheVariants.{Made}
 use Rattle.reason_theory.specs.Reasons.{ForcesFirst}
 use Rattle.propagation.specs.Recording.{CountedSet}
-use Rattle.row_theory.specs.Rows.{spread_form, not_both_form}
 use Rattle.kept_lines.specs.Frames.{Frame, IsNamed}
 use Rattle.kept_lines.specs.Rows.{Widens}
 use Rattle.kept_lines.proofs.Naming.{named_later}
@@ -15,14 +14,17 @@ use Rattle.kept_lines.proofs.Rows.{named_wider}
 use Rattle.first_lines.specs.Named.{name_at, AreUnits, is_false}
 use Rattle.row_lines.specs.declared.row_lines.RowLines.{RowLines}
 use Rattle.row_lines.specs.Claims.{Knows}
+use Rattle.row_lines.proofs.Following.{knows_last, knows_wider}
 use Rattle.made_lines.specs.Sets.{AreSets, sets_last, sets_wider}
 
 -- Each name is that of a line that forces the first domain of its vertex.
 abbrev pub AreFirsts : Problem → Frame → List (ℕ × Name) → List Form → Type 0
-AreFirsts q w names forms = (p : ℕ) (n : Name) → name_at names p ≡ Some n → (f : Form) × IsNamed w forms (Made n) f × ForcesFirst q f p
+AreFirsts q w names forms = (p : ℕ) (n : Name) → name_at names p ≡ Some n
+    → (f : Form) × IsNamed w forms (Made n) f × ForcesFirst q f p
 
 -- The names were made for this problem, and each is right.
-pub record IsMade (q made_for : Problem) (w : Frame) (units firsts : List (ℕ × Name)) (lines : RowLines) (sets : List (CountedSet × Name)) (forms : List Form) : Type 0 where
+pub record IsMade (q made_for : Problem) (w : Frame) (units firsts : List (ℕ
+    × Name)) (lines : RowLines) (sets : List (CountedSet × Name)) (forms : List Form) : Type 0 where
   pub problem_is : made_for ≡ q
   pub units_are : AreUnits w units forms
   pub firsts_are : AreFirsts q w firsts forms
@@ -30,34 +32,36 @@ pub record IsMade (q made_for : Problem) (w : Frame) (units firsts : List (ℕ �
   pub sets_are : AreSets q w sets forms
 
 -- So it stays as forms are added, and as more is found beside them.
-pub made_last : (q made_for : Problem) (w : Frame) (units firsts : List (ℕ × Name)) (lines : RowLines) (sets : List (CountedSet × Name)) (forms more : List Form) → IsMade q made_for w units firsts lines sets forms
+pub made_last : (q made_for : Problem) (w : Frame) (units firsts : List (ℕ
+    × Name)) (lines : RowLines) (sets : List (CountedSet × Name)) (forms more : List Form)
+    → IsMade q made_for w units firsts lines sets forms
     → IsMade q made_for w units firsts lines sets (forms ++ more)
 made_last q made_for w units firsts lines sets forms more h = record {
   problem_is = h.problem_is;
   units_are = λ v n e. named_later w forms more (Made n) (is_false v) (h.units_are v n e);
-  firsts_are = λ p n e. let x = h.firsts_are p n e in (x.0, named_later w forms more (Made n) x.0 x.1, x.2);
-  rows_are = (
-    record {
-      named = λ p r v n a b c e. named_later w forms more (Made n) (spread_form q p r v) (h.rows_are.0.named p r v n a b c e);
-      apart = λ m r v n a b c e. named_later w forms more (Made n) (not_both_form q m r v) (h.rows_are.0.apart m r v n a b c e);
-    },
-    record { named = λ p t r n a b c e. let x = h.rows_are.1.named p t r n a b c e in (x.0, named_later w forms more (Made n) x.0 x.1, x.2) },
+  firsts_are = λ p n e. let x = h.firsts_are p n e in (
+    x.0,
+    named_later w forms more
+        (Made n) x.0 x.1,
+    x.2,
   );
+  rows_are = knows_last w q lines forms more h.rows_are;
   sets_are = sets_last q w sets forms more h.sets_are;
 }
 
-pub made_wider : (q made_for : Problem) (w v : Frame) (units firsts : List (ℕ × Name)) (lines : RowLines) (sets : List (CountedSet × Name)) (forms : List Form) → Widens w v → IsMade q made_for w units firsts lines sets forms
+pub made_wider : (q made_for : Problem) (w v : Frame) (units firsts : List (ℕ
+    × Name)) (lines : RowLines) (sets : List (CountedSet × Name)) (forms : List Form)
+    → Widens w v → IsMade q made_for w units firsts lines sets forms
     → IsMade q made_for v units firsts lines sets forms
 made_wider q made_for w v units firsts lines sets forms wider h = record {
   problem_is = h.problem_is;
   units_are = λ x n e. named_wider w v forms (Made n) (is_false x) wider (h.units_are x n e);
-  firsts_are = λ p n e. let x = h.firsts_are p n e in (x.0, named_wider w v forms (Made n) x.0 wider x.1, x.2);
-  rows_are = (
-    record {
-      named = λ p r u n a b c e. named_wider w v forms (Made n) (spread_form q p r u) wider (h.rows_are.0.named p r u n a b c e);
-      apart = λ m r u n a b c e. named_wider w v forms (Made n) (not_both_form q m r u) wider (h.rows_are.0.apart m r u n a b c e);
-    },
-    record { named = λ p t r n a b c e. let x = h.rows_are.1.named p t r n a b c e in (x.0, named_wider w v forms (Made n) x.0 wider x.1, x.2) },
+  firsts_are = λ p n e. let x = h.firsts_are p n e in (
+    x.0,
+    named_wider w v forms
+        (Made n) x.0 wider x.1,
+    x.2,
   );
+  rows_are = knows_wider w v q lines forms wider h.rows_are;
   sets_are = sets_wider q w v sets forms wider h.sets_are;
 }

@@ -3,7 +3,6 @@
 ghost use Rattle.std.specs.Prelude.{◌≡◌, ℕ, ◌<◌, ◌≤◌, [], IfOk};
 ghost use Rattle.graph_theory.specs.Graph.{size};
 ghost use Rattle.graph_theory.specs.Embedding.{Problem as TheProblem};
-ghost use Rattle.graph_theory.specs.Plain.{ArePlain};
 ghost use Rattle.kept_lines.specs.Frames.{Frame};
 ghost use Rattle.made_lines.specs.Made.{IsMade, made_last, made_wider};
 
@@ -39,7 +38,6 @@ impl<'a> MadeLines<'a> {
         lines: &'a Encoding<'a>,
     ) -> Result<MadeLines<'a>, AllocError>
         requires encoding { lines.now ≡ problem.now }
-        requires plain { ArePlain problem.now }
         ensures { IfOk result
             (λ m. (w : Frame)
             → IsMade problem.now m.problem.now w m.units m.firsts m.rows m.sets []) }
@@ -62,7 +60,6 @@ impl<'a> LineMaker for MadeLines<'a> {
     fn first<K: Keeper>(
         &mut self,
         alloc: Global,
-        q: &Problem,
         lines: &Encoding<'_>,
         keeper: &mut K,
         p: u16,
@@ -85,20 +82,19 @@ impl<'a> LineMaker for MadeLines<'a> {
     fn row<K: Keeper>(
         &mut self,
         alloc: Global,
-        q: &Problem,
         lines: &Encoding<'_>,
         keeper: &mut K,
         p: u16,
         t: u16,
         r: u16,
     ) -> Result<Ref, AllocError> {
+        let q = lines.problem();
         self.rows.row(alloc, q, lines, keeper, p, t, r)
     }
 
     fn set<K: Keeper>(
         &mut self,
         alloc: Global,
-        _q: &Problem,
         lines: &Encoding<'_>,
         keeper: &mut K,
         vertices: &[u16],
@@ -109,7 +105,9 @@ impl<'a> LineMaker for MadeLines<'a> {
         set_line(alloc, lines, &mut self.sets, keeper, &members, values)
     }
 
-    ghost lasts = { λ m q w forms more h. made_last q m.problem.now w m.units m.firsts m.rows m.sets forms more h };
+    ghost lasts = { λ m q w forms more h. made_last q m.problem.now w m.units m.firsts m.rows
+        m.sets forms more h };
 
-    ghost wider = { λ m q w v forms wider h. made_wider q m.problem.now w v m.units m.firsts m.rows m.sets forms wider h };
+    ghost wider = { λ m q w v forms wider h. made_wider q m.problem.now w v m.units m.firsts m.rows
+        m.sets forms wider h };
 }

@@ -37,7 +37,8 @@ head_steps lines = Head ∷ Model lines ∷ []
 -- What rows bring, row after row, the first of them being row k; and how many lines of each owner stand there then.
 abbrev pub rows_steps : List Journal → ℕ → List Row → List ℕ → List Step
 rows_steps js k [] done = []
-rows_steps js k (r ∷ rs) done = row_lines js done k r.owner (noted_at js k r) ++ rows_steps js (k + 1) rs (row_done done r.owner (noted_at js k r))
+rows_steps js k (r ∷ rs) done = row_lines js done k r.owner (noted_at js k r)
+    ++ rows_steps js (k + 1) rs (row_done done r.owner (noted_at js k r))
 
 abbrev pub rows_done : List Journal → ℕ → List Row → List ℕ → List ℕ
 rows_done js k [] done = done
@@ -45,7 +46,8 @@ rows_done js k (r ∷ rs) done = rows_done js (k + 1) rs (row_done done r.owner 
 
 -- The steps of a log of a refutation: the head, the merged lines, and the last line, which names the finisher's last.
 abbrev pub refutation : ℕ → List Keeping → List BookRow → ℕ → List Step
-refutation lines js rows f = Head ∷ Model lines ∷ (merged (journals_in js) f (rows_in rows) ++ E (Made (last_name (journals_in js) f)) ∷ [])
+refutation lines js rows f = Head ∷ Model lines ∷ (merged (journals_in js) f (rows_in rows)
+    ++ E (Made (last_name (journals_in js) f)) ∷ [])
 
 -- The text of steps.
 abbrev pub log_text : List Step → List ℕ
@@ -65,7 +67,8 @@ HaveOwners js rows = (k : ℕ) (r : BookRow) → slice_get rows k ≡ Some r →
 
 -- The number that is noted for a row is that of one of its owner's lines.
 abbrev pub NotesAreOfLines : List Journal → List Row → Type 0
-NotesAreOfLines js rows = (k n : ℕ) (r : Row) → slice_get rows k ≡ Some r → noted_at js k r ≡ Some n → (1 ≤ n) × (n ≤ length (journal_of js r.owner).lines)
+NotesAreOfLines js rows = (k n : ℕ) (r : Row) → slice_get rows k ≡ Some r
+    → noted_at js k r ≡ Some n → (1 ≤ n) × (n ≤ length (journal_of js r.owner).lines)
 
 -- The lines of a journal bear their owner's names, in their ranges, and are not too many to be numbered.
 pub record IsWrittenDown (j : Keeping) : Type 0 where
@@ -78,18 +81,23 @@ AllWritten js = (w : ℕ) (j : Keeping) → slice_get js w ≡ Some j → IsWrit
 
 -- The variables of all lines are among the first n.
 abbrev pub AreInRange : ℕ → List Journal → Type 0
-AreInRange n js = (w i : ℕ) (s : Step) → w < length js → slice_get (journal_of js w).lines i ≡ Some s → in_range n (step_variables s) ≡ true
+AreInRange n js = (w i : ℕ) (s : Step) → w < length js
+    → slice_get (journal_of js w).lines i ≡ Some s → in_range n (step_variables s) ≡ true
 
 -- ---- journals that stand beside the same rows
 
 -- Each journal makes these forms beside the rows, owner 0's forms not counted, with its variables among the first n; the journals stand at
 -- their owners, and their notes rise.
-pub record StandBeside (n : ℕ) (model : List Form) (rows : List BookRow) (clause : ℕ → Form) (js : List Keeping) (fs : List (List Form)) : Type 0 where
+pub record StandBeside (n : ℕ) (model : List Form) (rows : List BookRow) (clause : ℕ
+    → Form) (js : List Keeping) (fs : List (List Form)) : Type 0 where
   pub same : length fs ≡ length js
   pub owners : StandAtOwners js
   pub notes : AllRise js
-  pub each : (w : ℕ) (j : Keeping) (forms : List Form) → slice_get js w ≡ Some j → slice_get fs w ≡ Some forms → Journaled model (rows_in rows) clause [] j.owner (journal_in j) forms
-  pub ranges : (w i : ℕ) (j : Keeping) (s : Step) → slice_get js w ≡ Some j → slice_get j.steps i ≡ Some s → in_range n (step_variables s) ≡ true
+  pub each : (w : ℕ) (j : Keeping) (forms : List Form) → slice_get js w ≡ Some j
+      → slice_get fs w ≡ Some forms → Journaled model (rows_in rows) clause [] j.owner
+      (journal_in j) forms
+  pub ranges : (w i : ℕ) (j : Keeping) (s : Step) → slice_get js w ≡ Some j
+      → slice_get j.steps i ≡ Some s → in_range n (step_variables s) ≡ true
 
 -- Owner 0 is alone, and there are no rows; or it has no forms.
 abbrev pub IsAloneOrBare : List BookRow → List Keeping → List (List Form) → Type 0
@@ -97,7 +105,8 @@ IsAloneOrBare rows js fs = ((rows ≡ []) × (length js ≡ 1)) ⊎ (slice_get f
 
 -- Each row is of an owner from 1 on that has a journal.
 abbrev pub AreOfWorkers : List Keeping → List BookRow → Type 0
-AreOfWorkers js rows = (k : ℕ) (r : BookRow) → slice_get rows k ≡ Some r → (0 < r.owner) × (r.owner < length js)
+AreOfWorkers js rows = (k : ℕ) (r : BookRow) → slice_get rows k ≡ Some r
+    → (0 < r.owner) × (r.owner < length js)
 
 -- The last form of this owner is plainly false.
 pub record EndsFalse (js : List Keeping) (fs : List (List Form)) (f : ℕ) : Type 0 where
@@ -110,7 +119,8 @@ pub record EndsFalse (js : List Keeping) (fs : List (List Form)) (f : ℕ) : Typ
   pub plainly_false : is_contradiction last ≡ true
 
 -- A log may be written of such journals, and it is accepted.
-pub record MayBeMerged (n : ℕ) (model : List Form) (js : List Keeping) (rows : List BookRow) (f : ℕ) : Type 0 where
+pub record MayBeMerged (n : ℕ) (model : List Form) (js : List Keeping) (rows : List BookRow)
+    (f : ℕ) : Type 0 where
   pub owned : HaveOwners js rows
   pub lines : NotesAreOfLines (journals_in js) (rows_in rows)
   pub finisher : f < length js

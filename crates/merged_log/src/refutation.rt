@@ -70,7 +70,8 @@ fn put_from<S: Sink>(
     requires rows { length rows.now ≤ 4194304 }
     requires finisher { finisher < length journals.now }
     ensures text { Wrote (S.spot sink.old).steady (S.contents sink.old) (S.contents sink.new) result
-        (text_in profile (merge_from (journals_in journals.now) finisher 0 (rows_in rows.now) done.old)) }
+        (text_in profile (merge_from (journals_in journals.now) finisher 0
+        (rows_in rows.now) done.old)) }
     ensures cause { HasBlame S.spot S.rest S.faults S.blamed sink.old sink.new result }
 {
     put_rows(profile, journals, rows, done, sink)?;
@@ -130,7 +131,10 @@ fn write_end<S: Sink>(
     requires owner { owner ≤ 64 }
     requires some { 0 < length journal.now.steps }
     ensures text { Wrote (S.spot sink.old).steady (S.contents sink.old) (S.contents sink.new) result
-        (text_in profile (E (Made (record { owner = owner; number = length journal.now.steps })) ∷ [])) }
+        (text_in profile (E (Made (record {
+          owner = owner;
+          number = length journal.now.steps;
+        })) ∷ [])) }
     ensures cause { HasBlame S.spot S.rest S.faults S.blamed sink.old sink.new result }
 {
     let number = journal.ends().len() as u64;

@@ -1,25 +1,16 @@
 -- Edges that agree, and values that are consistent.
-use Rattle.std.proofs.Common.{◌≡◌, ℕ, ◌<◌, ◌≤◌, ◌==◌, nat_lt, ◌&&◌, not, Bool, true, false, is_some, List, Option, Some, None, Result, Ok, Err, OnOk, IfOk, slice_index, refl, sym, ap, subst, ◌∙◌, arith}
-use Rattle.std.proofs.lemmas.Bool.{true≢false, eq-eqb, ne_eqb, ltb-true, ltb-false}
+use Rattle.std.proofs.Common.{◌≡◌, ℕ, ◌<◌, ◌≤◌, ◌==◌, nat_lt, ◌&&◌, ◌||◌, not, Bool, true, false, is_some, List, Option, Some, None, Result, Ok, Err, OnOk, IfOk, slice_index, ◌+◌, refl, sym, ap, subst, ◌∙◌, arith, inl, inr, ◌⊎◌}
+use Rattle.std.proofs.lemmas.Bool.{true≢false, eq-eqb, ne_eqb, eqb-true, eqb-false, cases_eq, cases_lt, ltb-true, ltb-false, or_parts}
 use Rattle.std.specs.declared.alloc.AllocError.{AllocError}
 use Rattle.graph_theory.specs.Graph.{size, edge}
-use Rattle.graph_theory.specs.Plain.{IsPlain}
-use Rattle.graph_theory.specs.Embedding.{Problem, Matches}
+use Rattle.graph_theory.specs.Embedding.{Problem, Matches, Compatible}
 use Rattle.graph_theory.specs.Neighbours.{common}
+use Rattle.graph_theory.specs.Reversed.{reversed, reversed_problem, AreMutual}
+use Rattle.graph_theory.proofs.ReversedGraphs.{edge-reversed}
 use Rattle.search_theory.specs.Consistency.{AreConsistent}
-use Rattle.search_theory.proofs.Pairs.{plain_consistent}
-use Rattle.domain_bits.specs.BitRows.{has}
-use Rattle.needed_values.specs.Consistent.{agree, edges_agree, Leaves, AllConsistent, Shares, AllShare}
-
-matched : (induced : Bool) (e f : Option ℕ) → ((l : ℕ) → e ≡ Some l → l ≡ 0) → ((l : ℕ) → f ≡ Some l → l ≡ 0) → agree (is_some e) induced (is_some f) ≡ true → Matches induced e f
-matched false None f e0 f0 h = tt
-matched false (Some l) None e0 f0 h = absurd cc
-matched false (Some l) (Some k) e0 f0 h = ap (λ (n : ℕ). let o : Option ℕ = Some n in o) (f0 k refl ∙ sym (e0 l refl))
-matched true None None e0 f0 h = (tt, tt)
-matched true None (Some k) e0 f0 h = absurd cc
-matched true (Some l) None e0 f0 h = absurd cc
-matched true (Some l) (Some k) e0 f0 h =
-    (ap (λ (n : ℕ). let o : Option ℕ = Some n in o) (f0 k refl ∙ sym (e0 l refl)), ap (λ (n : ℕ). let o : Option ℕ = Some n in o) (e0 l refl ∙ sym (f0 k refl)))
+use Rattle.search_theory.proofs.Pairs.{mutual_consistent}
+use Rattle.bit_rows.specs.BitRows.{has}
+use Rattle.needed_values.specs.Consistent.{agree, edges_agree, are_joined, Goes, AllGo, Leaves, AllConsistent, Shares, AllShare}
 
 agreed : (induced : Bool) (e f : Option ℕ) → Matches induced e f → agree (is_some e) induced (is_some f) ≡ true
 agreed false None f m = refl
@@ -28,19 +19,12 @@ agreed true None None m = refl
 agreed true None (Some k) m = absurd cc
 agreed true (Some l) f m = ap is_some m.0
 
-module _ (q : Problem) (pattern : IsPlain q.pattern) (target : IsPlain q.target) (p t r u : ℕ) where
-  pub consistent : p < size q.pattern → r < size q.pattern → t < size q.target → u < size q.target → (t ≡ u → ⊥) → edges_agree q p t r u ≡ true → common q.pattern p r ≤ common q.target t u
-      → AreConsistent q p t r u
-  consistent p_in r_in t_in u_in apart agrees shared =
-      let out = matched q.induced (edge q.pattern p r) (edge q.target t u) (pattern.zeros p r) (target.zeros t u) agrees in
-      plain_consistent q p t r u (record { pattern_plain = pattern; target_plain = target }) p_in t_in r_in u_in (record {
-        apart = apart;
-        out = out;
-        back = subst (λ (e : Option ℕ). Matches q.induced e (edge q.target u t)) (pattern.both p r) (subst (λ (f : Option ℕ). Matches q.induced (edge q.pattern p r) f) (target.both t u) out);
-      }) shared
-
-  pub edges_of : AreConsistent q p t r u → edges_agree q p t r u ≡ true
-  edges_of h = agreed q.induced (edge q.pattern p r) (edge q.target t u) h.pair.out
+-- Where there is no pattern edge, that is all.
+unasked : (induced : Bool) (e f : Option ℕ) → is_some e ≡ false → agree (is_some e) induced (is_some f) ≡ true → Matches induced e f
+unasked false None f none h = tt
+unasked true None None none h = (tt, tt)
+unasked true None (Some k) none h = absurd cc
+unasked induced (Some l) f none h = absurd cc
 
 and_true : (a b : Bool) → (a && b) ≡ true → (a ≡ true) × (b ≡ true)
 and_true true b h = (refl, h)
@@ -50,35 +34,150 @@ not_true : (b : Bool) → not b ≡ true → b ≡ false
 not_true false h = refl
 not_true true h = absurd cc
 
--- What is left after edges, then without t, then by shared neighbours.
-module _ (q : Problem) (pattern : IsPlain q.pattern) (target : IsPlain q.target) (p t r : ℕ) (old near mid new : List ℕ) (near_is : (u : ℕ) → has near u ≡ (has old u && edges_agree q p t r u))
+at_either : (b : Bool) → (b ≡ true → ⊥) → b ≡ false
+at_either true h = absurd (h refl)
+at_either false h = refl
+
+-- ---- edges
+
+module _ (q : Problem) (p t r u : ℕ) (p_in : p < size q.pattern) (r_in : r < size q.pattern) (t_in : t < size q.target) (u_in : u < size q.target) where
+  back_is : edges_agree (reversed_problem q) p t r u ≡ agree (is_some (edge q.pattern r p)) q.induced (is_some (edge q.target u t))
+  back_is =
+      ap (λ (e : Option ℕ). agree (is_some e) q.induced (is_some (edge (reversed q.target) t u))) (edge-reversed q.pattern p r p_in r_in)
+      ∙ ap (λ (f : Option ℕ). agree (is_some (edge q.pattern r p)) q.induced (is_some f)) (edge-reversed q.target t u t_in u_in)
+
+  both_agree : Compatible q p t r u → (edges_agree q p t r u ≡ true) × (edges_agree (reversed_problem q) p t r u ≡ true)
+  both_agree c = (agreed q.induced (edge q.pattern p r) (edge q.target t u) c.out, back_is ∙ agreed q.induced (edge q.pattern r p) (edge q.target u t) c.back)
+
+  -- Without an edge between p and r nothing more is asked.
+  free : are_joined q p r ≡ false → (t ≡ u → ⊥) → edges_agree q p t r u ≡ true → edges_agree (reversed_problem q) p t r u ≡ true → Compatible q p t r u
+  free apart other along against =
+      let none = or_parts (is_some (edge q.pattern p r)) (is_some (edge q.pattern r p)) apart in
+      record {
+        apart = other;
+        out = unasked q.induced (edge q.pattern p r) (edge q.target t u) none.0 along;
+        back = unasked q.induced (edge q.pattern r p) (edge q.target u t) none.1 (sym back_is ∙ against);
+      }
+
+-- What is left after the edges of each direction, then without t.
+module _ (q : Problem) (p t r : ℕ) (old out near mid : List ℕ) (p_in : p < size q.pattern) (r_in : r < size q.pattern) (t_in : t < size q.target) (within : (u : ℕ) → has old u ≡ true → u < size q.target)
+    (out_is : (u : ℕ) → has out u ≡ (has old u && edges_agree q p t r u)) (near_is : (u : ℕ) → has near u ≡ (has out u && edges_agree (reversed_problem q) p t r u))
     (mid_is : (u : ℕ) → has mid u ≡ (has near u && not (t == u))) where
-  mid_parts : (u : ℕ) → has mid u ≡ true → (has old u ≡ true) × (edges_agree q p t r u ≡ true) × (t ≡ u → ⊥)
+  pub record Parts (u : ℕ) : Type 0 where
+    was : has old u ≡ true
+    along : edges_agree q p t r u ≡ true
+    against : edges_agree (reversed_problem q) p t r u ≡ true
+    other : t ≡ u → ⊥
+
+  mid_parts : (u : ℕ) → has mid u ≡ true → Parts u
   mid_parts u h =
       let a = and_true (has near u) (not (t == u)) (sym (mid_is u) ∙ h) in
-      let b = and_true (has old u) (edges_agree q p t r u) (sym (near_is u) ∙ a.0) in
-      (b.0, b.1, λ e. true≢false (sym (eq-eqb t u e) ∙ not_true (t == u) a.1))
+      let b = and_true (has out u) (edges_agree (reversed_problem q) p t r u) (sym (near_is u) ∙ a.0) in
+      let c = and_true (has old u) (edges_agree q p t r u) (sym (out_is u) ∙ b.0) in
+      record { was = c.0; along = c.1; against = b.1; other = λ e. true≢false (sym (eq-eqb t u e) ∙ not_true (t == u) a.1) }
 
-  pub left_of : Shares q p t r mid new → Leaves q p t r old new
-  left_of s = record {
-    kept = λ u h. (mid_parts u (s.kept u h)).0;
+  pub words_within : (u : ℕ) → has mid u ≡ true → u < size q.target
+  words_within u h = within u (mid_parts u h).was
+
+  pub words_go : Goes q p t r old mid
+  words_go = record {
+    kept = λ u h. (mid_parts u h).was;
     right = λ u was gone c.
-        let in_near : has near u ≡ true = near_is u ∙ ap (λ (b : Bool). b && edges_agree q p t r u) was ∙ edges_of q pattern target p t r u c in
-        let in_mid : has mid u ≡ true = mid_is u ∙ ap (λ (b : Bool). b && not (t == u)) in_near ∙ ap not (ne_eqb t u c.pair.apart) in
-        s.right u in_mid gone c.shared;
+        let both = both_agree q p t r u p_in r_in t_in (within u was) c in
+        let in_out : has out u ≡ true = out_is u ∙ ap (λ (b : Bool). b && edges_agree q p t r u) was ∙ both.0 in
+        let in_near : has near u ≡ true = near_is u ∙ ap (λ (b : Bool). b && edges_agree (reversed_problem q) p t r u) in_out ∙ both.1 in
+        let in_mid : has mid u ≡ true = mid_is u ∙ ap (λ (b : Bool). b && not (t == u)) in_near ∙ ap not (ne_eqb t u c.apart) in
+        true≢false (sym in_mid ∙ gone);
   }
 
-  pub all_of : (b : Bool) → p < size q.pattern → r < size q.pattern → t < size q.target → ((u : ℕ) → has old u ≡ true → u < size q.target) → Shares q p t r mid new → AllShare b q p t r new
-      → AllConsistent b q p t r new
-  all_of false p_in r_in t_in within s all = tt
-  all_of true p_in r_in t_in within s all = λ u h. let m = mid_parts u (s.kept u h) in consistent q pattern target p t r u p_in r_in t_in (within u m.0) m.2 m.1 (all u h)
+  pub words_all : are_joined q p r ≡ false → AllGo q p t r mid
+  words_all apart u h = let m = mid_parts u h in free q p t r u p_in r_in t_in (within u m.was) apart m.other m.along m.against
 
-  pub mid_within : (n : ℕ) → ((u : ℕ) → has old u ≡ true → u < n) → (u : ℕ) → has mid u ≡ true → u < n
-  mid_within n within u h = within u (mid_parts u h).0
+pub goes_on : (q : Problem) (p t r : ℕ) (old mid new : List ℕ) → Goes q p t r old mid → Goes q p t r mid new → Goes q p t r old new
+goes_on q p t r old mid new first second = record {
+  kept = λ u h. first.kept u (second.kept u h);
+  right = λ u was gone c. by u was gone c (has mid u) refl;
+}
+  where
+    by : (u : ℕ) → has old u ≡ true → has new u ≡ false → Compatible q p t r u → (b : Bool) → has mid u ≡ b → ⊥
+    by u was gone c true there = second.right u there gone c
+    by u was gone c false left = first.right u was left c
 
-  pub all_on : (result : Result Bool AllocError) → p < size q.pattern → r < size q.pattern → t < size q.target → ((u : ℕ) → has old u ≡ true → u < size q.target) → OnOk result (Shares q p t r mid new) → IfOk result (λ b. AllShare b q p t r new) → IfOk result (λ b. AllConsistent b q p t r new)
-  all_on (Ok b) p_in r_in t_in within s all = all_of b p_in r_in t_in within s all
-  all_on (Err e) p_in r_in t_in within s all = tt
+pub goes_itself : (q : Problem) (p t r : ℕ) (row : List ℕ) → Goes q p t r row row
+goes_itself q p t r row = record { kept = λ u h. h; right = λ u was gone c. true≢false (sym was ∙ gone) }
+
+-- ---- values that are tested one by one
+
+pub record Tested (q : Problem) (p t r n : ℕ) (old now : List ℕ) : Type 0 where
+  pub goes : Goes q p t r old now
+  pub all : (u : ℕ) → u < n → has now u ≡ true → Compatible q p t r u
+
+-- A value that does not go together with p at t is taken out.
+pub tested_out : (q : Problem) (p t r n m : ℕ) (old now new : List ℕ) → Tested q p t r n old now → (Compatible q p t r n → ⊥) → ((v : ℕ) → has new v ≡ (has now v && not (n == v))) → ((v : ℕ) → n + 1 ≤ v → v < m → has new v ≡ false)
+    → Tested q p t r m old new
+tested_out q p t r n m old now new before bad cut none = record {
+  goes = goes_on q p t r old now new before.goes (record {
+    kept = λ u h. (and_true (has now u) (not (n == u)) (sym (cut u) ∙ h)).0;
+    right = λ u was gone c. by u was gone c (n == u) refl;
+  });
+  all = λ u low h. let a = and_true (has now u) (not (n == u)) (sym (cut u) ∙ h) in at u low h a.0 (not_true (n == u) a.1) (cases_lt u n);
+}
+  where
+    by : (u : ℕ) → has now u ≡ true → has new u ≡ false → Compatible q p t r u → (b : Bool) → (n == u) ≡ b → ⊥
+    by u was gone c true same = bad (subst (λ (v : ℕ). Compatible q p t r v) (sym (eqb-true n u same)) c)
+    by u was gone c false other = true≢false (sym (cut u ∙ ap (λ (b : Bool). b && not (n == u)) was ∙ ap not other) ∙ gone)
+
+    at : (u : ℕ) → u < m → has new u ≡ true → has now u ≡ true → (n == u) ≡ false → (u < n) ⊎ (n ≤ u) → Compatible q p t r u
+    at u low h there other (inl less) = before.all u less there
+    at u low h there other (inr more) = absurd (true≢false (sym h ∙ none u (let d = eqb-false n u other in past u more d) low))
+      where
+        past : (v : ℕ) → n ≤ v → (n ≡ v → ⊥) → n + 1 ≤ v
+        past v le d = omega (arith, le, d)
+
+-- One that does stays.
+pub tested_in : (q : Problem) (p t r n m : ℕ) (old now : List ℕ) → Tested q p t r n old now → Compatible q p t r n → ((v : ℕ) → n + 1 ≤ v → v < m → has now v ≡ false) → Tested q p t r m old now
+tested_in q p t r n m old now before good none = record { goes = before.goes; all = λ u low h. at u low h (cases_lt u n) (cases_eq u n) }
+  where
+    at : (u : ℕ) → u < m → has now u ≡ true → (u < n) ⊎ (n ≤ u) → (u ≡ n) ⊎ (u ≡ n → ⊥) → Compatible q p t r u
+    at u low h (inl less) e = before.all u less h
+    at u low h (inr more) (inl same) = subst (λ (v : ℕ). Compatible q p t r v) (sym same) good
+    at u low h (inr more) (inr other) = absurd (true≢false (sym h ∙ none u (omega (arith, more, other)) low))
+
+pub tested_none : (q : Problem) (p t r m : ℕ) (old : List ℕ) → ((v : ℕ) → 0 ≤ v → v < m → has old v ≡ false) → Tested q p t r m old old
+tested_none q p t r m old none = record { goes = goes_itself q p t r old; all = λ u low h. absurd (true≢false (sym h ∙ none u (omega arith) low)) }
+
+-- ---- shared neighbours
+
+pub not_itself : (q : Problem) (p t r : ℕ) (row : List ℕ) → AllGo q p t r row → has row t ≡ false
+not_itself q p t r row all = at_either (has row t) (λ h. (all t h).apart refl)
+
+module _ (q : Problem) (p t r : ℕ) (p_in : p < size q.pattern) (r_in : r < size q.pattern) (t_in : t < size q.target) (old mid new : List ℕ) (within : (u : ℕ) → has old u ≡ true → u < size q.target) (all : AllGo q p t r old)
+    (along : Shares q p t r old mid) where
+  pub out_leaves : Leaves q p t r old mid
+  out_leaves = record { kept = along.kept; right = λ u was gone c. along.right u was gone c.shared }
+
+  pub out_all : AreMutual q → (b : Bool) → AllShare b q p t r mid → AllConsistent b q p t r mid
+  out_all ways false share = tt
+  out_all ways true share = λ u h. let was = along.kept u h in mutual_consistent q p t r u ways p_in t_in r_in (within u was) (all u was) (share u h)
+
+  pub mid_within : (u : ℕ) → has mid u ≡ true → u < size q.target
+  mid_within u h = within u (along.kept u h)
+
+  pub mid_other : has mid t ≡ false
+  mid_other = at_either (has mid t) (λ h. (all t (along.kept t h)).apart refl)
+
+  module _ (against : Shares (reversed_problem q) p t r mid new) where
+    pub both_leave : Leaves q p t r old new
+    both_leave = record { kept = λ u h. along.kept u (against.kept u h); right = λ u was gone c. by u was gone c (has mid u) refl }
+      where
+        by : (u : ℕ) → has old u ≡ true → has new u ≡ false → AreConsistent q p t r u → (b : Bool) → has mid u ≡ b → ⊥
+        by u was gone c true there = against.right u there gone c.in_shared
+        by u was gone c false left = along.right u was left c.shared
+
+    pub both_all : (a b : Bool) → AllShare a q p t r mid → AllShare b (reversed_problem q) p t r new → AllConsistent (a && b) q p t r new
+    both_all false b one two = tt
+    both_all true false one two = tt
+    both_all true true one two = λ u h. let there = against.kept u h in record { pair = all u (along.kept u there); shared = one u there; in_shared = two u h }
 
 -- What is left by counts of shared neighbours shares enough, and nothing else that was there does.
 module _ (q : Problem) (p t r shared : ℕ) (counts old new : List ℕ) (shared_is : shared ≡ common q.pattern p r)

@@ -1,11 +1,11 @@
 -- What a vertex at its place leaves to another.
 
-use Rattle.std.specs.Prelude.{◌≡◌, ℕ, ◌≤◌, Bool, true, false, not, is_some, List}
+use Rattle.std.specs.Prelude.{◌≡◌, ℕ, ◌≤◌, Bool, true, false, not, ◌||◌, is_some, List}
 use Rattle.graph_theory.specs.Graph.{edge}
-use Rattle.graph_theory.specs.Embedding.{Problem}
+use Rattle.graph_theory.specs.Embedding.{Problem, Compatible}
 use Rattle.graph_theory.specs.Neighbours.{common}
 use Rattle.search_theory.specs.Consistency.{AreConsistent}
-use Rattle.domain_bits.specs.BitRows.{has}
+use Rattle.bit_rows.specs.BitRows.{has}
 
 -- Whether a pattern edge, and an edge of its image, are as they have to be: an edge goes to an edge, and in the induced kind no edge to none.
 abbrev pub agree : Bool → Bool → Bool → Bool
@@ -13,9 +13,22 @@ agree true induced near = near
 agree false true near = not near
 agree false false near = true
 
--- So it is by the edges of p and r, and of t and u.
+-- So it is by the edges from p to r, and from t to u.
 abbrev pub edges_agree : Problem → ℕ → ℕ → ℕ → ℕ → Bool
 edges_agree q p t r u = agree (is_some (edge q.pattern p r)) q.induced (is_some (edge q.target t u))
+
+-- An edge leads from one of the two pattern vertices to the other.
+abbrev pub are_joined : Problem → ℕ → ℕ → Bool
+are_joined q p r = is_some (edge q.pattern p r) || is_some (edge q.pattern r p)
+
+-- Of a row of values of r some are left, and none of the others goes together with p at t.
+pub record Goes (q : Problem) (p t r : ℕ) (old new : List ℕ) : Type 0 where
+  pub kept : (u : ℕ) → has new u ≡ true → has old u ≡ true
+  pub right : (u : ℕ) → has old u ≡ true → has new u ≡ false → Compatible q p t r u → ⊥
+
+-- Each value of the row does.
+abbrev pub AllGo : Problem → ℕ → ℕ → ℕ → List ℕ → Type 0
+AllGo q p t r row = (u : ℕ) → has row u ≡ true → Compatible q p t r u
 
 -- Of a row of values of r some are left, and with p at t none of the others is consistent.
 pub record Leaves (q : Problem) (p t r : ℕ) (old new : List ℕ) : Type 0 where
@@ -30,7 +43,8 @@ AllConsistent false q p t r row = Unit {0}
 -- Of a row of values some are left, and the others share fewer neighbours with t than p with r.
 pub record Shares (q : Problem) (p t r : ℕ) (old new : List ℕ) : Type 0 where
   pub kept : (u : ℕ) → has new u ≡ true → has old u ≡ true
-  pub right : (u : ℕ) → has old u ≡ true → has new u ≡ false → common q.pattern p r ≤ common q.target t u → ⊥
+  pub right : (u : ℕ) → has old u ≡ true → has new u ≡ false
+      → common q.pattern p r ≤ common q.target t u → ⊥
 
 -- Where the answer is true, each value of the row shares as many.
 abbrev pub AllShare : Bool → Problem → ℕ → ℕ → ℕ → List ℕ → Type 0

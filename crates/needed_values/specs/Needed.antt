@@ -1,7 +1,7 @@
 -- Needed values: a mark for each vertex, and a row of values behind another.
 
 use Rattle.std.specs.Prelude.{◌≡◌, ℕ, ◌*◌, ◌<◌, ◌≤◌, Bool, true, false, ◌&&◌, List, length, get_or, drop}
-use Rattle.domain_bits.specs.BitRows.{has, words_for}
+use Rattle.bit_rows.specs.BitRows.{has, words_for}
 
 -- Of so many values, value u of vertex r is needed: r is marked, and its row has u.
 abbrev pub needs : ℕ → List Bool → List ℕ → ℕ → ℕ → Bool

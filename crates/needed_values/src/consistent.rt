@@ -2,13 +2,12 @@
 
 ghost use Rattle.std.specs.Prelude.{◌≡◌, ℕ, ◌<◌, ◌&&◌, not, ◌==◌, true, false, length, IfOk, OnOk};
 ghost use Rattle.graph_theory.specs.Graph.{size};
-ghost use Rattle.graph_theory.specs.Plain.{ArePlain};
-ghost use Rattle.domain_bits.specs.BitRows.{has, words_for};
-ghost use Rattle.needed_values.specs.Consistent.{edges_agree, Leaves, AllConsistent, Shares, AllShare};
+ghost use Rattle.graph_theory.specs.Reversed.{turned_problem};
+ghost use Rattle.bit_rows.specs.BitRows.{has, words_for};
+ghost use Rattle.needed_values.specs.Consistent.{edges_agree, are_joined, Leaves, AllConsistent, Goes, AllGo, Shares, AllShare};
 
-use bit_rows::{keep_counted, unset_bit};
+use bit_rows::{and_into, and_not_into, has_bit, keep_counted, next_member, unset_bit};
 use common_neighbour::Counts;
-use domain_bits::{and_into, and_not_into};
 use graph_rows::Problem;
 use graph_theory::direction::Direction;
 use std::alloc::{AllocError, Global};
@@ -16,27 +15,78 @@ use std::alloc::{AllocError, Global};
 /// Shared neighbours are counted with no vertex that has more neighbours than these.
 const MOST_NEAR: u16 = 12;
 
-/// Keeps of a row of values those whose edges with `t` are as those of `p` and `r` ask. Cost: one step for each word.
-fn keep_near(q: &Problem, p: u16, t: u16, r: u16, row: &mut [u64])
+/// Keeps of a row of values those whose edges with `t` in a direction are as those of `p` and `r` ask, labels aside. Cost: one step for
+/// each word.
+fn keep_near(q: &Problem, direction: Direction, p: u16, t: u16, r: u16, row: &mut [u64])
     requires p_in { p < size q.now.pattern }
     requires t_in { t < size q.now.target }
     requires r_in { r < size q.now.pattern }
     requires long { length row.old ≡ words_for (size q.now.target) }
-    ensures { (u : ℕ) → has row.new u ≡ (has row.old u && edges_agree q.now p t r u) }
+    ensures { (u : ℕ) → has row.new u
+        ≡ (has row.old u && edges_agree (turned_problem direction q.now) p t r u) }
 {
-    if q.pattern().has_edge(p, r) {
-        and_into(row, q.target().row(t));
+    if has_bit(q.pattern().row_by(direction, p), usize::from(r)) {
+        and_into(row, q.target().row_by(direction, t));
     } else if q.induced() {
-        and_not_into(row, q.target().row(t));
+        and_not_into(row, q.target().row_by(direction, t));
     }
 }
 
-/// Keeps of a row of values those that share as many neighbours with `t` as `p` with `r`, where these are few enough to be counted,
-/// and tells whether it did. Cost: for pattern vertices that share none, or a `t` of many neighbours, one step for each word of a row of
-/// the pattern; else also one for each value, and for each neighbour of a neighbour of `t`.
+/// Keeps of a row of values those that go together with `p` at `t`, each of them tested. Cost: four words for each value.
+fn keep_tested(q: &Problem, p: u16, t: u16, r: u16, row: &mut [u64])
+    requires p_in { p < size q.now.pattern }
+    requires t_in { t < size q.now.target }
+    requires r_in { r < size q.now.pattern }
+    requires long { length row.old ≡ words_for (size q.now.target) }
+    requires within { (u : ℕ) → has row.old u ≡ true → u < size q.now.target }
+    ensures goes { Goes q.now p t r row.old row.new }
+    ensures all { AllGo q.now p t r row.new }
+{
+    let _size = q.target().size();
+    let mut u = next_member(row, 0);
+    while u < 64 * row.len() {
+        if !q.compatible(p, t, r, u as u16) {
+            unset_bit(row, u);
+        }
+        u = next_member(row, u + 1);
+    }
+}
+
+/// Whether an edge leads from one pattern vertex to the other. Cost: two words.
+fn are_joined_by(q: &Problem, p: u16, r: u16) -> bool
+    requires p_in { p < size q.now.pattern }
+    requires r_in { r < size q.now.pattern }
+    ensures { result ≡ are_joined q.now p r }
+{
+    q.pattern().has_edge(p, r) || q.pattern().has_edge(r, p)
+}
+
+/// Keeps of a row of values of `r` those that go together with `p` at `t`. Cost: two steps for each word, and where an edge joins `p` and
+/// `r` four words for each value that these leave.
+fn keep_compatible(q: &Problem, p: u16, t: u16, r: u16, row: &mut [u64])
+    requires p_in { p < size q.now.pattern }
+    requires t_in { t < size q.now.target }
+    requires r_in { r < size q.now.pattern }
+    requires long { length row.old ≡ words_for (size q.now.target) }
+    requires within { (u : ℕ) → has row.old u ≡ true → u < size q.now.target }
+    ensures goes { Goes q.now p t r row.old row.new }
+    ensures all { AllGo q.now p t r row.new }
+{
+    keep_near(q, Direction::Out, p, t, r, row);
+    keep_near(q, Direction::In, p, t, r, row);
+    unset_bit(row, usize::from(t));
+    if are_joined_by(q, p, r) {
+        keep_tested(q, p, t, r, row);
+    }
+}
+
+/// Keeps of a row of values those that share as many neighbours with `t` in a direction as `p` with `r`, where these are few enough to be
+/// counted, and tells whether it did. Cost: for pattern vertices that share none, or a `t` of many neighbours, one step for each word of a
+/// row of the pattern; else also one for each value, and for each neighbour of a neighbour of `t`.
 fn keep_sharing(
     alloc: Global,
     q: &Problem,
+    direction: Direction,
     p: u16,
     t: u16,
     r: u16,
@@ -51,25 +101,55 @@ fn keep_sharing(
     requires within { (u : ℕ) → has row.old u ≡ true → u < size q.now.target }
     requires other { has row.old t ≡ false }
     requires counts { length counts.old ≡ size q.now.target }
-    ensures shares { OnOk result (Shares q.now p t r row.old row.new) }
-    ensures all { IfOk result (λ b. AllShare b q.now p t r row.new) }
+    ensures shares { OnOk result (Shares (turned_problem direction q.now) p t r row.old row.new) }
+    ensures all { IfOk result (λ b. AllShare b (turned_problem direction q.now) p t r row.new) }
 {
-    let shared = Counts::new(alloc, q.pattern(), Direction::Out)?.count(p, r);
+    let shared = Counts::new(alloc, q.pattern(), direction)?.count(p, r);
     if shared == 0 {
         return Ok(true);
     }
     let target = q.target();
-    if target.degree(t) > MOST_NEAR {
+    if target.degree_by(direction, t) > MOST_NEAR {
         return Ok(false);
     }
-    Counts::new(alloc, target, Direction::Out)?.fill_counts(t, counts);
+    Counts::new(alloc, target, direction)?.fill_counts(t, counts);
     keep_counted(row, counts, shared);
     Ok(true)
 }
 
-/// Keeps of a row of values of `r` those that are consistent with `p` at `t`, as far as is quickly told on graphs without directions, and
-/// tells whether all that are left are. Cost: a few steps for each word; where `p` and `r` share neighbours and `t` has at most 12, also
-/// one for each value, and for each neighbour of a neighbour of `t`.
+/// Keeps those that share as many in each direction, where these are few enough to be counted, and tells whether it did. Where edges are
+/// known to stand both ways one direction is enough. Cost: that of `keep_sharing`, once or twice.
+fn keep_sharing_both(
+    alloc: Global,
+    q: &Problem,
+    p: u16,
+    t: u16,
+    r: u16,
+    row: &mut [u64],
+    counts: &mut [u16],
+) -> Result<bool, AllocError>
+    requires p_in { p < size q.now.pattern }
+    requires t_in { t < size q.now.target }
+    requires r_in { r < size q.now.pattern }
+    requires apart { p ≡ r → ⊥ }
+    requires long { length row.old ≡ words_for (size q.now.target) }
+    requires within { (u : ℕ) → has row.old u ≡ true → u < size q.now.target }
+    requires go { AllGo q.now p t r row.old }
+    requires counts { length counts.old ≡ size q.now.target }
+    ensures leaves { OnOk result (Leaves q.now p t r row.old row.new) }
+    ensures all { IfOk result (λ b. AllConsistent b q.now p t r row.new) }
+{
+    let along = keep_sharing(alloc, q, Direction::Out, p, t, r, row, counts)?;
+    if q.is_mutual() {
+        return Ok(along);
+    }
+    let against = keep_sharing(alloc, q, Direction::In, p, t, r, row, counts)?;
+    Ok(along && against)
+}
+
+/// Keeps of a row of values of `r` those that are consistent with `p` at `t`, as far as is quickly told, and tells whether all that are
+/// left are. Cost: a few steps for each word, and where an edge joins `p` and `r` for each value that edges leave; where they share
+/// neighbours and `t` has at most 12, also one for each value, and for each neighbour of a neighbour of `t`.
 pub fn keep_consistent(
     alloc: Global,
     q: &Problem,
@@ -79,7 +159,6 @@ pub fn keep_consistent(
     row: &mut [u64],
     counts: &mut [u16],
 ) -> Result<bool, AllocError>
-    requires plain { ArePlain q.now }
     requires p_in { p < size q.now.pattern }
     requires t_in { t < size q.now.target }
     requires r_in { r < size q.now.pattern }
@@ -90,7 +169,6 @@ pub fn keep_consistent(
     ensures leaves { OnOk result (Leaves q.now p t r row.old row.new) }
     ensures all { IfOk result (λ b. AllConsistent b q.now p t r row.new) }
 {
-    keep_near(q, p, t, r, row);
-    unset_bit(row, usize::from(t));
-    keep_sharing(alloc, q, p, t, r, row, counts)
+    keep_compatible(q, p, t, r, row);
+    keep_sharing_both(alloc, q, p, t, r, row, counts)
 }

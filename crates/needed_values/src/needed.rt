@@ -1,11 +1,10 @@
 //! The rows of needed values.
 
 ghost use Rattle.std.specs.Prelude.{◌≡◌, ℕ, ◌*◌, ◌+◌, ◌<◌, ◌≤◌, true, false, get_or, length, drop};
-ghost use Rattle.domain_bits.specs.BitRows.{has, words_for};
+ghost use Rattle.bit_rows.specs.BitRows.{has, words_for};
 ghost use Rattle.needed_values.specs.Needed.{needs, AreRows, StaysNeeded, AreOthers};
 
-use bit_rows::{clear, fill_below, has_bit, next_member, unset_bit};
-use domain_bits::{and_into, or_into};
+use bit_rows::{and_into, clear, fill_below, has_bit, next_member, or_into, unset_bit, words_for};
 
 /// No vertex has a mark any more. Cost: one step for each vertex.
 pub fn unmark_all(marked: &mut [bool])
@@ -34,7 +33,7 @@ fn row_of(rows: &[u64], values: usize, r: u16) -> &[u64]
     ensures bits { (u : ℕ) → u < values
         → has result.now u ≡ has (drop (r * words_for values) rows.now) u }
 {
-    let width = (values + 63) / 64;
+    let width = words_for(values);
     let from = usize::from(r) * width;
     &rows[from..from + width]
 }
@@ -79,7 +78,7 @@ fn write_row(rows: &mut [u64], values: usize, r: u16, row: &[u64])
         → has (drop (s * words_for values) rows.new) u
         ≡ has (drop (s * words_for values) rows.old) u }
 {
-    let width = (values + 63) / 64;
+    let width = words_for(values);
     let from = usize::from(r) * width;
     rows[from..from + width].copy_from_slice(row);
 }

@@ -24,7 +24,8 @@ AreBelow [] n = Unit {0}
 AreBelow (x ∷ xs) n = (x < n) × AreBelow xs n
 
 -- The worker may run: its seat is the book's, it is of this problem and budget, its log is its own, and it has not ended.
-pub record IsJob {K : Type 0} (owner : K → ℕ) (b : BookName) (q : Problem) (budget : ℕ) (w : Search SeatName K) : Type 0 where
+pub record IsJob {K : Type 0} (owner : K
+    → ℕ) (b : BookName) (q : Problem) (budget : ℕ) (w : Search SeatName K) : Type 0 where
   pub seat_of : IsSeatOf b w.seat
   pub problem_is : w.problem ≡ q
   pub budget_is : w.account.budget ≡ budget
@@ -32,7 +33,9 @@ pub record IsJob {K : Type 0} (owner : K → ℕ) (b : BookName) (q : Problem) (
   pub goes_on : w.stage ≢ Over
 
 -- The worker has run to this outcome, and its log says so beside the rows that its seat has seen.
-pub record HasRun {K : Type 0} (owner : K → ℕ) (steps refutes : K → Problem → List Row → Type 0) (b : BookName) (q : Problem) (budget : ℕ) (w : Search SeatName K) (o : Outcome) : Type 0 where
+pub record HasRun {K : Type 0} (owner : K → ℕ) (steps refutes : K → Problem → List Row
+    → Type 0) (b : BookName) (q : Problem) (budget : ℕ) (w : Search SeatName K)
+    (o : Outcome) : Type 0 where
   pub seat_of : IsSeatOf b w.seat
   pub facts_are : w.facts ≡ facts_of w.seat
   pub seat_for : IsSeatFor w.problem w.number w.facts
@@ -75,4 +78,5 @@ pub record IsRefuter {X : Type 0} (refutes : X → Type 0) (xs : List X) (number
 
 -- What is so beside some rows of a problem is so beside more of them, none of which is a nogood of the owner.
 abbrev pub StaysBeside : ℕ → (Problem → List Row → Type 0) → Type 0
-StaysBeside owner says = (q : Problem) (rows more : List Row) → GrowsBeside owner rows more → says q rows → says q more
+StaysBeside owner says = (q : Problem) (rows more : List Row) → GrowsBeside owner rows more
+    → says q rows → says q more

@@ -3,7 +3,6 @@
 ghost use Rattle.std.specs.Prelude.{◌≡◌, [], ◌≤◌, ◌<◌, ◌^◌, true, None, IsTrue, IfOk};
 ghost use Rattle.graph_theory.specs.Graph.{size};
 ghost use Rattle.graph_theory.specs.Embedding.{HasNone};
-ghost use Rattle.graph_theory.specs.Plain.{ArePlain};
 ghost use Rattle.domain_bits.specs.Removals.{full};
 ghost use Rattle.propagation.specs.Propagation.{IsOf};
 ghost use Rattle.propagation.specs.Telling.{Tells};
@@ -30,10 +29,9 @@ use std::thread::Threads;
 use worker_gate::{Gate, OpenGate};
 
 /// Decides a problem by the workers that the settings ask for, which search beside each other and share what they refute. The root is taken
-/// once for all of them. A log is kept of graphs without directions alone. Memory: beside the target's own, for each worker its domains, the watches of its nogoods, 16 bytes for
+/// once for all of them. Memory: beside the target's own, for each worker its domains, the watches of its nogoods, 16 bytes for
 /// each row of the book, and its part of 64 MiB for rows of pairs; where a log is kept, also the encoding and the lines of each dead path.
 pub fn solve<R: Threads + Sync>(rt: &R, alloc: Global, q: &Problem, s: &Settings) -> Solved
-    requires plain { IsTrue s.now.prove → ArePlain q.now }
     requires some { 1 ≤ s.now.threads }
     requires few { s.now.threads ≤ 64 }
     requires budget { s.now.budget < 2 ^ 63 }
@@ -51,7 +49,6 @@ pub fn solve_with<R: Threads + Sync, G: Gate + Sync>(
     s: &Settings,
     gate: &G,
 ) -> Solved
-    requires plain { IsTrue s.now.prove → ArePlain q.now }
     requires some { 1 ≤ s.now.threads }
     requires few { s.now.threads ≤ 64 }
     requires budget { s.now.budget < 2 ^ 63 }
@@ -73,7 +70,6 @@ fn solve_logged<R: Threads + Sync, G: Gate + Sync>(
     s: &Settings,
     gate: &G,
 ) -> Solved
-    requires plain { ArePlain q.now }
     requires some { 1 ≤ s.now.threads }
     requires few { s.now.threads ≤ 64 }
     requires budget { s.now.budget < 2 ^ 63 }

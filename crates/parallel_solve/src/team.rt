@@ -47,7 +47,8 @@ impl<'r, 'a, G: Gate, L: ProofLogger> Job<Shared<'r, 'a, G>>
 
     ghost ready = { λ c w. IsJob L.owner c.book.now c.problem.now c.budget w };
 
-    ghost ran = { λ c w d. HasRun L.owner L.steps L.refutes c.book.now c.problem.now c.budget d.worker d.outcome
+    ghost ran = { λ c w d. HasRun L.owner L.steps L.refutes c.book.now c.problem.now c.budget
+        d.worker d.outcome
         × (d.worker.number ≡ w.number) };
 
     fn go(self, shared: &Shared<'r, 'a, G>) -> Done<'a, L> {

@@ -267,6 +267,11 @@ pub path_in_range : (q : Problem) (a : Account) → a.pattern ≡ size q.pattern
 path_in_range q a pattern_is target_is range =
     told_laws_hold.path_range q (path a) (subst (λ (n : ℕ). InRange n (size q.target) (path a)) pattern_is (subst (λ (n : ℕ). InRange a.pattern n (path a)) target_is range))
 
+-- What was done for the problem of the lines was done for a search's that is the same.
+pub lined_for : (knows later : Problem → Frame → List Form → Type 0) (lines q : Problem) (old new : Keeping) (owner : ℕ) (numbers : List (ℕ × ℕ)) (entries : List Refuted) (rows : List Row) (a : Account) (above : ℕ)
+    (result : Result (Option Name) AllocError) → lines ≡ q → IsLined knows later lines old new owner numbers entries lines rows a above result → IsLined knows later lines old new owner numbers entries q rows a above result
+lined_for knows later lines q old new owner numbers entries rows a above result same done = subst (λ (p : Problem). IsLined knows later lines old new owner numbers entries p rows a above result) same done
+
 -- From what the call is promised to do, what it has done.
 pub lined : (knows later : Problem → Frame → List Form → Type 0) (lines : Problem) (old new : Keeping) (owner : ℕ) (numbers : List (ℕ × ℕ)) (entries : List Refuted) (q : Problem) (rows : List Row) (a : Account)
     (above : ℕ) (result : Result (Option Name) AllocError) (cs : List Change) (short : Option CountedSet) (end : DeadEnd) (xs : List (ℕ × ℕ)) (pe : PathEnd) (refs : List Ref)

@@ -15,8 +15,13 @@ use Rattle.path_journal.specs.Lines.{row_frame}
 use Rattle.path_journal.specs.Entries.{AreFrom, AreBelow, Writes}
 
 -- Lines were added to those that stood, the last one that of the account's path, where the entries from a place on are those of the level after it.
-abbrev pub IsLined : (Problem → Frame → List Form → Type 0) → (Problem → Frame → List Form → Type 0) → Problem → Keeping → Keeping → ℕ → List (ℕ × ℕ) → List Refuted → Problem → List Row → Account → ℕ
+abbrev pub IsLined : (Problem → Frame → List Form → Type 0) → (Problem → Frame → List Form
+    → Type 0) → Problem → Keeping → Keeping → ℕ → List (ℕ × ℕ) → List Refuted → Problem
+    → List Row → Account → ℕ
     → Result (Option Name) AllocError → Type 0
 IsLined knows later lines old new owner numbers entries q rows a above result =
-    (w : Writes knows lines old owner numbers entries q rows a) → AreFrom (length (path a)) (drop above entries) → AreBelow (length (path a)) (take above entries)
-    → After (row_frame q rows old.owner) old.steps new.steps w.forms (IsDeadName q (path a) (row_frame q rows old.owner) (later q (row_frame q rows old.owner)) result)
+    (w : Writes knows lines old owner numbers entries q rows a)
+    → AreFrom (length (path a)) (drop above entries)
+    → AreBelow (length (path a)) (take above entries)
+    → After (row_frame q rows old.owner) old.steps new.steps w.forms (IsDeadName q (path a)
+    (row_frame q rows old.owner) (later q (row_frame q rows old.owner)) result)

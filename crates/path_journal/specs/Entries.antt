@@ -36,7 +36,8 @@ AreRising (e ∷ es) = AreFrom e.level es × AreRising es
 pub record IsEntry (q : Problem) (a : Account) (forms : List Form) (e : Refuted) : Type 0 where
   pub vertex : ℕ
   pub vertex_is : (level_at a e.level).vertex ≡ Some vertex
-  pub line : from_one forms e.number ≡ Some (pairs_clause q (take e.level (path a) ++ (vertex, e.value) ∷ []))
+  pub line : from_one forms e.number ≡ Some (pairs_clause q (take e.level (path a)
+      ++ (vertex, e.value) ∷ []))
 
 abbrev pub AreEntries : Problem → Account → List Form → List Refuted → Type 0
 AreEntries q a forms [] = Unit {0}
@@ -49,7 +50,8 @@ HasEntry (e ∷ es) level value = ((e.level ≡ level) × (e.value ≡ value)) �
 
 -- Each refuted value of the account has an entry.
 abbrev pub AreCovered : Account → List Refuted → Type 0
-AreCovered a entries = (level vertex value : ℕ) → (level_at a level).vertex ≡ Some vertex → Contains (level_at a level).refuted value → HasEntry entries level value
+AreCovered a entries = (level vertex value : ℕ) → (level_at a level).vertex ≡ Some vertex
+    → Contains (level_at a level).refuted value → HasEntry entries level value
 
 -- A level without a vertex has no refuted values.
 abbrev pub IsFreshWithout : Option ℕ → List ℕ → Type 0
@@ -74,7 +76,9 @@ entry_values es = map entry_value es
 -- ---- what stands
 
 -- Lines stand beside the rows, the maker knows what it has to of their forms, the numbers of the rows are those that are noted, and the entries are those of the account.
-pub record Writes (knows : Problem → Frame → List Form → Type 0) (lines : Problem) (j : Keeping) (owner : ℕ) (numbers : List (ℕ × ℕ)) (entries : List Refuted) (q : Problem) (rows : List Row) (a : Account) : Type 0 where
+pub record Writes (knows : Problem → Frame → List Form
+    → Type 0) (lines : Problem) (j : Keeping) (owner : ℕ) (numbers : List (ℕ
+    × ℕ)) (entries : List Refuted) (q : Problem) (rows : List Row) (a : Account) : Type 0 where
   pub problem_is : lines ≡ q
   pub forms : List Form
   pub beside : StandsBeside q rows j forms

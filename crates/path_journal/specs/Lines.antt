@@ -32,8 +32,10 @@ abbrev pub row_frame : Problem → List Row → ℕ → Frame
 row_frame q rows owner = frame_of q (log_rows rows) (row_clause q rows) [] owner
 
 -- The lines make these forms beside the rows, and each row of the owner has its clause noted, the rows rising.
-pub record StandsBeside (q : Problem) (rows : List Row) (j : Keeping) (forms : List Form) : Type 0 where
-  pub journaled : Journaled (encoding q) (log_rows rows) (row_clause q rows) [] j.owner (record { lines = j.steps; notes = j.notes }) forms
+pub record StandsBeside (q : Problem) (rows : List Row) (j : Keeping)
+    (forms : List Form) : Type 0 where
+  pub journaled : Journaled (encoding q) (log_rows rows) (row_clause q rows) [] j.owner
+      (record { lines = j.steps; notes = j.notes }) forms
   pub stands : Stands (row_frame q rows j.owner) j.steps forms
   pub notes : RowsRise j.notes
 

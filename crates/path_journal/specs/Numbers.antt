@@ -40,4 +40,5 @@ noted_ref owner k (Some n) = Made (record { owner = owner; number = n })
 
 -- The name of row k: for a row of the owner its line's, for another the one by which its owner shares it.
 abbrev pub row_ref : List Row → ℕ → List (ℕ × ℕ) → ℕ → Ref
-row_ref rows owner notes k = cond (is_by (slice_get rows k) owner) (noted_ref owner k (note_of notes k)) (Shared k)
+row_ref rows owner notes k = cond (is_by (slice_get rows k) owner) (noted_ref owner k
+    (note_of notes k)) (Shared k)

@@ -1,7 +1,6 @@
 //! The logger that keeps the lines of a search.
 
 ghost use Rattle.std.specs.Prelude.{◌≡◌, ℕ, ◌^◌, ◌≤◌, [], List, length, drop, min, ◌-◌, ◌<◌, slice_get, Some, IfOk, IfSome, IfNone};
-ghost use Rattle.graph_theory.specs.Plain.{ArePlain};
 ghost use Rattle.search_theory.specs.Account.{Honest, fresh};
 ghost use Rattle.log_theory.specs.LogText.{IsName, AreRefs};
 ghost use Rattle.nogood_book.specs.declared.row.Row.{Row as TheRow};
@@ -18,7 +17,7 @@ ghost use Rattle.path_journal.specs.Ends.{end_as};
 use crate::entries::{count_above, entry_of, refs_of};
 use crate::refuted::Refuted;
 use crate::row_numbers::{OwnNames, RowNumbers};
-use dead_paths::{LineMaker, PathEnd, Scratch, explain};
+use dead_paths::{Basis, DeadPath, LineMaker, PathEnd, Scratch, explain};
 use fail_account::Account;
 use graph_rows::Problem;
 use journals::{Journal, Keeper};
@@ -55,7 +54,7 @@ fn last_pair(path: &[(u16, u16)]) -> Option<(u16, u16)>
     Some(path[length - 1])
 }
 
-/// Keeps the lines of one owner over the encoding of graphs without directions, and for each refuted value of the position the number of
+/// Keeps the lines of one owner over the encoding of a problem, and for each refuted value of the position the number of
 /// its line. Cost beside the lines: an entry for each of these values, and a number for each row that was noted.
 #[derive(Drop)]
 pub struct PathJournal<'a, M: LineMaker> {
@@ -65,13 +64,11 @@ pub struct PathJournal<'a, M: LineMaker> {
     entries: Vec<Refuted>,
     maker: M,
     scratch: Scratch,
-    ghost plain: { ArePlain lines.now },
 }
 
 impl<'a, M: LineMaker> PathJournal<'a, M> {
     /// No line yet. It takes no memory.
     pub fn new(alloc: Global, lines: &'a Encoding<'a>, owner: u8, maker: M) -> PathJournal<'a, M>
-        requires plain { ArePlain lines.now }
         requires owner { owner ≤ 64 }
         requires knows { (w : Frame) → IsFrameOf lines.now owner w → M.knows maker lines.now w [] }
         ensures owner { result.journal.owner ≡ owner }
@@ -105,33 +102,30 @@ impl<'a, M: LineMaker> PathJournal<'a, M> {
         journal
     }
 
-    /// Gives the line of the account's path, which is dead. The references are those of the entries of the level after it, and those stand
-    /// from a place on.
+    /// Gives the line of the account's path, which ended so after these changes. The references are those of the entries of the level after
+    /// it, and those stand from a place on.
     fn dead_line(
         &mut self,
         alloc: Global,
-        q: &Problem,
         rows: &[Row],
-        kept: KeptChanges<'_>,
         account: &Account,
-        end: DeadEnd,
+        ended: (DeadEnd, KeptChanges<'_>),
         above: usize,
         refuted: &[Ref],
     ) -> Result<Option<Name>, AllocError>
-        requires honest { Honest q.now account.now }
-        requires sound { Sound q.now rows.now }
+        requires honest { Honest self.old.lines.now account.now }
+        requires sound { Sound self.old.lines.now rows.now }
         requires few { length rows.now ≤ 2 ^ 22 }
-        requires lines { self.old.lines.now ≡ q.now }
-        requires ends { EndsPath q.now rows.now
-            (Some (changes_of kept.numbers.now kept.entries.now))
-            (set_at kept.numbers.now kept.short) account.now end }
+        requires ends { EndsPath self.old.lines.now rows.now
+            (Some (changes_of ended.1.numbers.now ended.1.entries.now))
+            (set_at ended.1.numbers.now ended.1.short) account.now ended.0 }
         requires refuted { refuted.now ≡ entry_refs self.old.numbers.owner
             (drop above self.old.entries.items) }
         requires fits { AreRefs refuted.now }
         ensures lined { IsLined (M.knows self.old.maker) (M.knows self.new.maker) self.old.lines.now
             self.old.journal self.new.journal
-            self.old.numbers.owner self.old.numbers.notes self.old.entries.items q.now rows.now
-            account.now above result }
+            self.old.numbers.owner self.old.numbers.notes self.old.entries.items
+            self.old.lines.now rows.now account.now above result }
         ensures name { IfOk result (λ o. IfSome o IsName) }
         ensures last { IfOk result (λ o. IfSome o (IsLastOf (Some self.new.journal.steps))) }
         ensures owner { self.new.journal.owner ≡ self.old.journal.owner }
@@ -140,22 +134,28 @@ impl<'a, M: LineMaker> PathJournal<'a, M> {
         ensures numbers { self.new.numbers ≡ self.old.numbers }
         ensures same { self.new.lines.now ≡ self.old.lines.now }
     {
+        let (end, kept) = ended;
         let names = OwnNames {
             rows,
             numbers: &self.numbers,
         };
-        explain(
+        let basis = Basis {
             alloc,
-            q,
-            self.lines,
+            lines: self.lines,
             rows,
-            &names,
-            kept.entries,
-            kept.numbers,
-            kept.short,
-            account.path(),
-            end_of(end),
+            names: &names,
+            numbers: kept.numbers,
+        };
+        let dead = DeadPath {
+            path: account.path(),
+            entries: kept.entries,
+            end: end_of(end),
+            short: kept.short,
             refuted,
+        };
+        explain(
+            &basis,
+            &dead,
             &mut self.maker,
             &mut self.journal,
             &mut self.scratch,
@@ -170,7 +170,9 @@ impl<'a, M: LineMaker> ProofLogger for PathJournal<'a, M> {
 
     ghost spare = { λ j. min j.journal.spare j.numbers.spare };
 
-    ghost writes = { λ j q rows a. Writes (M.knows j.maker) j.lines.now j.journal j.numbers.owner j.numbers.notes j.entries.items q rows a };
+    ghost writes = { λ j q rows a. Writes
+        (M.knows j.maker) j.lines.now j.journal j.numbers.owner j.numbers.notes j.entries.items q
+        rows a };
 
     ghost steps = { λ j q rows. Steps j.lines.now j.journal q rows };
 
@@ -196,7 +198,7 @@ impl<'a, M: LineMaker> ProofLogger for PathJournal<'a, M> {
         let length = account.path().len();
         let above = count_above(&self.entries, length);
         let refuted = refs_of(alloc, self.numbers.owner(), &self.entries[above..])?;
-        let answer = self.dead_line(alloc, q, rows, kept, account, end, above, &refuted)?;
+        let answer = self.dead_line(alloc, rows, account, (end, kept), above, &refuted)?;
         let name = match answer {
             None => return Err(AllocError),
             Some(name) => name,

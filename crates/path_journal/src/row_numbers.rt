@@ -24,7 +24,11 @@ impl Model for RowNumbers {
 
     ghost Value = { Numbering };
 
-    ghost view = { λ n. record { owner = n.owner; notes = n.notes.items; spare = vec_capacity n.notes - length n.notes.items } };
+    ghost view = { λ n. record {
+      owner = n.owner;
+      notes = n.notes.items;
+      spare = vec_capacity n.notes - length n.notes.items;
+    } };
 
     ghost invariant = { λ n. (n.owner ≤ 64) × RowsRise n.notes.items × NumbersFit n.notes.items };
 }

@@ -11,6 +11,7 @@ pub record IsGathered (old new : Option (List ℕ)) (buffer text : List ℕ) : T
   pub held : new ≡ append_known old put
 
 -- A front part of the buffer was put, and the rest is left in it; or putting the buffer stopped.
-abbrev pub PutsFront : {T E : Type 0} → Result T E → Bool → Option (List ℕ) → Option (List ℕ) → List ℕ → List ℕ → Type 0
+abbrev pub PutsFront : {T E : Type 0} → Result T E → Bool → Option (List ℕ) → Option (List ℕ)
+    → List ℕ → List ℕ → Type 0
 PutsFront (Ok done) steady old new before after = IsGathered old new after before
 PutsFront (Err fault) steady old new before after = StopsIn steady old new before

@@ -13,15 +13,18 @@ by_number test width i = test (i / width) (i % width)
 
 -- The numbers of the refused pairs of a pattern vertex and a target vertex, rising.
 abbrev pub refused_numbers : Problem → List ℕ
-refused_numbers q = members (by_number (is_refused q) (size q.target)) (size q.pattern * size q.target)
+refused_numbers q = members (by_number (is_refused q) (size q.target))
+    (size q.pattern * size q.target)
 
 -- The numbers of the pairs of pattern vertices with an edge, rising.
 abbrev pub edge_numbers : Problem → List ℕ
-edge_numbers q = members (by_number (is_edge_pair q) (size q.pattern)) (size q.pattern * size q.pattern)
+edge_numbers q = members (by_number (is_edge_pair q) (size q.pattern))
+    (size q.pattern * size q.pattern)
 
 -- The numbers of the pairs without one, in the induced kind.
 abbrev pub non_edge_numbers : Problem → List ℕ
-non_edge_numbers q = members (by_number (is_non_edge_pair q) (size q.pattern)) (size q.pattern * size q.pattern)
+non_edge_numbers q = members (by_number (is_non_edge_pair q) (size q.pattern))
+    (size q.pattern * size q.pattern)
 
 -- The three lists of a problem.
 pub record AreNumbered (q : Problem) (refused edges non_edges : List ℕ) : Type 0 where
@@ -30,7 +33,8 @@ pub record AreNumbered (q : Problem) (refused edges non_edges : List ℕ) : Type
   pub non_edges_are : non_edges ≡ non_edge_numbers q
 
 -- What is kept of a problem's encoding: its sizes, within their limits, and the three lists.
-pub record IsKept (q : Problem) (vertices targets : ℕ) (refused edges non_edges : List ℕ) : Type 0 where
+pub record IsKept (q : Problem) (vertices targets : ℕ)
+    (refused edges non_edges : List ℕ) : Type 0 where
   pub vertices_are : vertices ≡ size q.pattern
   pub targets_are : targets ≡ size q.target
   pub vertices_few : vertices ≤ 1024

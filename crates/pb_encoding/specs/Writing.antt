@@ -27,7 +27,9 @@ PutCause (Err Failed) before after blamed = Rose before after × blamed
 PutCause (Err NoMemory) before after blamed = after ≡ before
 
 -- It is the same sink still, and what stands beside it is as it was; each answer has its cause.
-pub record HasPutCause {S T : Type 0} (spot : S → Spot) (rest : S → List ℕ → Option (List ℕ)) (faults : S → ℕ) (blamed : S → Type 0) (old new : S) (result : Result T PutFault) : Type 0 where
+pub record HasPutCause {S T : Type 0} (spot : S → Spot) (rest : S → List ℕ
+    → Option (List ℕ)) (faults : S → ℕ) (blamed : S
+    → Type 0) (old new : S) (result : Result T PutFault) : Type 0 where
   pub same : spot new ≡ spot old
   pub others : (file : List ℕ) → rest new file ≡ rest old file
   pub later : faults old ≤ faults new

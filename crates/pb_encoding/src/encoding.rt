@@ -36,7 +36,8 @@ impl<'a> Model for Encoding<'a> {
 
     ghost view = { λ e. e.problem.now };
 
-    ghost invariant = { λ e. IsKept e.problem.now e.vertices e.targets e.refused.items e.edges.items e.non_edges.items };
+    ghost invariant = { λ e. IsKept e.problem.now e.vertices e.targets e.refused.items
+        e.edges.items e.non_edges.items };
 }
 
 /// The number of a line: so many lines before its group, so many pairs before its own with a line for each target
@@ -79,6 +80,13 @@ impl<'a> Encoding<'a> {
             edges,
             non_edges,
         })
+    }
+
+    /// The problem that it is the encoding of.
+    pub fn problem(&self) -> &'a Problem
+        ensures { result.now ≡ self.now }
+    {
+        self.problem
     }
 
     /// The number of variables.

@@ -2,7 +2,7 @@
 
 ghost use Rattle.std.specs.Prelude.{◌≡◌, ◌<◌, ◌≤◌, ◌+◌, ◌*◌, ◌^◌, ◌++◌, ◌∷◌, [], ℕ, ℤ, true, false, length, pos, negsuc, unsigned_abs, IfOk, OnOk};
 ghost use Rattle.graph_theory.specs.Graph.{size};
-ghost use Rattle.graph_rows.specs.BitRow.{has, words_for};
+ghost use Rattle.bit_rows.specs.BitRows.{has, words_for};
 ghost use Rattle.proof_theory.specs.Forms.{form_of, size as size_of_terms};
 ghost use Rattle.encoding_theory.specs.Variables.{variable as variable_of, when};
 ghost use Rattle.encoding_theory.specs.Pairs.{is_compatible as is_compatible_pair};

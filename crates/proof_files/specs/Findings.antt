@@ -27,7 +27,8 @@ IsFound q Nothing = Unit {0}
 abbrev pub steps_of : Problem → Finding → List Step
 steps_of q (Embedding map) = solution (length (encoding q)) (embedding_ones q map.now)
 steps_of q (Refutation parts) =
-    refutation (length (encoding q)) parts.now.journals.items parts.now.rows.items parts.now.finisher
+    refutation (length (encoding q)) parts.now.journals.items parts.now.rows.items
+    parts.now.finisher
 steps_of q Nothing = undecided (length (encoding q))
 
 -- What a checker of logs answers.

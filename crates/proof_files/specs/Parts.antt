@@ -24,7 +24,8 @@ MayBeWritten q Nothing = Unit {0}
 abbrev pub part_steps : Problem → Parts → List Step
 part_steps q (Solution ones) = solution (length (encoding q)) ones
 part_steps q (Refutation parts) =
-    refutation (length (encoding q)) parts.now.journals.items parts.now.rows.items parts.now.finisher
+    refutation (length (encoding q)) parts.now.journals.items parts.now.rows.items
+    parts.now.finisher
 part_steps q Nothing = undecided (length (encoding q))
 
 -- What a checker of logs answers.

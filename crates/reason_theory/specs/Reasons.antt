@@ -33,27 +33,33 @@ vertices_of pairs = map (λ x. x.0) pairs
 
 -- That vertices go somewhere and that values are taken once, all added up: those vertices need as many of these values as they are.
 abbrev pub set_form : Problem → ℕ → List ℕ → List ℕ → Form
-set_form q p vertices values = sum_from (at_least q p) (at_leasts q vertices ++ map (at_most_target q) values)
+set_form q p vertices values = sum_from (at_least q p) (at_leasts q vertices
+    ++ map (at_most_target q) values)
 
 -- ---- what forms force
 
 -- From every setting the form is in conflict or takes each refused value from p.
 abbrev pub TakesFirst : Problem → Form → ℕ → (ℕ → Bool) → Type 0
-TakesFirst q line p refused = (s : Setting) (u : ℕ) → u < size q.target → refused u ≡ true → (conflict s line ≡ true) ⊎ (after s line (variable q p u) ≡ Some false)
+TakesFirst q line p refused = (s : Setting) (u : ℕ) → u < size q.target → refused u ≡ true
+    → (conflict s line ≡ true) ⊎ (after s line (variable q p u) ≡ Some false)
 
 -- Where p is at t it does so for r.
 abbrev pub TakesBeside : Problem → Form → ℕ → ℕ → ℕ → (ℕ → Bool) → Type 0
 TakesBeside q line p t r refused =
-    (s : Setting) → s (variable q p t) ≡ Some true → (u : ℕ) → u < size q.target → refused u ≡ true → (conflict s line ≡ true) ⊎ (after s line (variable q r u) ≡ Some false)
+    (s : Setting) → s (variable q p t) ≡ Some true → (u : ℕ) → u < size q.target
+    → refused u ≡ true → (conflict s line ≡ true) ⊎ (after s line (variable q r u) ≡ Some false)
 
 -- From every setting the form is in conflict or takes from p each value that is not in its first domain.
 abbrev pub ForcesFirst : Problem → Form → ℕ → Type 0
-ForcesFirst q line p = (s : Setting) (u : ℕ) → u < size q.target → (IsFirstValue q p u → ⊥) → (conflict s line ≡ true) ⊎ (after s line (variable q p u) ≡ Some false)
+ForcesFirst q line p = (s : Setting) (u : ℕ) → u < size q.target → (IsFirstValue q p u → ⊥)
+    → (conflict s line ≡ true) ⊎ (after s line (variable q p u) ≡ Some false)
 
 -- Where p is at t it does so for each value of r that is not consistent with this.
 abbrev pub ForcesBeside : Problem → Form → ℕ → ℕ → ℕ → Type 0
 ForcesBeside q line p t r =
-    (s : Setting) → s (variable q p t) ≡ Some true → (u : ℕ) → u < size q.target → (AreConsistent q p t r u → ⊥) → (conflict s line ≡ true) ⊎ (after s line (variable q r u) ≡ Some false)
+    (s : Setting) → s (variable q p t) ≡ Some true → (u : ℕ) → u < size q.target
+    → (AreConsistent q p t r u → ⊥)
+    → (conflict s line ≡ true) ⊎ (after s line (variable q r u) ≡ Some false)
 
 -- ---- domains
 
@@ -64,7 +70,8 @@ HasAtMost d p t = (u : ℕ) → d p u ≡ true → u ≡ t
 -- Each pair is of a target vertex, and its value is all that is left, or it is one of those that pass.
 abbrev pub AreDecided : Problem → Domains → (ℕ × ℕ → Type 0) → List (ℕ × ℕ) → Type 0
 AreDecided q d but [] = Unit {0}
-AreDecided q d but (x ∷ xs) = (but x ⊎ ((x.1 < size q.target) × HasAtMost d x.0 x.1)) × AreDecided q d but xs
+AreDecided q d but (x ∷ xs) = (but x ⊎ ((x.1 < size q.target) × HasAtMost d x.0 x.1))
+    × AreDecided q d but xs
 
 -- The pair is this one; and no pair at all.
 abbrev pub IsPair : ℕ → ℕ → ℕ × ℕ → Type 0
@@ -78,7 +85,8 @@ pub record HaveOnly (q : Problem) (d : Domains) (vertices values : List ℕ) : T
   pub distinct : are_distinct vertices ≡ true
   pub vertices_in : (p : ℕ) → is_among p vertices ≡ true → p < size q.pattern
   pub values_in : (u : ℕ) → is_among u values ≡ true → u < size q.target
-  pub within : (p u : ℕ) → is_among p vertices ≡ true → u < size q.target → d p u ≡ true → is_among u values ≡ true
+  pub within : (p u : ℕ) → is_among p vertices ≡ true → u < size q.target → d p u ≡ true
+      → is_among u values ≡ true
 
 -- ---- changes
 

@@ -19,27 +19,32 @@ use Rattle.journal_theory.specs.Journals.{Finds, HoldsOwn}
 use Rattle.encoding_theory.specs.Variables.{variables}
 use Rattle.encoding_theory.specs.Pairs.{is_edge_pair, is_non_edge_pair}
 use Rattle.encoding_theory.specs.Encoding.{at_most_target, pair_form}
-use Rattle.reason_theory.specs.Reasons.{ForcesBeside}
 use Rattle.row_theory.specs.Operations.{FindsEncoding}
 use Rattle.encoding_theory.specs.Places.{at_most_target_place}
 use Rattle.encoding_theory.proofs.PlaceProofs.{place_laws}
 use Rattle.row_theory.specs.Rows.{is_paired, target_line, edge_line, non_edge_line, spread_form}
-use Rattle.row_theory.specs.Laws.{IsPlainProblem, IsPlace, FindsSpread, RowMakes}
+use Rattle.row_theory.specs.Laws.{InLimits, IsPlace, FindsSpread, RowMakes}
 use Rattle.row_theory.proofs.Making.{row_laws}
 use Rattle.kept_lines.specs.Frames.{Frame, IsFrameOf, MayFollow, IsKept, Goes, AnyForms}
+use Rattle.kept_lines.specs.Rows.{Widens}
+use Rattle.kept_lines.proofs.Rows.{named_wider}
+use Rattle.graph_theory.specs.Reversed.{reversed_problem}
+use Rattle.row_theory.specs.Laws.{ForcesShared}
 use Rattle.kept_lines.proofs.Going.{goes_as, goes_beside, goes_then}
 use Rattle.kept_lines.proofs.Naming.{named_later}
 use Rattle.row_lines.specs.declared.row_lines.RowLines.{RowLines}
 use Rattle.row_lines.specs.declared.sharing.Sharing.{Sharing}
 use Rattle.row_lines.specs.declared.sharing.Sharing.TheVariants.{Nothing, One, Many}
 use Rattle.row_lines.specs.Choices.{IsSharing, own_line, entry_at, pair_key, pair_name, name_or_none, spread_ref, row_ops, row_form}
-use Rattle.row_lines.specs.Claims.{AreSpreads, HasAround, IsRowLine, IsRow, IsRowNamed, AreRows, Knows, IsKnownRow, IsThere}
-use Rattle.row_lines.proofs.Spreading.{finds_encoding, good_follows, spreads_last, no_spreads}
+use Rattle.row_lines.specs.declared.turned_names.Spreads.{Spreads}
+use Rattle.row_lines.specs.Claims.{HasEncoding, AreSpreads, AreTurned, HasAround, IsSharedLine, IsSharedRow, IsRowLine, IsRow, IsRowNamed, AreRows, Knows, IsKnownRow, IsThere}
+use Rattle.row_lines.proofs.Spreading.{finds_encoding, good_follows, spreads_last, spreads_wider}
+use Rattle.row_lines.proofs.Turning.{frame_of, serve_out, turned_last}
 use Rattle.row_lines.proofs.Good.{good_ops, good_row_ops}
 
 -- ---- the line of a pair
 
-module _ (q : Problem) (plain : IsPlainProblem q) (p t r : ℕ) (place : IsPlace q p t r) where
+module _ (q : Problem) (plain : InLimits q) (p t r : ℕ) (place : IsPlace q p t r) where
   -- Where the pair has a line of its own it is found, and where it has none the pair is none of those that have.
   abbrev OwnFound : Lookup → Option Ref → Type 0
   OwnFound look None = Unit {0}
@@ -68,10 +73,10 @@ module _ (q : Problem) (plain : IsPlainProblem q) (p t r : ℕ) (place : IsPlace
   at_place : (v : ℕ) → v < size q.target → IsPlace q p v r
   at_place v v_in = record { first = place.first; place = v_in; second = place.second; others = place.others }
 
-  row_forces : (sharing : Sharing) → IsSharing q p r sharing → ForcesBeside q (row_form q sharing (own_line q p r t) p t r) p t r
+  row_forces : (sharing : Sharing) → IsSharing q p r sharing → ForcesShared q (row_form q sharing (own_line q p r t) p t r) p t r
   row_forces sharing shares = by sharing shares (own_line q p r t) own_says
     where
-      by : (sh : Sharing) → IsSharing q p r sh → (o : Option Ref) → OwnSays o → ForcesBeside q (row_form q sh o p t r) p t r
+      by : (sh : Sharing) → IsSharing q p r sh → (o : Option Ref) → OwnSays o → ForcesShared q (row_form q sh o p t r) p t r
       by Nothing none (Some own) says = (row_laws q plain).forces.beside p t r place none
       by Nothing none None says = (row_laws q plain).forces.alone p t r place none says
       by (One m) one (Some own) says = (row_laws q plain).forces.joined p t r place (omega (arith, one.0))
@@ -79,7 +84,7 @@ module _ (q : Problem) (plain : IsPlainProblem q) (p t r : ℕ) (place : IsPlace
       by (Many c) many (Some own) says = (row_laws q plain).forces.joined p t r place (omega (arith, many.0, many.1))
       by (Many c) many None says = (row_laws q plain).forces.apart p t r place (omega (arith, many.0, many.1)) says
 
-  spread_found : (w : Frame) (owner : ℕ) (names : List (ℕ × Name)) (forms : List Form) (look : Lookup) → IsFrameOf q owner w → AreSpreads w q names forms → Finds w.base look → HoldsOwn w.owner forms look → (sharing : Sharing) → IsSharing q p r sharing
+  spread_found : (w : Frame) (owner : ℕ) (names : List (ℕ × Name)) (forms : List Form) (look : Lookup) → HasEncoding q owner w → AreSpreads w q names forms → Finds w.base look → HoldsOwn w.owner forms look → (sharing : Sharing) → IsSharing q p r sharing
       → HasAround q names sharing p t r → 0 < common q.pattern p r → FindsSpread q look (spread_ref q names sharing p r) p t r
   spread_found w owner names forms look frame spreads finds own Nothing none around some v v_in near = absurd (omega (arith, none, some))
   spread_found w owner names forms look frame spreads finds own (One m) one around some v v_in near =
@@ -93,7 +98,7 @@ module _ (q : Problem) (plain : IsPlainProblem q) (p t r : ℕ) (place : IsPlace
           nothing : let o : Option Name = None in IsSome o → ⊥
           nothing h = cc
 
-  row_made : (w : Frame) (owner : ℕ) (names : List (ℕ × Name)) (forms : List Form) (name : Name) (sharing : Sharing) (look : Lookup) → IsFrameOf q owner w → AreSpreads w q names forms → IsSharing q p r sharing → HasAround q names sharing p t r
+  row_made : (w : Frame) (owner : ℕ) (names : List (ℕ × Name)) (forms : List Form) (name : Name) (sharing : Sharing) (look : Lookup) → HasEncoding q owner w → AreSpreads w q names forms → IsSharing q p r sharing → HasAround q names sharing p t r
       → Finds w.base look → HoldsOwn w.owner forms look → makes look (P name (row_ops q names sharing (own_line q p r t) p t r)) ≡ Ok (row_form q sharing (own_line q p r t) p t r)
   row_made w owner names forms name sharing look frame spreads shares around finds own = by sharing shares around (own_line q p r t) (own_found look encoded)
     where
@@ -114,7 +119,7 @@ module _ (q : Problem) (plain : IsPlainProblem q) (p t r : ℕ) (place : IsPlace
   pub row_line_ops : (names : List (ℕ × Name)) → ((k : ℕ) (n : Name) → entry_at names k ≡ Some n → IsName n) → (sharing : Sharing) (ops : List Op) → ops ≡ row_ops q names sharing (own_line q p r t) p t r → IsSharing q p r sharing → AreOps ops
   row_line_ops names fit sharing ops is shares = subst AreOps (sym is) (good_ops (variables q) (row_ops q names sharing (own_line q p r t) p t r) (good_row_ops q plain names fit sharing p t r shares place.first place.place place.second))
 
-  pub row_follows : (owner : ℕ) (w : Frame) (forms : List Form) (name : Name) (names : List (ℕ × Name)) → ((k : ℕ) (n : Name) → entry_at names k ≡ Some n → IsName n) → (sharing : Sharing) (ops : List Op) → IsFrameOf q owner w
+  pub row_follows : (owner : ℕ) (w : Frame) (forms : List Form) (name : Name) (names : List (ℕ × Name)) → ((k : ℕ) (n : Name) → entry_at names k ≡ Some n → IsName n) → (sharing : Sharing) (ops : List Op) → HasEncoding q owner w
       → ops ≡ row_ops q names sharing (own_line q p r t) p t r → IsSharing q p r sharing → HasAround q names sharing p t r → AreSpreads w q names forms → MayFollow w forms (P name ops) (row_form q sharing (own_line q p r t) p t r)
   row_follows owner w forms name names fit sharing ops frame is shares around spreads =
       subst (λ (os : List Op). MayFollow w forms (P name os) (row_form q sharing (own_line q p r t) p t r)) (sym is)
@@ -122,46 +127,38 @@ module _ (q : Problem) (plain : IsPlainProblem q) (p t r : ℕ) (place : IsPlace
       (good_row_ops q plain names fit sharing p t r shares place.first place.place place.second) (λ look finds own. row_made w owner names forms name sharing look frame spreads shares around finds own))
 
   -- A name of this form is that of a line for the pair.
-  pub row_kept : (w : Frame) (result : Result Name AllocError) (sharing : Sharing) (forms : List Form) → IsSharing q p r sharing → IsKept w result (row_form q sharing (own_line q p r t) p t r) forms → IsRowLine w q p t r result forms
+  pub row_kept : (w : Frame) (result : Result Name AllocError) (sharing : Sharing) (forms : List Form) → IsSharing q p r sharing → IsKept w result (row_form q sharing (own_line q p r t) p t r) forms → IsSharedLine w q p t r result forms
   row_kept w (Ok n) sharing forms shares kept = (row_form q sharing (own_line q p r t) p t r, kept, row_forces sharing shares)
   row_kept w (Err e) sharing forms shares kept = tt
 
 -- ---- one after the other
 
-rows_beside : (q : Problem) (p t r : ℕ) (w : Frame) (a b c : Option (List Step)) (old new : List (ℕ × Name)) (result : Result Name AllocError) → Goes w a b (AreSpreads w q old) (AreSpreads w q new)
-    → Goes w b c (AreSpreads w q new) (IsRowLine w q p t r result) → Goes w a c (AreSpreads w q old) (IsRow w q p t r new result)
-rows_beside q p t r w a b c old new result first second =
-    goes_then w a b c (AreSpreads w q old) (AreSpreads w q new) (IsRow w q p t r new result) first
-    (goes_as w b c (λ forms. AreSpreads w q new forms × AreSpreads w q new forms) (λ forms. IsRowLine w q p t r result forms × AreSpreads w q new forms) (AreSpreads w q new) (IsRow w q p t r new result) (λ forms h. (h, h)) (λ forms k. (k.1, k.0))
-    (goes_beside w b c (AreSpreads w q new) (IsRowLine w q p t r result) (AreSpreads w q new) (λ forms more h. spreads_last w q new forms more h) second))
-
 -- The lines that are missing, and then the line itself.
-pub rows_join : (q k : Problem) (p t r : ℕ) (w : Frame) (owner middle : ℕ) (a b c : Option (List Step)) (old new : List (ℕ × Name)) (result : Result Name AllocError) → k ≡ q → middle ≡ owner → IsFrameOf q owner w
-    → ((f : Frame) → IsFrameOf k owner f → Goes f a b (AreSpreads f k old) (AreSpreads f k new)) → ((f : Frame) → IsFrameOf k middle f → Goes f b c (AreSpreads f k new) (IsRowLine f k p t r result))
-    → Goes w a c (AreSpreads w q old) (IsRow w q p t r new result)
-rows_join q k p t r w owner middle a b c old new result same stays frame first second =
-    rows_beside q p t r w a b c old new result
-    (subst (λ (x : Problem). (f : Frame) → IsFrameOf x owner f → Goes f a b (AreSpreads f x old) (AreSpreads f x new)) same first w frame)
-    (subst (λ (x : Problem). (f : Frame) → IsFrameOf x middle f → Goes f b c (AreSpreads f x new) (IsRowLine f x p t r result)) same second w (subst (λ (o : ℕ). IsFrameOf q o w) (sym stays) frame))
+pub lines_join : (q : Problem) (p t r : ℕ) (w : Frame) (owner middle : ℕ) (a b c : Option (List Step)) (old new : List (ℕ × Name)) (result : Result Name AllocError) → middle ≡ owner → HasEncoding q owner w
+    → ((f : Frame) → HasEncoding q owner f → Goes f a b (AreSpreads f q old) (AreSpreads f q new)) → ((f : Frame) → HasEncoding q middle f → Goes f b c (AreSpreads f q new) (IsSharedLine f q p t r result))
+    → Goes w a c (AreSpreads w q old) (IsSharedRow w q p t r new result)
+lines_join q p t r w owner middle a b c old new result stays frame first second =
+    goes_then w a b c (AreSpreads w q old) (AreSpreads w q new) (IsSharedRow w q p t r new result) (first w frame)
+    (goes_as w b c (λ forms. AreSpreads w q new forms × AreSpreads w q new forms) (λ forms. IsSharedLine w q p t r result forms × AreSpreads w q new forms) (AreSpreads w q new) (IsSharedRow w q p t r new result) (λ forms h. (h, h)) (λ forms k. (k.1, k.0))
+    (goes_beside w b c (AreSpreads w q new) (IsSharedLine w q p t r result) (AreSpreads w q new) (λ forms more h. spreads_last w q new forms more h) (second w (subst (λ (o : ℕ). HasEncoding q o w) (sym stays) frame))))
 
 -- Nothing but the lines that are missing.
-pub rows_stop : (q k : Problem) (p t r : ℕ) (w : Frame) (owner : ℕ) (a b : Option (List Step)) (old new : List (ℕ × Name)) (e : AllocError) → k ≡ q → IsFrameOf q owner w
-    → ((f : Frame) → IsFrameOf k owner f → Goes f a b (AreSpreads f k old) (AreSpreads f k new)) → Goes w a b (AreSpreads w q old) (IsRow w q p t r new (Err e))
-rows_stop q k p t r w owner a b old new e same frame first =
-    goes_as w a b (AreSpreads w q old) (AreSpreads w q new) (AreSpreads w q old) (IsRow w q p t r new (Err e)) (λ forms h. h) (λ forms h. (h, tt))
-    (subst (λ (x : Problem). (f : Frame) → IsFrameOf x owner f → Goes f a b (AreSpreads f x old) (AreSpreads f x new)) same first w frame)
+pub lines_stop : (q : Problem) (p t r : ℕ) (w : Frame) (owner : ℕ) (a b : Option (List Step)) (old new : List (ℕ × Name)) (e : AllocError) → HasEncoding q owner w
+    → ((f : Frame) → HasEncoding q owner f → Goes f a b (AreSpreads f q old) (AreSpreads f q new)) → Goes w a b (AreSpreads w q old) (IsSharedRow w q p t r new (Err e))
+lines_stop q p t r w owner a b old new e frame first =
+    goes_as w a b (AreSpreads w q old) (AreSpreads w q new) (AreSpreads w q old) (IsSharedRow w q p t r new (Err e)) (λ forms h. h) (λ forms h. (h, tt)) (first w frame)
 
-pub row_alone : (w : Frame) (q : Problem) (p t r : ℕ) (a b : Option (List Step)) (old new : List (ℕ × Name)) (result : Result Name AllocError) → old ≡ [] → Goes w a b (AreSpreads w q old) (IsRow w q p t r new result)
+pub row_alone : (w : Frame) (q : Problem) (p t r : ℕ) (a b : Option (List Step)) (old new : Spreads) (result : Result Name AllocError) → ((forms : List Form) → AreTurned w q old forms) → Goes w a b (AreTurned w q old) (IsRow w q p t r new result)
     → Goes w a b AnyForms (IsRowLine w q p t r result)
 row_alone w q p t r a b old new result none goes =
-    goes_as w a b (AreSpreads w q old) (IsRow w q p t r new result) AnyForms (IsRowLine w q p t r result) (λ forms any. no_spreads w q old forms none) (λ forms k. k.1) goes
+    goes_as w a b (AreTurned w q old) (IsRow w q p t r new result) AnyForms (IsRowLine w q p t r result) (λ forms any. none forms) (λ forms k. k.1) goes
 
 -- ---- all lines that were made
 
 pub rows_last : (w : Frame) (q : Problem) (names : List (ℕ × Name)) (forms more : List Form) → AreRows w q names forms → AreRows w q names (forms ++ more)
 rows_last w q names forms more h = record { named = λ p t r n p_in t_in r_in is. let k = h.named p t r n p_in t_in r_in is in (k.0, named_later w forms more (Made n) k.0 k.1, k.2) }
 
-rows_added : (w : Frame) (q : Problem) → IsPlainProblem q → (old new : List (ℕ × Name)) (forms : List Form) (p t r : ℕ) (n : Name) → p < size q.pattern → t < size q.target → r < size q.pattern
+rows_added : (w : Frame) (q : Problem) → InLimits q → (old new : List (ℕ × Name)) (forms : List Form) (p t r : ℕ) (n : Name) → p < size q.pattern → t < size q.target → r < size q.pattern
     → ((k : ℕ) → entry_at new k ≡ cond (k == pair_key p r t) (Some n) (entry_at old k)) → IsRowNamed w q p t r (Made n) forms → AreRows w q old forms → AreRows w q new forms
 rows_added w q plain old new forms p t r n p_in t_in r_in added named h = record { named = λ a u b m a_in u_in b_in is. by a u b m a_in u_in b_in is (cases_eq (pair_key a b u) (pair_key p r t)) }
   where
@@ -181,43 +178,53 @@ rows_added w q plain old new forms p t r n p_in t_in r_in added named h = record
         h.named a u b m a_in u_in b_in (sym (added (pair_key a b u) ∙ ap (λ (x : Bool). cond x (Some n) (entry_at old (pair_key a b u))) (ne_eqb (pair_key a b u) (pair_key p r t) other)) ∙ is)
 
 -- A line that was made beside the names of other rows.
-rows_kept : (w : Frame) (q : Problem) (p t r : ℕ) (a b : Option (List Step)) (spreads new rows : List (ℕ × Name)) (result : Result Name AllocError) → Goes w a b (AreSpreads w q spreads) (IsRow w q p t r new result)
-    → Goes w a b (λ forms. AreSpreads w q spreads forms × AreRows w q rows forms) (λ forms. IsRow w q p t r new result forms × AreRows w q rows forms)
-rows_kept w q p t r a b spreads new rows result goes = goes_beside w a b (AreSpreads w q spreads) (IsRow w q p t r new result) (AreRows w q rows) (λ forms more h. rows_last w q rows forms more h) goes
+rows_kept : (w : Frame) (q : Problem) (p t r : ℕ) (a b : Option (List Step)) (spreads new : Spreads) (rows : List (ℕ × Name)) (result : Result Name AllocError) → Goes w a b (AreTurned w q spreads) (IsRow w q p t r new result)
+    → Goes w a b (λ forms. AreTurned w q spreads forms × AreRows w q rows forms) (λ forms. IsRow w q p t r new result forms × AreRows w q rows forms)
+rows_kept w q p t r a b spreads new rows result goes = goes_beside w a b (AreTurned w q spreads) (IsRow w q p t r new result) (AreRows w q rows) (λ forms more h. rows_last w q rows forms more h) goes
 
 -- No line was made, though others may be.
-pub row_refused : (w : Frame) (q : Problem) (p t r : ℕ) (a b : Option (List Step)) (old new : RowLines) (result : Result Name AllocError) → new.rows ≡ old.rows → Goes w a b (AreSpreads w q old.spreads) (IsRow w q p t r new.spreads result)
+pub row_refused : (w : Frame) (q : Problem) (p t r : ℕ) (a b : Option (List Step)) (old new : RowLines) (result : Result Name AllocError) → new.rows ≡ old.rows → Goes w a b (AreTurned w q old.spreads) (IsRow w q p t r new.spreads result)
     → Goes w a b (Knows w q old) (Knows w q new)
 row_refused w q p t r a b old new result same goes =
-    goes_as w a b (λ forms. AreSpreads w q old.spreads forms × AreRows w q old.rows forms) (λ forms. IsRow w q p t r new.spreads result forms × AreRows w q old.rows forms) (Knows w q old) (Knows w q new) (λ forms h. h)
+    goes_as w a b (λ forms. AreTurned w q old.spreads forms × AreRows w q old.rows forms) (λ forms. IsRow w q p t r new.spreads result forms × AreRows w q old.rows forms) (Knows w q old) (Knows w q new) (λ forms h. h)
     (λ forms k. (k.0.0, subst (λ (xs : List (ℕ × Name)). AreRows w q xs forms) (sym same) k.1)) (rows_kept w q p t r a b old.spreads new.spreads old.rows result goes)
 
 -- The line was made, and its name was added.
-pub row_added : (w : Frame) (q : Problem) → IsPlainProblem q → (p t r : ℕ) (a b : Option (List Step)) (old new : RowLines) (n : Name) → p < size q.pattern → t < size q.target → r < size q.pattern
-    → ((k : ℕ) → entry_at new.rows k ≡ cond (k == pair_key p r t) (Some n) (entry_at old.rows k)) → Goes w a b (AreSpreads w q old.spreads) (IsRow w q p t r new.spreads (Ok n)) → Goes w a b (Knows w q old) (IsKnownRow w q p t r new (Ok (Made n)))
+pub row_added : (w : Frame) (q : Problem) → InLimits q → (p t r : ℕ) (a b : Option (List Step)) (old new : RowLines) (n : Name) → p < size q.pattern → t < size q.target → r < size q.pattern
+    → ((k : ℕ) → entry_at new.rows k ≡ cond (k == pair_key p r t) (Some n) (entry_at old.rows k)) → Goes w a b (AreTurned w q old.spreads) (IsRow w q p t r new.spreads (Ok n)) → Goes w a b (Knows w q old) (IsKnownRow w q p t r new (Ok (Made n)))
 row_added w q plain p t r a b old new n p_in t_in r_in added goes =
-    goes_as w a b (λ forms. AreSpreads w q old.spreads forms × AreRows w q old.rows forms) (λ forms. IsRow w q p t r new.spreads (Ok n) forms × AreRows w q old.rows forms) (Knows w q old) (IsKnownRow w q p t r new (Ok (Made n))) (λ forms h. h)
+    goes_as w a b (λ forms. AreTurned w q old.spreads forms × AreRows w q old.rows forms) (λ forms. IsRow w q p t r new.spreads (Ok n) forms × AreRows w q old.rows forms) (Knows w q old) (IsKnownRow w q p t r new (Ok (Made n))) (λ forms h. h)
     (λ forms k. ((k.0.0, rows_added w q plain old.rows new.rows forms p t r n p_in t_in r_in added k.0.1 k.1), k.0.1)) (rows_kept w q p t r a b old.spreads new.spreads old.rows (Ok n) goes)
 
 -- A line of the encoding that serves.
-pub row_there : (q : Problem) → IsPlainProblem q → (owner : ℕ) (w : Frame) (p t r : ℕ) (ref : Ref) (forms : List Form) → IsFrameOf q owner w → IsPlace q p t r → IsThere q p t r (Some ref) → IsRowNamed w q p t r ref forms
+pub row_there : (q : Problem) → InLimits q → (owner : ℕ) (w : Frame) (p t r : ℕ) (ref : Ref) (forms : List Form) → IsFrameOf q owner w → IsPlace q p t r → IsThere q p t r (Some ref) → IsRowNamed w q p t r ref forms
 row_there q plain owner w p t r ref forms frame place there = (
   at_most_target q t,
   record {
-    found = λ look finds own. ap look there.0 ∙ (finds_encoding q owner w look frame finds).line (at_most_target_place q t) (at_most_target q t) ((place_laws q).at_most_target t place.place);
+    found = λ look finds own. ap look there.0 ∙ (finds_encoding q owner w look (frame_of q owner w frame) finds).line (at_most_target_place q t) (at_most_target q t) ((place_laws q).at_most_target t place.place);
     foreign = λ k is. absurd (not_shared k (sym there.0 ∙ is));
   },
-  (row_laws q plain).forces.alone p t r place there.1 there.2,
+  serve_out q p t r place (at_most_target q t) there.1.1 ((row_laws q plain).forces.alone p t r place there.1.0 there.2),
 )
   where
     not_shared : (k : ℕ) → target_line q t ≡ Shared k → ⊥
     not_shared k e = cc
 
-pub row_there_of : (q k : Problem) → k ≡ q → IsPlainProblem k → (owner : ℕ) (w : Frame) (p t r : ℕ) (ref : Ref) (forms : List Form) → IsFrameOf q owner w → IsPlace q p t r → IsThere k p t r (Some ref) → IsRowNamed w q p t r ref forms
+pub row_there_of : (q k : Problem) → k ≡ q → InLimits k → (owner : ℕ) (w : Frame) (p t r : ℕ) (ref : Ref) (forms : List Form) → IsFrameOf q owner w → IsPlace q p t r → IsThere k p t r (Some ref) → IsRowNamed w q p t r ref forms
 row_there_of q k same plain owner w p t r ref forms frame place there =
-    row_there q (subst (λ (x : Problem). IsPlainProblem x) same plain) owner w p t r ref forms frame place (subst (λ (x : Problem). IsThere x p t r (Some ref)) same there)
+    row_there q (subst (λ (x : Problem). InLimits x) same plain) owner w p t r ref forms frame place (subst (λ (x : Problem). IsThere x p t r (Some ref)) same there)
 
 -- The names of tables that have none are right.
-pub nothing_known : (w : Frame) (q : Problem) (lines : RowLines) (forms : List Form) → lines.spreads ≡ [] → lines.rows ≡ [] → Knows w q lines forms
+pub nothing_known : (w : Frame) (q : Problem) (lines : RowLines) (forms : List Form) → AreTurned w q lines.spreads forms → lines.rows ≡ [] → Knows w q lines forms
 nothing_known w q lines forms no_spread no_row =
-    (no_spreads w q lines.spreads forms no_spread, subst (λ (xs : List (ℕ × Name)). AreRows w q xs forms) (sym no_row) (record { named = λ p t r n p_in t_in r_in is. absurd cc }))
+    (no_spread, subst (λ (xs : List (ℕ × Name)). AreRows w q xs forms) (sym no_row) (record { named = λ p t r n p_in t_in r_in is. absurd cc }))
+
+-- And names stay right as forms are added, and beside more lines.
+pub knows_last : (w : Frame) (q : Problem) (lines : RowLines) (forms more : List Form) → Knows w q lines forms → Knows w q lines (forms ++ more)
+knows_last w q lines forms more h = (turned_last w q lines.spreads forms more h.0, rows_last w q lines.rows forms more h.1)
+
+pub knows_wider : (w v : Frame) (q : Problem) (lines : RowLines) (forms : List Form) → Widens w v → Knows w q lines forms → Knows v q lines forms
+knows_wider w v q lines forms wider h = (
+  (spreads_wider w v q lines.spreads.out forms wider h.0.0, spreads_wider w v (reversed_problem q) lines.spreads.back forms wider h.0.1),
+  record { named = λ p t r n a b c e. let x = h.1.named p t r n a b c e in (x.0, named_wider w v forms (Made n) x.0 wider x.1, x.2) },
+)

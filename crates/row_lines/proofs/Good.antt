@@ -19,11 +19,11 @@ use Rattle.journal_theory.specs.Referring.{op_refs, NamesRow}
 use Rattle.encoding_theory.specs.Variables.{variable, variables, collect, when}
 use Rattle.encoding_theory.specs.Pairs.{is_edge_pair, is_non_edge_pair}
 use Rattle.encoding_theory.specs.Encoding.{vertex_forms, vertex_group, target_forms, target_group, is_refused, refusal, refused_at, refused_of, refused_group, pair_at, pair_forms, pairs_at, pairs_of, pair_group, edge_group, non_edge_group, encoding}
-use Rattle.encoding_theory.specs.Places.{at_most_place, at_most_target_place, edge_place, non_edge_place}
+use Rattle.encoding_theory.specs.Places.{at_least_place, at_most_place, at_most_target_place, edge_place, non_edge_place}
 use Rattle.encoding_theory.proofs.PlaceProofs.{place_laws}
 use Rattle.row_theory.specs.Operations.{adds_where}
-use Rattle.row_theory.specs.Rows.{at_most_line, target_line, edge_line, non_edge_line, is_shared, there, spread_ops, not_both, two_ops, around_ops, weight}
-use Rattle.row_theory.specs.Laws.{IsPlainProblem}
+use Rattle.row_theory.specs.Rows.{at_least_line, at_most_line, target_line, edge_line, non_edge_line, is_shared, there, spread_ops, not_both, two_ops, around_ops, weight}
+use Rattle.row_theory.specs.Laws.{InLimits}
 use Rattle.row_lines.specs.declared.sharing.Sharing.{Sharing}
 use Rattle.row_lines.specs.declared.sharing.Sharing.TheVariants.{Nothing, One, Many}
 use Rattle.row_lines.specs.Choices.{IsSharing, own_line, entry_at, pair_key, pair_name, name_or_none, spread_ref, begin_of, counted_ops, plain_ops, row_ops}
@@ -36,7 +36,7 @@ IsGoodRef (Line k) = k < 2 ^ 63
 IsGoodRef (Made n) = IsName n
 IsGoodRef (Shared k) = ⊥
 
-abbrev IsGood : ℕ → Op → Type 0
+abbrev pub IsGood : ℕ → Op → Type 0
 IsGood n (Push r) = IsGoodRef r
 IsGood n (Axiom l) = (0 < l.variable) × (l.variable ≤ n) × (l.variable < 2 ^ 32)
 IsGood n (Times k) = k < 2 ^ 63
@@ -73,7 +73,7 @@ good_rows n (Times i ∷ os) good k names = good_rows n os good.1 k names
 good_rows n (Divide i ∷ os) good k names = good_rows n os good.1 k names
 good_rows n (Saturate ∷ os) good k names = good_rows n os good.1 k names
 
-three : (a b c : Bool) → a ≡ true → b ≡ true → c ≡ true → (a && b && c) ≡ true
+pub three : (a b c : Bool) → a ≡ true → b ≡ true → c ≡ true → (a && b && c) ≡ true
 three true true true e f g = refl
 three false b c e f g = absurd cc
 three true false c e f g = absurd cc
@@ -128,7 +128,7 @@ get_below [] k x e = absurd cc
 get_below (y ∷ xs) zero x e = omega arith
 get_below (y ∷ xs) (suc k) x e = let h = get_below xs k x e in omega (arith, h)
 
-module _ (q : Problem) (plain : IsPlainProblem q) where
+module _ (q : Problem) (plain : InLimits q) where
   pairs_few : (test : ℕ → ℕ → Bool) → length (pair_group test q) ≤ 8589934592
   pairs_few test =
       let few = plain.targets_few in
@@ -170,7 +170,10 @@ module _ (q : Problem) (plain : IsPlainProblem q) where
   good_line : (k : ℕ) (f : Form) → slice_get (encoding q) k ≡ Some f → k + 1 < 2 ^ 63
   good_line k f at = let below = get_below (encoding q) k f at in let few = encoding_few in omega (arith, below, few)
 
-  good_most : (r : ℕ) → r < size q.pattern → IsGoodRef (at_most_line q r)
+  pub good_least : (r : ℕ) → r < size q.pattern → IsGoodRef (at_least_line q r)
+  good_least r r_in = good_line (at_least_place q r) _ ((place_laws q).at_least r r_in)
+
+  pub good_most : (r : ℕ) → r < size q.pattern → IsGoodRef (at_most_line q r)
   good_most r r_in = good_line (at_most_place q r) _ ((place_laws q).at_most r r_in)
 
   pub good_target : (t : ℕ) → t < size q.target → IsGoodRef (target_line q t)
@@ -182,7 +185,7 @@ module _ (q : Problem) (plain : IsPlainProblem q) where
   good_non_edge : (p r t : ℕ) → p < size q.pattern → r < size q.pattern → t < size q.target → is_non_edge_pair q p r ≡ true → IsGoodRef (non_edge_line q p r t)
   good_non_edge p r t p_in r_in t_in is = good_line (non_edge_place q p r t) _ ((place_laws q).non_edge p r t p_in r_in t_in is)
 
-  good_there : (w v : ℕ) → w < size q.target → v < size q.pattern → IsGood (variables q) (Axiom (there q w v))
+  pub good_there : (w v : ℕ) → w < size q.target → v < size q.pattern → IsGood (variables q) (Axiom (there q w v))
   good_there w v w_in v_in =
       let row = mul-le-mul_right {m = suc v} {n = size q.pattern} (size q.target) (omega (arith, v_in)) in
       let next = suc-mul v (size q.target) in

@@ -1,4 +1,7 @@
-mod Pairs
-mod Good
-mod Spreading
-mod Following
+pub mod Pairs
+pub mod Turned
+pub mod Good
+pub mod Spreading
+pub mod Turning
+pub mod Following
+pub mod Joining

@@ -21,48 +21,50 @@ use Rattle.journal_theory.specs.Journals.{Finds, HoldsOwn}
 use Rattle.encoding_theory.specs.Variables.{variables}
 use Rattle.row_theory.specs.Operations.{FindsEncoding}
 use Rattle.row_theory.specs.Rows.{target_line, is_shared, spread_form, spread_ops, not_both, not_both_form, two_ops}
-use Rattle.row_theory.specs.Laws.{IsPlainProblem, IsPlace, AreTwoShared}
+use Rattle.row_theory.specs.Laws.{InLimits, IsPlace, AreTwoShared}
 use Rattle.row_theory.proofs.Making.{row_laws}
-use Rattle.kept_lines.specs.Frames.{Frame, IsFrameOf, IsNamed, MayFollow, IsKept, Goes, AnyForms}
+use Rattle.kept_lines.specs.Frames.{Frame, IsNamed, MayFollow, IsKept, Goes, AnyForms}
 use Rattle.kept_lines.proofs.Going.{goes_as, goes_beside, goes_then, goes_kept}
 use Rattle.journals.specs.Keeping.{IsLine, Keeps}
+use Rattle.kept_lines.specs.Rows.{Widens}
+use Rattle.kept_lines.proofs.Rows.{named_wider}
 use Rattle.kept_lines.proofs.Naming.{named_later}
 use Rattle.row_lines.specs.declared.sharing.Sharers.{Sharers}
 use Rattle.row_lines.specs.Choices.{AreSharers, entry_at, pair_key, pair_name, not_both_key, not_both_name}
-use Rattle.row_lines.specs.Claims.{AreSpreads, IsNotBoth, MaySpread, HasSpreadOps}
+use Rattle.row_lines.specs.Claims.{HasEncoding, AreSpreads, IsNotBoth, MaySpread, HasSpreadOps}
 use Rattle.row_lines.proofs.Good.{AreGood, count_few, good_ops, good_rows, good_range, good_ref, good_target, good_spread_ops, good_two_ops, good_not_both}
 
-pub finds_encoding : (q : Problem) (owner : ℕ) (w : Frame) (look : Lookup) → IsFrameOf q owner w → Finds w.base look → FindsEncoding q look
+pub finds_encoding : (q : Problem) (owner : ℕ) (w : Frame) (look : Lookup) → HasEncoding q owner w → Finds w.base look → FindsEncoding q look
 finds_encoding q owner w look frame finds = record { line = λ k f at. finds.alike _ f (frame.model.line k f at) }
 
 -- A line of good operations may be kept where they make its form.
-pub good_follows : (q : Problem) (owner : ℕ) (w : Frame) (forms : List Form) (name : Name) (ops : List Op) (f : Form) → IsFrameOf q owner w → AreGood (variables q) ops
+pub good_follows : (q : Problem) (owner : ℕ) (w : Frame) (forms : List Form) (name : Name) (ops : List Op) (f : Form) → HasEncoding q owner w → AreGood (variables q) ops
     → ((look : Lookup) → Finds w.base look → HoldsOwn w.owner forms look → makes look (P name ops) ≡ Ok f) → MayFollow w forms (P name ops) f
 good_follows q owner w forms name ops f frame good makes_it = record {
   made = makes_it;
   rows = λ k names. absurd (good_rows (variables q) ops good k names);
-  ranges = ap (λ (x : Problem). in_range (variables x) (axiom_variables ops)) frame.problem_is ∙ good_range (variables q) ops good;
+  ranges = ap (λ (n : ℕ). in_range n (axiom_variables ops)) frame.variables_are ∙ good_range (variables q) ops good;
 }
 
 -- ---- the clause of two vertices
 
-module _ (q : Problem) (plain : IsPlainProblem q) (m n v : ℕ) (order : m < n) (n_in : n < size q.pattern) (v_in : v < size q.target) (lits : List Literal) (refs : List Ref) (name : Name) where
+module _ (q : Problem) (plain : InLimits q) (m n v : ℕ) (order : m < n) (n_in : n < size q.pattern) (v_in : v < size q.target) (lits : List Literal) (refs : List Ref) (name : Name) where
   pub not_both_line : lits ≡ not_both q m n v → refs ≡ target_line q v ∷ [] → IsLine (U name lits refs)
   not_both_line are is = (
     subst (λ (ls : List Literal). AreLiterals ls) (sym are) (good_not_both q plain m n v (omega (arith, order, n_in)) n_in v_in).0,
     subst (λ (rs : List Ref). AreRefs rs) (sym is) (good_ref (target_line q v) (good_target q plain v v_in), tt),
   )
 
-  not_both_follows : (owner : ℕ) (w : Frame) (forms : List Form) → IsFrameOf q owner w → lits ≡ not_both q m n v → refs ≡ target_line q v ∷ [] → MayFollow w forms (U name lits refs) (not_both_form q m n v)
+  not_both_follows : (owner : ℕ) (w : Frame) (forms : List Form) → HasEncoding q owner w → lits ≡ not_both q m n v → refs ≡ target_line q v ∷ [] → MayFollow w forms (U name lits refs) (not_both_form q m n v)
   not_both_follows owner w forms frame are is =
       subst (λ (ls : List Literal). MayFollow w forms (U name ls refs) (not_both_form q m n v)) (sym are)
       (subst (λ (rs : List Ref). MayFollow w forms (U name (not_both q m n v) rs) (not_both_form q m n v)) (sym is) (record {
         made = λ look finds own. ((row_laws q plain).makes look (finds_encoding q owner w look frame finds)).not_both name m n v order n_in v_in;
         rows = λ k names. absurd names;
-        ranges = ap (λ (x : Problem). in_range (variables x) (variables_of (not_both q m n v))) frame.problem_is ∙ (good_not_both q plain m n v (omega (arith, order, n_in)) n_in v_in).1;
+        ranges = ap (λ (k : ℕ). in_range k (variables_of (not_both q m n v))) frame.variables_are ∙ (good_not_both q plain m n v (omega (arith, order, n_in)) n_in v_in).1;
       }))
 
-  pub not_both_goes : (owner : ℕ) (w : Frame) (result : Result Name AllocError) (old new : Option (List Step)) → IsFrameOf q owner w → lits ≡ not_both q m n v → refs ≡ target_line q v ∷ [] → Keeps result owner old new (U name lits refs)
+  pub not_both_goes : (owner : ℕ) (w : Frame) (result : Result Name AllocError) (old new : Option (List Step)) → HasEncoding q owner w → lits ≡ not_both q m n v → refs ≡ target_line q v ∷ [] → Keeps result owner old new (U name lits refs)
       → Goes w old new AnyForms (IsKept w result (not_both_form q m n v))
   not_both_goes owner w result old new frame are is keeps =
       goes_kept w result owner old new (U name lits refs) (not_both_form q m n v) AnyForms frame.owner_is keeps (not_both_line are is) (λ forms any. not_both_follows owner w forms frame are is)
@@ -75,6 +77,12 @@ spreads_last w q names forms more h = record {
   apart = λ m r v n m_in r_in v_in is. named_later w forms more (Made n) (not_both_form q m r v) (h.apart m r v n m_in r_in v_in is);
 }
 
+pub spreads_wider : (w v : Frame) (q : Problem) (names : List (ℕ × Name)) (forms : List Form) → Widens w v → AreSpreads w q names forms → AreSpreads v q names forms
+spreads_wider w v q names forms wider h = record {
+  named = λ p r u n a b c e. named_wider w v forms (Made n) (spread_form q p r u) wider (h.named p r u n a b c e);
+  apart = λ m r u n a b c e. named_wider w v forms (Made n) (not_both_form q m r u) wider (h.apart m r u n a b c e);
+}
+
 -- Other numbers keep their names, and one has the new name.
 kept_name : (old new : List (ℕ × Name)) (at k : ℕ) (n : Name) → ((i : ℕ) → entry_at new i ≡ cond (i == at) (Some n) (entry_at old i)) → (k ≡ at → ⊥) → entry_at old k ≡ entry_at new k
 kept_name old new at k n added other = sym (added k ∙ ap (λ (x : Bool). cond x (Some n) (entry_at old k)) (ne_eqb k at other))
@@ -83,7 +91,7 @@ new_name : (old new : List (ℕ × Name)) (at k : ℕ) (n : Name) → ((i : ℕ)
 new_name old new at k n added same = sym (added k ∙ ap (λ (x : Bool). cond x (Some n) (entry_at old k)) (eq-eqb k at same))
 
 -- One name more, of a line that is named.
-pub spreads_added : (w : Frame) (q : Problem) → IsPlainProblem q → (old new : List (ℕ × Name)) (forms : List Form) (p r v : ℕ) (n : Name) → p < size q.pattern → r < size q.pattern → v < size q.target
+pub spreads_added : (w : Frame) (q : Problem) → InLimits q → (old new : List (ℕ × Name)) (forms : List Form) (p r v : ℕ) (n : Name) → p < size q.pattern → r < size q.pattern → v < size q.target
     → ((k : ℕ) → entry_at new k ≡ cond (k == pair_key p r v) (Some n) (entry_at old k)) → IsNamed w forms (Made n) (spread_form q p r v) → AreSpreads w q old forms → AreSpreads w q new forms
 spreads_added w q plain old new forms p r v n p_in r_in v_in added named h = record {
   named = λ a b u m a_in b_in u_in is. by a b u m a_in b_in u_in is (cases_eq (pair_key a b u) (pair_key p r v));
@@ -109,13 +117,13 @@ spreads_added w q plain old new forms p r v n p_in r_in v_in added named h = rec
         h.named a b u m a_in b_in u_in (kept_name old new (pair_key p r v) (pair_key a b u) n added other ∙ is)
 
 -- What adding a name does to the table, whatever it answers.
-pub spreads_put : (w : Frame) (q : Problem) → IsPlainProblem q → (old new : List (ℕ × Name)) (forms : List Form) (p r v : ℕ) (n : Name) (result : Result (Unit {0}) AllocError) → p < size q.pattern → r < size q.pattern → v < size q.target
+pub spreads_put : (w : Frame) (q : Problem) → InLimits q → (old new : List (ℕ × Name)) (forms : List Form) (p r v : ℕ) (n : Name) (result : Result (Unit {0}) AllocError) → p < size q.pattern → r < size q.pattern → v < size q.target
     → OnOk result ((k : ℕ) → entry_at new k ≡ cond (k == pair_key p r v) (Some n) (entry_at old k)) → OnErr result (new ≡ old) → IsNamed w forms (Made n) (spread_form q p r v) → AreSpreads w q old forms → AreSpreads w q new forms
 spreads_put w q plain old new forms p r v n (Ok done) p_in r_in v_in added refused named h = spreads_added w q plain old new forms p r v n p_in r_in v_in added named h
 spreads_put w q plain old new forms p r v n (Err e) p_in r_in v_in added refused named h = subst (λ (names : List (ℕ × Name)). AreSpreads w q names forms) (sym refused) h
 
 -- One name more, of a clause that is named.
-pub apart_added : (w : Frame) (q : Problem) → IsPlainProblem q → (old new : List (ℕ × Name)) (forms : List Form) (m r v : ℕ) (n : Name) → m < size q.pattern → r < size q.pattern → v < size q.target
+pub apart_added : (w : Frame) (q : Problem) → InLimits q → (old new : List (ℕ × Name)) (forms : List Form) (m r v : ℕ) (n : Name) → m < size q.pattern → r < size q.pattern → v < size q.target
     → ((k : ℕ) → entry_at new k ≡ cond (k == not_both_key m r v) (Some n) (entry_at old k)) → IsNamed w forms (Made n) (not_both_form q m r v) → AreSpreads w q old forms → AreSpreads w q new forms
 apart_added w q plain old new forms m r v n m_in r_in v_in added named h = record {
   named = λ a b u x a_in b_in u_in is.
@@ -154,7 +162,7 @@ not_both_refused w q old new m r v result e a b same goes =
     (λ forms k. (subst (λ (names : List (ℕ × Name)). AreSpreads w q names forms) (sym same) k.0, tt)) goes
 
 -- It was made, and its name was added.
-pub not_both_added : (w : Frame) (q : Problem) → IsPlainProblem q → (old new : List (ℕ × Name)) (m r v : ℕ) (n : Name) (a b : Option (List Step)) → m < size q.pattern → r < size q.pattern → v < size q.target
+pub not_both_added : (w : Frame) (q : Problem) → InLimits q → (old new : List (ℕ × Name)) (m r v : ℕ) (n : Name) (a b : Option (List Step)) → m < size q.pattern → r < size q.pattern → v < size q.target
     → ((k : ℕ) → entry_at new k ≡ cond (k == not_both_key m r v) (Some n) (entry_at old k))
     → Goes w a b (AreSpreads w q old) (IsNotBoth w q m r v old (Ok n)) → Goes w a b (AreSpreads w q old) (IsNotBoth w q m r v new (Ok n))
 not_both_added w q plain old new m r v n a b m_in r_in v_in added goes =
@@ -167,14 +175,14 @@ no_spreads w q names forms none = subst (λ (xs : List (ℕ × Name)). AreSpread
 
 -- ---- the operations of a line that counts shared neighbours
 
-sharers_few : (q : Problem) → IsPlainProblem q → (pair : Sharers) → AreSharers q pair → pair.count < 65536
+sharers_few : (q : Problem) → InLimits q → (pair : Sharers) → AreSharers q pair → pair.count < 65536
 sharers_few q plain pair sharers =
     let few = count_few (is_shared q.pattern pair.p pair.r) (size q.pattern) in
     let less = plain.vertices_few in
     let counted : count (is_shared q.pattern pair.p pair.r) (size q.pattern) ≡ pair.count = sharers.counted in
     omega (arith, few, less, counted)
 
-module _ (q : Problem) (plain : IsPlainProblem q) (pair : Sharers) (sharers : AreSharers q pair) (v : ℕ) (v_in : v < size q.target) (owner : ℕ) (w : Frame) (frame : IsFrameOf q owner w) (forms : List Form) where
+module _ (q : Problem) (plain : InLimits q) (pair : Sharers) (sharers : AreSharers q pair) (v : ℕ) (v_in : v < size q.target) (owner : ℕ) (w : Frame) (frame : HasEncoding q owner w) (forms : List Form) where
   at_v : IsPlace q pair.p v pair.r
   at_v = record { first = sharers.first_in; place = v_in; second = sharers.second_in; others = sharers.others }
 
@@ -195,13 +203,13 @@ module _ (q : Problem) (plain : IsPlainProblem q) (pair : Sharers) (sharers : Ar
       (good_follows q owner w forms name (two_ops q (Made clause) pair.p pair.r v) (spread_form q pair.p pair.r v) frame (good_two_ops q plain clause pair.p pair.r v fits sharers.second_in v_in)
       (λ look finds own. ((row_laws q plain).makes look (finds_encoding q owner w look frame finds)).two name (Made clause) m n pair.p v pair.r at_v two (named.found look finds own)))
 
-pub many_ops : (q : Problem) → IsPlainProblem q → (pair : Sharers) (v : ℕ) (result : Result (List Op) AllocError) → AreSharers q pair → v < size q.target
+pub many_ops : (q : Problem) → InLimits q → (pair : Sharers) (v : ℕ) (result : Result (List Op) AllocError) → AreSharers q pair → v < size q.target
     → IfOk result (λ ops. ops ≡ spread_ops q pair.p pair.r v (pair.count - 1)) → IfOk result AreOps
 many_ops q plain pair v (Err e) sharers v_in is = tt
 many_ops q plain pair v (Ok ops) sharers v_in is =
     subst AreOps (sym is) (good_ops (variables q) (spread_ops q pair.p pair.r v (pair.count - 1)) (good_spread_ops q plain pair.p pair.r v (pair.count - 1) sharers.first_in sharers.second_in v_in (let few = sharers_few q plain pair sharers in omega (arith, few))))
 
-pub two_are_ops : (q : Problem) → IsPlainProblem q → (pair : Sharers) (v : ℕ) (clause : Name) (result : Result (List Op) AllocError) → AreSharers q pair → v < size q.target → IsName clause
+pub two_are_ops : (q : Problem) → InLimits q → (pair : Sharers) (v : ℕ) (clause : Name) (result : Result (List Op) AllocError) → AreSharers q pair → v < size q.target → IsName clause
     → IfOk result (λ ops. ops ≡ two_ops q (Made clause) pair.p pair.r v) → IfOk result AreOps
 two_are_ops q plain pair v clause (Err e) sharers v_in fits is = tt
 two_are_ops q plain pair v clause (Ok ops) sharers v_in fits is =
@@ -210,7 +218,7 @@ two_are_ops q plain pair v clause (Ok ops) sharers v_in fits is =
 -- ---- the line
 
 -- Its operations were found, and it was kept beside the names of a table.
-pub spread_goes : (q : Problem) (owner middle : ℕ) (w : Frame) (name : Name) (p r v : ℕ) (ops : List Op) (old names : List (ℕ × Name)) (result : Result Name AllocError) (a b c : Option (List Step)) → IsFrameOf q owner w → middle ≡ owner
+pub spread_goes : (q : Problem) (owner middle : ℕ) (w : Frame) (name : Name) (p r v : ℕ) (ops : List Op) (old names : List (ℕ × Name)) (result : Result Name AllocError) (a b c : Option (List Step)) → HasEncoding q owner w → middle ≡ owner
     → Goes w a b (AreSpreads w q old) (HasSpreadOps w q p r v names (Ok ops)) → AreOps ops → Keeps result middle b c (P name ops)
     → Goes w a c (AreSpreads w q old) (λ forms. IsKept w result (spread_form q p r v) forms × AreSpreads w q names forms)
 spread_goes q owner middle w name p r v ops old names result a b c frame same first fits keeps =

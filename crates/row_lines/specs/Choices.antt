@@ -1,12 +1,13 @@
--- Which line a pair of vertices gets, by what they share and whether they have lines of their own; and how the lines that count are named.
+-- Which line a pair of vertices gets, by what they share in each direction and whether they have lines of their own; and how the lines that count are named.
 
-use Rattle.std.specs.Prelude.{◌≡◌, ℕ, ◌+◌, ◌*◌, ◌<◌, ◌≤◌, true, false, cond, List, [], ◌∷◌, Option, Some, None}
+use Rattle.std.specs.Prelude.{◌≡◌, ℕ, ◌+◌, ◌*◌, ◌<◌, ◌≤◌, true, false, ◌⊎◌, cond, List, [], ◌∷◌, Option, Some, None}
 use Rattle.std.specs.BTreeMap.{is_at}
 use Rattle.std.specs.Map.{lookup}
 use Rattle.std.specs.Ordering.{nat_cmp}
 use Rattle.graph_theory.specs.Graph.{size}
 use Rattle.graph_theory.specs.Embedding.{Problem}
 use Rattle.graph_theory.specs.Neighbours.{common}
+use Rattle.graph_theory.specs.Reversed.{reversed, reversed_problem, AreMutual}
 use Rattle.proof_theory.specs.Forms.{Form}
 use Rattle.log_theory.specs.declared.step.Name.{Name}
 use Rattle.log_theory.specs.declared.step.Ref.{Ref}
@@ -17,6 +18,8 @@ use Rattle.encoding_theory.specs.Pairs.{is_edge_pair, is_non_edge_pair}
 use Rattle.encoding_theory.specs.Encoding.{at_most_target}
 use Rattle.row_theory.specs.Rows.{at_most_line, target_line, weight, edge_line, non_edge_line, is_shared, beside_form, beside_ops, alone_ops, joined_form, joined_ops, apart_form, apart_ops}
 use Rattle.row_lines.specs.declared.sharing.Sharers.{Sharers}
+use Rattle.row_lines.specs.declared.sharing.Asked.{Asked}
+use Rattle.row_lines.specs.declared.sharing.Asked.TheVariants.{Out, In, Both}
 use Rattle.row_lines.specs.declared.sharing.Sharing.{Sharing}
 use Rattle.row_lines.specs.declared.sharing.Sharing.TheVariants.{Nothing, One, Many}
 
@@ -30,8 +33,16 @@ IsFirstShared q p r (Some m) = (m < size q.pattern) × (is_shared q.pattern p r 
 -- The number of shared neighbours, and the one that is alone.
 abbrev pub IsSharing : Problem → ℕ → ℕ → Sharing → Type 0
 IsSharing q p r Nothing = common q.pattern p r ≡ 0
-IsSharing q p r (One m) = (common q.pattern p r ≡ 1) × (m < size q.pattern) × (is_shared q.pattern p r m ≡ true)
+IsSharing q p r (One m) = (common q.pattern p r ≡ 1) × (m < size q.pattern)
+    × (is_shared q.pattern p r m ≡ true)
 IsSharing q p r (Many c) = (common q.pattern p r ≡ c) × (2 ≤ c)
+
+-- In which directions shared neighbours are counted: in that of the edges alone where these stand both ways, or in the other there are none;
+-- against them alone where there are none along them; or in both.
+abbrev pub IsAsked : Problem → ℕ → ℕ → Asked → Type 0
+IsAsked q p r (Out s) = IsSharing q p r s × (AreMutual q ⊎ (common (reversed q.pattern) p r ≡ 0))
+IsAsked q p r (In s) = IsSharing (reversed_problem q) p r s × (common q.pattern p r ≡ 0)
+IsAsked q p r (Both s b) = IsSharing q p r s × IsSharing (reversed_problem q) p r b
 
 -- Two vertices with the number of neighbours that they share, more than one.
 pub record AreSharers (q : Problem) (pair : Sharers) : Type 0 where
@@ -45,7 +56,8 @@ pub record AreSharers (q : Problem) (pair : Sharers) : Type 0 where
 
 -- The pair's own line at t, if it has any.
 abbrev pub own_line : Problem → ℕ → ℕ → ℕ → Option Ref
-own_line q p r t = cond (is_edge_pair q p r) (Some (edge_line q p r t)) (cond (is_non_edge_pair q p r) (Some (non_edge_line q p r t)) None)
+own_line q p r t = cond (is_edge_pair q p r) (Some (edge_line q p r t)) (cond
+    (is_non_edge_pair q p r) (Some (non_edge_line q p r t)) None)
 
 -- The number under which a table keeps the name of the line for p and r at w.
 abbrev pub pair_key : ℕ → ℕ → ℕ → ℕ
@@ -79,11 +91,14 @@ spread_ref q names Nothing p r w = Line 0
 
 -- What a line for shared neighbours begins with.
 abbrev pub begin_of : Problem → Option Ref → ℕ → ℕ → List Op
-begin_of q (Some own) t r = Push (at_most_line q r) ∷ Times 2 ∷ Push own ∷ Add ∷ Times (weight q t) ∷ []
-begin_of q None t r = Push (at_most_line q r) ∷ Push (target_line q t) ∷ Add ∷ Times (weight q t) ∷ []
+begin_of q (Some own) t r = Push (at_most_line q r) ∷ Times 2 ∷ Push own ∷ Add ∷ Times
+    (weight q t) ∷ []
+begin_of q None t r = Push (at_most_line q r) ∷ Push (target_line q t) ∷ Add ∷ Times
+    (weight q t) ∷ []
 
 abbrev pub counted_ops : Problem → List (ℕ × Name) → Sharing → Option Ref → ℕ → ℕ → ℕ → List Op
-counted_ops q names sharing (Some own) p t r = joined_ops q own (spread_ref q names sharing p r) p t r
+counted_ops q names sharing (Some own) p t r = joined_ops q own
+    (spread_ref q names sharing p r) p t r
 counted_ops q names sharing None p t r = apart_ops q (spread_ref q names sharing p r) p t r
 
 abbrev pub plain_ops : Problem → Option Ref → ℕ → ℕ → List Op

@@ -1,55 +1,88 @@
-//! A problem with its encoding: the tests that the lines go by, and the references that they make.
+//! A problem with its encoding, as its edges lead or with both graphs turned round: the tests that the lines go by, and the references that
+//! they make. The encoding is the same either way.
 
-ghost use Rattle.std.specs.Prelude.{◌≡◌, ◌<◌, ◌≤◌, true};
+ghost use Rattle.std.specs.Prelude.{◌≡◌, ◌<◌, ◌≤◌, true, IfOk};
 ghost use Rattle.graph_theory.specs.Graph.{size};
-ghost use Rattle.graph_theory.specs.Neighbours.{is_neighbour};
-ghost use Rattle.graph_theory.specs.Plain.{ArePlain};
+ghost use Rattle.graph_theory.specs.Neighbours.{is_neighbour, common};
+ghost use Rattle.graph_theory.specs.Reversed.{turned, turned_problem};
 ghost use Rattle.encoding_theory.specs.Pairs.{is_edge_pair as is_edge, is_non_edge_pair as is_non_edge};
 ghost use Rattle.reason_theory.specs.Reasons.{not_there};
-ghost use Rattle.row_theory.specs.Laws.{IsPlainProblem};
-ghost use Rattle.row_theory.specs.Rows.{at_most_line, target_line, edge_line, non_edge_line, is_shared as is_shared_by, is_paired as is_paired_by, there as there_at, weight as weight_at};
+ghost use Rattle.row_theory.specs.Laws.{InLimits};
+ghost use Rattle.row_theory.specs.Rows.{at_least_line, at_most_line, target_line, edge_line, non_edge_line, is_shared as is_shared_by, is_paired as is_paired_by, there as there_at, weight as weight_at};
 
+use bit_rows::has_bit;
+use common_neighbour::Counts;
 use graph_rows::{Graph, Problem};
+use graph_theory::direction::Direction;
 use log_theory::Ref;
 use pb_encoding::Encoding;
 use proof_theory::Literal;
+use std::alloc::{AllocError, Global};
 use std::marker::Model;
 
-/// A problem of graphs without directions and labels of edges, and the numbers of its encoding's lines.
+/// A problem, the numbers of its encoding's lines, and the direction in which edges are followed. Contracts see the problem turned so.
 #[derive(Drop)]
 pub(crate) struct Known<'a, 'b> {
     q: &'a Problem,
     lines: &'a Encoding<'b>,
+    direction: Direction,
 }
 
 impl<'a, 'b> Model for Known<'a, 'b> {
     ghost use Rattle.std.specs.Prelude.{◌≡◌};
     ghost use Rattle.graph_theory.specs.Embedding.{Problem as TheProblem};
-    ghost use Rattle.graph_theory.specs.Plain.{ArePlain};
+    ghost use Rattle.graph_theory.specs.Reversed.{turned_problem};
 
     ghost Value = { TheProblem };
 
-    ghost view = { λ k. k.q.now };
+    ghost view = { λ k. turned_problem k.direction k.q.now };
 
-    ghost invariant = { λ k. (k.lines.now ≡ k.q.now) × ArePlain k.q.now };
+    ghost invariant = { λ k. k.lines.now ≡ k.q.now };
 }
 
-/// Whether `b` is another vertex to which an edge leads from `a`. Cost: one word.
-fn are_neighbours(g: &Graph, a: u16, b: u16) -> bool
+/// Whether `b` is another vertex, and a neighbour of `a` in the graph turned in this direction. Cost: one word.
+fn are_neighbours(g: &Graph, direction: Direction, a: u16, b: u16) -> bool
     requires from { a < size g.now }
     requires to { b < size g.now }
-    ensures { result ≡ is_neighbour g.now a b }
+    ensures { result ≡ is_neighbour (turned direction g.now) a b }
 {
-    a != b && g.has_edge(a, b)
+    a != b && has_bit(g.row_by(direction, a), usize::from(b))
+}
+
+/// Whether an edge joins two pattern vertices, whichever way it leads.
+fn is_edge_pair(q: &Problem, p: u16, r: u16) -> bool
+    requires p_in { p < size q.now.pattern }
+    requires r_in { r < size q.now.pattern }
+    ensures { result ≡ is_edge q.now p r }
+{
+    let pattern = q.pattern();
+    p != r && (pattern.has_edge(p, r) || pattern.has_edge(r, p))
+}
+
+/// Whether in the induced kind none does.
+fn is_non_edge_pair(q: &Problem, p: u16, r: u16) -> bool
+    requires p_in { p < size q.now.pattern }
+    requires r_in { r < size q.now.pattern }
+    ensures { result ≡ is_non_edge q.now p r }
+{
+    let pattern = q.pattern();
+    q.induced() && p != r && !pattern.has_edge(p, r) && !pattern.has_edge(r, p)
 }
 
 impl<'a, 'b> Known<'a, 'b> {
-    pub(crate) fn new(q: &'a Problem, lines: &'a Encoding<'b>) -> Known<'a, 'b>
+    pub(crate) fn new(
+        q: &'a Problem,
+        lines: &'a Encoding<'b>,
+        direction: Direction,
+    ) -> Known<'a, 'b>
         requires encoding { lines.now ≡ q.now }
-        requires plain { ArePlain q.now }
-        ensures { result ≡ q.now }
+        ensures { result ≡ turned_problem direction q.entry.now }
     {
-        Known { q, lines }
+        Known {
+            q,
+            lines,
+            direction,
+        }
     }
 
     pub(crate) fn vertices(&self) -> u16
@@ -66,15 +99,19 @@ impl<'a, 'b> Known<'a, 'b> {
         self.q.target().size()
     }
 
-    pub(crate) fn pattern(&self) -> &Graph
-        ensures { result.now ≡ self.now.pattern }
+    /// How many neighbours two others share. Cost: one step for each word of a row.
+    pub(crate) fn count_shared(&self, alloc: Global, p: u16, r: u16) -> Result<u16, AllocError>
+        requires p_in { p < size self.now.pattern }
+        requires r_in { r < size self.now.pattern }
+        requires others { p ≡ r → ⊥ }
+        ensures { IfOk result (λ n. n ≡ common self.now.pattern p r) }
     {
-        self.q.pattern()
+        Ok(Counts::new(alloc, self.q.pattern(), self.direction)?.count(p, r))
     }
 
-    /// The graphs are plain and within their limits. It changes nothing; the fact is what it is called for.
-    pub(crate) fn is_plain(&self)
-        ensures { IsPlainProblem self.now }
+    /// The graphs are within their limits. It changes nothing; the fact is what it is called for.
+    pub(crate) fn in_limits(&self)
+        ensures { InLimits self.now }
     {
         let pattern = self.q.pattern();
         let target = self.q.target();
@@ -90,7 +127,8 @@ impl<'a, 'b> Known<'a, 'b> {
         ensures { result ≡ is_shared_by self.now.pattern p r m }
     {
         let pattern = self.q.pattern();
-        are_neighbours(pattern, p, m) && are_neighbours(pattern, r, m)
+        are_neighbours(pattern, self.direction, p, m)
+            && are_neighbours(pattern, self.direction, r, m)
     }
 
     /// Whether `w` is a neighbour of `t`.
@@ -99,7 +137,7 @@ impl<'a, 'b> Known<'a, 'b> {
         requires w_in { w < size self.now.target }
         ensures { result ≡ is_neighbour self.now.target t w }
     {
-        are_neighbours(self.q.target(), t, w)
+        are_neighbours(self.q.target(), self.direction, t, w)
     }
 
     pub(crate) fn is_edge_pair(&self, p: u16, r: u16) -> bool
@@ -107,8 +145,7 @@ impl<'a, 'b> Known<'a, 'b> {
         requires r_in { r < size self.now.pattern }
         ensures { result ≡ is_edge self.now p r }
     {
-        let pattern = self.q.pattern();
-        p != r && (pattern.has_edge(p, r) || pattern.has_edge(r, p))
+        is_edge_pair(self.q, p, r)
     }
 
     pub(crate) fn is_non_edge_pair(&self, p: u16, r: u16) -> bool
@@ -116,8 +153,7 @@ impl<'a, 'b> Known<'a, 'b> {
         requires r_in { r < size self.now.pattern }
         ensures { result ≡ is_non_edge self.now p r }
     {
-        let pattern = self.q.pattern();
-        self.q.induced() && p != r && !pattern.has_edge(p, r) && !pattern.has_edge(r, p)
+        is_non_edge_pair(self.q, p, r)
     }
 
     /// Whether the two have lines of their own.
@@ -127,6 +163,13 @@ impl<'a, 'b> Known<'a, 'b> {
         ensures { result ≡ is_paired_by self.now p r }
     {
         self.is_edge_pair(p, r) || self.is_non_edge_pair(p, r)
+    }
+
+    pub(crate) fn at_least(&self, r: u16) -> Ref
+        requires { r < size self.now.pattern }
+        ensures { result ≡ at_least_line self.now r }
+    {
+        Ref::Line(self.lines.at_least(r))
     }
 
     pub(crate) fn at_most(&self, r: u16) -> Ref
@@ -193,6 +236,6 @@ impl<'a, 'b> Known<'a, 'b> {
         requires { t < size self.now.target }
         ensures { result ≡ weight_at self.now t }
     {
-        u64::from(self.q.target().degree(t)) + 1
+        u64::from(self.q.target().degree_by(self.direction, t)) + 1
     }
 }

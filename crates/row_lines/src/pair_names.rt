@@ -30,7 +30,8 @@ impl Model for PairNames {
 
     ghost view = { λ s. s.names.entries };
 
-    ghost invariant = { λ s. (k : ℕ) (n : TheName) → entry_at s.names.entries k ≡ Some n → IsName n };
+    ghost invariant = { λ s. (k : ℕ) (n : TheName) → entry_at s.names.entries k ≡ Some n
+        → IsName n };
 }
 
 impl PairNames {

@@ -3,18 +3,19 @@
 ghost use Rattle.std.specs.Prelude.{◌≡◌, ◌<◌, [], List, IfOk, IfSome};
 ghost use Rattle.graph_theory.specs.Graph.{size};
 ghost use Rattle.graph_theory.specs.Embedding.{Problem as TheProblem};
-ghost use Rattle.graph_theory.specs.Plain.{ArePlain};
 ghost use Rattle.proof_theory.specs.Forms.{Form};
 ghost use Rattle.log_theory.specs.LogText.{IsRef};
 ghost use Rattle.kept_lines.specs.Frames.{Frame, IsFrameOf, Goes};
-ghost use Rattle.row_lines.specs.Choices.{IsSharing};
+ghost use Rattle.row_lines.specs.Choices.{IsAsked};
 ghost use Rattle.row_lines.specs.Claims.{Knows, IsKnownRow, IsThere};
 
 use crate::known::Known;
 use crate::pair_names::PairNames;
 use crate::row::row_line_with;
-use crate::sharing::{Sharing, sharing_of};
+use crate::sharing::{Asked, Sharing, asked_of};
+use crate::turned_names::Spreads;
 use graph_rows::Problem;
+use graph_theory::direction::Direction;
 use journals::Keeper;
 use log_theory::Ref;
 use pb_encoding::Encoding;
@@ -24,29 +25,33 @@ use std::alloc::{AllocError, Global};
 #[derive(Drop)]
 pub struct RowLines {
     rows: PairNames,
-    spreads: PairNames,
+    spreads: Spreads,
 }
 
 /// The line of the encoding that serves where nothing but `t` itself is refused.
-fn line_there(known: &Known, sharing: Sharing, p: u16, t: u16, r: u16) -> Option<Ref>
+fn line_there(known: &Known, asked: Asked, p: u16, t: u16, r: u16) -> Option<Ref>
     requires p_in { p < size known.now.pattern }
     requires t_in { t < size known.now.target }
     requires r_in { r < size known.now.pattern }
-    requires shared { IsSharing known.now p r sharing }
+    requires asked { IsAsked known.now p r asked }
     ensures there { IsThere known.now p t r result }
     ensures fits { IfSome result IsRef }
 {
-    known.is_plain();
-    match sharing {
-        Sharing::Nothing => {
-            if known.is_paired(p, r) {
-                None
-            } else {
-                Some(known.target(t))
+    known.in_limits();
+    match asked {
+        Asked::Out(shared) => match shared {
+            Sharing::Nothing => {
+                if known.is_paired(p, r) {
+                    None
+                } else {
+                    Some(known.target(t))
+                }
             }
-        }
-        Sharing::One(_) => None,
-        Sharing::Many(_) => None,
+            Sharing::One(_) => None,
+            Sharing::Many(_) => None,
+        },
+        Asked::In(_) => None,
+        Asked::Both(_, _) => None,
     }
 }
 
@@ -57,7 +62,7 @@ impl RowLines {
     {
         RowLines {
             rows: PairNames::new(alloc),
-            spreads: PairNames::new(alloc),
+            spreads: Spreads::new(alloc),
         }
     }
 
@@ -74,7 +79,6 @@ impl RowLines {
         r: u16,
     ) -> Result<Ref, AllocError>
         requires encoding { lines.now ≡ q.now }
-        requires plain { ArePlain q.now }
         requires p_in { p < size q.now.pattern }
         requires t_in { t < size q.now.target }
         requires r_in { r < size q.now.pattern }
@@ -90,10 +94,11 @@ impl RowLines {
         if let Some(name) = self.rows.find(p, r, t) {
             return Ok(Ref::Made(name));
         }
-        let known = Known::new(q, lines);
-        let sharing = sharing_of(alloc, &known, p, r)?;
-        known.is_plain();
-        if let Some(line) = line_there(&known, sharing, p, t, r) {
+        let known = Known::new(q, lines, Direction::Out);
+        let back = Known::new(q, lines, Direction::In);
+        let asked = asked_of(alloc, q, &known, &back, p, r)?;
+        known.in_limits();
+        if let Some(line) = line_there(&known, asked, p, t, r) {
             return Ok(line);
         }
         let name = row_line_with(alloc, q, lines, &mut self.spreads, keeper, p, t, r)?;

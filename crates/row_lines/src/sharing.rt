@@ -6,10 +6,11 @@ ghost use Rattle.graph_theory.specs.Neighbours.{common};
 ghost use Rattle.row_theory.specs.Rows.{is_shared as is_shared_by};
 ghost use Rattle.row_theory.specs.Laws.{AreTwoShared};
 ghost use Rattle.row_lines.specs.Choices.{IsSharing, IsFirstShared};
+ghost use Rattle.graph_theory.specs.Reversed.{reversed_problem};
+ghost use Rattle.row_lines.specs.Choices.{IsAsked};
 
 use crate::known::Known;
-use common_neighbour::Counts;
-use graph_theory::direction::Direction;
+use graph_rows::Problem;
 use std::alloc::{AllocError, Global};
 
 /// The shared neighbours of two vertices: none, this one alone, or so many.
@@ -18,6 +19,15 @@ pub(crate) enum Sharing {
     Nothing,
     One(u16),
     Many(u16),
+}
+
+/// In which directions a line has to count shared neighbours, and which there are: in one where edges are known to stand both ways or the
+/// other has none.
+#[derive(Clone, Copy, PartialEq, Eq, Debug)]
+pub(crate) enum Asked {
+    Out(Sharing),
+    In(Sharing),
+    Both(Sharing, Sharing),
 }
 
 /// Two pattern vertices, and how many neighbours they share.
@@ -93,7 +103,7 @@ pub(crate) fn sharing_of(
     requires others { p ≡ r → ⊥ }
     ensures { IfOk result (IsSharing known.now p r) }
 {
-    let count = Counts::new(alloc, known.pattern(), Direction::Out)?.count(p, r);
+    let count = known.count_shared(alloc, p, r)?;
     if count > 1 {
         return Ok(Sharing::Many(count));
     }
@@ -103,5 +113,34 @@ pub(crate) fn sharing_of(
     match first_shared(known, p, r) {
         Some(m) => Ok(Sharing::One(m)),
         None => Ok(Sharing::Nothing),
+    }
+}
+
+/// What is asked of the two, of a problem as its edges lead and of it turned round. Cost: twice that of `sharing_of`.
+pub(crate) fn asked_of(
+    alloc: Global,
+    q: &Problem,
+    out: &Known,
+    back: &Known,
+    p: u16,
+    r: u16,
+) -> Result<Asked, AllocError>
+    requires out { out.now ≡ q.now }
+    requires back { back.now ≡ reversed_problem q.now }
+    requires p_in { p < size q.now.pattern }
+    requires r_in { r < size q.now.pattern }
+    requires others { p ≡ r → ⊥ }
+    ensures { IfOk result (IsAsked q.now p r) }
+{
+    let shared = sharing_of(alloc, out, p, r)?;
+    if q.is_mutual() {
+        return Ok(Asked::Out(shared));
+    }
+    match sharing_of(alloc, back, p, r)? {
+        Sharing::Nothing => Ok(Asked::Out(shared)),
+        in_shared => match shared {
+            Sharing::Nothing => Ok(Asked::In(in_shared)),
+            shared => Ok(Asked::Both(shared, in_shared)),
+        },
     }
 }

@@ -7,10 +7,10 @@ ghost use Rattle.graph_theory.specs.Neighbours.{is_neighbour};
 ghost use Rattle.log_theory.specs.LogText.{IsName, AreOps};
 ghost use Rattle.row_theory.specs.Rows.{not_both_form};
 ghost use Rattle.row_theory.specs.Laws.{AreTwoShared};
-ghost use Rattle.kept_lines.specs.Frames.{Frame, IsFrameOf, Goes, AnyForms, IsKept};
+ghost use Rattle.kept_lines.specs.Frames.{Frame, Goes, AnyForms, IsKept};
 ghost use Rattle.row_lines.specs.declared.sharing.Sharing.TheVariants.{Many as ManyShared};
 ghost use Rattle.row_lines.specs.Choices.{AreSharers, pair_name};
-ghost use Rattle.row_lines.specs.Claims.{AreSpreads, HasAround, Stay, IsNotBoth, HasSpreadOps};
+ghost use Rattle.row_lines.specs.Claims.{HasEncoding, AreSpreads, HasAround, Stay, IsNotBoth, HasSpreadOps};
 
 use crate::known::Known;
 use crate::ops::{not_both, spread_ops, target_refs, two_ops};
@@ -38,7 +38,7 @@ fn make_not_both<K: Keeper>(
     requires order { m < n }
     requires n_in { n < size known.now.pattern }
     requires w_in { w < size known.now.target }
-    ensures goes { (f : Frame) → IsFrameOf known.now (K.owner keeper.old) f
+    ensures goes { (f : Frame) → HasEncoding known.now (K.owner keeper.old) f
         → Goes f (K.kept keeper.old) (K.kept keeper.new) AnyForms
         (IsKept f result (not_both_form known.now m n w)) }
     ensures name { IfOk result IsName }
@@ -46,7 +46,7 @@ fn make_not_both<K: Keeper>(
     ensures notes { K.notes keeper.new ≡ K.notes keeper.old }
     ensures spare { K.spare keeper.new ≡ K.spare keeper.old }
 {
-    known.is_plain();
+    known.in_limits();
     let lits = not_both(alloc, known, m, n, w)?;
     let refs = target_refs(alloc, known, w)?;
     keeper.keep(Step::U {
@@ -69,7 +69,7 @@ fn keep_not_both<K: Keeper>(
     requires order { m < n }
     requires n_in { n < size known.now.pattern }
     requires w_in { w < size known.now.target }
-    ensures goes { (f : Frame) → IsFrameOf known.now (K.owner keeper.old) f
+    ensures goes { (f : Frame) → HasEncoding known.now (K.owner keeper.old) f
         → Goes f (K.kept keeper.old) (K.kept keeper.new) (AreSpreads f known.now spreads.old)
         (IsNotBoth f known.now m n w spreads.new result) }
     ensures name { IfOk result IsName }
@@ -78,7 +78,7 @@ fn keep_not_both<K: Keeper>(
     ensures notes { K.notes keeper.new ≡ K.notes keeper.old }
     ensures spare { K.spare keeper.new ≡ K.spare keeper.old }
 {
-    known.is_plain();
+    known.in_limits();
     let _vertices = known.vertices();
     if let Some(name) = spreads.find_not_both(m, n, w) {
         return Ok(name);
@@ -101,7 +101,7 @@ fn ops_of_two<K: Keeper>(
     requires pair { AreSharers known.now pair }
     requires two { AreTwoShared known.now.pattern pair.p pair.r two.0 two.1 }
     requires w_in { w < size known.now.target }
-    ensures goes { (f : Frame) → IsFrameOf known.now (K.owner keeper.old) f
+    ensures goes { (f : Frame) → HasEncoding known.now (K.owner keeper.old) f
         → Goes f (K.kept keeper.old) (K.kept keeper.new) (AreSpreads f known.now spreads.old)
         (HasSpreadOps f known.now pair.p pair.r w spreads.new result) }
     ensures ops { IfOk result AreOps }
@@ -110,7 +110,7 @@ fn ops_of_two<K: Keeper>(
     ensures notes { K.notes keeper.new ≡ K.notes keeper.old }
     ensures spare { K.spare keeper.new ≡ K.spare keeper.old }
 {
-    known.is_plain();
+    known.in_limits();
     let clause = keep_not_both(alloc, known, spreads, keeper, two.0, two.1, w)?;
     two_ops(alloc, known, clause, pair.p, pair.r, w)
 }
@@ -126,7 +126,7 @@ fn ops_at<K: Keeper>(
 ) -> Result<Ops, AllocError>
     requires pair { AreSharers known.now pair }
     requires w_in { w < size known.now.target }
-    ensures goes { (f : Frame) → IsFrameOf known.now (K.owner keeper.old) f
+    ensures goes { (f : Frame) → HasEncoding known.now (K.owner keeper.old) f
         → Goes f (K.kept keeper.old) (K.kept keeper.new) (AreSpreads f known.now spreads.old)
         (HasSpreadOps f known.now pair.p pair.r w spreads.new result) }
     ensures ops { IfOk result AreOps }
@@ -135,7 +135,7 @@ fn ops_at<K: Keeper>(
     ensures notes { K.notes keeper.new ≡ K.notes keeper.old }
     ensures spare { K.spare keeper.new ≡ K.spare keeper.old }
 {
-    known.is_plain();
+    known.in_limits();
     match two_shared(known, pair) {
         Some(two) => ops_of_two(alloc, known, spreads, keeper, pair, two, w),
         None => spread_ops(alloc, known, pair.p, pair.r, w, pair.count - 1),
@@ -153,7 +153,7 @@ fn keep_spread<K: Keeper>(
 ) -> Result<(), AllocError>
     requires pair { AreSharers known.now pair }
     requires w_in { w < size known.now.target }
-    ensures goes { (f : Frame) → IsFrameOf known.now (K.owner keeper.old) f
+    ensures goes { (f : Frame) → HasEncoding known.now (K.owner keeper.old) f
         → Goes f (K.kept keeper.old) (K.kept keeper.new) (AreSpreads f known.now spreads.old)
         (AreSpreads f known.now spreads.new) }
     ensures there { OnOk result (IsSome (pair_name spreads.new pair.p pair.r w)) }
@@ -162,7 +162,7 @@ fn keep_spread<K: Keeper>(
     ensures notes { K.notes keeper.new ≡ K.notes keeper.old }
     ensures spare { K.spare keeper.new ≡ K.spare keeper.old }
 {
-    known.is_plain();
+    known.in_limits();
     let ops = ops_at(alloc, known, spreads, keeper, pair, w)?;
     let name = keeper.keep(Step::P { name: NO_NAME, ops })?;
     spreads.add(pair.p, pair.r, w, name)
@@ -181,7 +181,7 @@ fn keep_spread_at<K: Keeper>(
     requires pair { AreSharers known.now pair }
     requires t_in { t < size known.now.target }
     requires w_in { w < size known.now.target }
-    ensures goes { (f : Frame) → IsFrameOf known.now (K.owner keeper.old) f
+    ensures goes { (f : Frame) → HasEncoding known.now (K.owner keeper.old) f
         → Goes f (K.kept keeper.old) (K.kept keeper.new) (AreSpreads f known.now spreads.old)
         (AreSpreads f known.now spreads.new) }
     ensures there { OnOk result
@@ -211,7 +211,7 @@ pub(crate) fn keep_around<K: Keeper>(
 ) -> Result<(), AllocError>
     requires pair { AreSharers known.now pair }
     requires t_in { t < size known.now.target }
-    ensures goes { (f : Frame) → IsFrameOf known.now (K.owner keeper.old) f
+    ensures goes { (f : Frame) → HasEncoding known.now (K.owner keeper.old) f
         → Goes f (K.kept keeper.old) (K.kept keeper.new) (AreSpreads f known.now spreads.old)
         (AreSpreads f known.now spreads.new) }
     ensures there { OnOk result

@@ -3,5 +3,7 @@ pub mod Values
 pub mod Around
 pub mod Forcing
 pub mod Dividing
+pub mod Spreading
 pub mod Pairing
+pub mod BothWays
 pub mod Making

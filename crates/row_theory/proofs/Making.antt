@@ -1,9 +1,9 @@
 -- The operations of the lines make their forms, and no sum on the way is too wide.
-use Rattle.std.proofs.Common.{◌≡◌, ℕ, zero, suc, ◌+◌, ◌*◌, ◌^◌, ◌≤◌, ◌<◌, ◌==◌, Bool, true, false, not, cond, List, [], ◌∷◌, ◌++◌, ℤ, pos, negsuc, unsigned_abs, refl, sym, ap, ◌∙◌, arith, Option, Some, Result, Ok, Err}
+use Rattle.std.proofs.Common.{◌≡◌, ℕ, zero, suc, ◌+◌, ◌*◌, ◌^◌, ◌≤◌, ◌<◌, ◌==◌, Bool, true, false, ◌||◌, is_some, not, cond, List, [], ◌∷◌, ◌++◌, map, ℤ, pos, negsuc, unsigned_abs, refl, sym, ap, ◌∙◌, arith, Option, Some, Result, Ok, Err}
 use Rattle.std.proofs.lemmas.Int.{unsigned_abs-mul}
-use Rattle.std.proofs.lemmas.Bool.{ne_eqb, and_parts}
+use Rattle.std.proofs.lemmas.Bool.{ne_eqb, eqb-false, not-true, and_parts, and_from, not_from_false}
 use native.Mathlib.Nat.{suc-mul, mul-le-mul_right}
-use Rattle.graph_theory.specs.Graph.{size as size_of}
+use Rattle.graph_theory.specs.Graph.{size as size_of, edge}
 use Rattle.graph_theory.specs.Embedding.{Problem}
 use Rattle.graph_theory.specs.Neighbours.{count, is_neighbour, common}
 use Rattle.proof_theory.specs.Forms.{Form, size, form_of}
@@ -20,19 +20,18 @@ use Rattle.log_theory.specs.declared.step.Cause.TheVariants.{NoSuchName, Zero}
 use Rattle.log_theory.specs.Steps.{◌>>=◌, unless, or_fault}
 use Rattle.log_theory.specs.Lookups.{Lookup, narrow, on_top, operate, evaluate, only_one, makes}
 use Rattle.encoding_theory.specs.Variables.{variable, when}
-use Rattle.encoding_theory.specs.Pairs.{is_compatible, is_edge_pair}
-use Rattle.encoding_theory.specs.Encoding.{every, terms_where, at_most, at_most_target, pair_form}
-use Rattle.encoding_theory.proofs.PairTests.{plain_laws}
-use Rattle.encoding_theory.specs.Places.{at_most_place, at_most_target_place, edge_place, non_edge_place}
+use Rattle.encoding_theory.specs.Pairs.{is_compatible, is_linked, is_edge_pair}
+use Rattle.encoding_theory.specs.Encoding.{every, terms_where, at_least, at_most, at_most_target, pair_form}
+use Rattle.encoding_theory.specs.Places.{at_least_place, at_most_place, at_most_target_place, edge_place, non_edge_place}
 use Rattle.encoding_theory.proofs.PlaceProofs.{place_laws}
 use Rattle.forcing_theory.specs.Sums.{IsSmall}
 use Rattle.forcing_theory.proofs.Summing.{size_append, small_sum, narrow_small}
 use Rattle.row_theory.specs.Operations.{sum_where, adds_where, FindsEncoding}
-use Rattle.row_theory.specs.Rows.{at_most_line, target_line, edge_line, is_shared, beside_form, beside_ops, alone_ops, there, spread_form, spread_ops, not_both_form, two_ops, around_form, around_ops, weight, joined_form, joined_ops, apart_form, apart_ops}
-use Rattle.row_theory.specs.Laws.{IsPlainProblem, IsPlace, AreTwoShared, FindsSpread, RowMakes, RowSizes, RowLaws}
+use Rattle.row_theory.specs.Rows.{at_least_line, at_most_line, target_line, edge_line, is_shared, lets, beside_form, beside_ops, alone_ops, there, spread_form, spread_ops, not_both_form, two_ops, around_form, around_ops, weight, joined_form, joined_ops, apart_form, apart_ops, is_consistent, consistent_places, consistent_clause, consistent_form}
+use Rattle.row_theory.specs.Laws.{InLimits, IsPlace, AreTwoShared, FindsSpread, RowMakes, RowSizes, RowLaws}
 use Rattle.row_theory.proofs.Totals.{one_if}
-use Rattle.row_theory.proofs.Around.{neighbour_flip}
-use Rattle.row_theory.proofs.Dividing.{few_form, backs_form, spread_exact, one_alone}
+use Rattle.row_theory.proofs.Spreading.{few_form, backs_form, spread_exact, one_alone}
+use Rattle.row_theory.proofs.BothWays.{row_serves, clause_terms, clause_bound, clause_made}
 use Rattle.row_theory.proofs.Pairing.{not_both_made, few_two, two_exact}
 use Rattle.row_theory.proofs.Forcing.{row_forces}
 
@@ -131,6 +130,26 @@ line_made look name ops f e = ap (λ (x : Result (List Form) Cause). x >>= λ st
 
 -- ---- a problem's forms
 
+-- An edge pair, seen from either vertex.
+pub pair_to : (q : Problem) (a b : ℕ) → is_neighbour q.pattern a b ≡ true → is_edge_pair q a b ≡ true
+pair_to q a b joins =
+    let j = and_parts (not (a == b)) (is_some (edge q.pattern a b)) joins in
+    and_from (not (a == b)) (is_linked q.pattern a b) j.0 (or_left (is_some (edge q.pattern a b)) (is_some (edge q.pattern b a)) j.1)
+  where
+    or_left : (x y : Bool) → x ≡ true → (x || y) ≡ true
+    or_left true y e = refl
+    or_left false y e = absurd cc
+
+pub pair_from : (q : Problem) (a b : ℕ) → is_neighbour q.pattern a b ≡ true → is_edge_pair q b a ≡ true
+pair_from q a b joins =
+    let j = and_parts (not (a == b)) (is_some (edge q.pattern a b)) joins in
+    and_from (not (b == a)) (is_linked q.pattern b a) (not_from_false (b == a) (ne_eqb b a (λ (e : b ≡ a). eqb-false a b (not-true (a == b) j.0) (sym e))))
+    (or_right (is_some (edge q.pattern b a)) (is_some (edge q.pattern a b)) j.1)
+  where
+    or_right : (x y : Bool) → y ≡ true → (x || y) ≡ true
+    or_right true y e = refl
+    or_right false y e = e
+
 -- What stands before the sums around a place.
 abbrev joined_base : Problem → ℕ → ℕ → ℕ → Form
 joined_base q p t r = times_of (weight q t) (sum_of (times_of 2 (at_most q r)) (pair_form q p r t))
@@ -145,7 +164,7 @@ others_ops q p r w = adds_where (λ v. not (is_shared q.pattern p r v)) (λ v. A
 abbrev backs_ops : Problem → ℕ → ℕ → ℕ → List Op
 backs_ops q p r w = adds_where (is_shared q.pattern p r) (λ m. Push (edge_line q m r w)) (size_of q.pattern)
 
-module _ (q : Problem) (plain : IsPlainProblem q) where
+module _ (q : Problem) (plain : InLimits q) where
   small_pair : (p r t : ℕ) → IsSmall 8193 (pair_form q p r t)
   small_pair p r t =
       let s = size_terms (pos 1) (is_compatible q p t r) (variable q r) (size_of q.target) (omega arith) in
@@ -167,9 +186,9 @@ module _ (q : Problem) (plain : IsPlainProblem q) where
   small_spread : (p r w : ℕ) → IsSmall 9216 (spread_form q p r w)
   small_spread p r w =
       let downs : List (ℕ × ℤ) = terms_where (negsuc 0) (is_shared q.pattern p r) (λ m. variable q m w) (size_of q.pattern) in
-      let ups : List (ℕ × ℤ) = terms_where (pos 1) (is_neighbour q.target w) (variable q r) (size_of q.target) in
+      let ups : List (ℕ × ℤ) = terms_where (pos 1) (lets q p r w) (variable q r) (size_of q.target) in
       let s = size_terms (negsuc 0) (is_shared q.pattern p r) (λ m. variable q m w) (size_of q.pattern) (omega arith) in
-      let k = size_terms (pos 1) (is_neighbour q.target w) (variable q r) (size_of q.target) (omega arith) in
+      let k = size_terms (pos 1) (lets q p r w) (variable q r) (size_of q.target) (omega arith) in
       let e = size_append downs ups in
       let few = plain.targets_few in
       let less = plain.vertices_few in
@@ -208,11 +227,26 @@ module _ (q : Problem) (plain : IsPlainProblem q) where
   apart_room : (t : ℕ) → 9216 * weight q t ≤ 2 ^ 28
   apart_room t = let few = weight_few t in omega (arith, few)
 
+  small_clause : (p t r : ℕ) → IsSmall 8193 (consistent_clause q p t r)
+  small_clause p t r = record {
+    bound_fits = let b = ap unsigned_abs (clause_bound q p t r) in omega (arith, b);
+    sum_fits =
+        let s = size-sorted (map literal_term (consistent_places q p t r)) in
+        let e = ap (λ (ts : List (ℕ × ℤ)). size ts) (clause_terms q p t r) in
+        let k = size_terms (pos 1) (is_consistent q p t r) (variable q r) (size_of q.target) (omega arith) in
+        let few = plain.targets_few in
+        omega (arith, s, e, k, few);
+  }
+
+  small_both : (p t r : ℕ) → IsSmall 16385 (consistent_form q p t r)
+  small_both p t r = small_sum 8193 8192 (consistent_clause q p t r) (at_most q r) (small_clause p t r) (small_at_most r)
+
   row_sizes : RowSizes q
   row_sizes = record {
     beside = λ p t r. small_more 16385 (2 ^ 40) _ (small_sum 8193 8192 (pair_form q p r t) (at_most q r) (small_pair p r t) (small_at_most r)) (omega arith);
     joined = λ p t r. small_around p t r _ (small_more (24577 * weight q t) (2 ^ 28) _ (small_joined_base p t r) (joined_room t));
     apart = λ p t r. small_around p t r _ (small_more (9216 * weight q t) (2 ^ 28) _ (small_apart_base t r) (apart_room t));
+    both = λ p t r. small_more 16385 (2 ^ 40) _ (small_both p t r) (omega arith);
     spread = λ p r w. small_more 9216 (2 ^ 40) _ (small_spread p r w) (omega arith);
   }
 
@@ -220,18 +254,21 @@ module _ (q : Problem) (plain : IsPlainProblem q) where
     find_most : (r : ℕ) → r < size_of q.pattern → look (at_most_line q r) ≡ Some (at_most q r)
     find_most r r_in = finds.line (at_most_place q r) (at_most q r) ((place_laws q).at_most r r_in)
 
+    find_least : (r : ℕ) → r < size_of q.pattern → look (at_least_line q r) ≡ Some (at_least q r)
+    find_least r r_in = finds.line (at_least_place q r) (at_least q r) ((place_laws q).at_least r r_in)
+
     find_target : (w : ℕ) → w < size_of q.target → look (target_line q w) ≡ Some (at_most_target q w)
     find_target w w_in = finds.line (at_most_target_place q w) (at_most_target q w) ((place_laws q).at_most_target w w_in)
 
     find_edge : (p r t : ℕ) → p < size_of q.pattern → r < size_of q.pattern → t < size_of q.target → is_edge_pair q p r ≡ true → look (edge_line q p r t) ≡ Some (pair_form q p r t)
     find_edge p r t p_in r_in t_in is = finds.line (edge_place q p r t) (pair_form q p r t) ((place_laws q).edge p r t p_in r_in t_in is)
 
-    find_joined : (p r t : ℕ) → p < size_of q.pattern → r < size_of q.pattern → t < size_of q.target → is_neighbour q.pattern p r ≡ true → look (edge_line q p r t) ≡ Some (pair_form q p r t)
-    find_joined p r t p_in r_in t_in is = find_edge p r t p_in r_in t_in ((plain_laws q plain.pattern_plain plain.target_plain).pair p r ∙ is)
+    -- The line of p and a shared neighbour, and of that and r.
+    find_first : (p r m t : ℕ) → p < size_of q.pattern → m < size_of q.pattern → t < size_of q.target → is_shared q.pattern p r m ≡ true → look (edge_line q p m t) ≡ Some (pair_form q p m t)
+    find_first p r m t p_in m_in t_in is = find_edge p m t p_in m_in t_in (pair_to q p m (and_parts (is_neighbour q.pattern p m) (is_neighbour q.pattern r m) is).0)
 
-    -- The vertex is a neighbour of the second, seen from there.
-    of_second : (p r m : ℕ) → is_shared q.pattern p r m ≡ true → is_neighbour q.pattern m r ≡ true
-    of_second p r m is = neighbour_flip q.pattern plain.pattern_plain m r ∙ (and_parts (is_neighbour q.pattern p m) (is_neighbour q.pattern r m) is).1
+    find_second : (p r m t : ℕ) → r < size_of q.pattern → m < size_of q.pattern → t < size_of q.target → is_shared q.pattern p r m ≡ true → look (edge_line q m r t) ≡ Some (pair_form q m r t)
+    find_second p r m t r_in m_in t_in is = find_edge m r t m_in r_in t_in (pair_from q r m (and_parts (is_neighbour q.pattern p m) (is_neighbour q.pattern r m) is).1)
 
     around_made : (spread : ℕ → Ref) (p t r : ℕ) (base : Form) → IsPlace q p t r → FindsSpread q look spread p t r → IsSmall (2 ^ 28) base
         → evaluate look (base ∷ []) (around_ops q spread p t r) ≡ Ok (around_form q p t r base ∷ [])
@@ -241,7 +278,7 @@ module _ (q : Problem) (plain : IsPlainProblem q) where
         runs_on look (base ∷ []) (sum_where (is_shared q.pattern p r) (λ m. pair_form q p m t) base (size_of q.pattern) ∷ []) _
         (adds_where (is_shared q.pattern p r) (λ m. Push (edge_line q p m t)) (size_of q.pattern)) (adds_where (is_neighbour q.target t) (λ w. Push (spread w)) (size_of q.target))
         (runs_where look (is_shared q.pattern p r) (λ m. Push (edge_line q p m t)) (λ m. pair_form q p m t) base (2 ^ 28) 8193 (size_of q.pattern) small (λ m. small_pair p m t) (omega (arith, less))
-        (λ m stack m_in is. pushed look stack (edge_line q p m t) (pair_form q p m t) (find_joined p m t place.first m_in place.place (and_parts (is_neighbour q.pattern p m) (is_neighbour q.pattern r m) is).0)))
+        (λ m stack m_in is. pushed look stack (edge_line q p m t) (pair_form q p m t) (find_first p r m t place.first m_in place.place is)))
         (runs_where look (is_neighbour q.target t) (λ w. Push (spread w)) (spread_form q p r) _ (2 ^ 28 + size_of q.pattern * 8193) 9216 (size_of q.target)
         (small_where (is_shared q.pattern p r) (λ m. pair_form q p m t) base (2 ^ 28) 8193 (size_of q.pattern) small (λ m. small_pair p m t)) (λ w. small_spread p r w) (omega (arith, few, less))
         (λ w stack w_in is. pushed look stack (spread w) (spread_form q p r w) (found w w_in is)))
@@ -284,9 +321,9 @@ module _ (q : Problem) (plain : IsPlainProblem q) where
         (step look (few_form q p r w ∷ []) (times_of less (few_form q p r w) ∷ []) (Times less) (backs_ops q p r w) (multiplied look [] less (few_form q p r w) (2048 * less) some small_times_few (let room = less_few in omega (arith, room)))
         ∙ runs_where look (is_shared q.pattern p r) (λ m. Push (edge_line q m r w)) (λ m. pair_form q m r w) (times_of less (few_form q p r w)) (2048 * less) 8193 (size_of q.pattern) small_times_few (λ m. small_pair m r w)
         (let room = less_few in let few = plain.vertices_few in omega (arith, room, few))
-        (λ m stack m_in is. pushed look stack (edge_line q m r w) (pair_form q m r w) (find_joined m r w m_in place.second place.place (of_second p r m is))))
+        (λ m stack m_in is. pushed look stack (edge_line q m r w) (pair_form q m r w) (find_second p r m w place.second m_in place.place is)))
         (step look (backs_form q p r w less ∷ []) (spread_form q p r w ∷ []) (Divide (less + 1)) []
-        (divided look [] (less + 1) (backs_form q p r w less) (spread_form q p r w) 9216 (omega arith) (spread_exact q plain p r w less shares some) (small_spread p r w) (omega arith)))))
+        (divided look [] (less + 1) (backs_form q p r w less) (spread_form q p r w) 9216 (omega arith) (spread_exact q p r w less place shares some) (small_spread p r w) (omega arith)))))
       where
         less_few : less ≤ 1024
         less_few = let c = count_few (is_shared q.pattern p r) (size_of q.pattern) in let few = plain.vertices_few in let e : count (is_shared q.pattern p r) (size_of q.pattern) ≡ less + 1 = shares in omega (arith, c, few, e)
@@ -297,15 +334,21 @@ module _ (q : Problem) (plain : IsPlainProblem q) where
     two_made : (name : Name) (clause : Ref) (m n p w r : ℕ) → IsPlace q p w r → AreTwoShared q.pattern p r m n → look clause ≡ Some (not_both_form q m n w) → makes look (P name (two_ops q clause p r w)) ≡ Ok (spread_form q p r w)
     two_made name clause m n p w r place two found = line_made look name (two_ops q clause p r w) (spread_form q p r w)
         (step look [] (few_form q p r w ∷ []) (Push clause) (backs_ops q p r w ++ Divide 2 ∷ [])
-        (pushed look [] clause (few_form q p r w) (found ∙ ap (λ (f : Form). let o : Option Form = Some f in o) (sym (few_two q plain p r m n w two))))
+        (pushed look [] clause (few_form q p r w) (found ∙ ap (λ (f : Form). let o : Option Form = Some f in o) (sym (few_two q p r m n w two))))
         ∙ runs_on look (few_form q p r w ∷ []) (backs ∷ []) (spread_form q p r w ∷ []) (backs_ops q p r w) (Divide 2 ∷ [])
         (runs_where look (is_shared q.pattern p r) (λ m. Push (edge_line q m r w)) (λ m. pair_form q m r w) (few_form q p r w) 2048 8193 (size_of q.pattern) (small_few p r w) (λ m. small_pair m r w)
         (let few = plain.vertices_few in omega (arith, few))
-        (λ m stack m_in is. pushed look stack (edge_line q m r w) (pair_form q m r w) (find_joined m r w m_in place.second place.place (of_second p r m is))))
-        (step look (backs ∷ []) (spread_form q p r w ∷ []) (Divide 2) [] (divided look [] 2 backs (spread_form q p r w) 9216 (omega arith) (two_exact q plain p r m n w two) (small_spread p r w) (omega arith))))
+        (λ m stack m_in is. pushed look stack (edge_line q m r w) (pair_form q m r w) (find_second p r m w place.second m_in place.place is)))
+        (step look (backs ∷ []) (spread_form q p r w ∷ []) (Divide 2) [] (divided look [] 2 backs (spread_form q p r w) 9216 (omega arith) (two_exact q p r m n w place two) (small_spread p r w) (omega arith))))
       where
         backs : Form
         backs = sum_where (is_shared q.pattern p r) (λ m. pair_form q m r w) (few_form q p r w) (size_of q.pattern)
+
+    both_made : (name : Name) (clause : Ref) (p t r : ℕ) → IsPlace q p t r → look clause ≡ Some (consistent_clause q p t r) → makes look (P name (beside_ops q clause r)) ≡ Ok (consistent_form q p t r)
+    both_made name clause p t r place found = line_made look name (beside_ops q clause r) (consistent_form q p t r)
+        (step look [] (consistent_clause q p t r ∷ []) (Push clause) (Push (at_most_line q r) ∷ Add ∷ []) (pushed look [] clause (consistent_clause q p t r) found)
+        ∙ step look (consistent_clause q p t r ∷ []) (at_most q r ∷ consistent_clause q p t r ∷ []) (Push (at_most_line q r)) (Add ∷ []) (pushed look (consistent_clause q p t r ∷ []) (at_most_line q r) (at_most q r) (find_most r place.second))
+        ∙ step look (at_most q r ∷ consistent_clause q p t r ∷ []) (consistent_form q p t r ∷ []) Add [] (added look [] (consistent_clause q p t r) (at_most q r) 16385 (small_both p t r) (omega arith)))
 
     row_makes : RowMakes q look
     row_makes = record {
@@ -316,10 +359,12 @@ module _ (q : Problem) (plain : IsPlainProblem q) where
       spread = spread_made;
       not_both = λ name m n w order n_in w_in. not_both_made q m n w order w_in n_in look name (find_target w w_in);
       two = two_made;
-      one_spread = λ m p w r place m_in one is. find_joined m r w m_in place.second place.place (of_second p r m is) ∙ ap (λ (f : Form). let o : Option Form = Some f in o) (one_alone q plain m p r w m_in one is);
+      clause = λ name out back first second p t r place found takes again takes_too. clause_made q p t r place look name out back first second found takes again takes_too (find_least r place.second);
+      both = both_made;
+      one_spread = λ m p w r place m_in one is. find_second p r m w place.second m_in place.place is ∙ ap (λ (f : Form). let o : Option Form = Some f in o) (one_alone q m p r w m_in one is);
       edge = λ p t r place is. find_edge p r t place.first place.second place.place is;
       non_edge = λ p t r place is. finds.line (non_edge_place q p r t) (pair_form q p r t) ((place_laws q).non_edge p r t place.first place.second place.place is);
     }
 
   pub row_laws : RowLaws q
-  row_laws = record { forces = row_forces q plain; makes = row_makes; sizes = row_sizes }
+  row_laws = record { forces = row_forces q; serves = row_serves q; makes = row_makes; sizes = row_sizes }

@@ -23,10 +23,10 @@ use Rattle.reason_theory.proofs.Giving.{no_solution}
 use Rattle.reason_theory.proofs.Explaining.{conflict_refutes}
 use Rattle.row_theory.specs.Operations.{sum_where}
 use Rattle.row_theory.specs.Rows.{target_line, is_shared, spread_form, there, not_both, not_both_form}
-use Rattle.row_theory.specs.Laws.{IsPlainProblem, AreTwoShared}
+use Rattle.row_theory.specs.Laws.{IsPlace, AreTwoShared}
 use Rattle.row_theory.proofs.Totals.{one_if, only_two}
 use Rattle.row_theory.proofs.Values.{one_less, scaled, held_at, worth_target, bound_where, rises_where}
-use Rattle.row_theory.proofs.Dividing.{few_form, worth_held, spread_exact}
+use Rattle.row_theory.proofs.Spreading.{few_form, worth_held, spread_exact}
 
 -- ---- the clause
 
@@ -91,8 +91,8 @@ value_not_both q a m n w =
     let s = one_less (a (variable q n w)) in
     omega (arith, ints)
 
-pub few_two : (q : Problem) → IsPlainProblem q → (p r m n w : ℕ) → AreTwoShared q.pattern p r m n → few_form q p r w ≡ not_both_form q m n w
-few_two q plain p r m n w two =
+pub few_two : (q : Problem) (p r m n w : ℕ) → AreTwoShared q.pattern p r m n → few_form q p r w ≡ not_both_form q m n w
+few_two q p r m n w two =
     same_form (few_form q p r w).terms (not_both_form q m n w).terms (few_form q p r w).bound (not_both_form q m n w).bound
     (same_terms 0 (few_form q p r w).terms (not_both_form q m n w).terms
     (rises_where (λ v. not (is_shared q.pattern p r v)) (λ v. axiom_form (there q w v)) (at_most_target q w) (size q.pattern) (Rises-sorted _)) (Rises-sorted _)
@@ -101,7 +101,7 @@ few_two q plain p r m n w two =
   where
     same_value : (a : ℕ → Bool) → value a (few_form q p r w).terms ≡ value a (not_both_form q m n w).terms
     same_value a =
-        let h = (worth_held q plain p r w 1 two.counted (omega arith) a).worth in
+        let h = (worth_held q p r w 1 a).worth in
         let k = value_not_both q a m n w in
         let e = only_two (is_shared q.pattern p r) (λ v. a (variable q v w)) (size q.pattern) m n two.order two.below two.first two.second two.counted in
         omega (arith, ints)
@@ -121,8 +121,8 @@ times_once : (f : Form) → times_of 1 f ≡ f
 times_once f = same_form (times_of 1 f).terms f.terms (times_of 1 f).bound f.bound (terms_once f.terms) (once f.bound)
 
 -- What two shared neighbours sum up to is divided without a remainder.
-pub two_exact : (q : Problem) → IsPlainProblem q → (p r m n w : ℕ) → AreTwoShared q.pattern p r m n
+pub two_exact : (q : Problem) (p r m n w : ℕ) → IsPlace q p w r → AreTwoShared q.pattern p r m n
     → divide_of 2 (sum_where (is_shared q.pattern p r) (λ m. pair_form q m r w) (few_form q p r w) (size q.pattern)) ≡ spread_form q p r w
-two_exact q plain p r m n w two =
+two_exact q p r m n w place two =
     ap (λ (f : Form). divide_of 2 (sum_where (is_shared q.pattern p r) (λ m. pair_form q m r w) f (size q.pattern))) (sym (times_once (few_form q p r w)))
-    ∙ spread_exact q plain p r w 1 two.counted (omega arith)
+    ∙ spread_exact q p r w 1 place two.counted (omega arith)

@@ -90,6 +90,59 @@ total_swap f g x (suc m) n =
     row true = sym (total_one g (x m) n)
     row false = sym (total_zero g n)
 
+-- ---- counts
+
+pub count_same : (f g : ℕ → Bool) (n : ℕ) → ((i : ℕ) → f i ≡ g i) → count f n ≡ count g n
+count_same f g zero same = refl
+count_same f g (suc n) same = let here = ap one_if (same n) in let later = count_same f g n same in omega (arith, here, later)
+
+pub count_le : (f g : ℕ → Bool) (n : ℕ) → ((i : ℕ) → i < n → f i ≡ true → g i ≡ true) → count f n ≤ count g n
+count_le f g zero h = omega arith
+count_le f g (suc n) h =
+    let here = by (f n) (g n) (h n (omega arith)) in
+    let later = count_le f g n (λ i low e. h i (omega (arith, low)) e) in
+    omega (arith, here, later)
+  where
+    by : (b c : Bool) → (b ≡ true → c ≡ true) → one_if b ≤ one_if c
+    by true c e = let one : one_if c ≡ 1 = ap one_if (e refl) in omega (arith, one)
+    by false c e = omega arith
+
+pub count_none : (f : ℕ → Bool) (n : ℕ) → ((i : ℕ) → i < n → f i ≡ false) → count f n ≡ 0
+count_none f zero none = refl
+count_none f (suc n) none = let here : one_if (f n) ≡ 0 = ap one_if (none n (omega arith)) in let later = count_none f n (λ i low. none i (omega (arith, low))) in omega (arith, here, later)
+
+-- Where the second test passes at one number alone, the first decides there.
+pub count_at : (test also : ℕ → Bool) (n u : ℕ) → u < n → also u ≡ true → ((i : ℕ) → i < n → also i ≡ true → i ≡ u) → count (λ i. test i && also i) n ≡ one_if (test u)
+count_at test also zero u low is only = absurd (omega (arith, low))
+count_at test also (suc n) u low is only = by (λ lower. count_at test also n u lower is (λ i i_in e. only i (omega (arith, i_in)) e)) (cases_eq u n)
+  where
+    passed : (b c : Bool) → c ≡ true → one_if (b && c) ≡ one_if b
+    passed true true e = refl
+    passed false true e = refl
+    passed b false e = absurd cc
+
+    failed : (b c : Bool) → c ≡ false → (b && c) ≡ false
+    failed true c e = e
+    failed false c e = refl
+
+    not_here : (i : ℕ) → i < suc n → (i ≡ u → ⊥) → also i ≡ false
+    not_here i i_in other = at (also i) refl
+      where
+        at : (b : Bool) → also i ≡ b → also i ≡ false
+        at true e = absurd (other (only i i_in e))
+        at false e = e
+
+    by : (u < n → count (λ i. test i && also i) n ≡ one_if (test u)) → (u ≡ n) ⊎ (u ≡ n → ⊥) → count (λ i. test i && also i) (suc n) ≡ one_if (test u)
+    by later (inl same) =
+        let here = passed (test n) (also n) (ap also (sym same) ∙ is) in
+        let rest = count_none (λ i. test i && also i) n (λ i i_in. failed (test i) (also i) (not_here i (omega (arith, i_in)) (λ (e : i ≡ u). omega (arith, e, same, i_in)))) in
+        let e : one_if (test n) ≡ one_if (test u) = ap (λ (v : ℕ). one_if (test v)) (sym same) in
+        omega (arith, here, rest, e)
+    by later (inr other) =
+        let here : one_if (test n && also n) ≡ 0 = ap one_if (failed (test n) (also n) (not_here n (omega arith) (λ (e : n ≡ u). other (sym e)))) in
+        let rest = later (omega (arith, low, other)) in
+        omega (arith, here, rest)
+
 -- A test splits a count.
 pub count_split : (test also : ℕ → Bool) (n : ℕ) → count (λ i. every i && also i) n ≡ count (λ i. test i && also i) n + total_where (λ i. not (test i)) (λ i. one_if (also i)) n
 count_split test also zero = refl

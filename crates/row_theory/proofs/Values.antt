@@ -1,6 +1,8 @@
 -- What the forms of the encoding, and sums and multiples of forms, are worth under an assignment.
-use Rattle.std.proofs.Common.{◌≡◌, ℕ, zero, suc, ◌+◌, ◌*◌, ◌<◌, Bool, true, false, ◌&&◌, cond, List, [], ◌∷◌, ◌++◌, map, ℤ, pos, negsuc, ◌+ℤ◌, ◌*ℤ◌, refl, sym, ap, ◌∙◌, arith}
+use Rattle.std.proofs.Common.{◌≡◌, ℕ, zero, suc, ◌+◌, ◌*◌, ◌<◌, Bool, true, false, ◌&&◌, cond, List, [], ◌∷◌, ◌++◌, map, ℤ, pos, negsuc, ◌+ℤ◌, ◌*ℤ◌, refl, sym, ap, ◌∙◌, arith, inl, inr, ◌⊎◌}
 use Rattle.std.proofs.lemmas.Int.{ints}
+use Rattle.std.proofs.lemmas.Bool.{cases_order}
+use native.Mathlib.Nat.{suc-mul, mul-le-mul_right}
 use Rattle.std.proofs.Math.IntN.{pos-*ℤ-pos}
 use Rattle.graph_theory.specs.Graph.{size}
 use Rattle.graph_theory.specs.Embedding.{Problem}
@@ -138,3 +140,18 @@ worth_there q a w v = record {
       let o = one_more (a (variable q v w)) in
       omega (arith, ints);
 }
+
+-- The vertices of one variable are the same.
+pub variable_apart : (q : Problem) (m t r u : ℕ) → t < size q.target → u < size q.target → variable q m t ≡ variable q r u → m ≡ r
+variable_apart q m t r u t_in u_in same = by (cases_order m r)
+  where
+    lower : (a b c d : ℕ) → c < size q.target → variable q a c ≡ variable q b d → a < b → ⊥
+    lower a b c d c_in e order =
+        let row = mul-le-mul_right {m = suc a} {n = b} (size q.target) (omega (arith, order)) in
+        let next = suc-mul a (size q.target) in
+        omega (arith, e, row, next, c_in)
+
+    by : (m ≡ r) ⊎ ((m < r) ⊎ (r < m)) → m ≡ r
+    by (inl e) = e
+    by (inr (inl l)) = absurd (lower m r t u t_in same l)
+    by (inr (inr l)) = absurd (lower r m u t u_in (sym same) l)

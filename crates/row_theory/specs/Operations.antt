@@ -14,7 +14,8 @@ use Rattle.encoding_theory.specs.Encoding.{encoding}
 -- A form, with the forms of the numbers below n that pass the test added to it.
 abbrev pub sum_where : (ℕ → Bool) → (ℕ → Form) → Form → ℕ → Form
 sum_where test f base zero = base
-sum_where test f base (suc n) = cond (test n) (sum_of (sum_where test f base n) (f n)) (sum_where test f base n)
+sum_where test f base (suc n) = cond (test n) (sum_of (sum_where test f base n) (f n))
+    (sum_where test f base n)
 
 -- The operations that do so: each form is put on the stack, and added.
 abbrev pub adds_where : (ℕ → Bool) → (ℕ → Op) → ℕ → List Op

@@ -15,14 +15,16 @@ AreOfOwners {L} owner logs = (i : ℕ) (l : L) → slice_get logs i ≡ Some l �
 
 -- Each row is of an owner from 1 to this many.
 abbrev pub AreBy : ℕ → List Row → Type 0
-AreBy workers rows = (k : ℕ) (r : Row) → slice_get rows k ≡ Some r → (0 < r.owner) × (r.owner ≤ workers)
+AreBy workers rows = (k : ℕ) (r : Row) → slice_get rows k ≡ Some r
+    → (0 < r.owner) × (r.owner ≤ workers)
 
 -- The log of the owner refutes.
 abbrev pub IsFinisher : {L : Type 0} → (L → Type 0) → List L → ℕ → Type 0
 IsFinisher {L} refutes logs owner = (l : L) → slice_get logs (owner - 1) ≡ Some l → refutes l
 
 -- Owner 0's journal, without a line and without a note, and then those of the logs in their order.
-pub record AreOfLogs {L : Type 0} (journal : L → Keeping) (logs : List L) (journals : List Keeping) : Type 0 where
+pub record AreOfLogs {L : Type 0} (journal : L
+    → Keeping) (logs : List L) (journals : List Keeping) : Type 0 where
   pub first : Keeping
   pub owner : first.owner ≡ 0
   pub steps : first.steps ≡ []

@@ -18,7 +18,8 @@ pub record IsPlainlyFalse (j : Keeping) (forms : List Form) : Type 0 where
   pub plainly_false : is_contradiction last ≡ true
 
 -- The journal at a place makes these forms beside the rows, and if it is the finisher's the last of them is plainly false.
-pub record StandsAt (q : Problem) (rows : List Row) (finisher place : ℕ) (j : Keeping) (forms : List Form) : Type 0 where
+pub record StandsAt (q : Problem) (rows : List Row) (finisher place : ℕ) (j : Keeping)
+    (forms : List Form) : Type 0 where
   pub beside : StandsBeside q rows j forms
   pub ends : place ≡ finisher → IsPlainlyFalse j forms
 
@@ -39,4 +40,5 @@ pub record ArePartsOf (q : Problem) (l : Logged) : Type 0 where
   pub workers : AreOfWorkers l.journals.items l.rows.items
   pub root : IsAlone l.rows.items l.journals.items ⊎ IsBare l.journals.items
   pub finisher : l.finisher < length l.journals.items
-  pub each : (w : ℕ) (j : Keeping) → slice_get l.journals.items w ≡ Some j → (forms : List Form) × StandsAt q l.rows.items l.finisher w j forms
+  pub each : (w : ℕ) (j : Keeping) → slice_get l.journals.items w ≡ Some j
+      → (forms : List Form) × StandsAt q l.rows.items l.finisher w j forms

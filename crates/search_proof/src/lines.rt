@@ -1,7 +1,6 @@
 //! Loggers that keep the lines of a log.
 
 ghost use Rattle.std.specs.Prelude.{◌≡◌, ◌≤◌, true, length, All, IfOk};
-ghost use Rattle.graph_theory.specs.Plain.{ArePlain};
 ghost use Rattle.path_journal.specs.Lines.{Steps, Refutes};
 ghost use Rattle.search_proof.specs.Making.{AreBy, AreOfOwners, IsFinisher, AreOfLogs};
 ghost use Rattle.search_proof.specs.Parts.{ArePartsOf};
@@ -25,14 +24,12 @@ pub struct KeepsLines<'a> {
     problem: &'a Problem,
     lines: &'a Encoding<'a>,
     ghost same: { lines.now ≡ problem.now },
-    ghost plain: { ArePlain problem.now },
 }
 
 impl<'a> KeepsLines<'a> {
-    /// For this problem of graphs without directions and its encoding.
+    /// For this problem and its encoding.
     pub fn new(problem: &'a Problem, lines: &'a Encoding<'a>) -> KeepsLines<'a>
         requires encoding { lines.now ≡ problem.now }
-        requires plain { ArePlain problem.now }
         ensures { result.problem.now ≡ problem.now }
     {
         KeepsLines { problem, lines }

@@ -3,7 +3,6 @@
 use Rattle.std.specs.Prelude.{◌≡◌, ℕ, true, List, [], ◌∷◌, Option, Some, None, is_some, IsTrue, IfSome, refl}
 use Rattle.std.proofs.Common.{subst, ap, sym}
 use Rattle.graph_theory.specs.Embedding.{Problem}
-use Rattle.graph_theory.specs.Plain.{IsUndirected}
 use Rattle.graph_theory.specs.declared.lad_text.LadKind.{LadKind}
 use Rattle.log_theory.specs.declared.profile.Profile.{Profile}
 use Rattle.log_theory.specs.declared.step.Step.{Step}
@@ -23,11 +22,6 @@ use Rattle.subgraph_cli.specs.Deciding.{IsRight, IsFindingOf, decision_of, Shows
 use Rattle.subgraph_cli.specs.Proving.{IsLogOf, HoldProof, map_log, files_of}
 use Rattle.subgraph_cli.specs.declared.deciding.Answer.{Answer}
 use Rattle.subgraph_cli.specs.declared.deciding.Answer.TheVariants as answer
-
--- A proof is asked for in a format without directions alone.
-pub asked_undirected : (prove : Option ProveWords) (kind : LadKind) → IfSome prove (λ p. IsUndirected kind) → IsTrue (is_some prove) → IsUndirected kind
-asked_undirected None kind range asked = absurd cc
-asked_undirected (Some p) kind range asked = range
 
 -- The log of what was found is that of the decision.
 log_of : (a : Answer) (f : Finding) (q : Problem) → IsFindingOf f a → IsFound q f → IsRight a q true → IsLogOf (decision_of a) q (log_text (steps_of q f))

@@ -1,4 +1,3 @@
-pub mod Buffers
 pub mod Lines
 pub mod Disk
 pub mod Streams

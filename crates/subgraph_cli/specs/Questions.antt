@@ -3,7 +3,6 @@
 use Rattle.std.specs.Prelude.{◌≡◌, ℕ, ◌⊎◌, Bool, IsTrue, List, Option, Some, Result, Ok, Err, IfOk}
 use Rattle.graph_theory.specs.Graph.{Graph}
 use Rattle.graph_theory.specs.Embedding.{Problem}
-use Rattle.graph_theory.specs.Plain.{ArePlain, IsUndirected}
 use Rattle.graph_theory.specs.declared.lad_text.LadKind.{LadKind}
 use Rattle.graph_files.specs.declared.graph_file.GraphFault.{GraphFault}
 use Rattle.graph_files.specs.declared.graph_file.GraphFault.TheVariants as graph
@@ -42,10 +41,6 @@ pub record Asks (pattern target : Option (List ℕ)) (kind : LadKind) (induced :
   pub pattern_is : HoldsGraph pattern kind 1024 q.pattern
   pub target_is : HoldsGraph target kind 8192 q.target
   pub kind_is : q.induced ≡ induced
-
--- In a format without directions the problem that is answered has plain graphs.
-pub record IsPlainAnswer (kind : LadKind) (result : Result Problem Stop) : Type 0 where
-  pub plain : IsUndirected kind → IfOk result ArePlain
 
 -- The pattern's file is good, and the target's is not, for this fault.
 pub record LacksTarget (pattern target : Option (List ℕ)) (kind : LadKind)

@@ -9,11 +9,11 @@ ghost use Rattle.pb_encoding.specs.Model.{model_of};
 ghost use Rattle.search_proof.specs.Proofs.{IsProof};
 ghost use Rattle.subgraph_cli.specs.Demonstrating.{HasRefutation};
 
-use crate::buffer::TextBuffer;
 use crate::stop::Stop;
 use graph_rows::problem::Problem;
 use log_theory::{Profile, Verdict, answer_laws};
 use opb_text::Model;
+use outer_io::TextBuffer;
 use outer_io::fault::Failed;
 use pb_encoding::Encoding;
 use pb_encoding::model::encodings_are_models;

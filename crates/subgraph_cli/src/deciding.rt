@@ -1,7 +1,6 @@
 //! What is decided of the problem, before it is shown and told.
 
 ghost use Rattle.std.specs.Prelude.{◌≡◌, [], is_some, IsTrue, IfOk, IfErr};
-ghost use Rattle.graph_theory.specs.Plain.{ArePlain};
 ghost use Rattle.command_line.specs.CommandLine.{IsSolveInRange};
 ghost use Rattle.subgraph_cli.specs.Deciding.{IsRight, AreKept};
 
@@ -51,7 +50,6 @@ pub(crate) fn decide<R: Threads + Sync>(
     spent: &mut Vec<Account>,
 ) -> Result<Answer, Stop>
     requires ranges { IsSolveInRange words.now }
-    requires plain { IsTrue (is_some words.now.prove) → ArePlain q.now }
     requires empty { spent.old.items ≡ [] }
     ensures right { IfOk result (λ a. IsRight a q.now (is_some words.now.prove)) }
     ensures kept { IfOk result (λ a. AreKept a q.now words.now spent.new.items) }

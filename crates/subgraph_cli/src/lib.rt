@@ -9,7 +9,6 @@
 #![tactic(auto)]
 
 mod accepting;
-mod buffer;
 pub mod check;
 pub mod deciding;
 pub mod demo;

@@ -2,9 +2,8 @@
 
 ghost use Rattle.std.specs.Prelude.{◌≡◌, ◌≤◌, ◌⊎◌, IsTrue, IfOk, IfErr, IsErrOf};
 ghost use Rattle.graph_theory.specs.Graph.{size};
-ghost use Rattle.graph_theory.specs.Plain.{IsPlain, IsUndirected};
 ghost use Rattle.subgraph_cli.specs.Disk.{disk, IsReadingOf, KeepsFiles};
-ghost use Rattle.subgraph_cli.specs.Questions.{AskSays, IsPlainAnswer, RoleSays, IsFaultOfTwo, stop_of_graph};
+ghost use Rattle.subgraph_cli.specs.Questions.{AskSays, RoleSays, IsFaultOfTwo, stop_of_graph};
 ghost use Rattle.subgraph_cli.specs.Stops.{HasCause, IsOfFiles};
 
 use crate::stop::{Role, Stop, TextFault};
@@ -53,7 +52,6 @@ fn graph_of<F: Files>(
     ensures says { IsTrue (F.tells files.old)
         → RoleSays result role (F.content files.old name.now) kind most }
     ensures few { IfOk result (λ g. size g ≤ most) }
-    ensures plain { IsUndirected kind → IfOk result IsPlain }
     ensures loading { IfErr result IsOfFiles }
     ensures cause { IfErr result (λ stop. HasCause stop (IsReadingOf name.now)
         (disk F.tells F.content F.faults F.fault_at files.old files.new)) }
@@ -78,7 +76,6 @@ pub fn load_problem<F: Files>(
     ensures says { IsTrue (F.tells files.old)
         → AskSays result (F.content files.old pattern.now)
         (F.content files.old target.now) kind induced }
-    ensures plain { IsPlainAnswer kind result }
     ensures loading { IfErr result IsOfFiles }
     ensures cause { IfErr result (λ stop. HasCause stop (IsFaultOfTwo pattern.now target.now kind)
         (disk F.tells F.content F.faults F.fault_at files.old files.new)) }

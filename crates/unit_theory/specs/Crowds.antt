@@ -36,10 +36,12 @@ IsOneOf r w [] = ⊥
 IsOneOf r w (x ∷ xs) = ((x.0 ≡ r) × (x.1 ≡ w)) ⊎ IsOneOf r w xs
 
 -- With p at u these vertices have no place but the values, except for pairs that are refused; and the values are fewer.
-pub record IsCrowded (q : Problem) (p u : ℕ) (vertices values : List ℕ) (refused : List (ℕ × ℕ)) : Type 0 where
+pub record IsCrowded (q : Problem) (p u : ℕ) (vertices values : List ℕ) (refused : List (ℕ
+    × ℕ)) : Type 0 where
   pub distinct : are_distinct vertices ≡ true
   pub vertices_in : (r : ℕ) → is_among r vertices ≡ true → r < size q.pattern
-  pub covered : (r w : ℕ) → is_among r vertices ≡ true → w < size q.target → is_compatible q p u r w ≡ true → (is_among w values ≡ true) ⊎ IsOneOf r w refused
+  pub covered : (r w : ℕ) → is_among r vertices ≡ true → w < size q.target
+      → is_compatible q p u r w ≡ true → (is_among w values ≡ true) ⊎ IsOneOf r w refused
   pub fewer : length values < length vertices
 
 -- ---- crowds of neighbours by their degrees
@@ -58,4 +60,6 @@ high_count g a d = count (is_high g a d) (size g)
 
 -- Each pair of a neighbour of p of degree at least d and a neighbour of u of a lesser degree is one of these.
 abbrev pub HasAllLower : Problem → ℕ → ℕ → ℕ → List (ℕ × ℕ) → Type 0
-HasAllLower q p u d refused = (r w : ℕ) → r < size q.pattern → is_high q.pattern p d r ≡ true → w < size q.target → is_neighbour q.target u w ≡ true → degree q.target w < d → IsOneOf r w refused
+HasAllLower q p u d refused = (r w : ℕ) → r < size q.pattern → is_high q.pattern p d r ≡ true
+    → w < size q.target → is_neighbour q.target u w ≡ true → degree q.target w < d
+    → IsOneOf r w refused

@@ -2,7 +2,7 @@ use Rattle.std.proofs.Common.{◌∙◌, ℕ, List, refl, sym, ap, subst, arith}
 use Rattle.journal_theory.proofs.Placing.{take_all}
 use Rattle.graph_theory.specs.Graph.{size}
 use Rattle.log_theory.specs.Lookups.{is_among}
-use Rattle.domain_bits.specs.BitRows.{words_for}
+use Rattle.bit_rows.specs.BitRows.{words_for}
 use Rattle.needed_values.specs.Needed.{AreRows}
 use Rattle.dead_paths.proofs.Marking.{among_at}
 use Rattle.dead_paths.proofs.Resting.{rows_again, each_more}

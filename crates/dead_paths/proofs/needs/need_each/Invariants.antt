@@ -1,7 +1,7 @@
 use Rattle.std.proofs.Common.{◌≡◌, ℕ, ◌<◌, true, take}
 use Rattle.graph_theory.specs.Graph.{size}
 use Rattle.log_theory.specs.Lookups.{is_among}
-use Rattle.domain_bits.specs.BitRows.{has}
+use Rattle.bit_rows.specs.BitRows.{has}
 use Rattle.needed_values.specs.Needed.{needs, StaysNeeded}
 use Rattle.dead_paths.proofs.needs.need_each.Given as goal
 

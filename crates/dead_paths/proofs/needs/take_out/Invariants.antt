@@ -1,6 +1,6 @@
 use Rattle.std.proofs.Common.{◌≡◌, ℕ, true, false, take}
 use Rattle.log_theory.specs.Lookups.{is_among}
-use Rattle.domain_bits.specs.BitRows.{has}
+use Rattle.bit_rows.specs.BitRows.{has}
 use Rattle.dead_paths.proofs.needs.take_out.Given as goal
 
 abbrev pub invariant-loop-u : goal.invariant-loop-u

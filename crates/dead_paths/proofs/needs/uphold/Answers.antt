@@ -1,6 +1,6 @@
 use Rattle.std.proofs.Common.{◌≡◌, ◌∙◌, ℕ, true, inl, inr, sym, ap, subst, rules}
 use Rattle.graph_theory.specs.Graph.{size}
-use Rattle.domain_bits.specs.BitRows.{words_for}
+use Rattle.bit_rows.specs.BitRows.{words_for}
 use Rattle.needed_values.specs.Needed.{AreRows}
 use Rattle.dead_paths.proofs.Resting.{upheld_of, within_of}
 use Rattle.dead_paths.proofs.needs.uphold.Goals as goal

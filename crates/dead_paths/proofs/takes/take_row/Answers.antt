@@ -1,6 +1,6 @@
 use Rattle.std.proofs.Common.{◌≡◌, ◌∙◌, ℕ, true, false, sym, ap, subst, arith, rules}
 use Rattle.graph_theory.specs.Graph.{size}
-use Rattle.domain_bits.specs.BitRows.{words_for}
+use Rattle.bit_rows.specs.BitRows.{words_for}
 use Rattle.needed_values.specs.Needed.{AreRows}
 use Rattle.dead_paths.proofs.Resting.{none_inside, row_inside, row_left}
 use Rattle.dead_paths.proofs.takes.take_row.Goals as goal

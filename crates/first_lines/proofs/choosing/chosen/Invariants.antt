@@ -1,12 +1,13 @@
 use Rattle.std.proofs.Common.{◌≡◌, ◌-◌, ◌*◌, ◌<◌, ◌≤◌, true, length}
 use Rattle.graph_theory.specs.Neighbours.{members}
-use Rattle.graph_rows.specs.BitRow.{has}
+use Rattle.graph_theory.specs.Reversed.{turned}
+use Rattle.bit_rows.specs.BitRows.{has}
 use Rattle.first_lines.specs.Choosing.{is_chosen}
 use Rattle.first_lines.proofs.choosing.chosen.Given as goal
 
 abbrev pub invariant-loop-b : goal.invariant-loop-b
 invariant-loop-b l = record {
-  listed : l.out.items ≡ members (is_chosen l.graph l.a l.d l.low) l.b;
+  listed : l.out.items ≡ members (is_chosen (turned l.direction l.graph) l.a l.d l.low) l.b;
   within : l.b ≤ 64 * length l.near;
   member : l.b < 64 * length l.near → has l.near l.b ≡ true;
 }

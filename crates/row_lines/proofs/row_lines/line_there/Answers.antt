@@ -2,14 +2,16 @@ use Rattle.std.proofs.Common.{◌∙◌, sym, subst}
 use Rattle.log_theory.specs.declared.step.Ref.{Ref}
 use Rattle.log_theory.specs.LogText.{IsRef}
 use Rattle.row_theory.specs.Rows.{target_line}
+use Rattle.row_lines.specs.declared.sharing.Asked.{Asked}
+use Rattle.row_lines.specs.declared.sharing.Asked.TheVariants.{Out}
 use Rattle.row_lines.specs.declared.sharing.Sharing.{Sharing}
-use Rattle.row_lines.specs.Choices.{IsSharing}
+use Rattle.row_lines.specs.Choices.{IsAsked}
 use Rattle.row_lines.proofs.Good.{good_ref, good_target}
 use Rattle.row_lines.proofs.row_lines.line_there.Goals as goal
 
 pub returns-else-is_paired-clause-there : goal.returns-else-is_paired-clause-there
-returns-else-is_paired-clause-there c = (c.target.ensures, subst (λ (s : Sharing). IsSharing c.args.known.now c.args.p c.args.r s) c.in-Nothing.is c.requires.shared, sym c.is_paired.ensures ∙ c.if-is_paired.false)
+returns-else-is_paired-clause-there c = (c.target.ensures, subst (λ (s : Sharing). IsAsked c.args.known.now c.args.p c.args.r (Out s)) c.in-Nothing.is (subst (λ (a : Asked). IsAsked c.args.known.now c.args.p c.args.r a) c.in-Out.is c.requires.asked), sym c.is_paired.ensures ∙ c.if-is_paired.false)
 
 pub returns-else-is_paired-clause-fits : goal.returns-else-is_paired-clause-fits
 returns-else-is_paired-clause-fits c =
-    subst (λ (x : Ref). IsRef x) (sym c.target.ensures) (good_ref (target_line c.args.known.now c.args.t) (good_target c.args.known.now c.is_plain.ensures c.args.t c.requires.t_in))
+    subst (λ (x : Ref). IsRef x) (sym c.target.ensures) (good_ref (target_line c.args.known.now c.args.t) (good_target c.args.known.now c.in_limits.ensures c.args.t c.requires.t_in))

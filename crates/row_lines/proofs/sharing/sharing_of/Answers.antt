@@ -1,6 +1,5 @@
-use Rattle.std.proofs.Common.{◌∙◌, ap, arith}
-use Rattle.graph_theory.specs.Graph.{Graph, size}
-use Rattle.graph_theory.specs.Neighbours.{common}
+use Rattle.std.proofs.Common.{arith}
+use Rattle.graph_theory.specs.Graph.{size}
 use Rattle.row_theory.specs.Rows.{is_shared}
 use Rattle.encoding_theory.proofs.Counting.{count_some}
 use Rattle.row_lines.proofs.Pairs.{count_none}
@@ -11,7 +10,7 @@ returns-in-Some c =
     let found = c.in-Some.ensures in
     let some = count_some (is_shared c.args.known.now.pattern c.args.p c.args.r) (size c.args.known.now.pattern) c.in-Some.m found.0 found.1 in
     let few = c.if-count-gt1.false in
-    let counted = c.count-count.ensures ∙ ap (λ (g : Graph). common g c.args.p c.args.r) (c.in_ok-new.ensures ∙ c.pattern.ensures) in
+    let counted = c.in_ok-count.ensures in
     (omega (arith, some, few, counted), found.0, found.1)
 
 pub returns-in-None : goal.returns-in-None

@@ -24,6 +24,6 @@ returns-in_err-add_not_both-clause-goes g c = λ f frame.
 
 pub returns-clause-goes : goal.returns-clause-goes
 returns-clause-goes g c = λ f frame.
-    not_both_added f c.args.known.now c.is_plain.ensures c.args.spreads.now c.add_not_both.new.self c.args.m c.args.n c.args.w c.in_ok-name.name (g.K.Keeper.kept c.args.keeper.now) (g.K.Keeper.kept c.make_not_both.new.keeper)
+    not_both_added f c.args.known.now c.in_limits.ensures c.args.spreads.now c.add_not_both.new.self c.args.m c.args.n c.args.w c.in_ok-name.name (g.K.Keeper.kept c.args.keeper.now) (g.K.Keeper.kept c.make_not_both.new.keeper)
     (let o = c.requires.order in let l = c.requires.n_in in omega (arith, o, l)) c.requires.n_in c.requires.w_in c.in_ok-add_not_both.ensures.added
     (not_both_beside f c.args.known.now c.args.spreads.now c.args.m c.args.n c.args.w (Ok c.in_ok-name.name) (g.K.Keeper.kept c.args.keeper.now) (g.K.Keeper.kept c.make_not_both.new.keeper) (c.in_ok-name.ensures.goes f frame))

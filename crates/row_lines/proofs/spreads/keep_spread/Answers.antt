@@ -27,7 +27,7 @@ returns-clause-goes g c = λ f frame.
     goes_as f (g.K.Keeper.kept c.args.keeper.now) (g.K.Keeper.kept c.keep.new.self) (AreSpreads f c.args.known.now c.args.spreads.now)
     (λ forms. IsKept f c.keep.result (spread_form c.args.known.now c.args.pair.p c.args.pair.r c.args.w) forms × AreSpreads f c.args.known.now c.ops_at.new.spreads forms)
     (AreSpreads f c.args.known.now c.args.spreads.now) (AreSpreads f c.args.known.now c.add.new.self) (λ forms h. h)
-    (λ forms k. spreads_put f c.args.known.now c.is_plain.ensures c.ops_at.new.spreads c.add.new.self forms c.args.pair.p c.args.pair.r c.args.w c.in_ok-name.name c.add.result c.requires.pair.first_in c.requires.pair.second_in c.requires.w_in c.add.ensures.added c.add.ensures.refused
+    (λ forms k. spreads_put f c.args.known.now c.in_limits.ensures c.ops_at.new.spreads c.add.new.self forms c.args.pair.p c.args.pair.r c.args.w c.in_ok-name.name c.add.result c.requires.pair.first_in c.requires.pair.second_in c.requires.w_in c.add.ensures.added c.add.ensures.refused
     (subst (λ (x : Result Name AllocError). IsKept f x (spread_form c.args.known.now c.args.pair.p c.args.pair.r c.args.w) forms) c.in_ok-name.was k.0) k.1)
     (spread_goes c.args.known.now (g.K.Keeper.owner c.args.keeper.now) (g.K.Keeper.owner c.ops_at.new.keeper) f (record { owner = 0; number = 0 }) c.args.pair.p c.args.pair.r c.args.w c.in_ok-ops.ops c.args.spreads.now c.ops_at.new.spreads c.keep.result
     (g.K.Keeper.kept c.args.keeper.now) (g.K.Keeper.kept c.ops_at.new.keeper) (g.K.Keeper.kept c.keep.new.self) frame c.ops_at.ensures.owner (c.in_ok-ops.ensures.goes f frame) c.in_ok-ops.ensures.ops c.keep.ensures.kept)

@@ -19,9 +19,9 @@ returns-clause-goes g c = λ f frame.
     (HasSpreadOps f c.args.known.now c.args.pair.p c.args.pair.r c.args.w c.keep_not_both.new.spreads c.two_ops.result) (λ forms h. h)
     (λ forms k. (
       k.0,
-      two_may c.args.known.now c.is_plain.ensures c.args.pair c.requires.pair c.args.w c.requires.w_in (g.K.Keeper.owner c.args.keeper.now) f frame forms c.args.two.0 c.args.two.1 c.in_ok-clause.clause c.two_ops.result c.requires.two c.in_ok-clause.ensures.name k.1 c.two_ops.ensures,
+      two_may c.args.known.now c.in_limits.ensures c.args.pair c.requires.pair c.args.w c.requires.w_in (g.K.Keeper.owner c.args.keeper.now) f frame forms c.args.two.0 c.args.two.1 c.in_ok-clause.clause c.two_ops.result c.requires.two c.in_ok-clause.ensures.name k.1 c.two_ops.ensures,
     ))
     (c.in_ok-clause.ensures.goes f frame)
 
 pub returns-clause-ops : goal.returns-clause-ops
-returns-clause-ops g c = two_are_ops c.args.known.now c.is_plain.ensures c.args.pair c.args.w c.in_ok-clause.clause c.two_ops.result c.requires.pair c.requires.w_in c.in_ok-clause.ensures.name c.two_ops.ensures
+returns-clause-ops g c = two_are_ops c.args.known.now c.in_limits.ensures c.args.pair c.args.w c.in_ok-clause.clause c.two_ops.result c.requires.pair c.requires.w_in c.in_ok-clause.ensures.name c.two_ops.ensures

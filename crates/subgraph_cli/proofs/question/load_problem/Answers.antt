@@ -14,8 +14,3 @@ returns-clause-says g c told =
 
 pub returns-clause-files : goal.returns-clause-files
 returns-clause-files g c = keeps_on _ _ _ _ _ _ c.in_ok-pattern.ensures.files c.in_ok-target.ensures.files
-
-pub returns-clause-plain : goal.returns-clause-plain
-returns-clause-plain g c = record {
-  plain = λ undirected. rw c.new.ensures (record { pattern_plain = c.in_ok-pattern.ensures.plain undirected; target_plain = c.in_ok-target.ensures.plain undirected });
-}

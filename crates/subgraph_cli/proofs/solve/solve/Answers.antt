@@ -6,15 +6,10 @@ use Rattle.std.proofs.lemmas.Result.{err_from_is_err_and}
 use Rattle.subgraph_cli.specs.Disk.{Disk}
 use Rattle.subgraph_cli.specs.Deciding.{LeavingSays}
 use Rattle.subgraph_cli.proofs.Ends.{ok_quiet}
-use Rattle.subgraph_cli.proofs.Proofs.{asked_undirected}
 use Rattle.subgraph_cli.specs.Stops.{HasCause}
 use Rattle.subgraph_cli.specs.Proving.{IsWritingOfProof}
 use Rattle.subgraph_cli.proofs.Told.{disk_on, leaving_says, writing_cause, writing_spares, telling_cause, telling_says}
 use Rattle.subgraph_cli.proofs.solve.solve.Goals as goal
-
-pub decide-requires-clause-plain : goal.decide-requires-clause-plain
-decide-requires-clause-plain g c κs within asked =
-    c.in_ok-q.ensures.plain.plain (asked_undirected c.args.words.now.prove c.args.words.now.format c.requires.ranges.format asked)
 
 pub returns-in_err-leave_proof-clause-says : goal.returns-in_err-leave_proof-clause-says
 returns-in_err-leave_proof-clause-says g c told =

@@ -1,11 +1,9 @@
-use Rattle.std.proofs.Common.{◌≡◌, ◌+◌, ◌<◌, ◌≤◌, ◌^◌, ◌∙◌, ◌==◌, ℕ, zero, suc, false, true, List, [], ◌∷◌, length, Ok, Some, None, refl, sym, ap, subst, arith}
-use Rattle.std.proofs.lemmas.Bool.{eqb-true, eqb-false, eq-eqb}
-use Rattle.graph_theory.specs.Graph.{size, Graph}
+use Rattle.std.proofs.Common.{◌≡◌, ◌+◌, ◌<◌, ◌∙◌, ◌==◌, ℕ, zero, suc, false, true, Ok, Some, None, refl, sym, ap, subst, arith}
+use Rattle.std.proofs.lemmas.Bool.{eqb-true}
+use Rattle.graph_theory.specs.Graph.{size}
 use Rattle.graph_theory.specs.Embedding.{Problem}
-use Rattle.log_theory.specs.declared.step.Ref.{Ref}
 use Rattle.log_theory.specs.LogText.{AreRefs}
-use Rattle.kept_lines.specs.Frames.{AreNamed}
-use Rattle.kept_lines.proofs.Going.{goes_stay, goes_then, goes_as}
+use Rattle.kept_lines.proofs.Going.{goes_then, goes_as}
 use Rattle.first_lines.specs.Named.{AreUnits}
 use Rattle.first_lines.specs.Given.{HasValues, AreCollected, IsFirstLine}
 use Rattle.first_lines.proofs.Composing.{line_err, frame_moved, none_seen, first_none, first_summed, first_fails}
@@ -53,7 +51,7 @@ loop-u-preserved g c = record {
 
 pub returns-then-is_empty-clause-goes : goal.returns-then-is_empty-clause-goes
 returns-then-is_empty-clause-goes g c = λ w frame.
-    let all : size c.target.result.now ≡ size c.args.self.now.target = ap size (c.target.ensures.target ∙ ap (λ (q : Problem). q.target) c.problem-problem.ensures.same) in
+    let all : size c.target.result.now ≡ size c.args.self.now.target = ap size (c.target.ensures.target ∙ ap (λ (q : Problem). q.target) c.self.view_is) in
     goes_as w (g.K.Keeper.kept c.args.keeper.now) (g.K.Keeper.kept c.loop-u.keeper) (AreUnits w c.args.units.now) (HasValues w c.args.self.now c.args.p c.loop-u.refs.items c.loop-u.u c.loop-u.units)
     (AreUnits w c.args.units.now) (IsFirstLine w c.args.self.now c.args.p (Ok None) c.loop-u.units) (λ forms units. units)
     (λ forms has. first_none w c.args.self.now c.args.p c.loop-u.u c.loop-u.refs.items c.loop-u.units forms (let e = eqb-true c.loop-u.refs.len 0 (sym c.is_empty.ensures ∙ c.if-is_empty.true) in omega (arith, e, c.loop-u.refs.ok)) (omega (arith, all, c.size-u-end.ensures.size, c.loop-u-test.false)) has)
@@ -70,7 +68,7 @@ returns-in_err-keep_sum-clause-goes g c = λ w frame.
 
 pub returns-clause-goes : goal.returns-clause-goes
 returns-clause-goes g c = λ w frame.
-    let all : size c.target.result.now ≡ size c.args.self.now.target = ap size (c.target.ensures.target ∙ ap (λ (q : Problem). q.target) c.problem-problem.ensures.same) in
+    let all : size c.target.result.now ≡ size c.args.self.now.target = ap size (c.target.ensures.target ∙ ap (λ (q : Problem). q.target) c.self.view_is) in
     goes_then w (g.K.Keeper.kept c.args.keeper.now) (g.K.Keeper.kept c.loop-u.keeper) (g.K.Keeper.kept c.keep_sum.new.keeper) (AreUnits w c.args.units.now) (HasValues w c.args.self.now c.args.p c.loop-u.refs.items c.loop-u.u c.loop-u.units)
     (IsFirstLine w c.args.self.now c.args.p (Ok (Some c.in_ok-keep_sum.field-0)) c.loop-u.units)
     (c.loop-u.invariant.goes w frame)

@@ -1,11 +1,12 @@
-use Rattle.std.proofs.Common.{◌≡◌, Ok, Some, None, Option, sym, ap, subst}
-use Rattle.std.specs.Prelude.{IfSome}
+use Rattle.std.proofs.Common.{Ok, Option, sym, subst}
+use Rattle.std.specs.Prelude.{IfSome, IfNone}
+use Rattle.search_theory.specs.Consistency.{IsFirstValue}
 use Rattle.log_theory.specs.declared.step.Ref.{Ref}
 use Rattle.log_theory.specs.LogText.{AreRefs, IsRef}
 use Rattle.kept_lines.specs.Frames.{Goes}
 use Rattle.first_lines.specs.Named.{AreUnits}
 use Rattle.first_lines.specs.Given.{IsSeen}
-use Rattle.first_lines.proofs.Composing.{value_pushed, value_passed, value_fails, refs_pushed}
+use Rattle.first_lines.proofs.Composing.{value_pushed, value_passed, refs_pushed}
 use Rattle.first_lines.proofs.first_lines.FirstLines.push_value.Goals as goal
 
 pub returns-in_ok-push-in-Some-clause-goes : goal.returns-in_ok-push-in-Some-clause-goes
@@ -21,4 +22,5 @@ returns-in_ok-push-in-Some-clause-fits g c =
 pub returns-in-None-clause-goes : goal.returns-in-None-clause-goes
 returns-in-None-clause-goes g c = λ w frame.
     value_passed w c.args.self.now (g.K.Keeper.kept c.args.keeper.now) (g.K.Keeper.kept c.value_ref.new.keeper) c.args.p c.args.u c.args.refs.now.items c.args.units.now c.value_ref.new.units
+    (subst (λ (o : Option Ref). IfNone o (IsFirstValue c.args.self.now c.args.p c.args.u)) c.in-None.is c.in_ok-clause.ensures.first)
     (subst (λ (o : Option Ref). Goes w (g.K.Keeper.kept c.args.keeper.now) (g.K.Keeper.kept c.value_ref.new.keeper) (AreUnits w c.args.units.now) (IsSeen w c.args.self.now c.args.p c.args.u (Ok o) c.value_ref.new.units)) c.in-None.is (c.in_ok-clause.ensures.goes w frame))

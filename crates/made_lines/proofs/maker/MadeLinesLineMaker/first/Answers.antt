@@ -18,7 +18,7 @@ use Rattle.made_lines.proofs.maker.MadeLinesLineMaker.first.Goals as goal
 pub returns-in-Some-clause-goes : goal.returns-in-Some-clause-goes
 returns-in-Some-clause-goes g c = λ w frame.
     let j = c.args.self.now in
-    let q = c.args.q.now in
+    let q = c.args.lines.now in
     let is : name_at j.firsts c.args.p ≡ Some c.in-Some.name = ap (name_at j.firsts) (sym c.from.ensures) ∙ sym c.in-Some.ensures.name in
     goes_stay w (g.K.Keeper.kept c.args.keeper.now) (g.K.Keeper.kept c.args.keeper.now) (IsMade q j.problem.now w j.units j.firsts j.rows j.sets)
     (GivesFirst q w c.args.p (Ok (Made c.in-Some.name)) (IsMade q j.problem.now w j.units j.firsts j.rows j.sets)) refl
@@ -27,7 +27,7 @@ returns-in-Some-clause-goes g c = λ w frame.
 pub returns-in_err-first_line-clause-goes : goal.returns-in_err-first_line-clause-goes
 returns-in_err-first_line-clause-goes g c = λ w frame.
     let j = c.args.self.now in
-    let q = c.args.q.now in
+    let q = c.args.lines.now in
     let made_for = j.problem.now in
     let owner = g.K.Keeper.owner c.args.keeper.now in
     let old = g.K.Keeper.kept c.args.keeper.now in
@@ -42,7 +42,7 @@ returns-in_err-first_line-clause-goes g c = λ w frame.
 pub returns-in_err-add-in-Some-2-clause-goes : goal.returns-in_err-add-in-Some-2-clause-goes
 returns-in_err-add-in-Some-2-clause-goes g c = λ w frame.
     let j = c.args.self.now in
-    let q = c.args.q.now in
+    let q = c.args.lines.now in
     let made_for = j.problem.now in
     let owner = g.K.Keeper.owner c.args.keeper.now in
     let old = g.K.Keeper.kept c.args.keeper.now in
@@ -57,7 +57,7 @@ returns-in_err-add-in-Some-2-clause-goes g c = λ w frame.
 pub returns-in-None-clause-goes : goal.returns-in-None-clause-goes
 returns-in-None-clause-goes g c = λ w frame.
     let j = c.args.self.now in
-    let q = c.args.q.now in
+    let q = c.args.lines.now in
     let made_for = j.problem.now in
     let owner = g.K.Keeper.owner c.args.keeper.now in
     let old = g.K.Keeper.kept c.args.keeper.now in
@@ -65,7 +65,7 @@ returns-in-None-clause-goes g c = λ w frame.
     let goes : (v : Frame) → IsFrameOf made_for owner v → Goes v old new (AreUnits v j.units) (IsGiven v made_for c.args.p (Ok None) c.first_line.new.units) =
     subst (λ (x : Problem). (v : Frame) → IsFrameOf x owner v → Goes v old new (AreUnits v j.units) (IsGiven v x c.args.p (Ok None) c.first_line.new.units)) j.same (subst (λ (o : Option Name). (v : Frame) → IsFrameOf j.first owner v → Goes v old new (AreUnits v j.units) (IsGiven v j.first c.args.p (Ok o) c.first_line.new.units)) c.in-None.is c.in_ok-first_line.ensures.goes) in
     let positive : 1 ≤ c.at_least.result = omega (arith, c.at_least.ensures.line) in
-    let form = subst (λ (x : Problem). slice_get (encoding x) (c.at_least.result - 1) ≡ Some (at_least x c.args.p)) c.requires.lines c.at_least.ensures.form in
+    let form = c.at_least.ensures.form in
     goes_for q made_for owner w old new (λ v. AreUnits v j.units) (λ v. IsGiven v made_for c.args.p (Ok None) c.first_line.new.units) (IsMade q made_for w j.units j.firsts j.rows j.sets)
     (GivesFirst q w c.args.p (Ok (Line c.at_least.result)) (IsMade q made_for w c.first_line.new.units j.firsts j.rows j.sets))
     frame goes (λ forms h. h.problem_is) (λ forms h. h.units_are) (λ forms more h given. first_whole q made_for owner w j.units c.first_line.new.units j.firsts j.rows j.sets c.args.p c.at_least.result forms more frame positive form h given)
@@ -77,7 +77,7 @@ returns-in-None-clause-fits g c =
 pub returns-in_ok-add-in-Some-2-clause-goes : goal.returns-in_ok-add-in-Some-2-clause-goes
 returns-in_ok-add-in-Some-2-clause-goes g c = λ w frame.
     let j = c.args.self.now in
-    let q = c.args.q.now in
+    let q = c.args.lines.now in
     let made_for = j.problem.now in
     let owner = g.K.Keeper.owner c.args.keeper.now in
     let old = g.K.Keeper.kept c.args.keeper.now in

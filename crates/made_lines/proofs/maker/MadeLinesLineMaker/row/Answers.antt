@@ -1,14 +1,29 @@
+use Rattle.std.proofs.Common.{◌<◌, sym, subst}
+use Rattle.graph_theory.specs.Graph.{size}
+use Rattle.graph_theory.specs.Embedding.{Problem}
+use Rattle.kept_lines.specs.Frames.{Frame, IsFrameOf, Goes}
 use Rattle.dead_paths.specs.Making.{GivesRow}
 use Rattle.row_lines.specs.Claims.{Knows, IsKnownRow}
 use Rattle.made_lines.specs.Made.{IsMade}
 use Rattle.made_lines.proofs.Giving.{goes_more, row_given}
 use Rattle.made_lines.proofs.maker.MadeLinesLineMaker.row.Goals as goal
 
+pub row-requires-clause-p_in : goal.row-requires-clause-p_in
+row-requires-clause-p_in g c = subst (λ (x : Problem). c.args.p < size x.pattern) (sym c.problem-q.ensures) c.requires.p_in
+
+pub row-requires-clause-t_in : goal.row-requires-clause-t_in
+row-requires-clause-t_in g c = subst (λ (x : Problem). c.args.t < size x.target) (sym c.problem-q.ensures) c.requires.t_in
+
+pub row-requires-clause-r_in : goal.row-requires-clause-r_in
+row-requires-clause-r_in g c = subst (λ (x : Problem). c.args.r < size x.pattern) (sym c.problem-q.ensures) c.requires.r_in
+
 pub returns-clause-goes : goal.returns-clause-goes
 returns-clause-goes g c = λ w frame.
     let j = c.args.self.now in
-    let q = c.args.q.now in
+    let q = c.args.lines.now in
+    let goes : (v : Frame) → IsFrameOf q (g.K.Keeper.owner c.args.keeper.now) v → Goes v (g.K.Keeper.kept c.args.keeper.now) (g.K.Keeper.kept c.row.new.keeper) (Knows v q j.rows) (IsKnownRow v q c.args.p c.args.t c.args.r c.row.new.self c.row.result) =
+    subst (λ (x : Problem). (v : Frame) → IsFrameOf x (g.K.Keeper.owner c.args.keeper.now) v → Goes v (g.K.Keeper.kept c.args.keeper.now) (g.K.Keeper.kept c.row.new.keeper) (Knows v x j.rows) (IsKnownRow v x c.args.p c.args.t c.args.r c.row.new.self c.row.result)) c.problem-q.ensures c.row.ensures.goes in
     goes_more w (g.K.Keeper.kept c.args.keeper.now) (g.K.Keeper.kept c.row.new.keeper) (Knows w q j.rows) (IsKnownRow w q c.args.p c.args.t c.args.r c.row.new.self c.row.result)
     (IsMade q j.problem.now w j.units j.firsts j.rows j.sets) (GivesRow q w c.args.p c.args.t c.args.r c.row.result (IsMade q j.problem.now w j.units j.firsts c.row.new.self j.sets))
-    (c.row.ensures.goes w frame) (λ forms h. h.rows_are)
+    (goes w frame) (λ forms h. h.rows_are)
     (λ forms more h known. row_given q j.problem.now w j.units j.firsts j.rows c.row.new.self j.sets c.args.p c.args.t c.args.r c.row.result forms more h known)

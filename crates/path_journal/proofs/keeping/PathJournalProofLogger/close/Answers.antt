@@ -8,7 +8,7 @@ use Rattle.path_journal.specs.declared.refuted.Refuted.{Refuted}
 use Rattle.path_journal.specs.Lines.{row_frame, Refutes}
 use Rattle.path_journal.specs.Entries.{AreFrom, AreBelow, AreRising, Writes}
 use Rattle.path_journal.specs.Closing.{IsLined}
-use Rattle.path_journal.proofs.Closing.{steps_after, closed_empty, closed_failed, closed_same}
+use Rattle.path_journal.proofs.Closing.{lined_for, steps_after, closed_empty, closed_failed, closed_same}
 use Rattle.path_journal.proofs.keeping.PathJournalProofLogger.close.Goals as goal
 
 pub returns-in_err-answer-clause-steps : goal.returns-in_err-answer-clause-steps
@@ -30,8 +30,9 @@ returns-in_err-answer-clause-steps g c =
     let rising : AreRising c.deref.result.now = subst AreRising (sym c.deref.ensures.value) w.rising in
     let below : AreBelow (length (path a)) (take k es) =
     subst (λ (n : ℕ). AreBelow n (take k es)) long (subst (λ (xs : List Refuted). AreBelow (length c.path-length.result.now) (take k xs)) c.deref.ensures.value (c.count_above-above.ensures.below rising)) in
+    let lined = lined_for knows later j.lines.now q j.journal c.dead_line.new.self.journal j.numbers.owner j.numbers.notes es rows a k c.dead_line.result w.problem_is (c.dead_line.ensures.lined) in
     rw c.dead_line.ensures.same (steps_after knows j.lines.now j.journal c.dead_line.new.self.journal j.numbers.owner j.numbers.notes es q rows a
-    (IsDeadName q (path a) (row_frame q rows j.journal.owner) (later q (row_frame q rows j.journal.owner)) c.dead_line.result) w c.dead_line.ensures.owner c.dead_line.ensures.notes (c.dead_line.ensures.lined w from below))
+    (IsDeadName q (path a) (row_frame q rows j.journal.owner) (later q (row_frame q rows j.journal.owner)) c.dead_line.result) w c.dead_line.ensures.owner c.dead_line.ensures.notes (lined w from below))
 
 pub returns-in-None-answer-clause-steps : goal.returns-in-None-answer-clause-steps
 returns-in-None-answer-clause-steps g c =
@@ -52,8 +53,9 @@ returns-in-None-answer-clause-steps g c =
     let rising : AreRising c.deref.result.now = subst AreRising (sym c.deref.ensures.value) w.rising in
     let below : AreBelow (length (path a)) (take k es) =
     subst (λ (n : ℕ). AreBelow n (take k es)) long (subst (λ (xs : List Refuted). AreBelow (length c.path-length.result.now) (take k xs)) c.deref.ensures.value (c.count_above-above.ensures.below rising)) in
+    let lined = lined_for knows later j.lines.now q j.journal c.dead_line.new.self.journal j.numbers.owner j.numbers.notes es rows a k c.dead_line.result w.problem_is (c.dead_line.ensures.lined) in
     rw c.dead_line.ensures.same (steps_after knows j.lines.now j.journal c.dead_line.new.self.journal j.numbers.owner j.numbers.notes es q rows a
-    (IsDeadName q (path a) (row_frame q rows j.journal.owner) (later q (row_frame q rows j.journal.owner)) c.dead_line.result) w c.dead_line.ensures.owner c.dead_line.ensures.notes (c.dead_line.ensures.lined w from below))
+    (IsDeadName q (path a) (row_frame q rows j.journal.owner) (later q (row_frame q rows j.journal.owner)) c.dead_line.result) w c.dead_line.ensures.owner c.dead_line.ensures.notes (lined w from below))
 
 pub returns-in-None-last_pair-clause-steps : goal.returns-in-None-last_pair-clause-steps
 returns-in-None-last_pair-clause-steps g c =
@@ -74,8 +76,9 @@ returns-in-None-last_pair-clause-steps g c =
     let rising : AreRising c.deref.result.now = subst AreRising (sym c.deref.ensures.value) w.rising in
     let below : AreBelow (length (path a)) (take k es) =
     subst (λ (n : ℕ). AreBelow n (take k es)) long (subst (λ (xs : List Refuted). AreBelow (length c.path-length.result.now) (take k xs)) c.deref.ensures.value (c.count_above-above.ensures.below rising)) in
+    let lined = lined_for knows later j.lines.now q j.journal c.dead_line.new.self.journal j.numbers.owner j.numbers.notes es rows a k c.dead_line.result w.problem_is (c.dead_line.ensures.lined) in
     rw c.dead_line.ensures.same (steps_after knows j.lines.now j.journal c.dead_line.new.self.journal j.numbers.owner j.numbers.notes es q rows a
-    (IsDeadName q (path a) (row_frame q rows j.journal.owner) (later q (row_frame q rows j.journal.owner)) c.dead_line.result) w c.dead_line.ensures.owner c.dead_line.ensures.notes (c.dead_line.ensures.lined w from below))
+    (IsDeadName q (path a) (row_frame q rows j.journal.owner) (later q (row_frame q rows j.journal.owner)) c.dead_line.result) w c.dead_line.ensures.owner c.dead_line.ensures.notes (lined w from below))
 
 pub returns-clause-steps : goal.returns-clause-steps
 returns-clause-steps g c =
@@ -96,8 +99,9 @@ returns-clause-steps g c =
     let rising : AreRising c.deref.result.now = subst AreRising (sym c.deref.ensures.value) w.rising in
     let below : AreBelow (length (path a)) (take k es) =
     subst (λ (n : ℕ). AreBelow n (take k es)) long (subst (λ (xs : List Refuted). AreBelow (length c.path-length.result.now) (take k xs)) c.deref.ensures.value (c.count_above-above.ensures.below rising)) in
+    let lined = lined_for knows later j.lines.now q j.journal c.dead_line.new.self.journal j.numbers.owner j.numbers.notes es rows a k c.dead_line.result w.problem_is (c.dead_line.ensures.lined) in
     rw c.dead_line.ensures.same (steps_after knows j.lines.now j.journal c.dead_line.new.self.journal j.numbers.owner j.numbers.notes es q rows a
-    (IsDeadName q (path a) (row_frame q rows j.journal.owner) (later q (row_frame q rows j.journal.owner)) c.dead_line.result) w c.dead_line.ensures.owner c.dead_line.ensures.notes (c.dead_line.ensures.lined w from below))
+    (IsDeadName q (path a) (row_frame q rows j.journal.owner) (later q (row_frame q rows j.journal.owner)) c.dead_line.result) w c.dead_line.ensures.owner c.dead_line.ensures.notes (lined w from below))
 
 pub returns-in-None-last_pair-clause-closed : goal.returns-in-None-last_pair-clause-closed
 returns-in-None-last_pair-clause-closed g c =
@@ -119,7 +123,8 @@ returns-in-None-last_pair-clause-closed g c =
     let below : AreBelow (length (path a)) (take k es) =
     subst (λ (n : ℕ). AreBelow n (take k es)) long (subst (λ (xs : List Refuted). AreBelow (length c.path-length.result.now) (take k xs)) c.deref.ensures.value (c.count_above-above.ensures.below rising)) in
     let answer : c.in_ok-answer.answer ≡ Some c.in-Some-answer.name = c.in-Some-answer.is in
-    let m = subst (λ (o : Option Name). IsLined knows later j.lines.now j.journal c.dead_line.new.self.journal j.numbers.owner j.numbers.notes es q rows a k (Ok o)) answer c.in_ok-answer.ensures.lined w from below in
+    let lined = lined_for knows later j.lines.now q j.journal c.dead_line.new.self.journal j.numbers.owner j.numbers.notes es rows a k (Ok c.in_ok-answer.answer) w.problem_is (c.in_ok-answer.ensures.lined) in
+    let m = subst (λ (o : Option Name). IsLined knows later j.lines.now j.journal c.dead_line.new.self.journal j.numbers.owner j.numbers.notes es q rows a k (Ok o)) answer lined w from below in
     let last : IsLastOf (Some c.dead_line.new.self.journal.steps) c.in-Some-answer.name =
     subst (λ (o : Option Name). IfSome o (IsLastOf (Some c.dead_line.new.self.journal.steps))) answer c.in_ok-answer.ensures.last in
     let none : length (path a) ≡ 0 = ap (λ (xs : List (ℕ × ℕ)). length xs) (sym c.path.ensures.is) ∙ c.in-None-last_pair.ensures.none in
@@ -147,7 +152,8 @@ returns-clause-closed g c =
     let below : AreBelow (length (path a)) (take k es) =
     subst (λ (n : ℕ). AreBelow n (take k es)) long (subst (λ (xs : List Refuted). AreBelow (length c.path-length.result.now) (take k xs)) c.deref.ensures.value (c.count_above-above.ensures.below rising)) in
     let answer : c.in_ok-answer.answer ≡ Some c.in-Some-answer.name = c.in-Some-answer.is in
-    let m = subst (λ (o : Option Name). IsLined knows later j.lines.now j.journal c.dead_line.new.self.journal j.numbers.owner j.numbers.notes es q rows a k (Ok o)) answer c.in_ok-answer.ensures.lined w from below in
+    let lined = lined_for knows later j.lines.now q j.journal c.dead_line.new.self.journal j.numbers.owner j.numbers.notes es rows a k (Ok c.in_ok-answer.answer) w.problem_is (c.in_ok-answer.ensures.lined) in
+    let m = subst (λ (o : Option Name). IsLined knows later j.lines.now j.journal c.dead_line.new.self.journal j.numbers.owner j.numbers.notes es q rows a k (Ok o)) answer lined w from below in
     let last : IsLastOf (Some c.dead_line.new.self.journal.steps) c.in-Some-answer.name =
     subst (λ (o : Option Name). IfSome o (IsLastOf (Some c.dead_line.new.self.journal.steps))) answer c.in_ok-answer.ensures.last in
     let some = c.in-Some-last_pair.ensures.some in

@@ -2,7 +2,7 @@ use Rattle.std.proofs.Common.{refl, sym, subst, Ok}
 use Rattle.std.proofs.lemmas.Result.{err_from_is_err_and}
 use Rattle.graph_theory.specs.Embedding.{Problem}
 use Rattle.log_theory.specs.declared.step.Ref.TheVariants.{Made}
-use Rattle.row_theory.specs.Laws.{IsPlainProblem}
+use Rattle.row_theory.specs.Laws.{InLimits}
 use Rattle.kept_lines.proofs.Going.{goes_stay}
 use Rattle.row_lines.specs.Claims.{Knows, IsKnownRow}
 use Rattle.row_lines.proofs.Following.{row_refused, row_added, row_there_of}
@@ -13,8 +13,8 @@ returns-in-Some-clause-goes g c = λ w frame.
     goes_stay w (g.K.Keeper.kept c.args.keeper.now) (g.K.Keeper.kept c.args.keeper.now) (Knows w c.args.q.now c.args.self.now) (IsKnownRow w c.args.q.now c.args.p c.args.t c.args.r c.args.self.now (Ok (Made c.in-Some.name))) refl
     (λ forms k. (k, k.1.named c.args.p c.args.t c.args.r c.in-Some.name c.requires.p_in c.requires.t_in c.requires.r_in (sym c.in-Some.ensures.name)))
 
-pub returns-in_err-sharing-clause-goes : goal.returns-in_err-sharing-clause-goes
-returns-in_err-sharing-clause-goes g c = λ w frame.
+pub returns-in_err-asked-clause-goes : goal.returns-in_err-asked-clause-goes
+returns-in_err-asked-clause-goes g c = λ w frame.
     rw (err_from_is_err_and c.from_residual.result c.from_residual.ensures.1).1
     (goes_stay w (g.K.Keeper.kept c.args.keeper.now) (g.K.Keeper.kept c.args.keeper.now) (Knows w c.args.q.now c.args.self.now) (Knows w c.args.q.now c.args.self.now) refl (λ forms k. k))
 
@@ -23,7 +23,7 @@ returns-in-Some-line_there-clause-goes g c = λ w frame.
     goes_stay w (g.K.Keeper.kept c.args.keeper.now) (g.K.Keeper.kept c.args.keeper.now) (Knows w c.args.q.now c.args.self.now) (IsKnownRow w c.args.q.now c.args.p c.args.t c.args.r c.args.self.now (Ok c.in-Some-line_there.line)) refl
     (λ forms k. (
       k,
-      row_there_of c.args.q.now c.new-known.result c.new-known.ensures c.is_plain.ensures (g.K.Keeper.owner c.args.keeper.now) w c.args.p c.args.t c.args.r c.in-Some-line_there.line forms frame
+      row_there_of c.args.q.now c.new-known.result c.new-known.ensures c.in_limits.ensures (g.K.Keeper.owner c.args.keeper.now) w c.args.p c.args.t c.args.r c.in-Some-line_there.line forms frame
           (record { first = c.requires.p_in; place = c.requires.t_in; second = c.requires.r_in; others = c.requires.others }) c.in-Some-line_there.ensures.there,
     ))
 
@@ -41,5 +41,5 @@ returns-in_err-add-clause-goes g c = λ w frame.
 
 pub returns-clause-goes : goal.returns-clause-goes
 returns-clause-goes g c = λ w frame.
-    row_added w c.args.q.now (subst (λ (x : Problem). IsPlainProblem x) c.new-known.ensures c.is_plain.ensures) c.args.p c.args.t c.args.r (g.K.Keeper.kept c.args.keeper.now) (g.K.Keeper.kept c.row_line_with.new.keeper) c.args.self.now
+    row_added w c.args.q.now (subst (λ (x : Problem). InLimits x) c.new-known.ensures c.in_limits.ensures) c.args.p c.args.t c.args.r (g.K.Keeper.kept c.args.keeper.now) (g.K.Keeper.kept c.row_line_with.new.keeper) c.args.self.now
     (record { rows = c.add.new.self; spreads = c.row_line_with.new.spreads }) c.in_ok-name.name c.requires.p_in c.requires.t_in c.requires.r_in c.in_ok-add.ensures.added (c.in_ok-name.ensures.goes w frame)

@@ -1,0 +1,114 @@
+//! Memory that a walk back needs, and that the next one uses again.
+
+ghost use Rattle.std.specs.Prelude.{◌≡◌, ◌≤◌, length, OnOk};
+ghost use Rattle.bit_rows.specs.BitRows.{words_for};
+ghost use Rattle.needed_values.specs.Needed.{AreRows};
+
+use bit_rows::words_for;
+use propagation::Entry;
+use std::alloc::{AllocError, Global};
+
+/// Rows and lists that are filled anew for each change.
+#[derive(Drop)]
+pub(crate) struct Room {
+    pub(crate) spare: Vec<u64>,
+    pub(crate) other: Vec<u64>,
+    pub(crate) set: Vec<u64>,
+    pub(crate) counts: Vec<u16>,
+    pub(crate) pairs: Vec<(u16, u16)>,
+}
+
+/// As many words as these.
+fn fit_words(words: &mut Vec<u64>, count: usize) -> Result<(), AllocError>
+    ensures { OnOk result (length words.new.items ≡ count) }
+{
+    if words.len() == count {
+        return Ok(());
+    }
+    words.clear();
+    words.resize(count, 0)
+}
+
+/// As many counts as these.
+fn fit_counts(counts: &mut Vec<u16>, count: usize) -> Result<(), AllocError>
+    ensures { OnOk result (length counts.new.items ≡ count) }
+{
+    if counts.len() == count {
+        return Ok(());
+    }
+    counts.clear();
+    counts.resize(count, 0)
+}
+
+/// As many marks as these.
+fn fit_marks(marked: &mut Vec<bool>, count: usize) -> Result<(), AllocError>
+    ensures { OnOk result (length marked.new.items ≡ count) }
+{
+    if marked.len() == count {
+        return Ok(());
+    }
+    marked.clear();
+    marked.resize(count, false)
+}
+
+impl Room {
+    /// Rows for so many values, and a count for each. What stands in them is of no meaning.
+    pub(crate) fn fit(&mut self, values: usize) -> Result<(), AllocError>
+        requires { values ≤ 8192 }
+        ensures spare { OnOk result (length self.new.spare.items ≡ words_for values) }
+        ensures other { OnOk result (length self.new.other.items ≡ words_for values) }
+        ensures set { OnOk result (length self.new.set.items ≡ words_for values) }
+        ensures counts { OnOk result (length self.new.counts.items ≡ values) }
+    {
+        let words = words_for(values);
+        fit_words(&mut self.spare, words)?;
+        fit_words(&mut self.other, words)?;
+        fit_words(&mut self.set, words)?;
+        fit_counts(&mut self.counts, values)
+    }
+}
+
+/// Memory that one dead path needs and the next can use again: a byte and a row of values for each pattern vertex, and a few rows.
+#[derive(Drop)]
+pub struct Scratch {
+    pub(crate) marked: Vec<bool>,
+    pub(crate) needed: Vec<u64>,
+    pub(crate) at: Vec<u16>,
+    pub(crate) chosen: Vec<Entry>,
+    pub(crate) room: Room,
+}
+
+impl Scratch {
+    /// Nothing yet. It takes no memory.
+    pub fn new(alloc: Global) -> Scratch {
+        Scratch {
+            marked: Vec::new(alloc),
+            needed: Vec::new(alloc),
+            at: Vec::new(alloc),
+            chosen: Vec::new(alloc),
+            room: Room {
+                spare: Vec::new(alloc),
+                other: Vec::new(alloc),
+                set: Vec::new(alloc),
+                counts: Vec::new(alloc),
+                pairs: Vec::new(alloc),
+            },
+        }
+    }
+}
+
+/// A mark and a row of values for each vertex. What stands in them is of no meaning.
+pub(crate) fn fit_rows(
+    marked: &mut Vec<bool>,
+    needed: &mut Vec<u64>,
+    vertices: usize,
+    values: usize,
+) -> Result<(), AllocError>
+    requires few { vertices ≤ 1024 }
+    requires values { values ≤ 8192 }
+    ensures size { OnOk result (length marked.new.items ≡ vertices) }
+    ensures held { OnOk result (AreRows values marked.new.items needed.new.items) }
+{
+    fit_marks(marked, vertices)?;
+    fit_words(needed, vertices * words_for(values))
+}

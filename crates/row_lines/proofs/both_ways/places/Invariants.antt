@@ -1,0 +1,8 @@
+use Rattle.std.proofs.Common.{◌≡◌, ◌∷◌, []}
+use Rattle.encoding_theory.specs.Variables.{collect, when}
+use Rattle.reason_theory.specs.Reasons.{not_there}
+use Rattle.row_theory.specs.Rows.{there, is_consistent}
+use Rattle.row_lines.proofs.both_ways.places.Given as goal
+
+abbrev pub invariant-loop-u : goal.invariant-loop-u
+invariant-loop-u l = l.lits.items ≡ not_there l.q (l.p, l.t) ∷ collect (λ u. when (is_consistent l.q l.p l.t l.r u) (there l.q u l.r ∷ [])) l.u

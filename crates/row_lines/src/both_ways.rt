@@ -1,0 +1,244 @@
+//! The line of two directions: a clause that follows from a line of each, and what is made of it.
+
+ghost use Rattle.std.specs.Prelude.{◌≡◌, ◌<◌, ◌++◌, ◌∷◌, [], ℕ, not, nat_lt, List, OnOk, IfOk};
+ghost use Rattle.graph_theory.specs.Graph.{size};
+ghost use Rattle.graph_theory.specs.Neighbours.{common};
+ghost use Rattle.graph_theory.specs.Reversed.{turned};
+ghost use Rattle.proof_theory.specs.Forms.{Form};
+ghost use Rattle.log_theory.specs.declared.step.Ref.TheVariants.{Made as MadeRef};
+ghost use Rattle.log_theory.specs.LogText.{IsName};
+ghost use Rattle.encoding_theory.specs.Variables.{when};
+ghost use Rattle.row_theory.specs.Rows.{at_least_line, there as there_at, is_consistent as is_consistent_by, consistent_places, consistent_clause, beside_ops};
+ghost use Rattle.kept_lines.specs.Frames.{Frame, IsFrameOf, IsNamed, IsKept, Goes};
+ghost use Rattle.row_lines.specs.Claims.{AreBothLines, IsRowLine};
+
+use crate::known::Known;
+use crate::spreads::NO_NAME;
+use common_neighbour::Counts;
+use graph_rows::Problem;
+use graph_theory::direction::Direction;
+use journals::Keeper;
+use log_theory::{Clause, Name, Op, Ops, Ref, Refs, Step};
+use proof_theory::Literal;
+use std::alloc::{AllocError, Global};
+
+/// Whether `t` and `u` share as many neighbours as `p` and `r` in a direction. Cost: one step for each word of two rows.
+fn share_enough(
+    alloc: Global,
+    q: &Problem,
+    direction: Direction,
+    p: u16,
+    t: u16,
+    r: u16,
+    u: u16,
+) -> Result<bool, AllocError>
+    requires p_in { p < size q.now.pattern }
+    requires t_in { t < size q.now.target }
+    requires r_in { r < size q.now.pattern }
+    requires u_in { u < size q.now.target }
+    requires others { p ≡ r → ⊥ }
+    requires apart { t ≡ u → ⊥ }
+    ensures { IfOk result
+        (λ b. b ≡ not (nat_lt (common (turned direction q.now.target) t u)
+        (common (turned direction q.now.pattern) p r))) }
+{
+    let asked = Counts::new(alloc, q.pattern(), direction)?.count(p, r);
+    let there = Counts::new(alloc, q.target(), direction)?.count(t, u);
+    Ok(!(there < asked))
+}
+
+/// Whether `r` at `u` is consistent with `p` at `t`. Cost: four words, and where edges agree one step for each word of eight rows.
+fn is_consistent(
+    alloc: Global,
+    q: &Problem,
+    p: u16,
+    t: u16,
+    r: u16,
+    u: u16,
+) -> Result<bool, AllocError>
+    requires p_in { p < size q.now.pattern }
+    requires t_in { t < size q.now.target }
+    requires r_in { r < size q.now.pattern }
+    requires u_in { u < size q.now.target }
+    requires others { p ≡ r → ⊥ }
+    ensures { IfOk result (λ b. b ≡ is_consistent_by q.now p t r u) }
+{
+    if !q.compatible(p, t, r, u) {
+        return Ok(false);
+    }
+    let out = share_enough(alloc, q, Direction::Out, p, t, r, u)?;
+    let back = share_enough(alloc, q, Direction::In, p, t, r, u)?;
+    Ok(out && back)
+}
+
+/// Adds that `r` is at `u`, where it is wanted.
+fn add_place(
+    known: &Known,
+    lits: &mut Vec<Literal>,
+    wanted: bool,
+    u: u16,
+    r: u16,
+) -> Result<(), AllocError>
+    requires r_in { r < size known.now.pattern }
+    requires u_in { u < size known.now.target }
+    ensures { OnOk result
+        (lits.new.items ≡ lits.old.items ++ when wanted (there_at known.now u r ∷ [])) }
+{
+    if wanted {
+        lits.push(known.there(u, r))?;
+    }
+    Ok(())
+}
+
+/// The literals that `p` is not at `t`, or `r` at one of the values that are consistent with this. Cost: that of `is_consistent` for
+/// each target vertex.
+fn places(
+    alloc: Global,
+    q: &Problem,
+    known: &Known,
+    p: u16,
+    t: u16,
+    r: u16,
+) -> Result<Clause, AllocError>
+    requires same { known.now ≡ q.now }
+    requires p_in { p < size q.now.pattern }
+    requires t_in { t < size q.now.target }
+    requires r_in { r < size q.now.pattern }
+    requires others { p ≡ r → ⊥ }
+    ensures { IfOk result (λ lits. lits ≡ consistent_places q.now p t r) }
+{
+    let mut lits = Vec::new(alloc);
+    lits.push(known.not_there(t, p))?;
+    for u in 0..known.targets() {
+        let wanted = is_consistent(alloc, q, p, t, r, u)?;
+        add_place(known, &mut lits, wanted, u, r)?;
+    }
+    Ok(Clause::new(lits))
+}
+
+/// The lines that their clause follows from: one of each direction, and that `r` goes somewhere.
+fn clause_refs(
+    alloc: Global,
+    known: &Known,
+    lines: (Name, Name),
+    r: u16,
+) -> Result<Refs, AllocError>
+    requires { r < size known.now.pattern }
+    ensures { IfOk result
+        (λ refs. refs
+        ≡ MadeRef lines.0 ∷ MadeRef lines.1 ∷ at_least_line known.now r ∷ []) }
+{
+    let mut refs = Vec::new(alloc);
+    refs.push(Ref::Made(lines.0))?;
+    refs.push(Ref::Made(lines.1))?;
+    refs.push(known.at_least(r))?;
+    Ok(Refs::new(refs))
+}
+
+/// Keeps the clause.
+fn keep_clause<K: Keeper>(
+    alloc: Global,
+    q: &Problem,
+    known: &Known,
+    keeper: &mut K,
+    lines: (Name, Name),
+    p: u16,
+    t: u16,
+    r: u16,
+) -> Result<Name, AllocError>
+    requires same { known.now ≡ q.now }
+    requires first { IsName lines.0 }
+    requires second { IsName lines.1 }
+    requires p_in { p < size q.now.pattern }
+    requires t_in { t < size q.now.target }
+    requires r_in { r < size q.now.pattern }
+    requires others { p ≡ r → ⊥ }
+    ensures goes { (w : Frame) → IsFrameOf q.now (K.owner keeper.old) w
+        → Goes w (K.kept keeper.old) (K.kept keeper.new)
+        (AreBothLines w q.now p t r lines.0 lines.1)
+        (IsKept w result (consistent_clause q.now p t r)) }
+    ensures name { IfOk result IsName }
+    ensures owner { K.owner keeper.new ≡ K.owner keeper.old }
+    ensures notes { K.notes keeper.new ≡ K.notes keeper.old }
+    ensures spare { K.spare keeper.new ≡ K.spare keeper.old }
+{
+    known.in_limits();
+    let lits = places(alloc, q, known, p, t, r)?;
+    let refs = clause_refs(alloc, known, lines, r)?;
+    keeper.keep(Step::U {
+        name: NO_NAME,
+        lits,
+        refs,
+    })
+}
+
+/// The operations of the line that is made of it.
+fn clause_ops(alloc: Global, known: &Known, clause: Name, r: u16) -> Result<Ops, AllocError>
+    requires { r < size known.now.pattern }
+    ensures { IfOk result (λ ops. ops ≡ beside_ops known.now (MadeRef clause) r) }
+{
+    let mut ops = Vec::new(alloc);
+    ops.push(Op::Push(Ref::Made(clause)))?;
+    ops.push(Op::Push(known.at_most(r)))?;
+    ops.push(Op::Add)?;
+    Ok(Ops::new(ops))
+}
+
+/// Keeps that line.
+fn keep_of_clause<K: Keeper>(
+    alloc: Global,
+    known: &Known,
+    keeper: &mut K,
+    clause: Name,
+    p: u16,
+    t: u16,
+    r: u16,
+) -> Result<Name, AllocError>
+    requires clause { IsName clause }
+    requires p_in { p < size known.now.pattern }
+    requires t_in { t < size known.now.target }
+    requires r_in { r < size known.now.pattern }
+    requires others { p ≡ r → ⊥ }
+    ensures goes { (w : Frame) → IsFrameOf known.now (K.owner keeper.old) w
+        → Goes w (K.kept keeper.old) (K.kept keeper.new)
+        (λ forms. IsNamed w forms (MadeRef clause) (consistent_clause known.now p t r))
+        (IsRowLine w known.now p t r result) }
+    ensures name { IfOk result IsName }
+    ensures owner { K.owner keeper.new ≡ K.owner keeper.old }
+    ensures notes { K.notes keeper.new ≡ K.notes keeper.old }
+    ensures spare { K.spare keeper.new ≡ K.spare keeper.old }
+{
+    known.in_limits();
+    let ops = clause_ops(alloc, known, clause, r)?;
+    keeper.keep(Step::P { name: NO_NAME, ops })
+}
+
+/// Keeps the line that follows from a line of each direction, and the clause between.
+pub(crate) fn both_line<K: Keeper>(
+    alloc: Global,
+    q: &Problem,
+    known: &Known,
+    keeper: &mut K,
+    lines: (Name, Name),
+    p: u16,
+    t: u16,
+    r: u16,
+) -> Result<Name, AllocError>
+    requires same { known.now ≡ q.now }
+    requires first { IsName lines.0 }
+    requires second { IsName lines.1 }
+    requires p_in { p < size q.now.pattern }
+    requires t_in { t < size q.now.target }
+    requires r_in { r < size q.now.pattern }
+    requires others { p ≡ r → ⊥ }
+    ensures goes { (w : Frame) → IsFrameOf q.now (K.owner keeper.old) w
+        → Goes w (K.kept keeper.old) (K.kept keeper.new)
+        (AreBothLines w q.now p t r lines.0 lines.1) (IsRowLine w q.now p t r result) }
+    ensures name { IfOk result IsName }
+    ensures owner { K.owner keeper.new ≡ K.owner keeper.old }
+    ensures notes { K.notes keeper.new ≡ K.notes keeper.old }
+    ensures spare { K.spare keeper.new ≡ K.spare keeper.old }
+{
+    let clause = keep_clause(alloc, q, known, keeper, lines, p, t, r)?;
+    keep_of_clause(alloc, known, keeper, clause, p, t, r)
+}

@@ -1,0 +1,30 @@
+//! The names of the lines that count shared neighbours, a table for each direction.
+
+ghost use Rattle.std.specs.Prelude.{◌≡◌, [], List};
+ghost use Rattle.graph_theory.specs.Embedding.{Problem as TheProblem};
+ghost use Rattle.proof_theory.specs.Forms.{Form};
+ghost use Rattle.kept_lines.specs.Frames.{Frame};
+ghost use Rattle.row_lines.specs.Claims.{AreTurned};
+
+use crate::pair_names::PairNames;
+use std::alloc::Global;
+
+/// The names of the lines that count neighbours as edges lead to them, and as edges lead from them.
+#[derive(Drop)]
+pub struct Spreads {
+    pub(crate) out: PairNames,
+    pub(crate) back: PairNames,
+}
+
+impl Spreads {
+    /// No name. It takes no memory.
+    pub fn new(alloc: Global) -> Spreads
+        ensures names { (w : Frame) (q : TheProblem) (forms : List Form)
+            → AreTurned w q result forms }
+    {
+        Spreads {
+            out: PairNames::new(alloc),
+            back: PairNames::new(alloc),
+        }
+    }
+}
