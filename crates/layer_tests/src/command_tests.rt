@@ -96,7 +96,7 @@ impl<R> Example<R> for Says {
     }
 }
 
-static SAYS: [Says; 23] = [
+static SAYS: [Says; 25] = [
     Says {
         line: "subgraph solve p t",
         told: "solve p t false Lad 1 0 9223372036854775807 65536 unproved",
@@ -154,6 +154,14 @@ static SAYS: [Says; 23] = [
         told: "solve p t false Lad 1 0 9223372036854775807 65536 . p. Hinted",
     },
     Says {
+        line: "subgraph solve p t --format directedlad --prove e --log l",
+        told: "solve p t false DirectedLad 1 0 9223372036854775807 65536 e l Hinted",
+    },
+    Says {
+        line: "subgraph solve p t --prove e --log l --format labelledlad --profile 2",
+        told: "solve p t false LabelledLad 1 0 9223372036854775807 65536 e l Plain",
+    },
+    Says {
         line: "subgraph verify p t m",
         told: "verify p t m false Lad",
     },
@@ -205,7 +213,7 @@ impl<R> Example<R> for Refused {
     }
 }
 
-static REFUSED: [Refused; 45] = [
+static REFUSED: [Refused; 43] = [
     Refused(""),
     Refused("subgraph solve p"),
     Refused("subgraph solve p t m"),
@@ -238,8 +246,6 @@ static REFUSED: [Refused; 45] = [
     Refused("subgraph solve p t --prove a --log a"),
     Refused("subgraph solve p t --prove p --log l"),
     Refused("subgraph solve p t --prove e --log t"),
-    Refused("subgraph solve p t --format directedlad --prove e --log l"),
-    Refused("subgraph solve p t --prove e --log l --format labelledlad --profile 2"),
     Refused("subgraph solve p t --profile 2"),
     Refused("subgraph solve p t --prove e --log l --profile 3"),
     Refused("subgraph solve p t --prove e --log l --profile 0"),

@@ -8,7 +8,7 @@ ghost use Rattle.propagation.specs.Recording.{changes_of, set_at};
 ghost use Rattle.dead_theory.specs.Changes.{AreInProblem};
 ghost use Rattle.dead_paths.specs.Explaining.{end_by, IsEndIn};
 
-use dead_paths::{LineMaker, PathEnd, RowNames, Scratch, explain, keep_set};
+use dead_paths::{Basis, DeadPath, LineMaker, PathEnd, RowNames, Scratch, explain, keep_set};
 use domain_bits::{Domains, Mark};
 use graph_rows::{Graph, Problem};
 use journals::{Journal, Keeper};
@@ -29,7 +29,6 @@ impl LineMaker for NoLines {
     fn first<K: Keeper>(
         &mut self,
         _alloc: Global,
-        _q: &Problem,
         _lines: &Encoding<'_>,
         _keeper: &mut K,
         _p: u16,
@@ -40,7 +39,6 @@ impl LineMaker for NoLines {
     fn row<K: Keeper>(
         &mut self,
         _alloc: Global,
-        _q: &Problem,
         _lines: &Encoding<'_>,
         _keeper: &mut K,
         _p: u16,
@@ -53,7 +51,6 @@ impl LineMaker for NoLines {
     fn set<K: Keeper>(
         &mut self,
         alloc: Global,
-        _q: &Problem,
         lines: &Encoding<'_>,
         keeper: &mut K,
         vertices: &[u16],
@@ -135,23 +132,22 @@ fn journal_of(
     let mut journal = Journal::new(alloc, 7);
     let mut maker = NoLines {};
     let mut scratch = Scratch::new(alloc);
-    let path = [(0u16, 0u16)];
-    explain(
+    let basis = Basis {
         alloc,
-        q,
-        &lines,
-        &[],
-        &ByPlace {},
-        entries,
+        lines: &lines,
+        rows: &[],
+        names: &ByPlace {},
         numbers,
-        short,
-        &path,
+    };
+    let path = [(0u16, 0u16)];
+    let dead = DeadPath {
+        path: &path,
+        entries,
         end,
-        &[],
-        &mut maker,
-        &mut journal,
-        &mut scratch,
-    )?;
+        short,
+        refuted: &[],
+    };
+    explain(&basis, &dead, &mut maker, &mut journal, &mut scratch)?;
     Ok(journal)
 }
 

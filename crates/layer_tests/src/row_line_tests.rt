@@ -11,7 +11,7 @@ use opb_text::{Model, read_opb};
 use outer_io::MemorySink;
 use pb_encoding::Encoding;
 use proof_checker::check;
-use row_lines::{PairNames, RowLines, row_line, row_line_with};
+use row_lines::{RowLines, Spreads, row_line, row_line_with};
 use sample_graphs::{APART, EDGE, FOUR_CYCLE, TRIANGLE, graph};
 use std::alloc::{AllocError, Global};
 use std::test::Fail;
@@ -62,7 +62,7 @@ fn made_with(
     alloc: Global,
     q: &Problem,
     lines: &Encoding,
-    spreads: &mut PairNames,
+    spreads: &mut Spreads,
     journal: &mut Journal,
     p: u16,
     t: u16,
@@ -215,7 +215,7 @@ fn are_these(alloc: Global, q: &Problem, head: &[u8], text: &[u8]) -> Result<boo
     requires { ArePlain q.now }
 {
     let lines = Encoding::new(alloc, q)?;
-    let mut spreads = PairNames::new(alloc);
+    let mut spreads = Spreads::new(alloc);
     let mut journal = Journal::new(alloc, 1);
     made_with(alloc, q, &lines, &mut spreads, &mut journal, 0, 0, 2)?;
     made_with(alloc, q, &lines, &mut spreads, &mut journal, 0, 2, 2)?;

@@ -48,19 +48,17 @@ fn two_into_two(alloc: Global) -> Option<Problem>
 /// The line of these vertices with the value 1.
 fn ask<M: LineMaker>(
     alloc: Global,
-    q: &Problem,
     lines: &Encoding<'_>,
     maker: &mut M,
     journal: &mut Journal,
     vertices: &[u16],
 ) -> Result<Name, AllocError>
-    requires lines { lines.now ≡ q.now }
-    requires pattern { size q.now.pattern ≡ 2 }
-    requires target { size q.now.target ≡ 2 }
+    requires pattern { size lines.now.pattern ≡ 2 }
+    requires target { size lines.now.target ≡ 2 }
     requires some { 0 < length vertices.now }
-    requires vertices { AreVertices q.now vertices.now }
+    requires vertices { AreVertices lines.now vertices.now }
 {
-    maker.set(alloc, q, lines, journal, vertices, &[1])
+    maker.set(alloc, lines, journal, vertices, &[1])
 }
 
 /// The journal where the set of both vertices is asked for, that of the first alone, and that of both in the other order.
@@ -72,9 +70,9 @@ fn asked(alloc: Global, q: &Problem) -> Result<Journal, AllocError>
     let lines = Encoding::new(alloc, q)?;
     let mut journal = Journal::new(alloc, 7);
     let mut maker = MadeLines::new(alloc, q, &lines)?;
-    ask(alloc, q, &lines, &mut maker, &mut journal, &[0, 1])?;
-    ask(alloc, q, &lines, &mut maker, &mut journal, &[0])?;
-    ask(alloc, q, &lines, &mut maker, &mut journal, &[1, 0])?;
+    ask(alloc, &lines, &mut maker, &mut journal, &[0, 1])?;
+    ask(alloc, &lines, &mut maker, &mut journal, &[0])?;
+    ask(alloc, &lines, &mut maker, &mut journal, &[1, 0])?;
     Ok(journal)
 }
 

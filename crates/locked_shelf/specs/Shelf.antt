@@ -31,7 +31,14 @@ view_of q owner most seen = record { problem = q; owner = owner; most = most; se
 
 -- What a seat shows; a book under a lock tells no looks.
 abbrev pub facts_of : ShelfView → Facts
-facts_of s = record { problem = s.problem; owner = s.owner; size = s.most; seen = s.seen; looks = None }
+facts_of s = record {
+  problem = s.problem;
+  owner = s.owner;
+  size = s.most;
+  seen = s.seen;
+  looks =
+      None;
+}
 
 -- What a seat keeps.
 pub record IsKept (s : ShelfView) : Type 0 where

@@ -1,7 +1,8 @@
-//! A book of two rows for a triangle into a cycle of four, and one for another problem.
+//! A book of two nogoods for a triangle into a cycle of four, and one for another book of the same problem.
 
-ghost use Rattle.std.specs.Prelude.{◌≡◌, ◌<◌, IfSome};
+ghost use Rattle.std.specs.Prelude.{◌≡◌, ◌<◌, ℕ, [], ◌∷◌, true, IfSome};
 ghost use Rattle.graph_theory.specs.Graph.{size};
+ghost use Rattle.graph_theory.specs.Embedding.{Embeds, HasNone};
 
 use crate::{LockedShelf, ShelfSeat};
 use graph_rows::Problem;
@@ -11,19 +12,62 @@ use std::alloc::Global;
 use std::sync::Wait;
 use std::test::Fail;
 
-/// The problem of a triangle into a cycle of four vertices.
+/// Whether no map of three vertices embeds that begins with these two.
+fn none_with(q: &Problem, a: u32, b: u32) -> bool
+    ensures { result ≡ true → (c : ℕ) → c < size q.now.target → Embeds q.now (a ∷ b ∷ c ∷ []) → ⊥ }
+{
+    for c in 0..u32::from(q.target().size()) {
+        if q.is_embedding(&[a, b, c]) {
+            return false;
+        }
+    }
+    true
+}
+
+/// Whether none embeds that begins with this one.
+fn none_at(q: &Problem, a: u32) -> bool
+    ensures { result ≡ true → (b c : ℕ) → b < size q.now.target → c < size q.now.target
+        → Embeds q.now (a ∷ b ∷ c ∷ []) → ⊥ }
+{
+    for b in 0..u32::from(q.target().size()) {
+        if !none_with(q, a, b) {
+            return false;
+        }
+    }
+    true
+}
+
+/// Whether three vertices have no embedding.
+fn has_none(q: &Problem) -> bool
+    requires { size q.now.pattern ≡ 3 }
+    ensures { result ≡ true → HasNone q.now }
+{
+    for a in 0..u32::from(q.target().size()) {
+        if !none_at(q, a) {
+            return false;
+        }
+    }
+    true
+}
+
+/// The problem of a triangle into a cycle of four vertices, which has no embedding.
 fn triangle_into_cycle(alloc: Global) -> Option<Problem>
-    ensures { IfSome result (λ q. (size q.pattern ≡ 3) × (size q.target ≡ 4)) }
+    ensures sizes { IfSome result (λ q. (size q.pattern ≡ 3) × (size q.target ≡ 4)) }
+    ensures none { IfSome result (λ q. HasNone q) }
 {
     let pattern = graph_of_size(alloc, b"3 2 1 2 2 0 2 2 0 1", 3)?;
     let target = graph_of_size(alloc, b"4 2 1 3 2 0 2 2 1 3 2 0 2", 4)?;
-    Some(Problem::new(pattern, target, false))
+    let q = Problem::new(pattern, target, false);
+    if !has_none(&q) {
+        return None;
+    }
+    Some(q)
 }
 
-/// The guess of this owner that takes vertex 0 to the value.
-fn guess(owner: u8, value: u16) -> Row
+/// The nogood of this owner that takes vertex 0 to the value.
+fn nogood(owner: u8, value: u16) -> Row
     ensures { result ≡ record {
-      kind = RowKind.Step;
+      kind = RowKind.Nogood;
       owner = owner;
       parent = None;
       vertex = 0;
@@ -31,7 +75,7 @@ fn guess(owner: u8, value: u16) -> Row
     } }
 {
     Row {
-        kind: RowKind::Step,
+        kind: RowKind::Nogood,
         owner,
         parent: None,
         vertex: 0,
@@ -39,42 +83,46 @@ fn guess(owner: u8, value: u16) -> Row
     }
 }
 
-/// Publishes a guess.
+/// Publishes that vertex 0 goes not to the value, for a problem without embeddings.
 fn publish<'a, R: Wait + Sync>(
     book: &LockedShelf<'a, R>,
     seat: &mut ShelfSeat<'a>,
+    q: &Problem,
     owner: u8,
     value: u16,
 ) -> Published
     requires fits { seat.old.most ≡ book.now.size }
+    requires problem { seat.old.problem ≡ q.now }
     requires owner { seat.old.owner ≡ owner }
     requires few { owner < 128 }
-    requires vertex { 0 < size seat.old.problem.pattern }
-    requires value { value < size seat.old.problem.target }
-    requires narrow { value < 8192 }
+    requires none { HasNone q.now }
+    requires vertex { 0 < size q.now.pattern }
+    requires value { value < size q.now.target }
     ensures fits { seat.new.most ≡ book.now.size }
+    ensures problem { seat.new.problem ≡ q.now }
     ensures owner { seat.new.owner ≡ owner }
-    ensures problem { seat.new.problem ≡ seat.old.problem }
 {
-    book.publish(seat, guess(owner, value))
+    let _targets = q.target().size();
+    book.publish(seat, nogood(owner, value))
 }
 
 #[test]
 fn a_book_of_two_rows_is_shared(rt: HostRuntime) -> Result<(), Fail> {
     let alloc = rt.alloc();
     let Some(q) = triangle_into_cycle(alloc) else {
-        panic!(rt; "the texts are graphs")
+        panic!(rt; "the texts are graphs, and none embeds")
     };
     let book = LockedShelf::new(&rt, alloc, &q, 2)?;
     let mut one = book.seat(alloc, 1)?;
     let mut two = book.seat(alloc, 2)?;
-    assert_eq!(rt; publish(&book, &mut one, 1, 0), Published::At(0));
+    assert_eq!(rt; publish(&book, &mut one, &q, 1, 0), Published::At(0));
+    assert!(rt; two.rows().is_empty());
     book.catch_up(&mut two);
-    assert!(rt; two.rows() == [guess(1, 0)].as_slice());
-    assert_eq!(rt; publish(&book, &mut two, 2, 1), Published::At(1));
+    assert!(rt; two.rows() == [nogood(1, 0)].as_slice());
+    assert_eq!(rt; publish(&book, &mut two, &q, 2, 1), Published::At(1));
     book.catch_up(&mut one);
-    assert!(rt; one.rows() == [guess(1, 0), guess(2, 1)].as_slice());
-    assert_eq!(rt; publish(&book, &mut one, 1, 2), Published::Full);
+    assert!(rt; one.rows() == [nogood(1, 0), nogood(2, 1)].as_slice());
+    assert_eq!(rt; publish(&book, &mut one, &q, 1, 2), Published::Full);
     Ok(())
 }
 
@@ -82,15 +130,15 @@ fn a_book_of_two_rows_is_shared(rt: HostRuntime) -> Result<(), Fail> {
 fn a_seat_of_another_book_keeps_to_itself(rt: HostRuntime) -> Result<(), Fail> {
     let alloc = rt.alloc();
     let Some(q) = triangle_into_cycle(alloc) else {
-        panic!(rt; "the texts are graphs")
+        panic!(rt; "the texts are graphs, and none embeds")
     };
     let book = LockedShelf::new(&rt, alloc, &q, 2)?;
     let other = LockedShelf::new(&rt, alloc, &q, 2)?;
     let mut one = book.seat(alloc, 1)?;
     let mut two = book.seat(alloc, 2)?;
-    assert_eq!(rt; publish(&book, &mut one, 1, 0), Published::At(0));
-    assert_eq!(rt; publish(&other, &mut two, 2, 1), Published::At(0));
+    assert_eq!(rt; publish(&book, &mut one, &q, 1, 0), Published::At(0));
+    assert_eq!(rt; publish(&other, &mut two, &q, 2, 1), Published::At(0));
     book.catch_up(&mut two);
-    assert!(rt; two.rows() == [guess(2, 1)].as_slice());
+    assert!(rt; two.rows() == [nogood(2, 1)].as_slice());
     Ok(())
 }

@@ -5,8 +5,8 @@ use std::alloc::{AllocError, Global};
 use std::test::Fail;
 use std::thread::Threads;
 
-/// Runs the program over an edge as pattern and target, a good and a bad mapping of it, an encoding with a good log of each
-/// kind and a bad one, and faulty graphs, with this call failing.
+/// Runs the program over an edge as pattern and target, a good and a bad mapping of it, an encoding with a good and a
+/// bad log of each kind, and faulty graphs, with this call failing.
 fn run_failing<R: Threads + Sync>(
     rt: &R,
     alloc: Global,
@@ -22,6 +22,7 @@ fn run_failing<R: Threads + Sync>(
         ("l", "embedding proof 1\nm 0\ny\n"),
         ("h", "embedding proof 2\nm 0\ny\n"),
         ("r", "embedding proof 1\nm 0\ne 1\n"),
+        ("u", "embedding proof 2\nm 0\nu 0.1 ;\n"),
         ("none", ""),
         ("cut", "3\n2 1\n"),
         ("letter", "1\nx\n"),
@@ -263,7 +264,9 @@ fn first_wrong_of_errors<R: Threads + Sync>(
     Ok(None)
 }
 
-static OF_ERRORS: [OfErrors; 15] = [
+// Status 6 is none of these: what a run takes of memory is granted here, and `bench/refused_memory.py --full` refuses each piece of
+// it to the built program in turn, with an error stream that is full.
+static OF_ERRORS: [OfErrors; 16] = [
     OfErrors {
         line: "subgraph solve p",
         status: 3,
@@ -318,6 +321,10 @@ static OF_ERRORS: [OfErrors; 15] = [
     },
     OfErrors {
         line: "subgraph check e r",
+        status: 7,
+    },
+    OfErrors {
+        line: "subgraph check e u",
         status: 7,
     },
     OfErrors {

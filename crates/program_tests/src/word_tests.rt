@@ -28,7 +28,7 @@ fn first_wrong<R: Threads + Sync>(
     Ok(None)
 }
 
-static NO_COMMAND: [NoCommand; 18] = [
+static NO_COMMAND: [NoCommand; 16] = [
     NoCommand("subgraph"),
     NoCommand("subgraph solve p"),
     NoCommand("subgraph solve p t u"),
@@ -40,8 +40,6 @@ static NO_COMMAND: [NoCommand; 18] = [
     NoCommand("subgraph solve p t --prove a --log a"),
     NoCommand("subgraph solve p t --prove p --log l"),
     NoCommand("subgraph solve p t --prove e --log t"),
-    NoCommand("subgraph solve p t --format directedlad --prove e --log l"),
-    NoCommand("subgraph solve p t --prove e --log l --format labelledlad"),
     NoCommand("subgraph solve p t --profile 2"),
     NoCommand("subgraph solve p t --prove e --log l --profile 3"),
     NoCommand("subgraph solve p t --prove e --log l --profile 2 --profile 2"),

@@ -101,7 +101,7 @@ fn first_wrong<R: Threads + Sync>(
     Ok(None)
 }
 
-static SHOWN: [Shown; 13] = [
+static SHOWN: [Shown; 16] = [
     Shown {
         line: "subgraph solve p t --prove e --log l",
         pattern: TRIANGLE,
@@ -231,6 +231,36 @@ static SHOWN: [Shown; 13] = [
         encoding: FIRST_LINE,
         log: "embedding proof 2\nm 34\nq\n",
         told: "accepted undecided\n",
+    },
+    Shown {
+        line: "subgraph solve p t --format directedlad --prove e --log l",
+        pattern: "3\n1 1\n1 2\n1 0\n",
+        target: "3\n2 1 2\n1 2\n0\n",
+        status: 1,
+        out: "none\n",
+        encoding: "* #variable= 9 #constraint= ",
+        log: "embedding proof 1\n",
+        told: "accepted unsatisfiable\n",
+    },
+    Shown {
+        line: "subgraph solve p t --format directedlad --prove e --log l",
+        pattern: "3\n2 1 2\n0\n0\n",
+        target: "3\n0\n1 0\n1 0\n",
+        status: 1,
+        out: "none\n",
+        encoding: "* #variable= 9 #constraint= ",
+        log: "embedding proof 1\n",
+        told: "accepted unsatisfiable\n",
+    },
+    Shown {
+        line: "subgraph solve p t --format labelledlad --prove e --log l",
+        pattern: "2\n5 1 1 7\n6 0\n",
+        target: "2\n6 0\n5 1 0 8\n",
+        status: 1,
+        out: "none\n",
+        encoding: "* #variable= 4 #constraint= ",
+        log: "embedding proof 1\n",
+        told: "accepted unsatisfiable\n",
     },
 ];
 

@@ -1,6 +1,6 @@
 //! Graphs' texts.
 
-use crate::spoiling::{Random, spoilt};
+use crate::spoiling::{NUMBERS, Random, spoilt};
 use graph_theory::plain_lad::{ListedVertex, vertices_in};
 use lad_reader::{GraphParts, LadFault, LadKind, read_lad};
 use std::alloc::{AllocError, Global};
@@ -62,7 +62,7 @@ fn first_difference(
     texts: &[&[u8]],
 ) -> Result<Option<u64>, AllocError> {
     for number in 0..TEXTS {
-        let text = spoilt(alloc, &mut Random::new(number), texts)?;
+        let text = spoilt(alloc, &mut Random::new(number), texts, &NUMBERS)?;
         if !agree(alloc, &text, kind) {
             return Ok(Some(number));
         }

@@ -5,8 +5,24 @@
 #![tactic(auto)]
 
 #[cfg(test)]
+mod encoding_tests;
+#[cfg(test)]
 mod graph_tests;
 #[cfg(test)]
+mod log_tests;
+#[cfg(test)]
 mod mapping_tests;
+#[cfg(test)]
+mod plain_encoding;
+#[cfg(test)]
+mod plain_items;
+#[cfg(test)]
+mod plain_log;
+#[cfg(test)]
+mod plain_rows;
+#[cfg(test)]
+mod plain_values;
+#[cfg(test)]
+mod plain_words;
 #[cfg(test)]
 mod spoiling;

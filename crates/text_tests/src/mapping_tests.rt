@@ -1,6 +1,6 @@
 //! Mappings' texts.
 
-use crate::spoiling::{Random, spoilt};
+use crate::spoiling::{NUMBERS, Random, spoilt};
 use graph_rows::read_mapping;
 use graph_theory::mapping_text::MapFault;
 use graph_theory::plain_mapping::mapping_in;
@@ -22,7 +22,7 @@ fn agree(alloc: Global, text: &[u8]) -> bool {
 /// The number of the first text on which they do not agree.
 fn first_difference(alloc: Global, texts: &[&[u8]]) -> Result<Option<u64>, AllocError> {
     for number in 0..TEXTS {
-        let text = spoilt(alloc, &mut Random::new(number), texts)?;
+        let text = spoilt(alloc, &mut Random::new(number), texts, &NUMBERS)?;
         if !agree(alloc, &text) {
             return Ok(Some(number));
         }

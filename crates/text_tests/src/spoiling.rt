@@ -25,14 +25,8 @@ impl Random {
     }
 }
 
-/// What stands between two words.
-const WORDS: &[u8] = b" \n";
-
-/// What stands between two lines.
-const LINES: &[u8] = b"\n";
-
 /// Numbers at the limits of the formats and one past them, and what is none or one only to other readers.
-static NUMBERS: [&[u8]; 24] = [
+pub static NUMBERS: [&[u8]; 24] = [
     b"0",
     b"1",
     b"2",
@@ -58,6 +52,12 @@ static NUMBERS: [&[u8]; 24] = [
     b"",
     b"\xff",
 ];
+
+/// What stands between two words.
+const WORDS: &[u8] = b" \n";
+
+/// What stands between two lines.
+const LINES: &[u8] = b"\n";
 
 /// Bytes that some reader takes for a blank, the end of a line or of a text, a digit or a sign, and ones that are no text.
 const BYTES: &[u8] = b" \t\n\r\x0b\x0c\x00\x1a\x7f\x80\xc0\xff+-~#;.*>x019";
@@ -131,6 +131,27 @@ fn with_double(
     with_piece(alloc, text, between, at, &double)
 }
 
+/// The text without one piece and what stands right in front of it.
+fn with_drop(
+    alloc: Global,
+    random: &mut Random,
+    text: &[u8],
+    between: &[u8],
+) -> Result<Vec<u8>, AllocError> {
+    let at = random.below(pieces_in(text, between));
+    let mut made = Vec::new(alloc);
+    let mut piece: usize = 0;
+    for byte in text {
+        if between.contains(byte) {
+            piece = piece.wrapping_add(1);
+        }
+        if piece != at {
+            made.push(*byte)?;
+        }
+    }
+    Ok(made)
+}
+
 /// The text with two pieces exchanged.
 fn with_exchange(
     alloc: Global,
@@ -146,11 +167,16 @@ fn with_exchange(
     with_piece(alloc, &half, between, other, &first)
 }
 
-/// The text with a number at a limit, or what is none, for one of its words.
-fn with_number(alloc: Global, random: &mut Random, text: &[u8]) -> Result<Vec<u8>, AllocError> {
+/// The text with one of these words for one of its own.
+fn with_word(
+    alloc: Global,
+    random: &mut Random,
+    text: &[u8],
+    words: &[&[u8]],
+) -> Result<Vec<u8>, AllocError> {
     let at = random.below(pieces_in(text, WORDS));
-    match NUMBERS.get(random.below(NUMBERS.len())) {
-        Some(number) => with_piece(alloc, text, WORDS, at, number),
+    match words.get(random.below(words.len())) {
+        Some(word) => with_piece(alloc, text, WORDS, at, word),
         None => Vec::from_slice(alloc, text),
     }
 }
@@ -209,20 +235,32 @@ fn with_other_byte(alloc: Global, random: &mut Random, text: &[u8]) -> Result<Ve
     with_byte(alloc, text, at, edit)
 }
 
-/// The text after one edit.
-fn edited(alloc: Global, random: &mut Random, text: &[u8]) -> Result<Vec<u8>, AllocError> {
-    match random.below(9) {
+/// The text after one edit, which may put in one of these words.
+fn edited(
+    alloc: Global,
+    random: &mut Random,
+    text: &[u8],
+    words: &[&[u8]],
+) -> Result<Vec<u8>, AllocError> {
+    match random.below(11) {
         0 | 1 | 2 => with_other_byte(alloc, random, text),
-        3 | 4 => with_number(alloc, random, text),
+        3 | 4 => with_word(alloc, random, text, words),
         5 => with_double(alloc, random, text, WORDS),
         6 => with_exchange(alloc, random, text, WORDS),
         7 => with_double(alloc, random, text, LINES),
-        _ => with_exchange(alloc, random, text, LINES),
+        8 => with_exchange(alloc, random, text, LINES),
+        9 => with_drop(alloc, random, text, WORDS),
+        _ => with_drop(alloc, random, text, LINES),
     }
 }
 
-/// One of these texts after one to three edits.
-pub fn spoilt(alloc: Global, random: &mut Random, texts: &[&[u8]]) -> Result<Vec<u8>, AllocError> {
+/// One of these texts after one to three edits, which may put in these words.
+pub fn spoilt(
+    alloc: Global,
+    random: &mut Random,
+    texts: &[&[u8]],
+    words: &[&[u8]],
+) -> Result<Vec<u8>, AllocError> {
     let mut text = match texts.get(random.below(texts.len())) {
         Some(good) => Vec::from_slice(alloc, good)?,
         None => Vec::new(alloc),
@@ -230,7 +268,7 @@ pub fn spoilt(alloc: Global, random: &mut Random, texts: &[&[u8]]) -> Result<Vec
     let edits = random.below(3);
     for i in 0..3usize {
         if i <= edits {
-            text = edited(alloc, random, &text)?;
+            text = edited(alloc, random, &text, words)?;
         }
     }
     Ok(text)

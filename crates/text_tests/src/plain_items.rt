@@ -1,0 +1,164 @@
+//! The words of a log's lines, plainly.
+
+use crate::plain_words::{cut_at, number_of};
+use log_theory::{Name, Op, Ref};
+use proof_theory::Literal;
+use std::alloc::{AllocError, Global};
+
+/// The greatest number.
+const MOST: i128 = (1 << 63) - 1;
+
+/// The greatest number of a row that is shared.
+const LAST_ROW: i128 = 4_194_303;
+
+/// The number from least to most that a word writes without leading zeros.
+fn numeral_from(word: &[u8], least: i128, most: i128) -> Option<u64> {
+    let number = number_of(word)?;
+    if word.len() > 1 && word.starts_with(b"0") || number < least || number > most {
+        return None;
+    }
+    u64::try_from(number).ok()
+}
+
+/// A number.
+pub fn numeral_of(word: &[u8]) -> Option<u64> {
+    numeral_from(word, 0, MOST)
+}
+
+/// The number of a row that is shared.
+pub fn row_number_of(word: &[u8]) -> Option<u32> {
+    u32::try_from(numeral_from(word, 0, LAST_ROW)?).ok()
+}
+
+/// A name.
+pub fn name_of(word: &[u8]) -> Option<Name> {
+    let (owner, number) = cut_at(word, b'.')?;
+    Some(Name {
+        owner: u8::try_from(numeral_from(owner, 0, 64)?).ok()?,
+        number: numeral_from(number, 1, MOST)?,
+    })
+}
+
+/// A reference.
+pub fn reference_of(word: &[u8]) -> Option<Ref> {
+    if let [b'#', row @ ..] = word {
+        return Some(Ref::Shared(row_number_of(row)?));
+    }
+    match name_of(word) {
+        Some(name) => Some(Ref::Made(name)),
+        None => Some(Ref::Line(numeral_of(word)?)),
+    }
+}
+
+/// A variable of so many.
+pub fn variable_of(word: &[u8], variables: u32) -> Option<u32> {
+    match word {
+        [b'x', digits @ ..] => {
+            u32::try_from(numeral_from(digits, 1, i128::from(variables))?).ok()
+        }
+        _ => None,
+    }
+}
+
+/// A literal of so many variables.
+pub fn literal_of(word: &[u8], variables: u32) -> Option<Literal> {
+    let (rest, negated) = match word {
+        [b'~', rest @ ..] => (rest, true),
+        rest => (rest, false),
+    };
+    Some(Literal {
+        variable: variable_of(rest, variables)?,
+        negated,
+    })
+}
+
+/// The operation of a word, with the one behind it, which it takes where that is `*` or `d`.
+fn operation_of(word: &[u8], after: &[u8], variables: u32) -> Option<Op> {
+    match (word, after) {
+        (b"+", _) => Some(Op::Add),
+        (b"s", _) => Some(Op::Saturate),
+        (number, b"*") => Some(Op::Times(numeral_of(number)?)),
+        (number, b"d") => Some(Op::Divide(numeral_of(number)?)),
+        (other, _) => match literal_of(other, variables) {
+            Some(literal) => Some(Op::Axiom(literal)),
+            None => Some(Op::Push(reference_of(other)?)),
+        },
+    }
+}
+
+/// Operations, if all words are of their form.
+pub fn operations_of(
+    alloc: Global,
+    words: &[&[u8]],
+    variables: u32,
+) -> Result<Option<Vec<Op>>, AllocError> {
+    let mut operations = Vec::new(alloc);
+    let mut is_taken = false;
+    for (i, word) in words.iter().enumerate() {
+        if is_taken {
+            is_taken = false;
+            continue;
+        }
+        let after = words.get(i.wrapping_add(1)).copied().unwrap_or(b"");
+        let Some(operation) = operation_of(word, after, variables) else {
+            return Ok(None);
+        };
+        is_taken = matches!(operation, Op::Times(_) | Op::Divide(_));
+        operations.push(operation)?;
+    }
+    Ok(Some(operations))
+}
+
+/// References, if all words are of their form.
+pub fn references_of(alloc: Global, words: &[&[u8]]) -> Result<Option<Vec<Ref>>, AllocError> {
+    let mut references = Vec::new(alloc);
+    for word in words {
+        let Some(reference) = reference_of(word) else {
+            return Ok(None);
+        };
+        references.push(reference)?;
+    }
+    Ok(Some(references))
+}
+
+/// Literals, if all words are of their form.
+pub fn literals_of(
+    alloc: Global,
+    words: &[&[u8]],
+    variables: u32,
+) -> Result<Option<Vec<Literal>>, AllocError> {
+    let mut literals = Vec::new(alloc);
+    for word in words {
+        let Some(literal) = literal_of(word, variables) else {
+            return Ok(None);
+        };
+        literals.push(literal)?;
+    }
+    Ok(Some(literals))
+}
+
+/// Variables, if all words are of their form.
+pub fn variables_of(
+    alloc: Global,
+    words: &[&[u8]],
+    variables: u32,
+) -> Result<Option<Vec<u32>>, AllocError> {
+    let mut found = Vec::new(alloc);
+    for word in words {
+        let Some(variable) = variable_of(word, variables) else {
+            return Ok(None);
+        };
+        found.push(variable)?;
+    }
+    Ok(Some(found))
+}
+
+/// The words in front of the first `;`, and those behind it.
+pub fn parted<'a, 'b>(words: &'b [&'a [u8]]) -> Option<(&'b [&'a [u8]], &'b [&'a [u8]])> {
+    for (i, word) in words.iter().enumerate() {
+        if *word == b";".as_slice() {
+            return Some((words.get(..i)?, words.get(i.wrapping_add(1)..)?));
+        }
+    }
+    None
+}

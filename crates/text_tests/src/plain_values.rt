@@ -1,0 +1,69 @@
+//! Values of some variables, and what a row comes to under them, plainly.
+
+use crate::plain_rows::{Row, degree, size};
+use proof_theory::Literal;
+use std::alloc::{AllocError, Global};
+
+/// All variables without a value.
+pub fn no_values(alloc: Global, variables: usize) -> Result<Vec<Option<bool>>, AllocError> {
+    let mut values = Vec::new(alloc);
+    for _ in 0..variables {
+        values.push(None)?;
+    }
+    Ok(values)
+}
+
+/// Makes the literals false.
+pub fn make_false(values: &mut [Option<bool>], literals: &[Literal]) {
+    for literal in literals {
+        let place = (literal.variable as usize).wrapping_sub(1);
+        if let Some(value) = values.get_mut(place) {
+            *value = Some(literal.negated);
+        }
+    }
+}
+
+/// Whether the literal that a coefficient has in the normal form is not false.
+fn is_open(c: i128, value: Option<bool>) -> bool {
+    match value {
+        Some(is_one) => is_one == (c > 0),
+        None => true,
+    }
+}
+
+/// By how much the literals that are not false outweigh the bound, in the normal form.
+fn slack(row: &Row, values: &[Option<bool>]) -> i128 {
+    let mut open: i128 = 0;
+    for (c, value) in row.coefficients.iter().zip(values) {
+        if is_open(*c, *value) {
+            open = open.saturating_add(size(*c));
+        }
+    }
+    open.saturating_sub(degree(row))
+}
+
+/// Whether the row cannot hold any more; else each literal without which it could not hold becomes true.
+pub fn is_contradicted(row: &Row, values: &mut [Option<bool>]) -> bool {
+    let slack = slack(row, values);
+    if slack < 0 {
+        return true;
+    }
+    for (c, value) in row.coefficients.iter().zip(values.iter_mut()) {
+        if value.is_none() && size(*c) > slack {
+            *value = Some(*c > 0);
+        }
+    }
+    false
+}
+
+/// Whether the row holds where exactly these variables are 1.
+pub fn holds(row: &Row, ones: &[u32]) -> bool {
+    let mut sum: i128 = 0;
+    for variable in ones {
+        let place = (*variable as usize).wrapping_sub(1);
+        if let Some(c) = row.coefficients.get(place) {
+            sum = sum.saturating_add(*c);
+        }
+    }
+    sum >= row.bound
+}

@@ -1,0 +1,55 @@
+//! Pieces of a text and the numbers that they write, plainly.
+
+use std::alloc::{AllocError, Global};
+
+/// What stands in front of the first such byte, and what behind it.
+pub fn cut_at(text: &[u8], byte: u8) -> Option<(&[u8], &[u8])> {
+    for (i, other) in text.iter().enumerate() {
+        if *other == byte {
+            return Some((text.get(..i)?, text.get(i.wrapping_add(1)..)?));
+        }
+    }
+    None
+}
+
+/// The text cut at each of these bytes: one piece more than there are.
+pub fn pieces_of<'a>(
+    alloc: Global,
+    text: &'a [u8],
+    between: &[u8],
+) -> Result<Vec<&'a [u8]>, AllocError> {
+    let mut pieces = Vec::new(alloc);
+    let mut start: usize = 0;
+    for (i, byte) in text.iter().enumerate() {
+        if between.contains(byte) {
+            pieces.push(text.get(start..i).unwrap_or(&[]))?;
+            start = i.wrapping_add(1);
+        }
+    }
+    pieces.push(text.get(start..).unwrap_or(&[]))?;
+    Ok(pieces)
+}
+
+/// The pieces that are not empty.
+pub fn words_of<'a>(alloc: Global, line: &'a [u8]) -> Result<Vec<&'a [u8]>, AllocError> {
+    let mut words = Vec::new(alloc);
+    for piece in &pieces_of(alloc, line, b" \t")? {
+        if !piece.is_empty() {
+            words.push(*piece)?;
+        }
+    }
+    Ok(words)
+}
+
+/// The number that digits write, leading zeros or not. All that is above the limits of every format is alike.
+pub fn number_of(word: &[u8]) -> Option<i128> {
+    let mut number: i128 = 0;
+    for byte in word {
+        if !byte.is_ascii_digit() {
+            return None;
+        }
+        let digit = i128::from(byte.wrapping_sub(b'0'));
+        number = number.saturating_mul(10).saturating_add(digit);
+    }
+    if word.is_empty() { None } else { Some(number) }
+}
