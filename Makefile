@@ -7,6 +7,7 @@
 #   make hostile TEXTS=10000          the program on hostile texts, each held against a plain reading; with each allocation refused; and
 #                                     over files and streams that fail
 #   make docs                         makes the manual page and the picture of the crates anew
+#   make house MOST=20                lists what is longer than it should be and what stands twice, the longest first
 
 PREFIX ?= /usr/local
 DESTDIR ?=
@@ -15,12 +16,14 @@ PYTHON ?= python3
 PROGRAM ?= crates/subgraph/out/subgraph
 # How many hostile texts of each kind.
 TEXTS ?= 10000
+# How many rows of each list.
+MOST ?= 20
 
 MODULES = $(wildcard python/subgraph_solver/*.py) python/subgraph_solver/py.typed
 FOLDER := $(shell $(PYTHON) tools/package_folder.py $(PREFIX) 2>/dev/null)
 PACKAGES = $(DESTDIR)$(or $(FOLDER),$(error $(PYTHON) does not run))/subgraph_solver
 
-.PHONY: build install uninstall test hostile docs
+.PHONY: build install uninstall test hostile docs house
 
 build:
 ifeq ($(PROGRAM),crates/subgraph/out/subgraph)
@@ -57,3 +60,6 @@ docs:
 	$(PYTHON) tools/man.py
 	$(PYTHON) docs/crates.py
 	$(PYTHON) tools/claims.py
+
+house:
+	@$(PYTHON) tools/house.py --most $(MOST)

@@ -3,23 +3,28 @@
 #include <boost/graph/adjacency_list.hpp>
 #include <boost/graph/vf2_sub_graph_iso.hpp>
 
-typedef boost::adjacency_list<boost::setS, boost::vecS, boost::undirectedS> Edges;
+typedef boost::property<boost::edge_name_t, uint32_t> Kind;
+typedef boost::adjacency_list<boost::setS, boost::vecS, boost::undirectedS> Plain;
+typedef boost::adjacency_list<boost::setS, boost::vecS, boost::bidirectionalS> Directed;
+typedef boost::adjacency_list<boost::setS, boost::vecS, boost::bidirectionalS, boost::no_property, Kind> Labelled;
 
-static Edges build(const Graph &from) {
-    Edges graph(from.size());
-    for (size_t v = 0; v < from.size(); v++)
-        for (uint16_t u : from.near[v])
-            if (v < u) add_edge(v, u, graph);
-    return graph;
+static void join(Plain &graph, size_t v, size_t u, uint32_t) { add_edge(v, u, graph); }
+static void join(Directed &graph, size_t v, size_t u, uint32_t) { add_edge(v, u, graph); }
+static void join(Labelled &graph, size_t v, size_t u, uint32_t kind) { add_edge(v, u, Kind(kind), graph); }
+
+static boost::always_equivalent same_kind(const Plain &, const Plain &) { return {}; }
+static boost::always_equivalent same_kind(const Directed &, const Directed &) { return {}; }
+static auto same_kind(const Labelled &small, const Labelled &large) {
+    return boost::make_property_map_equivalent(get(boost::edge_name, small), get(boost::edge_name, large));
 }
 
-int main(int count, char **words) {
-    Asked asked(count, words);
-    Graph pattern = Graph::read(asked.files[0], asked.labelled), target = Graph::read(asked.files[1], asked.labelled);
+template <class Edges> static int answer(const Asked &asked, const Graph &pattern, const Graph &target) {
     std::vector<size_t> map;
     bool found = false;
     if (pattern.size() <= target.size()) {
-        Edges small = build(pattern), large = build(target);
+        Edges small(pattern.size()), large(target.size());
+        each_edge(pattern, [&](size_t v, size_t u, uint32_t kind) { join(small, v, u, kind); });
+        each_edge(target, [&](size_t v, size_t u, uint32_t kind) { join(large, v, u, kind); });
         auto take = [&](auto forward, auto) {
             for (size_t p = 0; p < pattern.size(); p++) map.push_back(get(forward, p));
             found = true;
@@ -28,10 +33,17 @@ int main(int count, char **words) {
         auto fit = [&](size_t p, size_t t) { return fits(pattern, target, asked.induced, p, t); };
         auto order = boost::vertex_order_by_mult(small);
         auto ids = get(boost::vertex_index, small), target_ids = get(boost::vertex_index, large);
-        if (asked.induced) boost::vf2_subgraph_iso(small, large, take, ids, target_ids, order, boost::always_equivalent(), fit);
-        else boost::vf2_subgraph_mono(small, large, take, ids, target_ids, order, boost::always_equivalent(), fit);
+        auto same = same_kind(small, large);
+        if (asked.induced) boost::vf2_subgraph_iso(small, large, take, ids, target_ids, order, same, fit);
+        else boost::vf2_subgraph_mono(small, large, take, ids, target_ids, order, same, fit);
     }
-    std::cout << (found ? "yes\n" : "none\n");
-    for (size_t p = 0; p < map.size(); p++) std::cout << p << " -> " << map[p] << "\n";
-    return found ? 0 : 1;
+    return told(found, map.size(), [&](size_t p) { return map[p]; });
+}
+
+int main(int count, char **words) {
+    Asked asked(count, words);
+    Graph pattern = Graph::read(asked.files[0], asked.format), target = Graph::read(asked.files[1], asked.format);
+    if (asked.format.edge_labels) return answer<Labelled>(asked, pattern, target);
+    if (asked.format.directed) return answer<Directed>(asked, pattern, target);
+    return answer<Plain>(asked, pattern, target);
 }

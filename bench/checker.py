@@ -125,7 +125,7 @@ def main():
     words.add_argument("--peer")
     asked = words.parse_args()
     made = [("follow", follow, 1_000), ("follow", follow, 10_000), ("follow", follow, 100_000), ("rows", rows, 1_100),
-            ("rows", rows, 11_000), ("sum", sums, 10), ("sum", sums, 100), ("sum", sums, 1_000),
+            ("rows", rows, 11_000), ("sum", sums, 2), ("sum", sums, 10), ("sum", sums, 100), ("sum", sums, 1_000),
             ("close", unhinted(follow), 1_000), ("close", unhinted(follow), 10_000), ("close", unhinted(follow), 100_000),
             ("close-r", unhinted(rows), 1_100), ("close-r", unhinted(rows), 11_000)]
     print("| log | references | terms read | seconds | million references a second | million terms a second | MB | peer's seconds |")

@@ -2,17 +2,21 @@
 """Counts the fails of each worker from outside, and prints how many times fewer the slowest of several has than one worker alone.
 
 usage: python3 bench/fails.py PROGRAM FOLDER [--threads 1,2,4] [--seeds 0,1,2,3,4] [--book N] [--only WORD,WORD] [--sizes S]
+           [--minutes N]
 
 The program tells no fails where it decides. So it runs under valgrind, which counts how often each thread calls the function that counts a
 fail (`--function` names it). Valgrind runs one thread at a time and gives each a turn in order, so no clock and no other work on the machine has a
-part in the figures; it takes some 50 times as long, so small pairs are the default. A worker that ends before another
-begins is counted with it, which some thousand fails rule out. A build that has put the function into its callers tells nothing, and this says so. Standard output has a table for docs/SPEED.md. The pairs are those of bench/threads.py.
+part in the figures; it takes some 50 times as long, so small pairs are the default, and --minutes begins no pair after so many. A worker that ends before another
+begins is counted with it, which some thousand fails rule out. A build that has put the function into its callers tells nothing, and this says so.
+Standard output has a table for docs/SPEED.md. The pairs are those of bench/threads.py.
 """
 import argparse
+import math
 import os
 import shutil
 import sys
 import tempfile
+import time
 
 from counting import calls, stripped
 from threads import mean, name_of, pairs_of, table, words_of
@@ -37,6 +41,7 @@ def main():
     words.add_argument("--only", default="")
     words.add_argument("--sizes", default="S")
     words.add_argument("--function", default=FUNCTION)
+    words.add_argument("--minutes", type=float, default=math.inf)
     asked = words.parse_args()
     if not shutil.which("valgrind"):
         words.error("valgrind is not there")
@@ -44,12 +49,12 @@ def main():
     if counts[0] != 1:
         words.error("the first number of threads is 1, which the others are held against")
     pairs = pairs_of(asked.folder, asked.sizes.split(","), [it for it in asked.only.split(",") if it])
-    rows, gains = [], {}
+    rows, gains, last = [], {}, time.monotonic() + asked.minutes * 60
     with tempfile.TemporaryDirectory() as room, tempfile.TemporaryDirectory() as builds:
         program = stripped(os.path.abspath(asked.program), builds)
         for pair in pairs:
             mine = []
-            for seed in seeds:
+            for seed in seeds if time.monotonic() < last else []:
                 each = [slowest(program, asked, pair, threads, seed, room) for threads in counts]
                 print(pair["name"], f"seed {seed}", *(f"{answer} {count}" for answer, count in each), file=sys.stderr, flush=True)
                 if len({answer for answer, _ in each}) > 1:

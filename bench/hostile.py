@@ -5,16 +5,17 @@ usage: python3 bench/hostile.py PROGRAM [--texts N | --all N] [--minutes M] [--k
            [--keep FOLDER]
 
 PROGRAM is the built program (crates/subgraph/out/subgraph). A hostile text is a good one after one to three edits at random (`edits.py`): a
-graph for `solve` or `encode`, in the formats with directions for `verify`; a `mapping` for `verify`, over graphs in each of the four; for `check`
+graph for `solve` or `encode`, in the formats with directions also for `verify`; a `mapping` for `verify`, over graphs in each of the four; for `check`
 an `encoding`, a `log`, or one without hints (`plainlog`). The other files of a question are good. Status, output and the error stream are compared
 with what `plain.py` and `tools/plain_check.py` say; where several maps are right any of them will do. A run that ends by a signal or takes longer than
---seconds differs too. The kind `limit` is a few fixed texts at the limits of sizes. Each text is made from the seed, its kind and its place, so that a
+--seconds differs too. The kind `limit` is a few fixed texts at the limits of sizes, and `large` are a few of --megabytes each, spoilt in one
+place: graphs, mappings, encodings and logs. Each text is made from the seed, its kind and its place, so that a
 run can be repeated, by whatever number of jobs.
 
 --texts are those of each kind; --all 1000000 is a million of all kinds together, as many of each. After --minutes no more are begun.
 
-Prints what came of each kind, by status and cause, and how many texts that were. A difference is told, its hostile text made smaller as long as there
-is one, and its files stand in the folder --keep; the status is then 1.
+Prints what came of each kind, by status and cause, how many texts that were, and the processor time that each took, of the program and in all. A
+difference is told, its hostile text made smaller as long as there is one, and its files stand in the folder --keep; the status is then 1.
 """
 import argparse
 import collections
@@ -36,6 +37,10 @@ from plain import FORMATS, Answer
 
 TOP = os.path.dirname(os.path.dirname(os.path.abspath(__file__)))
 CHUNK = 100
+#: A text of more bytes is kept as it is where it differs.
+MOST_SHRUNK = 100_000
+#: So many bytes of a large text may be changed, anywhere.
+WINDOW = 2000
 #: The status of a run that has not ended in time.
 NO_ANSWER = -1
 
@@ -118,12 +123,16 @@ def proof_question(rng, at, hinted):
     return Question(["check"], texts, at, lambda it, _: plain.check(*it))
 
 
+def directed_question(rng, kind):
+    return graph_question(rng, kind) if rng.random() < 0.5 else mapping_question(rng, kind, rng.randrange(2))
+
+
 CASES = [case for case in check_cases.cases() if max(map(len, case[1:3])) < 2000]
 KINDS = {
     "lad": lambda rng: graph_question(rng, "lad"),
     "vertexlabelledlad": lambda rng: graph_question(rng, "vertexlabelledlad"),
-    "directedlad": lambda rng: mapping_question(rng, "directedlad", rng.randrange(2)),
-    "labelledlad": lambda rng: mapping_question(rng, "labelledlad", rng.randrange(2)),
+    "directedlad": lambda rng: directed_question(rng, "directedlad"),
+    "labelledlad": lambda rng: directed_question(rng, "labelledlad"),
     "mapping": lambda rng: mapping_question(rng, rng.choice(list(FORMATS)), 2),
     "encoding": lambda rng: proof_question(rng, 0, rng.random() < 0.7),
     "log": lambda rng: proof_question(rng, 1, True),
@@ -175,6 +184,39 @@ def limits():
     ]
     for command, texts, answer in cases:
         yield Question(command.split(), texts, 0, lambda *_, right=answer: right)
+
+
+def large(megabytes, seed):
+    """Texts of so many bytes, most with an edit somewhere; that a plain checker in Python reads them too takes most of the time."""
+    size = megabytes * 1_000_000
+    nothing, edge = b"0\n", b"2\n1 1\n1 0\n"
+    many, width = 300, size // (300 * 4)
+    rows = (b"%d " % width + b" ".join(b"%d" % ((v + u) % many) for u in range(width)) + b"\n" for v in range(many))
+    graph = b"%d\n" % many + b"".join(rows)
+    mapping = b"yes\n" + b"".join(b"%d -> %d\n" % (p, p % 8192) for p in range(size // 15))
+    block = b"".join(b"+1 x%d -2 x%d +1 x%d >= 1 ;\n" % (i % 1000 + 1, i * 7 % 1000 + 1, i * 31 % 1000 + 1) for i in range(1000))
+    times = -(-size // len(block))
+    encoding = b"* #variable= 1000 #constraint= %d\n" % (1000 * times) + block * times
+    short = b"* #variable= 1000 #constraint= 500\n" + b"".join(b"+1 x%d +1 x%d >= 1 ;\n" % (2 * k + 1, 2 * k + 2) for k in range(500))
+    hinted = b"".join(b"u 0.%d x%d x%d ; %d ;\n" % (i, i % 500 * 2 + 1, i % 500 * 2 + 2, i % 500 + 1) for i in range(1, size // 28))
+    summed = b"".join(b"p 0.%d %d x%d + 3 * ;\n" % (i, i % 500 + 1, i * 7 % 1000 + 1) for i in range(1, size // 24))
+    head, last = b"embedding proof 1\nm 500\n", b"q\n"
+    cases = [
+        ("verify", [edge, graph, b"yes\n0 -> 1\n1 -> 2\n"], 1, False),
+        ("verify", [edge, graph, b"yes\n0 -> 1\n1 -> 2\n"], 1, True),
+        ("verify", [nothing, nothing, mapping], 2, True),
+        ("check", [encoding, b"embedding proof 1\nm %d\nq\n" % (1000 * times)], 0, True),
+        ("check", [short, head + hinted + last], 1, False),
+        ("check", [short, head + summed + last], 1, True),
+        ("check", [short, check_cases.without_hints(head) + summed + last], 1, True),
+    ]
+    for k, (command, texts, at, is_spoilt) in enumerate(cases):
+        if is_spoilt:
+            rng, text = random.Random(f"{seed} large {k}"), texts[at]
+            place = rng.randrange(len(text) - WINDOW)
+            texts[at] = text[:place] + hostile(rng, text[place : place + WINDOW]) + text[place + WINDOW :]
+        wanted = (lambda it, _: plain.check(*it)) if command == "check" else (lambda it, _: plain.verify(it[:2], it[2], "lad", False))
+        yield Question([command], texts, at, wanted)
 
 
 # Asking ------------------------------------------------------------------------------------------------------------------------
@@ -248,7 +290,7 @@ def ask(words, questions):
         for question in questions:
             found, right = asking.answers(question, question.texts[question.at])
             came[what_came(found)] += 1
-            if found != right and found.status != NO_ANSWER:
+            if found != right and found.status != NO_ANSWER and len(question.texts[question.at]) <= MOST_SHRUNK:
                 question.texts[question.at] = asking.smallest(question)
                 found, right = asking.answers(question, question.texts[question.at])
             if found != right:
@@ -256,9 +298,13 @@ def ask(words, questions):
     return came, differences
 
 
+#: The kinds of which there are a few texts, whatever is asked for.
+FEW = {"limit": lambda words: limits(), "large": lambda words: large(words.megabytes, words.seed)}
+
+
 def chunk(words, kind, begin, end):
-    if kind == "limit":
-        return kind, *ask(words, limits())
+    if kind in FEW:
+        return kind, *ask(words, FEW[kind](words))
     if time.monotonic() > words.last:
         return kind, collections.Counter(), []
     rngs = [random.Random(f"{words.seed} {kind} {i}") for i in range(begin, end)]
@@ -290,14 +336,15 @@ def words_of_the_line():
     parser.add_argument("--texts", type=int, default=1000, help="how many of each kind")
     parser.add_argument("--all", type=int, help="how many of all kinds together, as many of each")
     parser.add_argument("--minutes", type=float, default=float("inf"), help="after which no more texts are begun")
-    parser.add_argument("--kinds", nargs="+", choices=[*KINDS, "limit"], default=[*KINDS, "limit"])
+    parser.add_argument("--kinds", nargs="+", choices=[*KINDS, *FEW], default=[*KINDS, *FEW])
+    parser.add_argument("--megabytes", type=int, default=11, help="of each large text")
     parser.add_argument("--jobs", type=int, default=1)
     parser.add_argument("--seed", type=int, default=0)
     parser.add_argument("--seconds", type=float, default=60, help="that a run may take")
     parser.add_argument("--folder", default="/dev/shm", help="where the files of the questions are written; memory is best")
     parser.add_argument("--keep", default=os.path.join(TOP, "out", "hostile"), help="a folder for what differs")
     words = parser.parse_args()
-    words.random = [kind for kind in words.kinds if kind != "limit"]
+    words.random = [kind for kind in words.kinds if kind not in FEW]
     if words.all and words.random:
         words.texts = -(-words.all // len(words.random))
     words.last = time.monotonic() + words.minutes * 60
@@ -306,8 +353,9 @@ def words_of_the_line():
 
 def chunks(words):
     """What is asked at once, kind after kind, so that all kinds have come equally far wherever it ends."""
-    if "limit" in words.kinds:
-        yield "limit", 0, 0
+    for kind in words.kinds:
+        if kind in FEW:
+            yield kind, 0, 0
     for begin in range(0, words.texts, CHUNK):
         for kind in words.random:
             yield kind, begin, min(begin + CHUNK, words.texts)
@@ -324,7 +372,11 @@ def main():
                 files = keep(words.keep, f"{differ}.{kind}", question)
                 print(f"difference {differ}: {' '.join(question.words + files)}: {told(found)}; wanted {told(right)}", flush=True)
     table(came)
-    print(f"{sum(sum(rows.values()) for rows in came.values())} texts, {differ} answers differ from the plain reading")
+    count = sum(sum(rows.values()) for rows in came.values())
+    print(f"{count} texts, {differ} answers differ from the plain reading")
+    used = os.times()
+    own, program = used.user + used.system, used.children_user + used.children_system
+    print(f"{1000 * program / max(count, 1):.1f} ms of processor time for each text in the program, {1000 * (own + program) / max(count, 1):.1f} in all")
     sys.exit(1 if differ else 0)
 
 

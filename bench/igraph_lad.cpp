@@ -1,23 +1,10 @@
-// LAD (C. Solnon, 2010) as igraph has it. Build: g++ -O3 igraph_lad.cpp $(pkg-config --cflags --libs igraph)
-#include "graphs.h"
-#include <igraph.h>
-
-static void build(const Graph &from, igraph_t *graph) {
-    igraph_vector_int_t ends;
-    igraph_vector_int_init(&ends, 0);
-    for (size_t v = 0; v < from.size(); v++)
-        for (uint16_t u : from.near[v])
-            if (v < u) {
-                igraph_vector_int_push_back(&ends, v);
-                igraph_vector_int_push_back(&ends, u);
-            }
-    igraph_create(graph, &ends, from.size(), IGRAPH_UNDIRECTED);
-    igraph_vector_int_destroy(&ends);
-}
+// LAD (C. Solnon, 2010) as igraph has it; it knows no labels of edges. Build: g++ -O3 igraph_lad.cpp $(pkg-config --cflags --libs igraph)
+#include "igraph_graphs.h"
 
 int main(int count, char **words) {
     Asked asked(count, words);
-    Graph pattern = Graph::read(asked.files[0], asked.labelled), target = Graph::read(asked.files[1], asked.labelled);
+    if (asked.format.edge_labels) not_taken();
+    Graph pattern = Graph::read(asked.files[0], asked.format), target = Graph::read(asked.files[1], asked.format);
     igraph_t small, large;
     build(pattern, &small);
     build(target, &large);
@@ -34,8 +21,5 @@ int main(int count, char **words) {
     igraph_vector_int_t map;
     igraph_vector_int_init(&map, 0);
     if (possible) igraph_subisomorphic_lad(&small, &large, &domains, &found, &map, nullptr, asked.induced, 0);
-    std::cout << (found ? "yes\n" : "none\n");
-    if (found)
-        for (size_t p = 0; p < pattern.size(); p++) std::cout << p << " -> " << VECTOR(map)[p] << "\n";
-    return found ? 0 : 1;
+    return told(found, pattern.size(), [&](size_t p) { return VECTOR(map)[p]; });
 }

@@ -4,50 +4,64 @@
     pairs.py FOLDER [--sizes S,M,L] [--families a,b] [--seed N]
 
 FOLDER/index.json lists the pairs: name, family, pattern, target, induced, format and, where the way they are made tells it, the
-answer. Standard library only.
+answer. Standard library only, but for `molecules`, which are left out where RDKit and its data (Debian's python3-rdkit and rdkit-data) are
+not there; `made_molecules` are of that shape, and made at random.
 """
 import argparse
 import json
 import math
 import os
 import random
+import sys
+
+from molecules import made, of_rdkit
 
 
 class Graph:
-    """An undirected graph as a list of sets of neighbours, with or without labels."""
+    """A graph as a list of sets of neighbours, with or without labels.
 
-    def __init__(self, size, edges=(), labels=None):
+    Without directions each edge stands at both ends; with them at the vertex that it leads from. `kinds` are the labels of edges by ordered pair,
+    and a graph that has them is written with directions, both ways."""
+
+    def __init__(self, size, edges=(), labels=None, directed=False, kinds=None):
         self.size = size
         self.near = [set() for _ in range(size)]
         self.labels = labels
+        self.directed = directed
+        self.kinds = kinds
         for a, b in edges:
             self.join(a, b)
 
     def join(self, a, b):
         self.near[a].add(b)
-        self.near[b].add(a)
+        if not self.directed:
+            self.near[b].add(a)
 
     def edges(self):
-        return [(a, b) for a in range(self.size) for b in sorted(self.near[a]) if a < b]
+        return [(a, b) for a in range(self.size) for b in sorted(self.near[a]) if self.directed or a < b]
+
+    def moved(self, size, place):
+        """The graph of so many vertices to which the vertices in `place` go; the others are left out."""
+        edges = [(place[a], place[b]) for a in place for b in self.near[a] if b in place and (self.directed or place[a] < place[b])]
+        labels = None
+        if self.labels:
+            labels = [0] * size
+            for v, there in place.items():
+                labels[there] = self.labels[v]
+        kinds = self.kinds and {(place[a], place[b]): kind for (a, b), kind in self.kinds.items() if a in place and b in place}
+        return Graph(size, edges, labels, self.directed, kinds)
 
     def part(self, vertices):
         """The induced subgraph on these vertices, in their order."""
-        place = {v: i for i, v in enumerate(vertices)}
-        edges = [(place[a], place[b]) for a in vertices for b in self.near[a] if b in place and place[a] < place[b]]
-        return Graph(len(vertices), edges, self.labels and [self.labels[v] for v in vertices])
+        return self.moved(len(vertices), {v: i for i, v in enumerate(vertices)})
 
     def thinned(self, source, kept):
-        return Graph(self.size, [e for e in self.edges() if source.random() < kept], self.labels)
+        return Graph(self.size, [e for e in self.edges() if source.random() < kept], self.labels, self.directed, self.kinds)
 
     def shuffled(self, source):
         order = list(range(self.size))
         source.shuffle(order)
-        labels = None
-        if self.labels:
-            labels = [0] * self.size
-            for v, place in enumerate(order):
-                labels[place] = self.labels[v]
-        return Graph(self.size, [(order[a], order[b]) for a, b in self.edges()], labels)
+        return self.moved(self.size, dict(enumerate(order)))
 
     def connected(self, source, count):
         """Some vertices grown from one of them."""
@@ -63,11 +77,16 @@ class Graph:
             if len(grown) == count:
                 return grown
 
+    def format(self):
+        return "labelledlad" if self.kinds is not None else "directedlad" if self.directed else "vertexlabelledlad" if self.labels else "lad"
+
     def text(self):
         rows = [str(self.size)]
         for v in range(self.size):
             words = [self.labels[v]] if self.labels else []
-            words += [len(self.near[v])] + sorted(self.near[v])
+            words.append(len(self.near[v]))
+            for u in sorted(self.near[v]):
+                words += [u] if self.kinds is None else [u, self.kinds[v, u]]
             rows.append(" ".join(map(str, words)))
         return "\n".join(rows) + "\n"
 
@@ -209,7 +228,94 @@ def labelled(source, size):
     yield part.shuffled(source), graph.shuffled(source), False, None
 
 
+def directed_graph(source, size, density):
+    """Each ordered pair has its edge by chance."""
+    return Graph(size, [(a, b) for a in range(size) for b in range(size) if a != b and source.random() < density], directed=True)
+
+
+def directed_planted(source, size):
+    """Parts of directed graphs: one that lost some edges, and one that lost none."""
+    pattern, target, density = {"S": (15, 80, 0.2), "M": (40, 200, 0.15), "L": (70, 450, 0.1)}[size]
+    graph = directed_graph(source, target, density)
+    yield graph.part(source.sample(range(target), pattern)).thinned(source, 0.85).shuffled(source), graph, False, "yes"
+    yield graph.part(source.sample(range(target), pattern)).shuffled(source), graph, True, "yes"
+
+
+def directed_none(source, size):
+    """Fewer than one embedding expected by a factor, in either kind."""
+    target, pattern = {"S": (60, 8), "M": (100, 10), "L": (200, 12)}[size]
+    for thin in (0.2, 0.4):
+        thick = choices(target, pattern) / (-math.log(thin) * pattern * (pattern - 1))
+        for factor in (1.1, 1.4):
+            yield directed_graph(source, pattern, min(1, factor * thick)), directed_graph(source, target, thin), False, None
+    for thick, thin in ((0.5, 0.5), (0.3, 0.4)):
+        pattern = 4
+        while choices(target, pattern) + pattern * (pattern - 1) * (thick * math.log(thin) + (1 - thick) * math.log(1 - thin)) > 0:
+            pattern += 1
+        yield directed_graph(source, pattern + 1, thick), directed_graph(source, target, thin), True, None
+
+
+def molecule(found):
+    """The graph of a molecule, its bonds both ways round."""
+    atoms, bonds = found
+    return Graph(len(atoms), [(a, b) for a, b, _ in bonds], atoms, kinds={e: kind for a, b, kind in bonds for e in ((a, b), (b, a))})
+
+
+def beside_each_other(graphs):
+    size, edges, labels, kinds = 0, [], [], {}
+    for it in graphs:
+        edges += [(size + a, size + b) for a, b in it.edges()]
+        kinds.update({(size + a, size + b): kind for (a, b), kind in it.kinds.items()})
+        labels += it.labels
+        size += it.size
+    return Graph(size, edges, labels, kinds=kinds)
+
+
+def fragment(source, graph):
+    """A connected piece of half a molecule."""
+    return graph.part(graph.connected(source, max(6, graph.size // 2)))
+
+
+def pieces(graph):
+    """The connected parts, as sets of vertices."""
+    left, found = set(range(graph.size)), []
+    while left:
+        front = [left.pop()]
+        part = set(front)
+        while front:
+            near = graph.near[front.pop()] & left
+            left -= near
+            part |= near
+            front += near
+        found.append(part)
+    return found
+
+
+def pieces_in_libraries(source, size, known):
+    """Pieces of molecules in another one or in a library, of which all molecules stand beside each other; one piece, or several at once, induced."""
+    whole = [it for it in map(molecule, known) if it.size >= 12 and len(pieces(it)) == 1]
+    for _ in range(4):
+        chosen = source.sample(whole, {"S": 1, "M": 50, "L": 200}[size])
+        target = beside_each_other(chosen).shuffled(source)
+        yield fragment(source, chosen[0]).shuffled(source), target, False, "yes"
+        yield fragment(source, source.choice(whole)).shuffled(source), target, False, None
+        yield beside_each_other([fragment(source, it) for it in chosen[:8]]).shuffled(source), target, True, "yes"
+
+
+def molecules(source, size):
+    known = of_rdkit()
+    if not known:
+        print("RDKit or its data are not there: no molecules but made ones", file=sys.stderr)
+        return
+    yield from pieces_in_libraries(source, size, known)
+
+
+def made_molecules(source, size):
+    yield from pieces_in_libraries(source, size, [made(source) for _ in range(1000)])
+
+
 FAMILIES = [planted, dense_none, phase, phase_induced, cliques, odd_cycles, meshes, sparse, scale_free_parts, labelled]
+FAMILIES += [directed_planted, directed_none, molecules, made_molecules]
 
 
 def main():
@@ -233,7 +339,7 @@ def main():
                         file.write(graph.text())
                 listed.append({
                     "name": name, "family": family.__name__, "size": size, "induced": induced, "answer": answer,
-                    "format": "vertexlabelledlad" if pattern.labels else "lad",
+                    "format": pattern.format(),
                     "pattern": f"{name}.pattern", "target": f"{name}.target",
                     "vertices": [pattern.size, target.size],
                 })
@@ -242,4 +348,5 @@ def main():
     print(f"{len(listed)} pairs in {asked.folder}")
 
 
-main()
+if __name__ == "__main__":
+    main()

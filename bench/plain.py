@@ -170,6 +170,11 @@ def constraints(pattern, target, induced):
     def x(p, t):
         return p * len(values) + t + 1
 
+    def right(p, q, t, u):
+        """Whether what leads from t to u is as what leads from p to q asks."""
+        here, there = pattern[1].get((p, q)), target[1].get((t, u))
+        return here == there or here is None and not induced
+
     for p in vertices:
         yield {x(p, t): 1 for t in values}, 1
         yield {x(p, t): -1 for t in values}, -1
@@ -177,15 +182,14 @@ def constraints(pattern, target, induced):
         yield {x(p, t): -1 for p in vertices}, -1
     for p in vertices:
         for t in values:
-            loops = (p, p) in pattern[1], (t, t) in target[1]
-            if pattern[0][p] != target[0][t] or loops == (True, False) or induced and loops == (False, True):
+            if pattern[0][p] != target[0][t] or not right(p, p, t, t):
                 yield {x(p, t): -1}, 0
     for is_edge in (True, False) if induced else (True,):
         for p in vertices:
             for q in vertices:
-                if p != q and ((p, q) in pattern[1]) == is_edge:
+                if p != q and ((p, q) in pattern[1] or (q, p) in pattern[1]) == is_edge:
                     for t in values:
-                        near = {x(q, u): 1 for u in values if u != t and ((t, u) in target[1]) == is_edge}
+                        near = {x(q, u): 1 for u in values if u != t and right(p, q, t, u) and right(q, p, u, t)}
                         yield {x(p, t): -1, **near}, 0
 
 

@@ -1,21 +1,26 @@
 #!/usr/bin/env python3
 """Runs `solve` by several numbers of threads over hard pairs, and prints how many times faster each is than one thread.
 
-usage: python3 bench/threads.py PROGRAM FOLDER [--threads 1,2,4] [--seeds 0,1,2,3,4] [--book N] [--limit SECONDS] [--only WORD,WORD] [--sizes M,L]
+usage: python3 bench/threads.py PROGRAM FOLDER [--minutes N] [--threads 1,2,4] [--seeds 0,1,2,3,4] [--book N] [--limit SECONDS] [--only WORD,WORD]
+           [--sizes M,L] [--no-fails]
 
 The pairs are those of FOLDER; where it has none, pairs.py makes them there: planted, dense_none, phase, phase_induced and cliques in the
-sizes asked for. Times are of the wall, reading and starting included, so the machine must be quiet and have as many processors as there are
-threads; where it is not, the text says so. A run by one thread that passes the limit is left out, with those by several threads, and a pair
-whose first two seeds were left out is tried no more; a run of several threads that passes the limit counts as the limit.
+sizes asked for, and small. Times are of the wall, reading and starting included, so the machine must be quiet and have as many processors as there are
+threads; where it is not, the text says so. Seed after seed each pair is run by each number of threads. A run by one thread that passes the limit is left
+out, with those by several threads, and a pair whose first two seeds were left out is tried no more; a run of several threads that passes the limit
+counts as the limit. With --minutes no run is begun after three quarters of them, and the rest is for the fails of the slowest worker, which
+`fails.py` counts on small pairs where valgrind is there (--no-fails leaves them out).
 
 Each run is told on standard error. Standard output has text for docs/SPEED.md: a table by pair, one by kind of run with geometric means and the
-least gain, and whether what is wanted was met. Fails are not told by the program where it decides; bench/fails.py counts them from outside.
-The status is 1 where two answers of a pair differ, or a run ends with neither `yes` nor `none`.
+least gain, whether what is wanted was met, and the table of fails. The status is 1 where two answers of a pair differ, or a run ends with neither `yes`
+nor `none`.
 """
 import argparse
 import json
 import math
 import os
+import resource
+import shutil
 import subprocess
 import sys
 import time
@@ -27,6 +32,8 @@ KINDS = [("none", 10, math.inf), ("none", 1, 10), ("none", 0, 1), ("yes", 1, mat
 WANTED, SLOWEST = 2.5, 1 / 1.1
 #: Shorter runs tell of starting and reading alone, so they are not held against the second.
 SHORT = 0.1
+#: The share of its time for which one thread has a processor where the machine is quiet.
+QUIET = 0.95
 
 
 def pairs_of(folder, sizes, only):
@@ -34,7 +41,7 @@ def pairs_of(folder, sizes, only):
     index = os.path.join(folder, "index.json")
     if not os.path.exists(index):
         make = os.path.join(os.path.dirname(os.path.abspath(__file__)), "pairs.py")
-        words = [sys.executable, make, folder, "--families", ",".join(FAMILIES), "--sizes", ",".join(sizes)]
+        words = [sys.executable, make, folder, "--families", ",".join(FAMILIES), "--sizes", ",".join({*sizes, "S"})]
         subprocess.run(words, check=True, stdout=sys.stderr)
     with open(index, encoding="utf-8") as file:
         pairs = [it for it in json.load(file) if it["family"] in FAMILIES and it["size"] in sizes]
@@ -48,45 +55,56 @@ def words_of(program, folder, pair, threads, seed, book, more=()):
 
 
 def timed(words, limit):
-    """The first word of the answer, and the seconds; no answer where the limit is passed."""
-    started = time.monotonic()
+    """The first word of the answer, the seconds by the wall, and those of the processor; no answer where the limit is passed."""
+    started, before = time.monotonic(), processor()
     try:
         ended = subprocess.run(words, stdout=subprocess.PIPE, timeout=limit, text=True)
     except subprocess.TimeoutExpired:
-        return None, limit
+        return None, limit, processor() - before
     seconds = time.monotonic() - started
     if ended.returncode not in (0, 1):
         print(f"{' '.join(words)} ends with status {ended.returncode}")
         sys.exit(1)
-    return ended.stdout.split("\n")[0], seconds
+    return ended.stdout.split("\n")[0], seconds, processor() - before
+
+
+def processor():
+    """The seconds of the processor that all runs so far took."""
+    used = resource.getrusage(resource.RUSAGE_CHILDREN)
+    return used.ru_utime + used.ru_stime
 
 
 def mean(numbers):
     return math.exp(sum(map(math.log, numbers)) / len(numbers))
 
 
-def measure(program, folder, pair, counts, seeds, book, limit):
-    """A run for each seed: the answer, the seconds by each number of threads, and the seed. And how many seeds were left out."""
-    runs, left_out = [], 0
-    for seed in seeds:
-        if left_out == 2 and not runs:
-            return runs, len(seeds)
+class Measured:
+    """What is known of one pair: its runs, each the answer, the seconds by each number of threads and the seed; and how many seeds were left out."""
+
+    def __init__(self, pair):
+        self.pair, self.runs, self.left_out = pair, [], 0
+
+    def run(self, asked, counts, seed):
+        """One seed by each number of threads; how much of the time one thread had a processor, where it was decided."""
+        if self.left_out >= 2 and not self.runs:
+            self.left_out += 1
+            return None
         row = []
         for threads in counts:
-            row.append(timed(words_of(program, folder, pair, threads, seed, book), limit))
+            row.append(timed(words_of(asked.program, asked.folder, self.pair, threads, seed, asked.book), asked.limit))
             if row[0][0] is None:
                 break
-        answers = {answer for answer, _ in row if answer is not None} | {run[0] for run in runs}
+        answers = {answer for answer, *_ in row if answer is not None} | {run[0] for run in self.runs}
         if len(answers) > 1:
-            print(f"{pair['name']} seed {seed}: the answers differ: {row}")
+            print(f"{self.pair['name']} seed {seed}: the answers differ: {row}")
             sys.exit(1)
-        told = " ".join("-" if answer is None else f"{seconds:.2f}" for answer, seconds in row)
-        print(f"{pair['name']} seed {seed} {row[0][0]} {told}", file=sys.stderr, flush=True)
+        told = " ".join("-" if answer is None else f"{seconds:.2f}" for answer, seconds, _ in row)
+        print(f"{self.pair['name']} seed {seed} {row[0][0]} {told}", file=sys.stderr, flush=True)
         if row[0][0] is None:
-            left_out += 1
-        else:
-            runs.append((row[0][0], [seconds for _, seconds in row], seed))
-    return runs, left_out
+            self.left_out += 1
+            return None
+        self.runs.append((row[0][0], [seconds for _, seconds, _ in row], seed))
+        return row[0][2] / row[0][1] if row[0][1] > SHORT else None
 
 
 def name_of(count):
@@ -152,47 +170,68 @@ def verdicts(measured, counts):
     return told
 
 
-def machine(most):
+def machine(most, shares):
     """What is to be known of the machine."""
-    load = os.getloadavg()[0]
-    told = f"{os.cpu_count()} processors, load {load:.2f} before the first run."
-    if load > 0.5:
+    told = f"{os.cpu_count()} processors"
+    if shares:
+        told += f"; one thread had a processor for {100 * mean(shares):.0f} percent of its time, {100 * min(shares):.0f} at the least."
+    if not shares or mean(shares) < QUIET:
         told += " THE MACHINE WAS NOT QUIET, so these figures say nothing of threads."
     if (os.cpu_count() or 1) < most:
         told += " THERE ARE FEWER PROCESSORS THAN THREADS."
     return told
 
 
+def figures(asked, counts, seeds, pairs, shares):
+    """The text for docs/SPEED.md."""
+    measured = {it.pair["name"]: it.runs for it in pairs if it.runs}
+    print(f"{machine(max(counts), shares)} `--book {asked.book}`, seeds {asked.seeds}, wall time, each run once, at most {asked.limit:g} seconds.\n")
+    if measured:
+        print(by_pair(measured, counts) + "\n")
+        print(by_kind([run for runs in measured.values() for run in runs], counts) + "\n")
+        print("\n".join(verdicts(measured, counts)))
+    missing = ", ".join(f"`{it.pair['name']}` ({it.left_out} of {len(seeds)} seeds)" for it in pairs if it.left_out)
+    print(f"Left out, one thread not done within the limit: {missing or 'none'}.")
+    short = [it.pair["name"] for it in pairs if len(it.runs) + it.left_out < len(seeds)]
+    print(f"Pairs for which the time was too short for all seeds: {len(short)}.", flush=True)
+
+
+def count_fails(asked):
+    """The fails of the slowest worker, by another script, on small pairs."""
+    if asked.no_fails or not shutil.which("valgrind"):
+        print("The fails of the slowest worker were not counted.")
+        return
+    words = [sys.executable, os.path.join(os.path.dirname(os.path.abspath(__file__)), "fails.py"), asked.program, asked.folder]
+    words += ["--threads", asked.threads, "--seeds", asked.seeds, "--book", str(asked.book), "--minutes", str(asked.minutes / 4)]
+    print("", flush=True)
+    subprocess.run(words)
+
+
 def main():
     words = argparse.ArgumentParser()
     words.add_argument("program")
     words.add_argument("folder")
+    words.add_argument("--minutes", type=float, default=math.inf)
     words.add_argument("--threads", default="1,2,4")
     words.add_argument("--seeds", default="0,1,2,3,4")
     words.add_argument("--sizes", default="M,L")
     words.add_argument("--only", default="")
     words.add_argument("--book", type=int, default=4194304)
     words.add_argument("--limit", type=float, default=120)
+    words.add_argument("--no-fails", action="store_true")
     asked = words.parse_args()
     counts, seeds = ([int(it) for it in text.split(",")] for text in (asked.threads, asked.seeds))
     if counts[0] != 1:
         words.error("the first number of threads is 1, which the others are held against")
-    pairs = pairs_of(asked.folder, asked.sizes.split(","), [it for it in asked.only.split(",") if it])
-    head = machine(max(counts))
-    measured, left_out = {}, {}
-    for pair in pairs:
-        runs, missing = measure(asked.program, asked.folder, pair, counts, seeds, asked.book, asked.limit)
-        if runs:
-            measured[pair["name"]] = runs
-        if missing:
-            left_out[pair["name"]] = missing
-    print(f"{head} `--book {asked.book}`, seeds {asked.seeds}, wall time, each run once, at most {asked.limit:g} seconds.\n")
-    if measured:
-        print(by_pair(measured, counts) + "\n")
-        print(by_kind([run for runs in measured.values() for run in runs], counts) + "\n")
-        print("\n".join(verdicts(measured, counts)))
-    missing = ", ".join(f"`{name}` ({count} of {len(seeds)} seeds)" for name, count in left_out.items())
-    print(f"Left out, one thread not done within the limit: {missing or 'none'}.")
+    last = time.monotonic() + asked.minutes * 60 * 0.75
+    pairs = [Measured(it) for it in pairs_of(asked.folder, asked.sizes.split(","), [it for it in asked.only.split(",") if it])]
+    shares = []
+    for seed in seeds:
+        for pair in pairs:
+            share = pair.run(asked, counts, seed) if time.monotonic() < last else None
+            shares += [share] if share else []
+    figures(asked, counts, seeds, pairs, shares)
+    count_fails(asked)
 
 
 if __name__ == "__main__":
