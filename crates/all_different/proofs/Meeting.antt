@@ -1,5 +1,5 @@
 -- Values that rows have in common.
-use Rattle.std.proofs.Common.{◌≡◌, ℕ, ◌+◌, ◌*◌, ◌/◌, ◌%◌, ◌^◌, ◌<◌, ◌≤◌, true, List, get_or, refl, sym, ap, ◌∙◌, arith, inl, inr, ◌⊎◌, bit_and, w64}
+use Rattle.std.proofs.Common.{◌≡◌, ℕ, zero, suc, ◌+◌, ◌*◌, ◌/◌, ◌%◌, ◌^◌, ◌<◌, ◌≤◌, true, List, get_or, refl, sym, ap, ◌∙◌, arith, inl, inr, ◌⊎◌, bit_and, w64}
 use Rattle.std.specs.Int.{trailing_zeros}
 use Rattle.std.proofs.lemmas.Bool.{cases_lt, and_parts, false≢true}
 use Rattle.std.proofs.lemmas.Nat.{and_le_l}
@@ -32,3 +32,11 @@ no_shared_word row other place none before t l a b = by (cases_lt t (64 * place)
         let both : is_set (bit_and (get_or row (t / 64) 0) (get_or other (t / 64) 0)) (t % 64) ≡ true = is_set_and (get_or row (t / 64) 0) (get_or other (t / 64) 0) (t % 64) ∙ rw (a, b) refl in
         let zero-word : bit_and (get_or row (t / 64) 0) (get_or other (t / 64) 0) ≡ 0 = rw e none in
         false≢true (sym (ap (λ w. is_set w (t % 64)) zero-word ∙ is_set-zero (t % 64)) ∙ both)
+
+-- so many words more
+pub no_shared_words : (row other : List ℕ) (place more : ℕ) → ((k : ℕ) → place ≤ k → k < place + more → bit_and (get_or row k 0) (get_or other k 0) ≡ 0)
+    → ((t : ℕ) → t < 64 * place → has row t ≡ true → has other t ≡ true → ⊥) → (t : ℕ) → t < 64 * (place + more) → has row t ≡ true → has other t ≡ true → ⊥
+no_shared_words row other place zero none before t l a b = before t (omega arith) a b
+no_shared_words row other place (suc more) none before t l a b =
+    no_shared_word row other (place + more) (none (place + more) (omega arith) (omega arith))
+    (no_shared_words row other place more (λ k low high. none k low (omega arith)) before) t (omega arith) a b

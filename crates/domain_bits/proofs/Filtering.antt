@@ -1,5 +1,5 @@
 -- A row that is filtered word by word.
-use Rattle.std.proofs.Common.{◌≡◌, ℕ, ◌+◌, ◌*◌, ◌-◌, ◌/◌, ◌^◌, ◌<◌, ◌≤◌, Bool, ◌&&◌, not, List, ◌++◌, length, get_or, set, refl, sym, ap, ◌∙◌, subst, arith, bit_and, w64, append_assoc, inl, inr, ◌⊎◌, length-append}
+use Rattle.std.proofs.Common.{◌≡◌, ℕ, ◌+◌, ◌*◌, ◌-◌, ◌/◌, ◌%◌, ◌^◌, ◌<◌, ◌≤◌, Bool, true, false, ◌&&◌, not, List, map, ◌++◌, length, get_or, set, refl, sym, ap, ◌∙◌, subst, arith, bit_and, w64, append_assoc, inl, inr, ◌⊎◌, length-append}
 use Rattle.std.specs.Int.{bit_not}
 use Rattle.std.proofs.lemmas.List.{get_or-set_same, get_or-set_other, length-set, append-nil, map-append}
 use Rattle.std.proofs.lemmas.Nat.{and_le_r}
@@ -8,8 +8,8 @@ use lib.Count.{ones, ones-le}
 use Rattle.graph_theory.specs.Neighbours.{count, members}
 use Rattle.bit_rows.specs.BitRows.{is_set, has, word_values}
 use Rattle.domain_bits.specs.Removals.{at_vertex}
-use Rattle.bit_rows.proofs.Passing.{count_within, count_le, length-members}
-use Rattle.bit_rows.proofs.WordBits.{is_set_and, is_set_and_not, members_word, count_word}
+use Rattle.bit_rows.proofs.Passing.{count_within, count_le, length-members, count_add, count_none, members_add, members_none}
+use Rattle.bit_rows.proofs.WordBits.{is_set_and, is_set_and_not, is_set-zero, members_word, count_word}
 use Rattle.bit_rows.proofs.Rows.{has_at, has_same}
 use Rattle.domain_bits.proofs.Removed.{length-at_vertex}
 
@@ -118,3 +118,52 @@ filtering_more start row new keeps place p before after later gone added kept in
         by (inr h) =
             let e : 64 * place + (t - 64 * place) ≡ t = omega arith in
             subst (λ u. has new u ≡ (has start u && keeps u)) e (here (t - 64 * place) (omega arith))
+
+-- of two tests the first passes where the second does
+kept_by : (a b : Bool) → (a && not b) ≡ false → a ≡ (a && b)
+kept_by true true e = refl
+kept_by true false e = e
+kept_by false b e = refl
+
+-- words that lose nothing
+pub filtering_past : (start row keep : List ℕ) (place more p : ℕ) (before after : List (ℕ × ℕ)) (gone : ℕ)
+    → Filtering start row (has keep) place p before after gone → ((k : ℕ) → get_or keep k 0 < 2 ^ 64)
+    → ((k : ℕ) → place ≤ k → k < place + more → bit_and (get_or row k 0) (bit_not w64 (get_or keep k 0)) ≡ 0)
+    → Filtering start row (has keep) (place + more) p before after gone
+filtering_past start row keep place more p before after gone inv small nothing = record {
+  long = inv.long;
+  done = λ t l. by t l (cases_lt t (64 * place));
+  todo = λ k l. inv.todo k (omega arith);
+  listed = inv.listed ∙ ap (λ us. before ++ at_vertex p us) (sym list_same);
+  counted = inv.counted ∙ sym count_same;
+}
+  where
+    gone_none : (t : ℕ) → 64 * place ≤ t → t < 64 * (place + more) → leaves start (has keep) t ≡ false
+    gone_none t low high =
+        ap (λ w. is_set w (t % 64) && not (has keep t)) (sym (inv.todo (t / 64) (omega arith)))
+        ∙ sym (is_set_and_not (get_or row (t / 64) 0) (get_or keep (t / 64) 0) (t % 64) (small (t / 64)) (omega arith))
+        ∙ ap (λ w. is_set w (t % 64)) (nothing (t / 64) (omega arith) (omega arith))
+        ∙ is_set-zero (t % 64)
+
+    by : (t : ℕ) → t < 64 * (place + more) → (t < 64 * place) ⊎ (64 * place ≤ t) → has row t ≡ (has start t && has keep t)
+    by t l (inl h) = inv.done t h
+    by t l (inr h) = ap (λ w. is_set w (t % 64)) (inv.todo (t / 64) (omega arith)) ∙ kept_by (has start t) (has keep t) (gone_none t h l)
+
+    parts : 64 * (place + more) ≡ 64 * place + 64 * more
+    parts = omega arith
+
+    list_same : members (leaves start (has keep)) (64 * (place + more)) ≡ members (leaves start (has keep)) (64 * place)
+    list_same =
+        ap (members (leaves start (has keep))) parts ∙ members_add (leaves start (has keep)) (64 * place) (64 * more)
+        ∙ ap (λ us. members (leaves start (has keep)) (64 * place) ++ map (λ i. 64 * place + i) us)
+        (members_none (λ i. leaves start (has keep) (64 * place + i)) (64 * more) (λ i h. gone_none (64 * place + i) (omega arith) (omega arith)))
+        ∙ append-nil _
+
+    count_same : count (leaves start (has keep)) (64 * (place + more)) ≡ count (leaves start (has keep)) (64 * place)
+    count_same =
+        ap (count (leaves start (has keep))) parts
+        ∙ omega (
+          arith,
+          count_add (leaves start (has keep)) (64 * place) (64 * more),
+          count_none (λ i. leaves start (has keep) (64 * place + i)) (64 * more) (λ i h. gone_none (64 * place + i) (omega arith) (omega arith)),
+        )

@@ -9,6 +9,7 @@
 //! The rows are those of bit-parallel filtering (Ullmann 2010, McCreesh and Prosser 2015), the trail that of backtracking solvers.
 
 mod domains;
+mod row_filters;
 mod trail;
 mod word_trail;
 

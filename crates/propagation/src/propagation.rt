@@ -9,7 +9,7 @@
 //! the vertices that are still looked at, since nothing is left to be taken from its domain. Who undoes the domains gives
 //! back these vertices too.
 
-ghost use Rattle.std.specs.Prelude.{◌≡◌, ℕ, ◌*◌, ◌<◌, ◌≤◌, true, false, length, IfSome, IfNone, IfErr};
+ghost use Rattle.std.specs.Prelude.{◌≡◌, ℕ, ◌+◌, ◌*◌, ◌<◌, ◌≤◌, true, false, length, IfSome, IfNone, IfErr};
 ghost use Rattle.std.specs.Result.{is_ok};
 ghost use Rattle.graph_theory.specs.Graph.{size};
 ghost use Rattle.domain_bits.specs.Removals.{in_domain};
@@ -32,18 +32,49 @@ use graph_rows::Problem;
 use pair_rows::PairRows;
 use sparse_set::SparseSet;
 
-/// A vertex that waits, the least one. Cost: one step for each vertex below it.
+/// How many flags are looked at together.
+const FLAGS: usize = 8;
+
+/// A vertex that waits, the least one. Cost: one step for eight vertices below it.
 fn next_waiting(waiting: &[bool]) -> Option<usize>
     ensures some { IfSome result (λ p. (p < length waiting.now) × (waits_at waiting.now p ≡ true)) }
     ensures none { IfNone result
         ((p : ℕ) → p < length waiting.now → waits_at waiting.now p ≡ false) }
 {
-    for p in 0..waiting.len() {
+    let blocks = waiting.len() / FLAGS;
+    for block in 0..blocks {
+        if are_at_rest(waiting, FLAGS * block) {
+            continue;
+        }
+        for k in FLAGS * block..FLAGS * block + FLAGS {
+            if waiting[k] {
+                return Some(k);
+            }
+        }
+    }
+    for p in FLAGS * blocks..waiting.len() {
         if waiting[p] {
             return Some(p);
         }
     }
     None
+}
+
+/// Whether none of the eight vertices from `at` on waits. Cost: one step.
+fn are_at_rest(waiting: &[bool], at: usize) -> bool
+    requires room { at + FLAGS ≤ length waiting.now }
+    ensures { result ≡ true → (k : ℕ) → at ≤ k → k < at + FLAGS
+        → waits_at waiting.now k ≡ false }
+{
+    let first = waiting[at];
+    let second = waiting[at + 1];
+    let third = waiting[at + 2];
+    let fourth = waiting[at + 3];
+    let fifth = waiting[at + 4];
+    let sixth = waiting[at + 5];
+    let seventh = waiting[at + 6];
+    let eighth = waiting[at + 7];
+    !first && !second && !third && !fourth && !fifth && !sixth && !seventh && !eighth
 }
 
 /// Takes from the domain of `r` what is not consistent with `p` at `t`. A vertex that is decided and does not wait has

@@ -42,6 +42,7 @@ fn tell<T: Trail, R: Recorder>(d: &Domains<T>, told: &mut R, vertex: u16, cause:
 
 /// Keeps of the domain of `r` what the row has. Where one value is left, `r` waits; where none is, the answer is false.
 /// Cost: the words of a row, and the values that leave.
+#[inline(never)]
 pub fn narrow<T: Trail>(d: &mut Domains<T>, waiting: &mut [bool], row: &[u64], r: u16) -> bool
     requires r_in { r < d.old.vertices }
     requires flags { r < length waiting.old }
@@ -72,6 +73,7 @@ fn note_size<T: Trail>(d: &Domains<T>, waiting: &mut [bool], r: u16) -> bool
 }
 
 /// Takes `u` from the domain of `r`. Where one value is left, `r` waits; where none is, the answer is false. Cost: one step.
+#[inline(always)]
 fn take_value<T: Trail>(d: &mut Domains<T>, waiting: &mut [bool], r: u16, u: u16) -> bool
     requires r_in { r < d.old.vertices }
     requires u_in { u < d.old.values }
@@ -103,6 +105,7 @@ fn take_values<T: Trail>(d: &mut Domains<T>, r: u16, t: u16, near: &[u16])
 
 /// Takes `t` and the values of a list from the domain of `r`. Where one value is left, `r` waits; where none is, the answer is
 /// false. Cost: one step for each of them.
+#[inline(never)]
 fn take_near<T: Trail>(
     d: &mut Domains<T>,
     waiting: &mut [bool],
@@ -125,6 +128,7 @@ fn take_near<T: Trail>(
 
 /// The neighbours of `t`, where `r` is asked nothing but an image that is none of them nor `t`, and they are listed. Cost: a few
 /// steps.
+#[inline(always)]
 fn near_alone<'a>(rows: &'a PairRows, p: u16, t: u16, r: u16) -> Option<&'a [u16]>
     requires p_in { p < size rows.now.problem.pattern }
     requires t_in { t < size rows.now.problem.target }
@@ -143,9 +147,10 @@ fn near_alone<'a>(rows: &'a PairRows, p: u16, t: u16, r: u16) -> Option<&'a [u16
     }
 }
 
-/// Takes from the domain of `r` what is not consistent with `p` at `t`. Where the two are asked nothing but distinct
-/// images, this is `t` alone, and no row is read; nor is one where they are asked no edge besides and `t` has few neighbours.
-/// Cost: a few steps there, with one for each of these neighbours, and else a row and the values that leave.
+/// Takes from the domain of `r` what is not consistent with `p` at `t`: where the two are asked no edge besides distinct images and `t`
+/// has few neighbours, `t` and these, and no row is read. Cost: a few steps there, with one for each of these neighbours, and else a row
+/// and the values that leave.
+#[inline(always)]
 fn take_inconsistent<T: Trail>(
     rows: &PairRows,
     d: &mut Domains<T>,
@@ -167,16 +172,15 @@ fn take_inconsistent<T: Trail>(
     requires bounded { length d.old.removed ≤ d.old.vertices * d.old.values }
     ensures { Sweeps result rows.now.problem d.old waiting.old d.new waiting.new p t r }
 {
-    if rows.is_free(p, r) {
-        return take_value(d, waiting, r, t);
-    }
     match near_alone(rows, p, t, r) {
         Some(near) => take_near(d, waiting, r, t, near),
         None => narrow(d, waiting, rows.row(p, r, t), r),
     }
 }
 
-/// Takes from the domain of `r` what is not consistent with `p` at `t`, and tells it. Cost: that of the removal.
+/// Takes from the domain of `r` what is not consistent with `p` at `t`, and tells it. Where the two are asked nothing but distinct
+/// images, as nearly all pairs of a sparse pattern are, this is `t` alone, and no row is read. Cost: that of the removal.
+#[inline(always)]
 pub(crate) fn keep_consistent<T: Trail, R: Recorder>(
     rows: &PairRows,
     d: &mut Domains<T>,
@@ -202,8 +206,14 @@ pub(crate) fn keep_consistent<T: Trail, R: Recorder>(
     ensures guesses { NoNewGuess (R.changes told.old) (R.changes told.new) }
 {
     let from = d.mark();
+    let cause = Cause::Vertex(p, t);
+    if rows.is_free(p, r) {
+        let some = take_value(d, waiting, r, t);
+        tell(d, told, r, cause, from);
+        return some;
+    }
     let some = take_inconsistent(rows, d, waiting, p, t, r);
-    tell(d, told, r, Cause::Vertex(p, t), from);
+    tell(d, told, r, cause, from);
     some
 }
 

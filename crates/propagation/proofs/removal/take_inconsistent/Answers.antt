@@ -1,12 +1,7 @@
 use Rattle.std.proofs.Common.{arith}
 use Rattle.propagation.proofs.Taking.{left_right, left_complete}
-use Rattle.propagation.proofs.Visits.{sweeps_narrowed, sweeps_taken}
+use Rattle.propagation.proofs.Visits.{sweeps_narrowed}
 use Rattle.propagation.proofs.removal.take_inconsistent.Goals as goal
-
-pub returns-then-is_free : goal.returns-then-is_free
-returns-then-is_free g c =
-    sweeps_taken _ _ _ _ _ _ _ _ _ c.requires.is_of.values_is c.requires.p_in c.requires.r_in c.requires.apart (omega (arith, c.requires.long, c.requires.r_in)) c.requires.single
-    c.take_value.ensures.keeps c.take_value.ensures.taken c.take_value.ensures.bounded (c.is_free.ensures c.if-is_free.true) c.requires.undecided
 
 pub returns-in-Some : goal.returns-in-Some
 returns-in-Some g c =

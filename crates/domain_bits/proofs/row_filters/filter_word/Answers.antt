@@ -5,7 +5,7 @@ use Rattle.std.proofs.lemmas.Nat.{and_le_r}
 use Rattle.std.proofs.Math.Facts.{Fits-lt-pow}
 use Rattle.domain_bits.proofs.Runs.{nothing_gone}
 use Rattle.bit_rows.proofs.WordBits.{word_values-zero, length-word_values}
-use Rattle.domain_bits.proofs.domains.filter_word.Goals as goal
+use Rattle.domain_bits.proofs.row_filters.filter_word.Goals as goal
 
 pub returns-then-gone-eq0-clause-word : goal.returns-then-gone-eq0-clause-word
 returns-then-gone-eq0-clause-word g c =

@@ -1,7 +1,7 @@
 use Rattle.std.proofs.Common.{◌≡◌}
 use Rattle.std.specs.Prelude.{◌==◌}
 use Rattle.domain_bits.proofs.Filtering.{Filtering}
-use Rattle.domain_bits.proofs.domains.filter_value.Given as goal
+use Rattle.domain_bits.proofs.row_filters.filter_value.Given as goal
 
 abbrev pub invariant-loop-place : goal.invariant-loop-place
 invariant-loop-place g l = record {

@@ -1,7 +1,7 @@
 use Rattle.std.proofs.Common.{◌∙◌, get_or, arith}
 use Rattle.std.specs.Prelude.{◌==◌}
 use Rattle.domain_bits.proofs.Filtering.{filtering_room, filtering_more, filtering_count, few_gone}
-use Rattle.domain_bits.proofs.domains.filter_value.Goals as goal
+use Rattle.domain_bits.proofs.row_filters.filter_value.Goals as goal
 
 pub filter_word-gone-requires-clause-room : goal.filter_word-gone-requires-clause-room
 filter_word-gone-requires-clause-room g c =

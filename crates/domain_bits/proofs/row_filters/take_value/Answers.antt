@@ -3,7 +3,7 @@ use Rattle.bit_rows.specs.BitRows.{word_values}
 use Rattle.domain_bits.specs.Removals.{at_vertex}
 use Rattle.bit_rows.proofs.WordBits.{one_shifted, word_values-pow}
 use Rattle.domain_bits.proofs.Cutting.{xor_row}
-use Rattle.domain_bits.proofs.domains.take_value.Goals as goal
+use Rattle.domain_bits.proofs.row_filters.take_value.Goals as goal
 
 one_value : (t : ℕ) → word_values (t / 64) (1 * 2 ^ (t % 64) % 2 ^ 64) ≡ t ∷ []
 one_value t =
