@@ -3,7 +3,7 @@ pub mod Places
 pub mod Marking
 pub mod HeldGraph
 pub mod Parts
-pub mod LabelCells
+pub mod LabelsBeside
 pub mod SameGraphs
 pub mod MappingPut
 pub mod Reversing

@@ -10,7 +10,7 @@ use Rattle.graph_theory.specs.declared.lad_text.LadKind.TheVariants.{Lad, Vertex
 use Rattle.graph_theory.proofs.PlainGraphs.{plain_of}
 use Rattle.graph_theory.specs.Graph.{Graph, tabulate, listed_of, lists, or_label, either_lists, graph_with, graph_of}
 use Rattle.lad_reader.specs.Parts.{unlabelled, with_labels, vertices_from, labelled_from, vertices_by, WritesNoEdgeLabels, AreBelow, AllBelow}
-use Rattle.graph_rows.specs.Held.{marked, edge_of_mark, edge_held, cell, graph_held, stands_in, said, either_said, label_in, listed_cell, AreMarks, AreMutual, AreTurned}
+use Rattle.graph_rows.specs.Held.{marked, edge_of_mark, edge_held, graph_held, stands_in, said, either_said, label_in, label_listed, AreMarks, AreMutual, AreTurned}
 use Rattle.graph_rows.proofs.Marking.{room_in_row}
 use Rattle.graph_rows.proofs.HeldGraph.{tabulate-same}
 
@@ -102,17 +102,17 @@ listed_label-with (c ∷ bs) (f ∷ es) b = first_or (eqb c b) f (listed_label (
     first_or false l o m k e = e
 
 lists-labelled : (ls : List ℕ) (bss ess : List (List ℕ)) (a b : ℕ) → length ls ≡ length bss
-    → lists (labelled_from ls bss ess) a b ≡ edge_held (said bss a b) (listed_cell bss ess a b)
+    → lists (labelled_from ls bss ess) a b ≡ edge_held (said bss a b) (label_listed bss ess a b)
 lists-labelled ls bss ess a b e =
     ap (λ (es : List (ℕ × ℕ)). listed_label es b) (listed-labelled ls bss ess a e) ∙ listed_label-with (get_or bss a []) (get_or ess a []) b
 
 -- ---- the graph that is made
 
 -- labels, marks and labels of edges that are those of vertices and edges hold their graph
-graph-held_with : (labels words cells : List ℕ) (width : ℕ) (vs : List Vertex) (edges : ℕ → ℕ → Option ℕ) → map (λ (v : Vertex). v.label) vs ≡ labels
-    → ((a b : ℕ) → a < length labels → b < length labels → edge_held (marked words width a b) (cell cells (length labels) a b) ≡ edges a b)
-    → graph_held labels words cells width ≡ graph_with edges vs
-graph-held_with labels words cells width vs edges names same =
+graph-held_with : (labels words : List ℕ) (label_at : ℕ → ℕ → ℕ) (width : ℕ) (vs : List Vertex) (edges : ℕ → ℕ → Option ℕ) → map (λ (v : Vertex). v.label) vs ≡ labels
+    → ((a b : ℕ) → a < length labels → b < length labels → edge_held (marked words width a b) (label_at a b) ≡ edges a b)
+    → graph_held labels words label_at width ≡ graph_with edges vs
+graph-held_with labels words label_at width vs edges names same =
     ap (λ (rows : List (List (Option ℕ))). record { labels = labels; rows = rows }) rows_same
     ∙ ap (λ (n : ℕ). record { labels = labels; rows = table n }) (sym sizes)
     ∙ ap (λ (ks : List ℕ). record { labels = ks; rows = table (length vs) }) (sym names)
@@ -123,60 +123,65 @@ graph-held_with labels words cells width vs edges names same =
     sizes : length vs ≡ length labels
     sizes = sym (length-map vs (λ (v : Vertex). v.label)) ∙ ap length names
 
-    rows_same : tabulate (length labels) (λ a. tabulate (length labels) (λ b. edge_held (marked words width a b) (cell cells (length labels) a b))) ≡ table (length labels)
+    rows_same : tabulate (length labels) (λ a. tabulate (length labels) (λ b. edge_held (marked words width a b) (label_at a b))) ≡ table (length labels)
     rows_same = tabulate-same (length labels) _ _ [] (λ a a_in. tabulate-same (length labels) _ _ None (λ b b_in. same a b a_in b_in))
 
 -- in a format without directions
-pub graph-made : (labels ls words kept degrees : List ℕ) (n width : ℕ) (bss : List (List ℕ)) → labels ≡ ls → kept ≡ words → length ls ≡ length bss → n ≡ length ls → AreMarks n width words degrees
-    → ((x y : ℕ) → x < 64 * width → y < 64 * width → marked words width x y ≡ either_said bss x y)
-    → graph_held labels kept [] width ≡ graph_of (vertices_from ls bss)
-graph-made labels ls words kept degrees n width bss same put e long marks marks_said =
-    ap (λ (ks : List ℕ). graph_held ks kept [] width) same
-    ∙ ap (λ (ws : List ℕ). graph_held ls ws [] width) put
-    ∙ graph-held_with ls words [] width (vertices_from ls bss) (either_lists (vertices_from ls bss)) (labels-vertices ls bss e)
+pub graph-made : (labels ls words kept degrees : List ℕ) (label_at : ℕ → ℕ → ℕ) (n width : ℕ) (bss : List (List ℕ)) → labels ≡ ls → kept ≡ words → length ls ≡ length bss → n ≡ length ls → AreMarks n width words degrees
+    → ((x y : ℕ) → x < 64 * width → y < 64 * width → marked words width x y ≡ either_said bss x y) → ((x y : ℕ) → label_at x y ≡ 0)
+    → graph_held labels kept label_at width ≡ graph_of (vertices_from ls bss)
+graph-made labels ls words kept degrees label_at n width bss same put e long marks marks_said none =
+    ap (λ (ks : List ℕ). graph_held ks kept label_at width) same
+    ∙ ap (λ (ws : List ℕ). graph_held ls ws label_at width) put
+    ∙ graph-held_with ls words label_at width (vertices_from ls bss) (either_lists (vertices_from ls bss)) (labels-vertices ls bss e)
     (λ a b a_in b_in.
     let room = room_in_row n width marks.width_is in
-    ap edge_of_mark (marks_said a b (omega (arith, room)) (omega (arith, room))) ∙ sym (either-vertices ls bss a b e))
+    ap (edge_held (marked words width a b)) (none a b) ∙ ap edge_of_mark (marks_said a b (omega (arith, room)) (omega (arith, room))) ∙ sym (either-vertices ls bss a b e))
 
 -- in one with directions
-pub directed-made : (labels ls words kept degrees : List ℕ) (n width : ℕ) (bss : List (List ℕ)) → labels ≡ ls → kept ≡ words → length ls ≡ length bss → n ≡ length ls → AreMarks n width words degrees
-    → ((x y : ℕ) → x < 64 * width → y < 64 * width → marked words width x y ≡ said bss x y)
-    → graph_held labels kept [] width ≡ graph_with (lists (vertices_from ls bss)) (vertices_from ls bss)
-directed-made labels ls words kept degrees n width bss same put e long marks marks_said =
-    ap (λ (ks : List ℕ). graph_held ks kept [] width) same
-    ∙ ap (λ (ws : List ℕ). graph_held ls ws [] width) put
-    ∙ graph-held_with ls words [] width (vertices_from ls bss) (lists (vertices_from ls bss)) (labels-vertices ls bss e)
+pub directed-made : (labels ls words kept degrees : List ℕ) (label_at : ℕ → ℕ → ℕ) (n width : ℕ) (bss : List (List ℕ)) → labels ≡ ls → kept ≡ words → length ls ≡ length bss → n ≡ length ls → AreMarks n width words degrees
+    → ((x y : ℕ) → x < 64 * width → y < 64 * width → marked words width x y ≡ said bss x y) → ((x y : ℕ) → label_at x y ≡ 0)
+    → graph_held labels kept label_at width ≡ graph_with (lists (vertices_from ls bss)) (vertices_from ls bss)
+directed-made labels ls words kept degrees label_at n width bss same put e long marks marks_said none =
+    ap (λ (ks : List ℕ). graph_held ks kept label_at width) same
+    ∙ ap (λ (ws : List ℕ). graph_held ls ws label_at width) put
+    ∙ graph-held_with ls words label_at width (vertices_from ls bss) (lists (vertices_from ls bss)) (labels-vertices ls bss e)
     (λ a b a_in b_in.
     let room = room_in_row n width marks.width_is in
-    ap edge_of_mark (marks_said a b (omega (arith, room)) (omega (arith, room))) ∙ sym (lists-vertices ls bss a b e))
+    ap (edge_held (marked words width a b)) (none a b) ∙ ap edge_of_mark (marks_said a b (omega (arith, room)) (omega (arith, room))) ∙ sym (lists-vertices ls bss a b e))
 
 -- in one with labels of edges
-pub labelled-made : (labels ls words kept degrees cells : List ℕ) (n width : ℕ) (bss ess : List (List ℕ)) → labels ≡ ls → kept ≡ words → length ls ≡ length bss → n ≡ length ls → AreMarks n width words degrees
+pub labelled-made : (labels ls words kept degrees : List ℕ) (label_at : ℕ → ℕ → ℕ) (n width : ℕ) (bss ess : List (List ℕ)) → labels ≡ ls → kept ≡ words → length ls ≡ length bss → n ≡ length ls → AreMarks n width words degrees
     → ((x y : ℕ) → x < 64 * width → y < 64 * width → marked words width x y ≡ said bss x y)
-    → ((x y : ℕ) → x < length bss → y < length bss → cell cells (length bss) x y ≡ listed_cell bss ess x y)
-    → graph_held labels kept cells width ≡ graph_with (lists (labelled_from ls bss ess)) (labelled_from ls bss ess)
-labelled-made labels ls words kept degrees cells n width bss ess same put e long marks marks_said cells_are =
-    ap (λ (ks : List ℕ). graph_held ks kept cells width) same
-    ∙ ap (λ (ws : List ℕ). graph_held ls ws cells width) put
-    ∙ graph-held_with ls words cells width (labelled_from ls bss ess) (lists (labelled_from ls bss ess)) (labels-labelled ls bss ess e)
+    → ((x y : ℕ) → x < length bss → y < 64 * width → marked kept width x y ≡ true → label_at x y ≡ label_listed bss ess x y)
+    → graph_held labels kept label_at width ≡ graph_with (lists (labelled_from ls bss ess)) (labelled_from ls bss ess)
+labelled-made labels ls words kept degrees label_at n width bss ess same put e long marks marks_said labels_are =
+    ap (λ (ks : List ℕ). graph_held ks kept label_at width) same
+    ∙ ap (λ (ws : List ℕ). graph_held ls ws label_at width) put
+    ∙ graph-held_with ls words label_at width (labelled_from ls bss ess) (lists (labelled_from ls bss ess)) (labels-labelled ls bss ess e)
     (λ a b a_in b_in.
     let room = room_in_row n width marks.width_is in
-    ap (λ (m : Bool). edge_held m (cell cells (length ls) a b)) (marks_said a b (omega (arith, room)) (omega (arith, room)))
-    ∙ ap (edge_held (said bss a b)) (ap (λ (k : ℕ). cell cells k a b) e ∙ cells_are a b (omega arith) (omega arith))
+    by (marked words width a b) (label_at a b) (label_listed bss ess a b)
+    (λ mark. labels_are a b (omega arith) (omega (arith, room)) (ap (λ (ws : List ℕ). marked ws width a b) put ∙ mark))
+    ∙ ap (λ (m : Bool). edge_held m (label_listed bss ess a b)) (marks_said a b (omega (arith, room)) (omega (arith, room)))
     ∙ sym (lists-labelled ls bss ess a b e))
+  where
+    by : (m : Bool) (l k : ℕ) → (m ≡ true → l ≡ k) → edge_held m l ≡ edge_held m k
+    by true l k h = ap Some (h refl)
+    by false l k h = refl
 
 -- a graph of a format with directions, by its kind
-pub made-directed : (kind : LadKind) (labels ls words kept degrees cells : List ℕ) (n width : ℕ) (bss ess : List (List ℕ)) → (IsUndirected kind → ⊥) → labels ≡ ls → kept ≡ words → length ls ≡ length bss → n ≡ length ls
+pub made-directed : (kind : LadKind) (labels ls words kept degrees : List ℕ) (label_at : ℕ → ℕ → ℕ) (n width : ℕ) (bss ess : List (List ℕ)) → (IsUndirected kind → ⊥) → labels ≡ ls → kept ≡ words → length ls ≡ length bss → n ≡ length ls
     → AreMarks n width words degrees → ((x y : ℕ) → x < 64 * width → y < 64 * width → marked words width x y ≡ said bss x y)
-    → (WritesNoEdgeLabels kind → cells ≡ [])
-    → (kind ≡ LabelledLad → (x y : ℕ) → x < length bss → y < length bss → cell cells (length bss) x y ≡ listed_cell bss ess x y)
-    → graph_held labels kept cells width ≡ text_graph kind (vertices_by kind ls bss ess)
-made-directed Lad labels ls words kept degrees cells n width bss ess apart same put e long marks marks_said none cells_are = absurd (apart tt)
-made-directed VertexLabelledLad labels ls words kept degrees cells n width bss ess apart same put e long marks marks_said none cells_are = absurd (apart tt)
-made-directed DirectedLad labels ls words kept degrees cells n width bss ess apart same put e long marks marks_said none cells_are =
-    ap (λ (cs : List ℕ). graph_held labels kept cs width) (none tt) ∙ directed-made labels ls words kept degrees n width bss same put e long marks marks_said
-made-directed LabelledLad labels ls words kept degrees cells n width bss ess apart same put e long marks marks_said none cells_are =
-    labelled-made labels ls words kept degrees cells n width bss ess same put e long marks marks_said (cells_are refl)
+    → (WritesNoEdgeLabels kind → (x y : ℕ) → label_at x y ≡ 0)
+    → (kind ≡ LabelledLad → (x y : ℕ) → x < length bss → y < 64 * width → marked kept width x y ≡ true → label_at x y ≡ label_listed bss ess x y)
+    → graph_held labels kept label_at width ≡ text_graph kind (vertices_by kind ls bss ess)
+made-directed Lad labels ls words kept degrees label_at n width bss ess apart same put e long marks marks_said none labels_are = absurd (apart tt)
+made-directed VertexLabelledLad labels ls words kept degrees label_at n width bss ess apart same put e long marks marks_said none labels_are = absurd (apart tt)
+made-directed DirectedLad labels ls words kept degrees label_at n width bss ess apart same put e long marks marks_said none labels_are =
+    directed-made labels ls words kept degrees label_at n width bss same put e long marks marks_said (none tt)
+made-directed LabelledLad labels ls words kept degrees label_at n width bss ess apart same put e long marks marks_said none labels_are =
+    labelled-made labels ls words kept degrees label_at n width bss ess same put e long marks marks_said (labels_are refl)
 
 or_turned : (a b : Bool) → (a || b) ≡ (b || a)
 or_turned true true = refl

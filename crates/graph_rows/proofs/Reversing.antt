@@ -59,22 +59,22 @@ degree-reversed g a a_in =
     (λ b b_in. ap (λ (o : Option ℕ). not (eqb a b) && is_some o) (sym (edge-reversed g b a b_in a_in)))
 
 -- the degrees that are kept of the edges that lead in
-pub in_degrees_kept : (labels words cells back degrees : List ℕ) (width : ℕ) (g : Graph) → graph_held labels words cells width ≡ g → AreTurned (length labels) width words back degrees
+pub in_degrees_kept : (labels words : List ℕ) (label_at : ℕ → ℕ → ℕ) (back degrees : List ℕ) (width : ℕ) (g : Graph) → graph_held labels words label_at width ≡ g → AreTurned (length labels) width words back degrees
     → (a : ℕ) → a < size g → get_or degrees a 0 ≡ in_degree g a
-in_degrees_kept labels words cells back degrees width g is turned a a_in =
+in_degrees_kept labels words label_at back degrees width g is turned a a_in =
     let same : length labels ≡ size g = ap size is in
     let inside : a < length labels = rw same a_in in
     turned.marks.counted a inside
-    ∙ count-same (marks_other back width a) (is_in_neighbour (graph_held labels words cells width) a) (length labels)
-    (λ k k_in. ap (λ t. not (eqb a k) && t) (turned_edge labels words cells back degrees width a k turned inside k_in))
+    ∙ count-same (marks_other back width a) (is_in_neighbour (graph_held labels words label_at width) a) (length labels)
+    (λ k k_in. ap (λ t. not (eqb a k) && t) (turned_edge labels words label_at back degrees width a k turned inside k_in))
     ∙ ap (λ (h : Graph). in_degree h a) is
 
-pub in_degrees_own : (labels words cells degrees : List ℕ) (width : ℕ) (g : Graph) → graph_held labels words cells width ≡ g → AreMarks (length labels) width words degrees
+pub in_degrees_own : (labels words : List ℕ) (label_at : ℕ → ℕ → ℕ) (degrees : List ℕ) (width : ℕ) (g : Graph) → graph_held labels words label_at width ≡ g → AreMarks (length labels) width words degrees
     → AreMutual (length labels) width words → (a : ℕ) → a < size g → get_or degrees a 0 ≡ in_degree g a
-in_degrees_own labels words cells degrees width g is marks turns a a_in =
-    degrees_are labels words cells degrees width g is marks a a_in
-    ∙ count-same (is_neighbour g a) (is_in_neighbour g a) (size g) (λ k k_in. ap (λ t. not (eqb a k) && t) (mutual_in labels words cells width g is turns a k))
+in_degrees_own labels words label_at degrees width g is marks turns a a_in =
+    degrees_are labels words label_at degrees width g is marks a a_in
+    ∙ count-same (is_neighbour g a) (is_in_neighbour g a) (size g) (λ k k_in. ap (λ t. not (eqb a k) && t) (mutual_in labels words label_at width g is turns a k))
 
 -- where marks are mutual, so is the graph
-pub mutual_graph : (labels words cells : List ℕ) (width : ℕ) (g : Graph) → graph_held labels words cells width ≡ g → AreMutual (length labels) width words → IsMutual g
-mutual_graph labels words cells width g is turns = record { both = λ a b _ _. mutual_in labels words cells width g is turns a b }
+pub mutual_graph : (labels words : List ℕ) (label_at : ℕ → ℕ → ℕ) (width : ℕ) (g : Graph) → graph_held labels words label_at width ≡ g → AreMutual (length labels) width words → IsMutual g
+mutual_graph labels words label_at width g is turns = record { both = λ a b _ _. mutual_in labels words label_at width g is turns a b }

@@ -1,6 +1,6 @@
 -- Two graphs that are held are one exactly where their labels and words are.
 
-use Rattle.std.proofs.Common.{◌≡◌, ℕ, ◌+◌, ◌*◌, ◌/◌, ◌%◌, ◌^◌, ◌<◌, ◌≤◌, zero, suc, Bool, true, false, eqb, List, [], ◌∷◌, length, Option, None, get_or, IsTrue, ◌↔◌, refl, sym, ap, subst, ◌∙◌, arith, inl, inr, ◌⊎◌}
+use Rattle.std.proofs.Common.{◌≡◌, ℕ, ◌+◌, ◌*◌, ◌/◌, ◌%◌, ◌^◌, ◌<◌, ◌≤◌, zero, suc, Bool, true, false, eqb, List, [], length, Option, None, get_or, IsTrue, ◌↔◌, refl, sym, ap, subst, ◌∙◌, arith, inl, inr, ◌⊎◌}
 use Rattle.std.specs.Int.{bit_at}
 use Rattle.std.proofs.Math.Nat.{div-add-mod, mod-lt, mul_left_comm, mul_comm}
 use Rattle.std.proofs.lemmas.Bool.{cases_lt}
@@ -9,7 +9,7 @@ use Rattle.std.proofs.lemmas.Nat.Bits.{bit_at-lt, same_from_bits_below}
 use native.Mathlib.Nat.{mul-le-mul_right}
 use Rattle.graph_theory.specs.Graph.{Graph, size, edge, tabulate}
 use Rattle.bit_rows.specs.BitRows.{has, words_for}
-use Rattle.graph_rows.specs.Held.{marked, edge_held, cell, graph_held, AreMarks}
+use Rattle.graph_rows.specs.Held.{marked, edge_held, graph_held, AreMarks}
 use Rattle.graph_rows.proofs.HeldGraph.{tabulate-same, edge-held}
 
 -- one mark for one edge
@@ -68,9 +68,9 @@ values_by_marks n width xs ys long same v v_in =
     row a b e (inr h) = let m = mul-le-mul_right {m = n} {n = a} (64 * width) h in absurd (omega (arith, m, small))
 
 -- graphs that are one are held by the same words
-same_words : (labels others words more cells figures degrees counts : List ℕ) (width wide : ℕ) → AreMarks (length labels) width words degrees → AreMarks (length others) wide more counts
-    → ((k : ℕ) → get_or words k 0 < 2 ^ 64) → ((k : ℕ) → get_or more k 0 < 2 ^ 64) → graph_held labels words cells width ≡ graph_held others more figures wide → words ≡ more
-same_words labels others words more cells figures degrees counts width wide marks marks_more fit fits e =
+same_words : (labels others words more : List ℕ) (label_at other_at : ℕ → ℕ → ℕ) (degrees counts : List ℕ) (width wide : ℕ) → AreMarks (length labels) width words degrees → AreMarks (length others) wide more counts
+    → ((k : ℕ) → get_or words k 0 < 2 ^ 64) → ((k : ℕ) → get_or more k 0 < 2 ^ 64) → graph_held labels words label_at width ≡ graph_held others more other_at wide → words ≡ more
+same_words labels others words more label_at other_at degrees counts width wide marks marks_more fit fits e =
     same_words_by_values words more (marks.words_are ∙ ap (λ (n : ℕ). n * width) sizes ∙ ap (λ (w : ℕ). length others * w) widths ∙ sym marks_more.words_are) fit fits
     (values_by_marks (length labels) width words more marks.words_are (λ a b a_in b_in. by a b a_in b_in (cases_lt b (length labels))))
   where
@@ -82,48 +82,29 @@ same_words labels others words more cells figures degrees counts width wide mark
 
     by : (a b : ℕ) → a < length labels → b < 64 * width → (b < length labels) ⊎ (length labels ≤ b) → marked words width a b ≡ marked more width a b
     by a b a_in b_in (inl inside) =
-        same_mark (marked words width a b) (marked more wide a b) (cell cells (length labels) a b) (cell figures (length others) a b)
-        (sym (edge-held labels words cells width a b a_in inside) ∙ ap (λ (g : Graph). edge g a b) e
-        ∙ edge-held others more figures wide a b (omega (arith, sizes)) (omega (arith, sizes))) ∙ ap (λ (w : ℕ). marked more w a b) (sym widths)
+        same_mark (marked words width a b) (marked more wide a b) (label_at a b) (other_at a b)
+        (sym (edge-held labels words label_at width a b a_in inside) ∙ ap (λ (g : Graph). edge g a b) e
+        ∙ edge-held others more other_at wide a b (omega (arith, sizes)) (omega (arith, sizes))) ∙ ap (λ (w : ℕ). marked more w a b) (sym widths)
     by a b a_in b_in (inr past) =
         marks.padded a b a_in past b_in
         ∙ sym (ap (λ (w : ℕ). marked more w a b) widths ∙ marks_more.padded a b (omega (arith, sizes)) (omega (arith, sizes)) (omega (arith, widths)))
 
--- the same labels and words hold one graph
-same_held : (labels others words more degrees counts : List ℕ) (width wide : ℕ) → AreMarks (length labels) width words degrees → AreMarks (length others) wide more counts
-    → labels ≡ others → words ≡ more → graph_held labels words [] width ≡ graph_held others more [] wide
-same_held labels others words more degrees counts width wide marks marks_more e f =
-    let widths : width ≡ wide = marks.width_is ∙ ap (λ (ls : List ℕ). words_for (length ls)) e ∙ sym marks_more.width_is in
-    ap (λ (ls : List ℕ). graph_held ls words [] width) e ∙ ap (λ (ws : List ℕ). graph_held others ws [] width) f ∙ ap (λ (w : ℕ). graph_held others more [] w) widths
-
--- no labels are kept
-no_cells : (cells : List ℕ) → length cells ≡ 0 → cells ≡ []
-no_cells [] e = refl
-no_cells (c ∷ cs) e = absurd (omega arith)
-
--- a test of labels and words is a test of the graphs, where no labels of edges are kept
-pub same_graphs : (labels others words more cells figures degrees counts ls os ws ms : List ℕ) (width wide : ℕ) (g h : Graph) (r : Bool) → graph_held labels words cells width ≡ g → graph_held others more figures wide ≡ h
-    → length cells ≡ 0 → length figures ≡ 0
+-- a test of labels and words that fails tells the graphs apart
+pub other_lists : (labels others words more : List ℕ) (label_at other_at : ℕ → ℕ → ℕ) (degrees counts ls os ws ms : List ℕ) (width wide : ℕ) (g h : Graph)
+    → graph_held labels words label_at width ≡ g → graph_held others more other_at wide ≡ h
     → AreMarks (length labels) width words degrees → AreMarks (length others) wide more counts → ls ≡ labels → os ≡ others → ws ≡ words → ms ≡ more
-    → ((k : ℕ) → get_or ws k 0 < 2 ^ 64) → ((k : ℕ) → get_or ms k 0 < 2 ^ 64) → (IsTrue r ↔ ((ls ≡ os) × (ws ≡ ms))) → IsTrue r ↔ (g ≡ h)
-same_graphs labels others words more cells figures degrees counts ls os ws ms width wide g h r is_g is_h no_cell no_figure marks marks_more l o w m fit fits test = (
-  λ t.
-      let both = test.0 t in
-      sym is_g ∙ ap (λ (cs : List ℕ). graph_held labels words cs width) (no_cells cells no_cell)
-      ∙ same_held labels others words more degrees counts width wide marks marks_more (sym l ∙ both.0 ∙ o) (sym w ∙ both.1 ∙ m)
-      ∙ ap (λ (cs : List ℕ). graph_held others more cs wide) (sym (no_cells figures no_figure)) ∙ is_h,
-  λ e.
-      let held : graph_held labels words cells width ≡ graph_held others more figures wide = is_g ∙ e ∙ sym is_h in
-      test.1 (
-        l ∙ ap (λ (k : Graph). k.labels) held ∙ sym o,
-        w ∙ same_words labels others words more cells figures degrees counts width wide marks marks_more (λ k. rw (← w) (fit k)) (λ k. rw (← m) (fits k)) held ∙ sym m,
-      ),
-)
+    → ((k : ℕ) → get_or ws k 0 < 2 ^ 64) → ((k : ℕ) → get_or ms k 0 < 2 ^ 64) → (((ls ≡ os) × (ws ≡ ms)) → ⊥) → g ≡ h → ⊥
+other_lists labels others words more label_at other_at degrees counts ls os ws ms width wide g h is_g is_h marks marks_more l o w m fit fits apart e =
+    let held : graph_held labels words label_at width ≡ graph_held others more other_at wide = is_g ∙ e ∙ sym is_h in
+    apart (
+      l ∙ ap (λ (k : Graph). k.labels) held ∙ sym o,
+      w ∙ same_words labels others words more label_at other_at degrees counts width wide marks marks_more (λ k. rw (← w) (fit k)) (λ k. rw (← m) (fits k)) held ∙ sym m,
+    )
 
 -- graphs of the same labels and edges are one
-pub same_by_edges : (labels others words more cells figures ls os : List ℕ) (width wide : ℕ) (g h : Graph) (r : Bool) → graph_held labels words cells width ≡ g → graph_held others more figures wide ≡ h
+pub same_by_edges : (labels others words more : List ℕ) (label_at other_at : ℕ → ℕ → ℕ) (ls os : List ℕ) (width wide : ℕ) (g h : Graph) (r : Bool) → graph_held labels words label_at width ≡ g → graph_held others more other_at wide ≡ h
     → ls ≡ labels → os ≡ others → ls ≡ os → (IsTrue r ↔ ((a b : ℕ) → a < size g → b < size g → edge g a b ≡ edge h a b)) → IsTrue r ↔ (g ≡ h)
-same_by_edges labels others words more cells figures ls os width wide g h r is_g is_h l o same test = (
+same_by_edges labels others words more label_at other_at ls os width wide g h r is_g is_h l o same test = (
   λ t. sym is_g ∙ whole (test.0 t) ∙ is_h,
   λ e. test.1 (λ a b _ _. ap (λ (k : Graph). edge k a b) e),
 )
@@ -138,15 +119,15 @@ same_by_edges labels others words more cells figures ls os width wide g h r is_g
     size_g = ap size is_g
 
     at : ((a b : ℕ) → a < size g → b < size g → edge g a b ≡ edge h a b) → (a b : ℕ) → a < length labels → b < length labels
-        → edge_held (marked words width a b) (cell cells (length labels) a b) ≡ edge_held (marked more wide a b) (cell figures (length others) a b)
+        → edge_held (marked words width a b) (label_at a b) ≡ edge_held (marked more wide a b) (other_at a b)
     at all a b a_in b_in =
-        sym (edge-held labels words cells width a b a_in b_in) ∙ ap (λ (k : Graph). edge k a b) is_g ∙ all a b (rw (← size_g) a_in) (rw (← size_g) b_in)
-        ∙ ap (λ (k : Graph). edge k a b) (sym is_h) ∙ edge-held others more figures wide a b (omega (arith, sizes)) (omega (arith, sizes))
+        sym (edge-held labels words label_at width a b a_in b_in) ∙ ap (λ (k : Graph). edge k a b) is_g ∙ all a b (rw (← size_g) a_in) (rw (← size_g) b_in)
+        ∙ ap (λ (k : Graph). edge k a b) (sym is_h) ∙ edge-held others more other_at wide a b (omega (arith, sizes)) (omega (arith, sizes))
 
-    whole : ((a b : ℕ) → a < size g → b < size g → edge g a b ≡ edge h a b) → graph_held labels words cells width ≡ graph_held others more figures wide
+    whole : ((a b : ℕ) → a < size g → b < size g → edge g a b ≡ edge h a b) → graph_held labels words label_at width ≡ graph_held others more other_at wide
     whole all =
         ap (λ (rows : List (List (Option ℕ))). record { labels = labels; rows = rows })
-        (tabulate-same (length labels) _ (λ (a : ℕ). tabulate (length labels) (λ (b : ℕ). edge_held (marked more wide a b) (cell figures (length others) a b))) []
-        (λ a a_in. tabulate-same (length labels) _ (λ (b : ℕ). edge_held (marked more wide a b) (cell figures (length others) a b)) None (λ b b_in. at all a b a_in b_in)))
-        ∙ ap (λ (n : ℕ). record { labels = labels; rows = tabulate n (λ (a : ℕ). tabulate n (λ (b : ℕ). edge_held (marked more wide a b) (cell figures (length others) a b))) }) sizes
-        ∙ ap (λ (ks : List ℕ). record { labels = ks; rows = tabulate (length others) (λ (a : ℕ). tabulate (length others) (λ (b : ℕ). edge_held (marked more wide a b) (cell figures (length others) a b))) }) names
+        (tabulate-same (length labels) _ (λ (a : ℕ). tabulate (length labels) (λ (b : ℕ). edge_held (marked more wide a b) (other_at a b))) []
+        (λ a a_in. tabulate-same (length labels) _ (λ (b : ℕ). edge_held (marked more wide a b) (other_at a b)) None (λ b b_in. at all a b a_in b_in)))
+        ∙ ap (λ (n : ℕ). record { labels = labels; rows = tabulate n (λ (a : ℕ). tabulate n (λ (b : ℕ). edge_held (marked more wide a b) (other_at a b))) }) sizes
+        ∙ ap (λ (ks : List ℕ). record { labels = ks; rows = tabulate (length others) (λ (a : ℕ). tabulate (length others) (λ (b : ℕ). edge_held (marked more wide a b) (other_at a b))) }) names

@@ -1,7 +1,7 @@
 -- How a graph is held: a row of marks for each vertex, one row after another, and the degrees; beside them the rows of the edges that lead in,
--- where these are others, and the labels of the edges, where there are any.
+-- where these are others, and the labels of the edges, where there are any, in the order of the marks.
 
-use Rattle.std.specs.Prelude.{◌≡◌, ℕ, ◌+◌, ◌*◌, ◌<◌, ◌≤◌, ◌==◌, Bool, false, ◌&&◌, ◌||◌, not, List, [], ◌∷◌, length, Option, Some, None, slice_index, slice_index_or, if◌then◌else◌}
+use Rattle.std.specs.Prelude.{◌≡◌, ℕ, ◌+◌, ◌*◌, ◌<◌, ◌≤◌, ◌==◌, Bool, true, false, ◌&&◌, ◌||◌, not, List, [], ◌∷◌, length, Option, Some, None, slice_index, slice_index_or, if◌then◌else◌}
 use Rattle.graph_theory.specs.Graph.{Graph, tabulate}
 use Rattle.bit_rows.specs.BitRows.{has, words_for}
 use Rattle.graph_theory.specs.Neighbours.{count}
@@ -19,16 +19,18 @@ edge_of_mark m = if m then Some 0 else None
 abbrev pub edge_held : Bool → ℕ → Option ℕ
 edge_held m label = if m then Some label else None
 
--- The label of the edge from a to b among n vertices; where no labels are kept it is 0.
-abbrev pub cell : List ℕ → ℕ → ℕ → ℕ → ℕ
-cell cells n a b = slice_index cells (a * n + b)
+-- The label of the edge from a to b, where b is marked in the row of a: those of a begin where the starts say, and before that of b stand as many as
+-- are marked before b. Where no labels are kept it is 0.
+abbrev pub label_kept : List ℕ → List ℕ → List ℕ → ℕ → ℕ → ℕ → ℕ
+label_kept starts labels words width a b = slice_index labels (slice_index starts a + count
+    (marked words width a) b)
 
 -- The graph of these labels, marks and labels of edges.
-abbrev pub graph_held : List ℕ → List ℕ → List ℕ → ℕ → Graph
-graph_held labels words cells width = record {
+abbrev pub graph_held : List ℕ → List ℕ → (ℕ → ℕ → ℕ) → ℕ → Graph
+graph_held labels words label_at width = record {
   labels = labels;
   rows = tabulate (length labels) (λ a. tabulate (length labels) (λ b. edge_held
-      (marked words width a b) (cell cells (length labels) a b)));
+      (marked words width a b) (label_at a b)));
 }
 
 -- Another vertex that is marked in the row of a.
@@ -58,9 +60,12 @@ pub record AreBack (n width : ℕ) (words back degrees : List ℕ) : Type 0 wher
   pub own : length back ≡ 0 → AreMutual n width words
   pub kept : 0 < length back → AreTurned n width words back degrees
 
--- The labels of edges are those of all pairs, or none are kept.
-pub record AreCells (n : ℕ) (cells : List ℕ) : Type 0 where
-  pub long : 0 < length cells → length cells ≡ n * n
+-- Of labels of edges each of n vertices has as many as are marked in its row, or none are kept.
+pub record AreBeside (n width : ℕ) (words starts labels : List ℕ) : Type 0 where
+  pub none : length starts ≡ 0 → length labels ≡ 0
+  pub long : 0 < length starts → length starts ≡ n
+  pub within : (a : ℕ) → a < length starts
+      → slice_index starts a + count (marked words width a) (64 * width) ≤ length labels
 
 -- The row holds those of the first n vertices that are marked in their own row.
 pub record AreLoops (n width : ℕ) (words loops : List ℕ) : Type 0 where
@@ -108,12 +113,16 @@ label_in [] b = 0
 label_in (e ∷ es) b = if e.0 == b then e.1 else label_in es b
 
 -- The label of the edge from a to b as it is listed.
-abbrev pub listed_cell : List (List ℕ) → List (List ℕ) → ℕ → ℕ → ℕ
-listed_cell lists labels a b = label_in (with_labels (slice_index_or lists a [])
+abbrev pub label_listed : List (List ℕ) → List (List ℕ) → ℕ → ℕ → ℕ
+label_listed lists labels a b = label_in (with_labels (slice_index_or lists a [])
     (slice_index_or labels a [])) b
 
--- The cells have what they had, and in the row of a what these lists say.
-pub record PutsRow (n : ℕ) (old new : List ℕ) (a : ℕ) (listed labels : List ℕ) : Type 0 where
-  pub long : length new ≡ length old
-  pub each : (x y : ℕ) → y < n → cell new n x y ≡ (if a == x then label_in
-      (with_labels listed labels) y else cell old n x y)
+-- At each vertex of a list stands the label with which it is listed first.
+pub record AreFirst (listed labels found : List ℕ) : Type 0 where
+  pub each : (b : ℕ) → stands_in listed b ≡ true
+      → slice_index found b ≡ label_in (with_labels listed labels) b
+
+-- The labels kept of n vertices are those with which each lists others first.
+pub record AreListed (n width : ℕ) (words starts labels : List ℕ) (lists ess : List (List ℕ)) : Type 0 where
+  pub each : (a b : ℕ) → a < n → b < 64 * width → marked words width a b ≡ true
+      → label_kept starts labels words width a b ≡ label_listed lists ess a b

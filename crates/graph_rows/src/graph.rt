@@ -1,6 +1,6 @@
 //! Graphs as bit rows: an edge is one bit, and the vertices to which edges lead from one are one row of words. (Ullmann 2010.)
 
-ghost use Rattle.std.specs.Prelude.{◌≡◌, ℕ, ◌^◌, ◌<◌, ◌≤◌, ◌↔◌, true, length, is_some, IsTrue, IfOk, slice_index};
+ghost use Rattle.std.specs.Prelude.{◌≡◌, ℕ, ◌^◌, ◌<◌, ◌≤◌, ◌↔◌, true, length, is_some, Some, IsTrue, IfOk, slice_index};
 ghost use Rattle.graph_theory.specs.Graph.{size as size_of, label as label_of, edge as edge_of};
 ghost use Rattle.graph_theory.specs.GraphText.{text_graph};
 ghost use Rattle.graph_theory.specs.Plain.{IsPlain, IsUndirected};
@@ -9,11 +9,10 @@ ghost use Rattle.graph_theory.specs.Graph.{graph_of};
 ghost use Rattle.graph_theory.specs.Reversed.{turned, IsMutual};
 ghost use Rattle.lad_reader.specs.Parts.{vertices_of, vertices_from, AllBelow};
 ghost use Rattle.bit_rows.specs.BitRows.{has, words_for};
-ghost use Rattle.graph_rows.specs.Held.{cell, AreCells};
 
-use crate::cells::edge_label_cells;
+use crate::edge_labels::{EdgeLabels, labels_beside};
 use crate::marks::{gather_loops, is_marked, mark_all, mark_all_in, mark_all_out};
-use bit_rows::{has_bit, words_for};
+use bit_rows::{count_both, has_bit, words_for};
 use graph_theory::direction::Direction;
 use lad_reader::{GraphParts, LadKind};
 use std::alloc::{AllocError, Global};
@@ -22,7 +21,7 @@ use std::marker::Model;
 /// A graph of at most 8,192 vertices, of which each ordered two have an edge or none, and each edge a label.
 ///
 /// Beside a bit row for each vertex a graph with directions has another for the edges that lead in, which costs as much again, and one
-/// with labels of edges four bytes for each two vertices. Other graphs pay for neither.
+/// with labels of edges four bytes for each edge and each vertex. Other graphs pay for neither.
 #[derive(Drop)]
 pub struct Graph {
     labels: Vec<u32>,
@@ -32,28 +31,30 @@ pub struct Graph {
     back: Vec<u64>,
     in_degrees: Vec<u16>,
     loops: Vec<u64>,
-    cells: Vec<u32>,
+    edge_labels: EdgeLabels,
 }
 
 impl Model for Graph {
     ghost use Rattle.graph_theory.specs.Graph.{Graph as TheGraph};
     ghost use Rattle.std.specs.Prelude.{length};
-    ghost use Rattle.graph_rows.specs.Held.{graph_held, AreMarks, AreBack, AreLoops, AreCells};
+    ghost use Rattle.graph_rows.specs.Held.{graph_held, label_kept, AreMarks, AreBack, AreLoops, AreBeside};
 
     ghost Value = { TheGraph };
 
-    ghost view = { λ g. graph_held g.labels.items g.words.items g.cells.items g.width };
+    ghost view = { λ g. graph_held g.labels.items g.words.items
+        (label_kept g.edge_labels.starts.items g.edge_labels.labels.items g.words.items g.width)
+        g.width };
 
     ghost invariant = { λ g. AreMarks
         (length g.labels.items) g.width g.words.items g.degrees.items
         × AreBack (length g.labels.items) g.width g.words.items g.back.items g.in_degrees.items
         × AreLoops (length g.labels.items) g.width g.words.items g.loops.items
-        × AreCells (length g.labels.items) g.cells.items };
+        × AreBeside (length g.labels.items) g.width g.words.items g.edge_labels.starts.items
+        g.edge_labels.labels.items };
 }
 
 impl Graph {
-    /// The graph of a text's parts. Cost: linear in the parts and in the words of the rows; with labels of edges one step for each two
-    /// vertices.
+    /// The graph of a text's parts. Cost: linear in the parts and in the words of the rows.
     pub fn new(alloc: Global, parts: &GraphParts) -> Result<Graph, AllocError>
         requires lengths { length parts.now.labels ≡ length parts.now.neighbours }
         requires few { length parts.now.labels ≤ 8192 }
@@ -95,7 +96,7 @@ impl Graph {
             back: Vec::new(alloc),
             in_degrees: Vec::new(alloc),
             loops,
-            cells: Vec::new(alloc),
+            edge_labels: EdgeLabels::none(alloc),
         })
     }
 
@@ -118,7 +119,7 @@ impl Graph {
         mark_all_out(&mut words, &mut degrees, width, &parts.neighbours);
         mark_all_in(&mut back, &mut in_degrees, width, &parts.neighbours);
         gather_loops(&words, width, size, &mut loops);
-        let cells = edge_label_cells(alloc, parts)?;
+        let edge_labels = labels_beside(alloc, parts, &words, width)?;
         Ok(Graph {
             labels,
             words,
@@ -127,7 +128,7 @@ impl Graph {
             back,
             in_degrees,
             loops,
-            cells,
+            edge_labels,
         })
     }
 
@@ -147,36 +148,43 @@ impl Graph {
         self.labels[usize::from(a)]
     }
 
-    /// The label of the edge from `a` to `b`, or none where no edge leads there. Cost: one word, and its label.
+    /// The label of the edge from `a` to `b`, or none where no edge leads there. Cost: one word; where an edge has a label, one step for each
+    /// word of a row up to `b`.
     pub fn edge(&self, a: u16, b: u16) -> Option<u32>
         requires from { a < size_of self.now }
         requires to { b < size_of self.now }
         ensures { result ≡ edge_of self.now a b }
     {
         if is_marked(&self.words, self.width, usize::from(a), usize::from(b)) {
-            Some(cell_of(
-                &self.cells,
-                self.labels.len(),
-                usize::from(a),
-                usize::from(b),
-            ))
+            Some(self.edge_label(a, b))
         } else {
             None
         }
     }
 
-    /// The label of the edge from `a` to itself, or none. It is kept beside the rows. Cost: one word, and its label.
+    /// The label of the edge that leads from `a` to `b`: as many labels after the first of those of `a` as edges lead to vertices before `b`.
+    fn edge_label(&self, a: u16, b: u16) -> u32
+        requires from { a < size_of self.now }
+        requires to { b < size_of self.now }
+        requires stands { is_some (edge_of self.now a b) ≡ true }
+        ensures { Some result ≡ edge_of self.now a b }
+    {
+        let kept = &self.edge_labels;
+        if kept.starts.is_empty() {
+            return 0;
+        }
+        let row = self.row(a);
+        let before = count_both(row, row, usize::from(b));
+        kept.labels[kept.starts[usize::from(a)] as usize + before]
+    }
+
+    /// The label of the edge from `a` to itself, or none. Whether there is one is kept beside the rows. Cost: as `edge`.
     pub fn loop_at(&self, a: u16) -> Option<u32>
         requires { a < size_of self.now }
         ensures { result ≡ edge_of self.now a a }
     {
         if has_bit(&self.loops, usize::from(a)) {
-            Some(cell_of(
-                &self.cells,
-                self.labels.len(),
-                usize::from(a),
-                usize::from(a),
-            ))
+            Some(self.edge_label(a, a))
         } else {
             None
         }
@@ -204,7 +212,7 @@ impl Graph {
         requires to { b < size_of self.now }
         ensures { result ≡ is_some (edge_of self.now a b) }
     {
-        self.edge(a, b).is_some()
+        is_marked(&self.words, self.width, usize::from(a), usize::from(b))
     }
 
     /// How many other vertices an edge leads to from `a`, which in a graph without directions are its neighbours. It was counted when
@@ -372,16 +380,16 @@ impl Graph {
         let _width = self.width;
     }
 
-    /// Whether the other graph has the same labels and edges. Cost: the words of the rows; with labels of edges one step for each two
-    /// vertices.
+    /// Whether the other graph has the same labels and edges. Cost: the words of the rows and the labels of edges; only where edges stand
+    /// alike and their labels are others, or one graph keeps none, `edge` for each two vertices up to the first difference.
     pub fn same(&self, other: &Graph) -> bool
         ensures { IsTrue result ↔ (self.now ≡ other.now) }
     {
-        if self.cells.is_empty() && other.cells.is_empty() {
-            return same_lists(&self.labels, &other.labels, &self.words, &other.words);
-        }
-        if !same_labels(&self.labels, &other.labels) {
+        if !same_lists(&self.labels, &other.labels, &self.words, &other.words) {
             return false;
+        }
+        if same_edge_labels(&self.edge_labels, &other.edge_labels) {
+            return true;
         }
         self.has_edges_of(other)
     }
@@ -417,26 +425,12 @@ impl Graph {
     }
 }
 
-/// The label of the edge from `a` to `b` among `n` vertices; 0 where no labels are kept.
-fn cell_of(cells: &[u32], n: usize, a: usize, b: usize) -> u32
-    requires cells { AreCells n cells.now }
-    requires few { n ≤ 8192 }
-    requires from { a < n }
-    requires to { b < n }
-    ensures { result ≡ cell cells.now n a b }
+/// Whether labels of edges are kept alike.
+fn same_edge_labels(kept: &EdgeLabels, others: &EdgeLabels) -> bool
+    ensures starts { IsTrue result → kept.now.starts.items ≡ others.now.starts.items }
+    ensures labels { IsTrue result → kept.now.labels.items ≡ others.now.labels.items }
 {
-    if cells.is_empty() {
-        0
-    } else {
-        cells[a * n + b]
-    }
-}
-
-/// Whether labels are the same.
-fn same_labels(labels: &[u32], others: &[u32]) -> bool
-    ensures { IsTrue result ↔ (labels.now ≡ others.now) }
-{
-    labels == others
+    kept.starts == others.starts && kept.labels == others.labels
 }
 
 /// Whether labels are the same, and words are.

@@ -4,11 +4,11 @@
 //! domains by whole words (J. R. Ullmann, "Bit-vector algorithms for binary constraint satisfaction and subgraph
 //! isomorphism", 2010). A problem is a pattern, a target and the kind of copy that is asked for; it keeps its sizes
 //! within their limits. A graph with directions has another row for each vertex, of the edges that lead in, and one with labels
-//! of edges a label for each two vertices. The layers above use `edge`, `label`, the degrees, the rows and the two tests `allowed` and
+//! of edges a label for each edge, in the order of the rows. The layers above use `edge`, `label`, the degrees, the rows and the two tests `allowed` and
 //! `compatible`, by which a problem is a binary constraint problem, and never the words themselves.
 #![tactic(auto)]
 
-mod cells;
+mod edge_labels;
 pub mod graph;
 pub mod mapping;
 mod marks;

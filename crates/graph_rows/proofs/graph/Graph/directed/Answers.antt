@@ -1,9 +1,8 @@
-use Rattle.std.proofs.Common.{◌≡◌, length, ap, ◌∙◌, arith, rules}
+use Rattle.std.proofs.Common.{◌≡◌, length, refl, sym, ap, ◌∙◌, arith, rules}
 use Rattle.std.proofs.lemmas.List.{with_items_is}
 use Rattle.graph_rows.proofs.Marking.{no_marks_made}
 use Rattle.graph_rows.proofs.Parts.{made-directed, turned_made}
-use Rattle.graph_rows.proofs.LabelCells.{cells_by}
-use Rattle.graph_rows.proofs.HeldGraph.{marks_kept, turned_kept, loops_kept, back_kept}
+use Rattle.graph_rows.proofs.HeldGraph.{marks_kept, turned_kept, loops_kept, back_kept, beside_kept, listed_kept, no_label}
 use Rattle.graph_rows.proofs.graph.Graph.directed.Goals as goal
 
 pub mark_all_out-requires-clause-marks : goal.mark_all_out-requires-clause-marks
@@ -23,10 +22,11 @@ mark_all_in-requires-clause-marks c =
 pub returns : goal.returns
 returns c = record {
   graph = λ apart.
-      made-directed c.args.parts.now.kind c.in_ok-labels.labels.items c.args.parts.now.labels c.mark_all_out.new.words _ c.mark_all_out.new.degrees c.in_ok-cells.cells.items (length c.deref_mut-2.result.now)
+      made-directed c.args.parts.now.kind c.in_ok-labels.labels.items c.args.parts.now.labels c.mark_all_out.new.words _ c.mark_all_out.new.degrees _ (length c.deref_mut-2.result.now)
       (c.words_for-width.result) c.args.parts.now.neighbours c.args.parts.now.edge_labels apart (c.in_ok-labels.ensures.items ∙ c.as_slice.ensures)
       (with_items_is c.in_ok-words.words c.mark_all_out.new.words (search rules)) c.requires.lengths (search rules) c.mark_all_out.ensures.marks c.mark_all_out.ensures.said
-      c.in_ok-cells.ensures.none c.in_ok-cells.ensures.cells;
+      (λ plain x y. no_label c.in_ok-edge_labels.edge_labels.starts.items c.in_ok-edge_labels.edge_labels.labels.items _ c.words_for-width.result x y (ap length (c.in_ok-edge_labels.ensures.no_labels plain)))
+      (λ labelled. (listed_kept _ _ _ _ _ _ _ _ _ (c.in_ok-edge_labels.ensures.listed labelled) refl (sym c.deref-2.ensures.value)).each);
 }
 
 pub invariant_of-result : goal.invariant_of-result
@@ -42,5 +42,5 @@ invariant_of-result c =
       back_kept _ _ _ _ _ (turned_kept _ _ _ _ _ _ _ _ _
           (turned_made _ _ _ _ _ _ c.mark_all_in.ensures.marks c.mark_all_out.ensures.said c.mark_all_in.ensures.said) in_size_is words_are back_are in_degrees_are),
       loops_kept _ _ _ _ _ _ _ c.gather_loops.ensures (search rules) (search rules) (with_items_is c.in_ok-loops.loops c.gather_loops.new.loops (search rules)),
-      cells_by c.args.parts.now.kind _ (length c.args.parts.now.neighbours) c.in_ok-cells.cells.items same c.in_ok-cells.ensures.none c.in_ok-cells.ensures.long,
+      beside_kept _ _ _ _ _ _ _ c.in_ok-edge_labels.ensures.beside same (sym c.deref-2.ensures.value),
     )

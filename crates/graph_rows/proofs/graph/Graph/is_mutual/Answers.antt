@@ -6,4 +6,4 @@ use Rattle.graph_rows.proofs.graph.Graph.is_mutual.Goals as goal
 pub returns : goal.returns
 returns c = λ yes.
     let none : length c.self.inside.back.items ≡ 0 = grind (arith, common_steps) in
-    mutual_graph c.self.inside.labels.items c.self.inside.words.items c.self.inside.cells.items c.self.inside.width _ c.self.view_is (c.self.invariant.1.own none)
+    mutual_graph c.self.inside.labels.items c.self.inside.words.items _ c.self.inside.width _ c.self.view_is (c.self.invariant.1.own none)

@@ -2,7 +2,7 @@ use Rattle.std.proofs.Common.{◌≡◌, length, ap, ◌∙◌, arith, rules}
 use Rattle.std.proofs.lemmas.List.{with_items_is}
 use Rattle.graph_rows.proofs.Marking.{no_marks_made}
 use Rattle.graph_rows.proofs.Parts.{graph-made, mutual_made, plain_made}
-use Rattle.graph_rows.proofs.HeldGraph.{marks_kept, mutual_kept, loops_kept, back_own, no_cells}
+use Rattle.graph_rows.proofs.HeldGraph.{marks_kept, mutual_kept, loops_kept, back_own, no_label, none_beside}
 use Rattle.graph_rows.proofs.graph.Graph.undirected.Goals as goal
 
 pub mark_all-requires-clause-marks : goal.mark_all-requires-clause-marks
@@ -14,8 +14,9 @@ mark_all-requires-clause-marks c =
 
 pub returns-clause-graph : goal.returns-clause-graph
 returns-clause-graph c =
-    rw (c.new-3.ensures.items) (graph-made c.in_ok-labels.labels.items c.args.parts.now.labels c.mark_all.new.words _ c.mark_all.new.degrees (length c.deref_mut-2.result.now) (c.words_for-width.result)
-    c.args.parts.now.neighbours (c.in_ok-labels.ensures.items ∙ c.as_slice.ensures) (with_items_is c.in_ok-words.words c.mark_all.new.words (search rules)) c.requires.lengths (search rules) c.mark_all.ensures.marks c.mark_all.ensures.said)
+    graph-made c.in_ok-labels.labels.items c.args.parts.now.labels c.mark_all.new.words _ c.mark_all.new.degrees _ (length c.deref_mut-2.result.now) (c.words_for-width.result)
+    c.args.parts.now.neighbours (c.in_ok-labels.ensures.items ∙ c.as_slice.ensures) (with_items_is c.in_ok-words.words c.mark_all.new.words (search rules)) c.requires.lengths (search rules) c.mark_all.ensures.marks c.mark_all.ensures.said
+    (λ x y. no_label c.none.result.starts.items c.none.result.labels.items _ c.words_for-width.result x y (ap length c.none.ensures.labels))
 
 pub returns-clause-plain : goal.returns-clause-plain
 returns-clause-plain c = plain_made c.args.parts.now.labels c.args.parts.now.neighbours _ c.requires.lengths (returns-clause-graph c)
@@ -28,5 +29,5 @@ invariant_of-result c =
       marks_kept _ _ _ _ _ _ _ c.mark_all.ensures.marks size_is words_are degrees_are,
       back_own _ _ _ _ _ c.new.ensures.items (mutual_kept _ _ _ _ _ (mutual_made _ _ _ _ _ c.mark_all.ensures.marks c.mark_all.ensures.said) size_is words_are),
       loops_kept _ _ _ _ _ _ _ c.gather_loops.ensures (search rules) (search rules) (with_items_is c.in_ok-loops.loops c.gather_loops.new.loops (search rules)),
-      no_cells _ _ c.new-3.ensures.items,
+      none_beside _ _ _ _ _ c.none.ensures.starts c.none.ensures.labels,
     )
