@@ -8,7 +8,7 @@ use Rattle.graph_theory.specs.Neighbours.{is_neighbour, common}
 use Rattle.graph_theory.specs.Reversed.{reversed, IsMutual, MutualShared}
 use Rattle.bit_rows.specs.BitRows.{has}
 use Rattle.pair_rows.specs.declared.kinds.PairKind.{PairKind}
-use Rattle.pair_rows.specs.Kinds.{Joins, RowIs, Shares, HasNoEdge, AreShared}
+use Rattle.pair_rows.specs.Kinds.{Joins, RowIs, Shares, HasNoEdge, Serve}
 use Rattle.bit_rows.proofs.Filled.{FilledBelow}
 
 -- an edge of the pattern is kept
@@ -194,7 +194,7 @@ pub kept_by : (counts : List ℕ) (least u : ℕ) → least ≤ get_or counts u 
 kept_by counts least u le = le-ltb (get_or counts u 0) least le
 
 -- counted out, with no more asked for back, where edges stand both ways
-pub shared_mutual : (q : Problem) (k : PairKind) (t : ℕ) (old new counts back : List ℕ) (both_ways : Bool) → AreShared q.target t counts back both_ways → both_ways ≡ true
+pub shared_mutual : (q : Problem) (k : PairKind) (t : ℕ) (old new counts back : List ℕ) (both_ways : Bool) → Serve q k t counts back both_ways → both_ways ≡ true
     → MutualShared → t < size q.target → k.in_shared ≤ k.shared → ((u : ℕ) → has old u ≡ true → u < size q.target)
     → ((u : ℕ) → has new u ≡ (has old u && not (nat_lt (get_or counts u 0) k.shared))) → (u : ℕ) → has new u ≡ true
     → (has old u ≡ true) × ((t ≡ u → ⊥) → Shares q k t u)
@@ -204,13 +204,13 @@ shared_mutual q k t old new counts back both_ways are told law t_in less within 
     let u_in : u < size q.target = within u left.0 in (
       left.0,
       λ (ne : t ≡ u → ⊥).
-          let counted = are.counted u u_in ne in
+          let shared = (are.told u u_in ne).0 enough in
           let same : common (reversed q.target) t u ≡ common q.target t u = law q.target t u (are.both told) t_in u_in in
-          record { shared = omega (arith, enough, counted); in_shared = omega (arith, enough, counted, same, less) },
+          record { shared = shared; in_shared = omega (arith, shared, same, less) },
     )
 
 -- counted in both directions
-pub shared_right : (q : Problem) (k : PairKind) (t : ℕ) (old now new counts back : List ℕ) (both_ways : Bool) → AreShared q.target t counts back both_ways
+pub shared_right : (q : Problem) (k : PairKind) (t : ℕ) (old now new counts back : List ℕ) (both_ways : Bool) → Serve q k t counts back both_ways
     → ((u : ℕ) → has old u ≡ true → u < size q.target)
     → ((u : ℕ) → has now u ≡ (has old u && not (nat_lt (get_or counts u 0) k.shared)))
     → ((u : ℕ) → has new u ≡ (has now u && not (nat_lt (get_or back u 0) k.in_shared))) → (u : ℕ) → has new u ≡ true
@@ -223,27 +223,23 @@ shared_right q k t old now new counts back both_ways are within cut in_cut u h =
     let u_in : u < size q.target = within u left.0 in (
       left.0,
       λ (ne : t ≡ u → ⊥).
-          let counted = are.counted u u_in ne in
-          let in_counted = are.back_counted u u_in ne in
-          record { shared = omega (arith, enough, counted); in_shared = omega (arith, in_enough, in_counted) },
+          record { shared = (are.told u u_in ne).0 enough; in_shared = (are.back_told u u_in ne).0 in_enough },
     )
 
-pub shared_kept : (q : Problem) (k : PairKind) (t : ℕ) (old new counts back : List ℕ) (both_ways : Bool) → AreShared q.target t counts back both_ways
+pub shared_kept : (q : Problem) (k : PairKind) (t : ℕ) (old new counts back : List ℕ) (both_ways : Bool) → Serve q k t counts back both_ways
     → ((u : ℕ) → has old u ≡ true → u < size q.target)
     → ((u : ℕ) → has new u ≡ (has old u && not (nat_lt (get_or counts u 0) k.shared))) → (u : ℕ) → has old u ≡ true → (t ≡ u → ⊥) → Shares q k t u → has new u ≡ true
 shared_kept q k t old new counts back both_ways are within cut u h ne enough =
-    let counted = are.counted u (within u h) ne in
-    cut u ∙ left_by (has old u) (nat_lt (get_or counts u 0) k.shared) h (kept_by counts k.shared u (omega (arith, counted, enough.shared)))
+    cut u ∙ left_by (has old u) (nat_lt (get_or counts u 0) k.shared) h (kept_by counts k.shared u ((are.told u (within u h) ne).1 enough.shared))
 
-pub shared_complete : (q : Problem) (k : PairKind) (t : ℕ) (old now new counts back : List ℕ) (both_ways : Bool) → AreShared q.target t counts back both_ways
+pub shared_complete : (q : Problem) (k : PairKind) (t : ℕ) (old now new counts back : List ℕ) (both_ways : Bool) → Serve q k t counts back both_ways
     → ((u : ℕ) → has old u ≡ true → u < size q.target)
     → ((u : ℕ) → has now u ≡ (has old u && not (nat_lt (get_or counts u 0) k.shared)))
     → ((u : ℕ) → has new u ≡ (has now u && not (nat_lt (get_or back u 0) k.in_shared))) → (u : ℕ) → has old u ≡ true → (t ≡ u → ⊥) → Shares q k t u → has new u ≡ true
 shared_complete q k t old now new counts back both_ways are within cut in_cut u h ne enough =
-    let in_counted = are.back_counted u (within u h) ne in
     in_cut u
     ∙ left_by (has now u) (nat_lt (get_or back u 0) k.in_shared) (shared_kept q k t old now counts back both_ways are within cut u h ne enough)
-    (kept_by back k.in_shared u (omega (arith, in_counted, enough.in_shared)))
+    (kept_by back k.in_shared u ((are.back_told u (within u h) ne).1 enough.in_shared))
 
 -- what is kept of a row of vertices are vertices
 pub still_within : (n : ℕ) (old new : List ℕ) (f : ℕ → Bool) → ((u : ℕ) → has old u ≡ true → u < n) → ((u : ℕ) → has new u ≡ (has old u && f u)) → (u : ℕ) → has new u ≡ true → u < n

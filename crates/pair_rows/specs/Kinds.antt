@@ -1,7 +1,7 @@
 -- Kinds of pairs of pattern vertices, and the rows that belong to them.
 
-use Rattle.std.specs.Prelude.{◌≡◌, ℕ, ◌+◌, ◌*◌, ◌<◌, ◌≤◌, Bool, true, false, ◌&&◌, is_some, ◌⊎◌, List, Some, length, take, slice_get, slice_index}
-use Rattle.graph_theory.specs.Graph.{Graph, size, edge}
+use Rattle.std.specs.Prelude.{◌≡◌, ℕ, ◌+◌, ◌*◌, ◌<◌, ◌≤◌, ◌↔◌, Bool, true, false, ◌&&◌, is_some, ◌⊎◌, List, Some, length, take, slice_get, slice_index}
+use Rattle.graph_theory.specs.Graph.{size, edge}
 use Rattle.graph_theory.specs.Embedding.{Problem, Matches}
 use Rattle.graph_theory.specs.Neighbours.{common}
 use Rattle.graph_theory.specs.Reversed.{reversed, IsMutual}
@@ -35,14 +35,29 @@ pub record HasNoEdge (q : Problem) (t u : ℕ) : Type 0 where
   pub out : (q.induced && is_some (edge q.target t u)) ≡ false
   pub back : (q.induced && is_some (edge q.target u t)) ≡ false
 
--- The counts are those of the neighbours that the others share with t, in each direction; where it is said so, edges stand both ways.
-pub record AreShared (g : Graph) (t : ℕ) (counts back : List ℕ) (both_ways : Bool) : Type 0 where
-  pub long : length counts ≡ size g
-  pub back_long : length back ≡ size g
-  pub counted : (u : ℕ) → u < size g → (t ≡ u → ⊥) → slice_index counts u ≡ common g t u
-  pub back_counted : (u : ℕ) → u < size g → (t ≡ u → ⊥)
-      → slice_index back u ≡ common (reversed g) t u
-  pub both : both_ways ≡ true → IsMutual g
+-- The counts tell of each other vertex, in each direction, whether it shares as many neighbours with t as the kind asks for: the right ones do, and
+-- any do for a kind that asks for none. Where it is said so, edges stand both ways.
+pub record Serve (q : Problem) (k : PairKind) (t : ℕ) (counts back : List ℕ)
+    (both_ways : Bool) : Type 0 where
+  pub long : length counts ≡ size q.target
+  pub back_long : length back ≡ size q.target
+  pub told : (u : ℕ) → u < size q.target → (t ≡ u → ⊥)
+      → k.shared ≤ slice_index counts u ↔ (k.shared ≤ common q.target t u)
+  pub back_told : (u : ℕ) → u < size q.target → (t ≡ u → ⊥)
+      → k.in_shared ≤ slice_index back u ↔ (k.in_shared ≤ common (reversed q.target) t u)
+  pub both : both_ways ≡ true → IsMutual q.target
+
+-- They tell so for each of the kinds.
+pub record ServeAll (q : Problem) (kinds : List PairKind) (t : ℕ) (counts back : List ℕ)
+    (both_ways : Bool) : Type 0 where
+  pub each : (i : ℕ) (k : PairKind) → slice_get kinds i ≡ Some k
+      → Serve q k t counts back both_ways
+
+-- Where it is said that none asks for neighbours shared along edges, or against them, each kind asks for none of these.
+pub record AskAs (kinds : List PairKind) (asks in_asks : Bool) : Type 0 where
+  pub none : asks ≡ false → (i : ℕ) (k : PairKind) → slice_get kinds i ≡ Some k → k.shared ≡ 0
+  pub in_none : in_asks ≡ false → (i : ℕ) (k : PairKind) → slice_get kinds i ≡ Some k
+      → k.in_shared ≡ 0
 
 -- The row holds the u that join t in a pair of this kind.
 pub record RowIs (q : Problem) (k : PairKind) (t : ℕ) (row : List ℕ) : Type 0 where

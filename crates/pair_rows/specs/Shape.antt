@@ -9,7 +9,8 @@ use Rattle.pair_rows.specs.declared.kinds.PairKind.{PairKind}
 use Rattle.pair_rows.specs.Kinds.{AreKinds}
 
 -- The problem, how many vertices its pattern has and how many words a row, the kinds, the place of each pair's kind, the
--- graphs whose shared neighbours are counted, and whether edges of the target are known to stand both ways.
+-- graphs whose shared neighbours are counted, whether edges of the target are known to stand both ways, and whether a kind asks for neighbours
+-- shared along edges, and against them.
 pub record Shape : Type 0 where
   pub problem : Problem
   pub vertices : ℕ
@@ -19,6 +20,8 @@ pub record Shape : Type 0 where
   pub counted : Graph
   pub in_counted : Graph
   pub both_ways : Bool
+  pub asks_shared : Bool
+  pub asks_in_shared : Bool
 
 -- They are those of the problem.
 pub record Shaped (q : Problem) (vertices width : ℕ) (kinds : List PairKind) (places : List ℕ)

@@ -6,7 +6,7 @@ ghost use Rattle.graph_theory.specs.Neighbours.{common, is_neighbour};
 ghost use Rattle.graph_theory.specs.Embedding.{Matches};
 ghost use Rattle.graph_theory.specs.Reversed.{reversed, IsMutual};
 ghost use Rattle.bit_rows.specs.BitRows.{has, words_for};
-ghost use Rattle.pair_rows.specs.Kinds.{kind_of, Joins, Shares, HasNoEdge, AreShared, RowIs, HasRow, AreKinds, KindsStay, WordsStay};
+ghost use Rattle.pair_rows.specs.Kinds.{kind_of, Joins, Shares, HasNoEdge, Serve, ServeAll, RowIs, HasRow, AreKinds, KindsStay, WordsStay};
 
 use bit_rows::{and_not_into, clear, fill_below, keep_counted, next_member, set_bit, unset_bit};
 use common_neighbour::Counts;
@@ -27,7 +27,7 @@ pub(crate) struct PairKind {
     pub(crate) in_shared: u16,
 }
 
-/// How many neighbours a target vertex shares with each other one.
+/// How many neighbours a target vertex shares with each other one; in a direction in which no kind asks for any they are of no meaning.
 #[derive(Clone, Copy)]
 pub(crate) struct SharedCounts<'a> {
     /// How many vertices edges lead to from both.
@@ -286,7 +286,7 @@ pub(crate) fn fill_block(
     requires width_is { width ≡ words_for (size q.now.target) }
     requires t_in { t < size q.now.target }
     requires few { size q.now.target ≤ 8192 }
-    requires counted { AreShared q.now.target t counts.now.out.now counts.now.back.now
+    requires counted { ServeAll q.now kinds.now t counts.now.out.now counts.now.back.now
         counts.now.both_ways }
     requires room { (first + length kinds.now) * width ≤ length pool.old }
     ensures rows { (i : ℕ)
@@ -303,7 +303,7 @@ pub(crate) fn fill_block(
 /// Makes the row of a kind at `t`.
 fn fill_row(q: &Problem, kind: &PairKind, t: u16, counts: &SharedCounts<'_>, row: &mut [u64])
     requires t_in { t < size q.now.target }
-    requires counted { AreShared q.now.target t counts.now.out.now counts.now.back.now
+    requires counted { Serve q.now kind.now t counts.now.out.now counts.now.back.now
         counts.now.both_ways }
     requires long { length row.old ≡ words_for (size q.now.target) }
     ensures { RowIs q.now kind.now t row.new }
@@ -351,7 +351,7 @@ pub(crate) fn asks_no_edge(q: &Problem, kind: &PairKind, both_ways: bool) -> boo
 fn fill_near(q: &Problem, kind: &PairKind, t: u16, counts: &SharedCounts<'_>, row: &mut [u64])
     requires edge { (is_some kind.now.out || is_some kind.now.back) ≡ true }
     requires t_in { t < size q.now.target }
-    requires counted { AreShared q.now.target t counts.now.out.now counts.now.back.now
+    requires counted { Serve q.now kind.now t counts.now.out.now counts.now.back.now
         counts.now.both_ways }
     requires long { length row.old ≡ words_for (size q.now.target) }
     ensures { RowIs q.now kind.now t row.new }
@@ -389,7 +389,7 @@ fn near_row<'a>(q: &'a Problem, kind: &PairKind, t: u16) -> &'a [u64]
 fn fill_apart(q: &Problem, kind: &PairKind, t: u16, counts: &SharedCounts<'_>, row: &mut [u64])
     requires none { (is_some kind.now.out || is_some kind.now.back) ≡ false }
     requires t_in { t < size q.now.target }
-    requires counted { AreShared q.now.target t counts.now.out.now counts.now.back.now
+    requires counted { Serve q.now kind.now t counts.now.out.now counts.now.back.now
         counts.now.both_ways }
     requires long { length row.old ≡ words_for (size q.now.target) }
     ensures { RowIs q.now kind.now t row.new }
@@ -424,7 +424,7 @@ fn take_neighbours(q: &Problem, t: u16, both_ways: bool, row: &mut [u64])
 /// count where the kind shares neighbours, and another where it asks for more in the other direction.
 fn keep_shared(q: &Problem, kind: &PairKind, t: u16, counts: &SharedCounts<'_>, row: &mut [u64])
     requires t_in { t < size q.now.target }
-    requires counted { AreShared q.now.target t counts.now.out.now counts.now.back.now
+    requires counted { Serve q.now kind.now t counts.now.out.now counts.now.back.now
         counts.now.both_ways }
     requires long { length row.old ≡ words_for (size q.now.target) }
     requires within { (u : ℕ) → has row.old u ≡ true → u < size q.now.target }
@@ -441,12 +441,14 @@ fn keep_shared(q: &Problem, kind: &PairKind, t: u16, counts: &SharedCounts<'_>, 
     }
 }
 
-/// Whether `t` and `u` give a pair of the kind what it asks, where they share so many neighbours.
+/// Whether `t` and `u` give a pair of the kind what it asks, where so many shared neighbours are as good as theirs for the kind.
 fn joins(q: &Problem, kind: &PairKind, t: u16, u: u16, shared: u16, in_shared: u16) -> bool
     requires t_in { t < size q.now.target }
     requires u_in { u < size q.now.target }
-    requires counted { (t ≡ u → ⊥) → shared ≡ common q.now.target t u }
-    requires in_counted { (t ≡ u → ⊥) → in_shared ≡ common (reversed q.now.target) t u }
+    requires told { (t ≡ u → ⊥) → kind.now.shared ≤ shared
+        ↔ (kind.now.shared ≤ common q.now.target t u) }
+    requires in_told { (t ≡ u → ⊥) → kind.now.in_shared ≤ in_shared
+        ↔ (kind.now.in_shared ≤ common (reversed q.now.target) t u) }
     ensures { IsTrue result ↔ Joins q.now kind.now t u }
 {
     t != u

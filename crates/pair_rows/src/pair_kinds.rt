@@ -1,12 +1,13 @@
 //! The kinds of a problem's pairs: what any number of searches over the problem reads and none of them changes.
 
-ghost use Rattle.std.specs.Prelude.{◌≡◌, ℕ, ◌<◌, ◌↔◌, true, false, length, is_some, IsTrue, IfOk, IfSome};
+ghost use Rattle.std.specs.Prelude.{◌≡◌, ℕ, ◌<◌, ◌↔◌, true, false, length, is_some, Some, IsTrue, IfOk, IfSome, slice_get};
 ghost use Rattle.graph_theory.specs.Graph.{size};
 ghost use Rattle.graph_theory.specs.Neighbours.{is_neighbour};
 ghost use Rattle.bit_rows.specs.BitRows.{words_for};
 ghost use Rattle.graph_rows.specs.Held.{stands_in};
 ghost use Rattle.search_theory.specs.Consistency.{AreConsistent};
 ghost use Rattle.pair_rows.specs.Near.{is_listed};
+ghost use Rattle.pair_rows.specs.declared.kinds.PairKind.{PairKind};
 
 use crate::kinds::{PairKind, asks_no_edge, asks_nothing, classify};
 use crate::near::NearLists;
@@ -28,11 +29,14 @@ pub struct PairKinds<'a> {
     pub(crate) sharing: Counts<'a>,
     pub(crate) in_sharing: Counts<'a>,
     pub(crate) both_ways: bool,
+    pub(crate) asks_shared: bool,
+    pub(crate) asks_in_shared: bool,
     near: NearLists<'a>,
 }
 
 impl<'a> Model for PairKinds<'a> {
     ghost use Rattle.std.specs.Prelude.{◌≡◌};
+    ghost use Rattle.pair_rows.specs.Kinds.{AskAs};
     ghost use Rattle.pair_rows.specs.Shape.{Shape, Shaped};
 
     ghost Value = { Shape };
@@ -46,10 +50,13 @@ impl<'a> Model for PairKinds<'a> {
       counted = k.sharing;
       in_counted = k.in_sharing;
       both_ways = k.both_ways;
+      asks_shared = k.asks_shared;
+      asks_in_shared = k.asks_in_shared;
     } };
 
     ghost invariant = { λ k. Shaped k.problem.now k.vertices k.width k.kinds.items k.places.items
-        k.sharing k.in_sharing k.both_ways × (k.near ≡ k.problem.now) };
+        k.sharing k.in_sharing k.both_ways × (k.near ≡ k.problem.now)
+        × AskAs k.kinds.items k.asks_shared k.asks_in_shared };
 }
 
 impl<'a> PairKinds<'a> {
@@ -64,6 +71,8 @@ impl<'a> PairKinds<'a> {
         let sharing = Counts::new(alloc, problem.target(), Direction::Out)?;
         let in_sharing = Counts::new(alloc, problem.target(), Direction::In)?;
         let both_ways = problem.target().is_mutual();
+        let asks_shared = ask_for_shared(&kinds);
+        let asks_in_shared = ask_for_in_shared(&kinds);
         let near = NearLists::new(alloc, problem)?;
         Ok(PairKinds {
             problem,
@@ -74,6 +83,8 @@ impl<'a> PairKinds<'a> {
             sharing,
             in_sharing,
             both_ways,
+            asks_shared,
+            asks_in_shared,
             near,
         })
     }
@@ -121,4 +132,30 @@ impl<'a> PairKinds<'a> {
     {
         self.near.of(t)
     }
+}
+
+/// Whether a kind asks for vertices to which edges lead from both. Cost: one step for each kind.
+fn ask_for_shared(kinds: &[PairKind]) -> bool
+    ensures { result ≡ false → (i : ℕ) (k : PairKind) → slice_get kinds.now i ≡ Some k
+        → k.shared ≡ 0 }
+{
+    for i in 0..kinds.len() {
+        if kinds[i].shared > 0 {
+            return true;
+        }
+    }
+    false
+}
+
+/// Whether a kind asks for vertices from which edges lead to both. Cost: one step for each kind.
+fn ask_for_in_shared(kinds: &[PairKind]) -> bool
+    ensures { result ≡ false → (i : ℕ) (k : PairKind) → slice_get kinds.now i ≡ Some k
+        → k.in_shared ≡ 0 }
+{
+    for i in 0..kinds.len() {
+        if kinds[i].in_shared > 0 {
+            return true;
+        }
+    }
+    false
 }

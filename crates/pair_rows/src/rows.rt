@@ -1,6 +1,6 @@
 //! Rows of consistent values, made at a target vertex when it is first needed.
 
-ghost use Rattle.std.specs.Prelude.{◌≡◌, ℕ, ◌<◌, ◌≤◌, ◌==◌, ◌↔◌, ◌++◌, ◌∷◌, ◌*◌, [], true, false, length, is_some, IsTrue, IfOk, IfSome, OnOk, slice_index};
+ghost use Rattle.std.specs.Prelude.{◌≡◌, ℕ, ◌<◌, ◌≤◌, ◌==◌, ◌↔◌, ◌||◌, ◌&&◌, ◌++◌, ◌∷◌, ◌*◌, [], true, false, length, is_some, IsTrue, IfOk, IfSome, OnOk, slice_index};
 ghost use Rattle.graph_theory.specs.Graph.{size};
 ghost use Rattle.graph_theory.specs.Neighbours.{common, is_neighbour};
 ghost use Rattle.graph_theory.specs.Reversed.{reversed};
@@ -10,7 +10,7 @@ ghost use Rattle.search_theory.specs.Consistency.{AreConsistent};
 ghost use Rattle.pair_rows.specs.Rows.{IsMade};
 ghost use Rattle.pair_rows.specs.Near.{is_listed};
 ghost use Rattle.pair_rows.specs.Held.{owns, IsAdded};
-ghost use Rattle.pair_rows.specs.Kinds.{AreShared};
+ghost use Rattle.pair_rows.specs.Kinds.{ServeAll};
 
 use crate::kinds::{SharedCounts, fill_block};
 use crate::pair_kinds::PairKinds;
@@ -89,7 +89,8 @@ impl<'a> PairRows<'a> {
     /// Makes the rows at `t`, unless they are made. They take a block that is added; once there are as many as there is memory for, the
     /// block that was taken longest ago, and the vertex that had it has its rows no longer. It takes no memory beside that which
     /// `new` took. Cost where they are made already: two steps; else the counts
-    /// of `t`, in both directions unless the target's edges are known to stand both ways, and for each kind one step for each word of a row,
+    /// of `t` in the directions in which a kind asks for them, one of which serves for both where the target's edges are known to stand both
+    /// ways, and for each kind one step for each word of a row,
     /// with one for each neighbour of `t` in a direction that the kind has an edge in, or for each target vertex where it has none and
     /// shares neighbours.
     pub fn make(&mut self, t: u16)
@@ -187,25 +188,29 @@ fn in_counts_for(kinds: &PairKinds, size: usize) -> usize
     if kinds.both_ways { 0 } else { size }
 }
 
-/// Counts how many neighbours the other target vertices share with `t`, in both directions unless edges are known to stand both ways.
+/// Counts how many neighbours the other target vertices share with `t`, in each direction in which a kind asks for them. Where edges are
+/// known to stand both ways the counts along edges are those against them too.
 fn count_shared(kinds: &PairKinds, t: u16, counts: &mut [u16], in_counts: &mut [u16])
     requires t_in { t < size kinds.now.problem.target }
     requires long { length counts.old ≡ size kinds.now.problem.target }
     requires in_long { kinds.now.both_ways ≡ false
         → length in_counts.old ≡ size kinds.now.problem.target }
-    ensures counted { (u : ℕ) → u < size kinds.now.problem.target → (t ≡ u → ⊥)
+    ensures counted { (kinds.now.asks_shared || kinds.now.both_ways && kinds.now.asks_in_shared)
+        ≡ true → (u : ℕ) → u < size kinds.now.problem.target → (t ≡ u → ⊥)
         → slice_index counts.new u ≡ common kinds.now.problem.target t u }
-    ensures in_counted { kinds.now.both_ways ≡ false → (u : ℕ)
+    ensures in_counted { kinds.now.both_ways ≡ false → kinds.now.asks_in_shared ≡ true → (u : ℕ)
         → u < size kinds.now.problem.target → (t ≡ u → ⊥)
         → slice_index in_counts.new u ≡ common (reversed kinds.now.problem.target) t u }
 {
-    kinds.sharing.fill_counts(t, counts);
-    if !kinds.both_ways {
+    if kinds.asks_shared || kinds.both_ways && kinds.asks_in_shared {
+        kinds.sharing.fill_counts(t, counts);
+    }
+    if !kinds.both_ways && kinds.asks_in_shared {
         kinds.in_sharing.fill_counts(t, in_counts);
     }
 }
 
-/// The counts in both directions, which are the same where edges are known to stand both ways.
+/// The counts in both directions, which are the same where edges are known to stand both ways. They serve all kinds.
 fn shared_counts<'a>(
     kinds: &PairKinds,
     t: u16,
@@ -216,12 +221,14 @@ fn shared_counts<'a>(
     requires long { length counts.now ≡ size kinds.now.problem.target }
     requires in_long { kinds.now.both_ways ≡ false
         → length in_counts.now ≡ size kinds.now.problem.target }
-    requires counted { (u : ℕ) → u < size kinds.now.problem.target → (t ≡ u → ⊥)
+    requires counted { (kinds.now.asks_shared || kinds.now.both_ways && kinds.now.asks_in_shared)
+        ≡ true → (u : ℕ) → u < size kinds.now.problem.target → (t ≡ u → ⊥)
         → slice_index counts.now u ≡ common kinds.now.problem.target t u }
-    requires in_counted { kinds.now.both_ways ≡ false → (u : ℕ)
+    requires in_counted { kinds.now.both_ways ≡ false → kinds.now.asks_in_shared ≡ true → (u : ℕ)
         → u < size kinds.now.problem.target → (t ≡ u → ⊥)
         → slice_index in_counts.now u ≡ common (reversed kinds.now.problem.target) t u }
-    ensures { AreShared kinds.now.problem.target t result.out.now result.back.now result.both_ways }
+    ensures { ServeAll kinds.now.problem kinds.now.kinds t result.out.now result.back.now
+        result.both_ways }
 {
     reversed_laws();
     SharedCounts {

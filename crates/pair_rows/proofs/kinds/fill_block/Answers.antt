@@ -3,6 +3,9 @@ use Rattle.std.proofs.lemmas.Option.{slice_get-get_or, slice_get_within}
 use Rattle.pair_rows.proofs.Rowing.{made_more, next_row, part_long}
 use Rattle.pair_rows.proofs.kinds.fill_block.Goals as goal
 
+pub fill_row-requires-clause-counted : goal.fill_row-requires-clause-counted
+fill_row-requires-clause-counted c = c.requires.counted.each c.loop-i.i _ (slice_get-get_or c.args.kinds.now c.loop-i.i _ (omega arith))
+
 pub loop-i-preserved : goal.loop-i-preserved
 loop-i-preserved c =
     let e : (c.args.first + c.loop-i.i) * c.args.width + c.args.width - (c.args.first + c.loop-i.i) * c.args.width ≡ c.args.width = omega arith in
