@@ -32,15 +32,15 @@ pub(crate) enum Standing {
 /// A model, and a log over it of which a front part was fed. It keeps the lines' constraints, and of the text only the line that has not
 /// ended. Contracts speak of the verdict of that front part with each text behind it (`verdict_with`), and of whether memory was refused.
 #[derive(Drop)]
-pub struct Checker<'a> {
-    lines: LineChecker<'a>,
+pub struct Checker {
+    lines: LineChecker,
     standing: Standing,
     number: u64,
     tail: Vec<u8>,
     is_dead: bool,
 }
 
-impl<'a> Model for Checker<'a> {
+impl Model for Checker {
     ghost use Rattle.log_theory.specs.Acceptance.{NoFeed};
     ghost use Rattle.proof_checker.specs.Feeding.{Fed};
 
@@ -60,7 +60,7 @@ impl<'a> Model for Checker<'a> {
 /// How the log stands behind its next line, which is this one.
 fn behind_line(
     alloc: Global,
-    lines: &mut LineChecker<'_>,
+    lines: &mut LineChecker,
     number: u64,
     line: &[u8],
 ) -> Result<Standing, AllocError>
@@ -103,7 +103,7 @@ fn behind_claim(number: u64, claim: Verdict, text: &[u8]) -> Standing
 /// How the log stands behind its next line, which is the one in `tail` and goes on with this end; it is not copied where it is whole.
 fn behind_end(
     alloc: Global,
-    lines: &mut LineChecker<'_>,
+    lines: &mut LineChecker,
     number: u64,
     tail: &mut Vec<u8>,
     end: &[u8],
@@ -124,9 +124,9 @@ fn behind_end(
     Ok(next)
 }
 
-impl<'a> Checker<'a> {
+impl Checker {
     /// A checker of a log over a model, of which nothing was fed yet.
-    pub fn new(alloc: Global, model: &'a OpbModel) -> Result<Checker<'a>, AllocError>
+    pub fn new(alloc: Global, model: &OpbModel) -> Result<Checker, AllocError>
         ensures empty { IfOk result (λ c. (rest : List ℕ)
             → verdict_with c rest ≡ verdict_of model.now.variables model.now.constraints rest) }
         ensures alive { IfOk result (λ c. c.is_dead ≡ false) }
@@ -138,8 +138,8 @@ impl<'a> Checker<'a> {
     pub(crate) fn over(
         alloc: Global,
         variables: u32,
-        constraints: &'a [Constraint],
-    ) -> Result<Checker<'a>, AllocError>
+        constraints: &[Constraint],
+    ) -> Result<Checker, AllocError>
         ensures empty { IfOk result (λ c. (rest : List ℕ)
             → verdict_with c rest ≡ verdict_of variables constraints.now rest) }
         ensures alive { IfOk result (λ c. c.is_dead ≡ false) }
@@ -238,8 +238,8 @@ impl<'a> Checker<'a> {
 
     /// The verdict of all that was fed. It takes no memory.
     pub fn finish(self) -> Verdict
-        ensures exact { Answers result (verdict_with self.entry []) }
-        ensures dead { IsTrue self.entry.is_dead → result ≡ Unanswered }
+        ensures exact { Answers result (verdict_with self []) }
+        ensures dead { IsTrue self.is_dead → result ≡ Unanswered }
     {
         if self.is_dead {
             return Verdict::NoMemory;

@@ -3,6 +3,7 @@
 ghost use Rattle.std.specs.Prelude.{◌≡◌, ◌∷◌, ◌≤◌, [], ℕ, ℤ, pos, neg_ℤ, cond, List, length, map, IfOk};
 ghost use Rattle.proof_theory.specs.Slack.{axiom_form, clause_form, literal_term, negated_count};
 
+use packed_terms::PackedConstraint;
 use pb_terms::{Constraint, Literal, PbFault};
 use std::alloc::{AllocError, Global};
 
@@ -13,8 +14,8 @@ fn term(literal: Literal) -> (u32, i128)
     (literal.variable, if literal.negated { -1 } else { 1 })
 }
 
-/// The axiom of a literal: it is at least 0.
-pub fn axiom(alloc: Global, literal: Literal) -> Result<Constraint, AllocError>
+/// The axiom of a literal in wide terms.
+fn wide_axiom(alloc: Global, literal: Literal) -> Result<Constraint, AllocError>
     ensures { IfOk result (λ made. made ≡ axiom_form literal) }
 {
     let bound = if literal.negated { -1 } else { 0 };
@@ -23,6 +24,14 @@ pub fn axiom(alloc: Global, literal: Literal) -> Result<Constraint, AllocError>
         Err(PbFault::Wide) => unreachable!(),
         Err(PbFault::NoMemory) => Err(AllocError),
     }
+}
+
+/// The axiom of a literal: it is at least 0.
+pub fn axiom(alloc: Global, literal: Literal) -> Result<PackedConstraint, AllocError>
+    ensures { IfOk result (λ made. made ≡ axiom_form literal) }
+{
+    let made = wide_axiom(alloc, literal)?;
+    PackedConstraint::from_constraint(alloc, made)
 }
 
 /// How many of the literals are negated. One pass.
@@ -45,8 +54,8 @@ fn terms(alloc: Global, literals: &[Literal]) -> Result<Vec<(u32, i128)>, AllocE
     literals.iter().map(|literal| term(*literal)).collect(alloc)
 }
 
-/// The clause of the literals: their sum is at least 1. One pass where their variables rise, else a sort.
-pub fn clause(alloc: Global, literals: &[Literal]) -> Result<Constraint, AllocError>
+/// The clause of the literals in wide terms.
+fn wide_clause(alloc: Global, literals: &[Literal]) -> Result<Constraint, AllocError>
     ensures { IfOk result (λ made. made ≡ clause_form literals.now) }
 {
     let terms = terms(alloc, literals)?;
@@ -56,4 +65,12 @@ pub fn clause(alloc: Global, literals: &[Literal]) -> Result<Constraint, AllocEr
         Err(PbFault::Wide) => unreachable!(),
         Err(PbFault::NoMemory) => Err(AllocError),
     }
+}
+
+/// The clause of the literals: their sum is at least 1. A few passes where their variables rise, else a sort.
+pub fn clause(alloc: Global, literals: &[Literal]) -> Result<PackedConstraint, AllocError>
+    ensures { IfOk result (λ made. made ≡ clause_form literals.now) }
+{
+    let made = wide_clause(alloc, literals)?;
+    PackedConstraint::from_constraint(alloc, made)
 }

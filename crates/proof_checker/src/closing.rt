@@ -15,15 +15,17 @@ ghost use Rattle.proof_checker.specs.Rooted.{IsRooted};
 
 use super::clauses::clause;
 use super::fault::LineFault;
-use super::propagate::{above, clear, follow, negate_all, reach};
+use super::propagate::{above, clear, follow, negate_all};
 use super::propagator::{Propagator, is_closed};
+use super::reach::reach;
 use super::table::Table;
 use log_theory::Cause;
-use pb_terms::{Constraint, Literal, Literals};
+use packed_terms::PackedConstraint;
+use pb_terms::{Literal, Literals};
 use std::alloc::Global;
 
 /// One pass over constraints, up to the first that is a conflict: each sets all that it forces. Whether one is. Costs their terms.
-fn pass(set: &mut Literals, constraints: &[Constraint]) -> bool
+fn pass(set: &mut Literals, constraints: &[PackedConstraint]) -> bool
     requires { AllReach (length set.old) constraints.now }
     ensures passed { Passed result (setting set.old) constraints.now (setting set.new) }
     ensures long { length set.new ≡ length set.old }
@@ -37,7 +39,7 @@ fn pass(set: &mut Literals, constraints: &[Constraint]) -> bool
 }
 
 /// One pass over lists of constraints.
-fn pass_lists(set: &mut Literals, lists: &[Vec<Constraint>]) -> bool
+fn pass_lists(set: &mut Literals, lists: &[Vec<PackedConstraint>]) -> bool
     requires { AllReach (length set.old) (flat_map (λ fs. fs) (map (λ v. v.items) lists.now)) }
     ensures passed { Passed result (setting set.old)
         (flat_map (λ fs. fs) (map (λ v. v.items) lists.now)) (setting set.new) }
@@ -52,7 +54,7 @@ fn pass_lists(set: &mut Literals, lists: &[Vec<Constraint>]) -> bool
 }
 
 /// One pass over the model and all lists.
-fn pass_all(set: &mut Literals, model: &[Constraint], lists: &[Vec<Constraint>]) -> bool
+fn pass_all(set: &mut Literals, model: &[PackedConstraint], lists: &[Vec<PackedConstraint>]) -> bool
     requires model { AllReach (length set.old) model.now }
     requires lists { AllReach (length set.old)
         (flat_map (λ fs. fs) (map (λ v. v.items) lists.now)) }
@@ -68,7 +70,7 @@ fn pass_all(set: &mut Literals, model: &[Constraint], lists: &[Vec<Constraint>])
 
 /// Whether unit propagation over the model and all lists comes to a conflict. Each pass but the last sets a variable, so there are at most
 /// as many as variables become set, and one.
-fn close(set: &mut Literals, model: &[Constraint], lists: &[Vec<Constraint>]) -> bool
+fn close(set: &mut Literals, model: &[PackedConstraint], lists: &[Vec<PackedConstraint>]) -> bool
     requires model { AllReach (length set.old) model.now }
     requires lists { AllReach (length set.old)
         (flat_map (λ fs. fs) (map (λ v. v.items) lists.now)) }
@@ -87,7 +89,7 @@ fn close(set: &mut Literals, model: &[Constraint], lists: &[Vec<Constraint>]) ->
 }
 
 /// A number above all variables of constraints. Constant for each.
-fn reach_all(constraints: &[Constraint]) -> u64
+fn reach_all(constraints: &[PackedConstraint]) -> u64
     ensures reach { AllReach result constraints.now }
     ensures small { result ≤ 2 ^ 32 }
 {
@@ -95,13 +97,13 @@ fn reach_all(constraints: &[Constraint]) -> u64
     let mut i = constraints.len();
     while i > 0 {
         i -= 1;
-        most = most.max(reach(constraints[i].terms()));
+        most = most.max(reach(&constraints[i]));
     }
     most
 }
 
 /// A number above all variables of the constraints of lists. Constant for each constraint.
-fn reach_lists(lists: &[Vec<Constraint>]) -> u64
+fn reach_lists(lists: &[Vec<PackedConstraint>]) -> u64
     ensures reach { AllReach result (flat_map (λ fs. fs) (map (λ v. v.items) lists.now)) }
     ensures small { result ≤ 2 ^ 32 }
 {
@@ -120,10 +122,10 @@ fn reach_lists(lists: &[Vec<Constraint>]) -> u64
 fn derive_by_passes(
     alloc: Global,
     set: &mut Literals,
-    model: &[Constraint],
+    model: &[PackedConstraint],
     table: &Table,
     literals: &[Literal],
-) -> Result<Constraint, LineFault>
+) -> Result<PackedConstraint, LineFault>
     ensures { Told result (closed_clause (all_forms model.now table.now) literals.now) }
 {
     let lists = table.lists();
@@ -144,10 +146,10 @@ fn derive_by_passes(
 pub fn derive_alone(
     alloc: Global,
     work: &mut Propagator,
-    model: &[Constraint],
+    model: &[PackedConstraint],
     table: &Table,
     literals: &[Literal],
-) -> Result<Constraint, LineFault>
+) -> Result<PackedConstraint, LineFault>
     requires { IsRooted model.now table.now work.old.levels }
     ensures told { Told result (closed_clause (all_forms model.now table.now) literals.now) }
     ensures rooted { IsRooted model.now table.now work.new.levels }

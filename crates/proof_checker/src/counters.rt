@@ -6,10 +6,12 @@
 
 use super::following::greatest_of;
 use super::levels::Levels;
-use super::propagate::reach;
+use super::reach::reach;
+use super::short_following::excess_of;
 use super::table::Table;
 use super::uses::{Use, Uses};
 use log_theory::{Name, Ref};
+use packed_terms::{Kept, PackedConstraint, ShortConstraint};
 use pb_terms::Constraint;
 use std::alloc::{AllocError, Global};
 
@@ -42,8 +44,20 @@ fn widest_of(terms: &[(u32, i128)]) -> u128 {
     widest
 }
 
-/// The counter of a constraint; one that is due at each change, where its numbers are beyond a counter's.
-fn counter_of(set: &Levels, next: &Constraint) -> Counter {
+/// The counter of a constraint in short terms. Two passes.
+fn short_counter(set: &Levels, next: &ShortConstraint) -> Counter {
+    let mut widest: u32 = 0;
+    for &(_, coefficient) in next.terms() {
+        widest = widest.max(coefficient.unsigned_abs());
+    }
+    Counter {
+        slack: excess_of(set, next),
+        widest: i64::from(widest),
+    }
+}
+
+/// The counter of a constraint in wide terms; one that is due at each change, where its numbers are beyond a counter's.
+fn wide_counter(set: &Levels, next: &Constraint) -> Counter {
     let slack = greatest_of(set, next.terms()).saturating_sub(next.bound());
     let widest = widest_of(next.terms());
     if widest > u128::from(u32::MAX) || slack.unsigned_abs() > 1 << 62 {
@@ -55,6 +69,14 @@ fn counter_of(set: &Levels, next: &Constraint) -> Counter {
     Counter {
         slack: i64::try_from(slack).unwrap_or(0),
         widest: i64::try_from(widest).unwrap_or(i64::MAX),
+    }
+}
+
+/// The counter of a constraint. Two passes.
+fn counter_of(set: &Levels, next: &PackedConstraint) -> Counter {
+    match next.kept() {
+        Kept::Short(short) => short_counter(set, short),
+        Kept::Wide(wide) => wide_counter(set, wide),
     }
 }
 
@@ -128,13 +150,13 @@ impl Counters {
         alloc: Global,
         set: &Levels,
         name: Ref,
-        next: &Constraint,
+        next: &PackedConstraint,
     ) -> Result<(), AllocError> {
         let Ok(number) = u32::try_from(self.slacks.len()) else {
             return Ok(());
         };
-        self.uses.make_room(reach(next.terms()))?;
-        self.uses.note_all(alloc, number, next.terms())?;
+        self.uses.make_room(reach(next))?;
+        self.uses.note_all(alloc, number, next)?;
         self.names.push(name)?;
         self.slacks.push(counter_of(set, next))?;
         Ok(())
@@ -145,7 +167,7 @@ impl Counters {
         &mut self,
         alloc: Global,
         set: &Levels,
-        model: &[Constraint],
+        model: &[PackedConstraint],
     ) -> Result<(), AllocError> {
         let from = counted_of(&self.counted, 0);
         for at in from..model.len() {
@@ -161,7 +183,7 @@ impl Counters {
         alloc: Global,
         set: &Levels,
         owner: u8,
-        made: &[Constraint],
+        made: &[PackedConstraint],
     ) -> Result<(), AllocError> {
         let list = usize::from(owner) + 1;
         let from = counted_of(&self.counted, list);
@@ -178,7 +200,7 @@ impl Counters {
         &mut self,
         alloc: Global,
         set: &Levels,
-        model: &[Constraint],
+        model: &[PackedConstraint],
         table: &Table,
     ) -> Result<(), AllocError> {
         self.number_model(alloc, set, model)?;

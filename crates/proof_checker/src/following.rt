@@ -10,6 +10,8 @@ ghost use Rattle.proof_checker.specs.Led.{Comes, Led};
 ghost use Rattle.proof_checker.specs.Levels.{Keeps, MaySet, now};
 
 use super::levels::Levels;
+use super::short_following::follow_short;
+use packed_terms::{Kept, PackedConstraint};
 use pb_terms::Constraint;
 
 /// The greatest that a term can still add to the sum.
@@ -77,8 +79,8 @@ fn force(set: &mut Levels, next: &Constraint, greatest: i128)
     }
 }
 
-/// Whether a constraint is a conflict; else sets all that it forces. A pass or two over its terms.
-pub fn follow(set: &mut Levels, next: &Constraint) -> bool
+/// Whether a constraint of wide terms is a conflict; else sets all that it forces.
+fn follow_wide(set: &mut Levels, next: &Constraint) -> bool
     ensures comes { (s : Setting) (fs : List Form) → IsAmong next.now fs
         → Led s fs (now set.old) → Comes result s fs (now set.new) }
     ensures kept { Keeps set.old set.new }
@@ -89,4 +91,16 @@ pub fn follow(set: &mut Levels, next: &Constraint) -> bool
     }
     force(set, next, greatest);
     false
+}
+
+/// Whether a constraint is a conflict; else sets all that it forces. A pass or two over its terms.
+pub fn follow(set: &mut Levels, next: &PackedConstraint) -> bool
+    ensures comes { (s : Setting) (fs : List Form) → IsAmong next.now fs
+        → Led s fs (now set.old) → Comes result s fs (now set.new) }
+    ensures kept { Keeps set.old set.new }
+{
+    match next.kept() {
+        Kept::Short(short) => follow_short(set, short),
+        Kept::Wide(wide) => follow_wide(set, wide),
+    }
 }

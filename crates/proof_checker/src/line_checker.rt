@@ -16,6 +16,7 @@ use super::propagator::Propagator;
 use super::ranges::is_in_range;
 use super::table::Table;
 use log_theory::{Cause, Profile, Step};
+use packed_terms::PackedConstraint;
 use pb_terms::Constraint;
 use proof_log::{StepFault, read_step};
 use std::alloc::{AllocError, Global};
@@ -31,15 +32,15 @@ enum Place {
 
 /// The model and where a log over it stands. Contracts see both, with the table of what the log has made.
 #[derive(Drop)]
-pub struct LineChecker<'a> {
+pub struct LineChecker {
     variables: u32,
-    model: &'a [Constraint],
+    model: Vec<PackedConstraint>,
     place: Place,
     table: Table,
     work: Propagator,
 }
 
-impl<'a> Model for LineChecker<'a> {
+impl Model for LineChecker {
     ghost use Rattle.proof_checker.specs.Turns.{Checking};
     ghost use Rattle.proof_checker.specs.Stages.{StandsWith, stage_of};
     ghost use Rattle.proof_checker.specs.Rooted.{IsRooted};
@@ -48,12 +49,12 @@ impl<'a> Model for LineChecker<'a> {
 
     ghost view = { λ c. record {
       variables = c.variables;
-      model = c.model.now;
+      model = c.model.items;
       stage = stage_of c.place c.table;
     } };
 
     ghost invariant = { λ c. StandsWith c.place c.table
-        × IsRooted c.model.now c.table c.work.levels };
+        × IsRooted c.model.items c.table c.work.levels };
 }
 
 /// Whether a line is this text.
@@ -89,16 +90,28 @@ fn step_in(alloc: Global, profile: Profile, line: &[u8]) -> Result<Step, LineFau
     }
 }
 
-impl<'a> LineChecker<'a> {
-    /// A checker before the first line.
+/// The model as it is kept. One pass or two.
+fn packed(alloc: Global, model: &[Constraint]) -> Result<Vec<PackedConstraint>, AllocError>
+    ensures { IfOk result (λ v. v.items ≡ model.now) }
+{
+    let mut out = Vec::with_capacity(alloc, model.len())?;
+    for constraint in model {
+        out.push(PackedConstraint::copied(alloc, constraint)?)?;
+    }
+    Ok(out)
+}
+
+impl LineChecker {
+    /// A checker before the first line. It keeps the model in terms of its own.
     pub fn new(
         alloc: Global,
         variables: u32,
-        model: &'a [Constraint],
-    ) -> Result<LineChecker<'a>, AllocError>
+        model: &[Constraint],
+    ) -> Result<LineChecker, AllocError>
         ensures { IfOk result
             (λ c. c ≡ record { variables = variables; model = model.now; stage = Opening }) }
     {
+        let model = packed(alloc, model)?;
         let table = Table::new(alloc)?;
         let work = Propagator::new(alloc)?;
         Ok(LineChecker {
@@ -146,7 +159,7 @@ impl<'a> LineChecker<'a> {
                 alloc,
                 &mut self.work,
                 self.variables,
-                self.model,
+                &self.model,
                 &mut self.table,
                 profile,
                 step,

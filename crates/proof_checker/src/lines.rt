@@ -18,7 +18,8 @@ use super::propagator::Propagator;
 use super::stack::evaluate;
 use super::table::Table;
 use log_theory::{Cause, Name, Op, Profile, Ref, Step, Verdict};
-use pb_terms::{Constraint, Literal, Literals};
+use packed_terms::PackedConstraint;
+use pb_terms::{Literal, Literals};
 use std::alloc::Global;
 
 /// What a lawful line leads to: the next line, or the end of the log with its claim.
@@ -31,7 +32,7 @@ pub enum Turn {
 /// A line that makes a constraint by operations.
 fn make_by_operations(
     alloc: Global,
-    model: &[Constraint],
+    model: &[PackedConstraint],
     table: &mut Table,
     name: Name,
     ops: &[Op],
@@ -48,7 +49,7 @@ fn make_by_operations(
 fn make_by_propagation(
     alloc: Global,
     set: &mut Literals,
-    model: &[Constraint],
+    model: &[PackedConstraint],
     table: &mut Table,
     name: Name,
     literals: &[Literal],
@@ -66,7 +67,7 @@ fn make_by_propagation(
 fn make_by_closing(
     alloc: Global,
     work: &mut Propagator,
-    model: &[Constraint],
+    model: &[PackedConstraint],
     table: &mut Table,
     name: Name,
     literals: &[Literal],
@@ -83,7 +84,7 @@ fn make_by_closing(
 }
 
 /// The claim that a constraint is plainly false.
-fn refute_by(model: &[Constraint], table: &Table, at: Ref) -> Result<Turn, LineFault>
+fn refute_by(model: &[PackedConstraint], table: &Table, at: Ref) -> Result<Turn, LineFault>
     ensures { (stage : Stage) → Turns result (refuted_by (find model.now table.now at)) stage }
 {
     let Some(named) = table.find(model, at) else {
@@ -100,7 +101,7 @@ pub fn prove(
     alloc: Global,
     work: &mut Propagator,
     variables: u32,
-    model: &[Constraint],
+    model: &[PackedConstraint],
     table: &mut Table,
     profile: Profile,
     step: &Step,

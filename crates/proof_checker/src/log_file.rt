@@ -28,16 +28,11 @@ pub enum Checked {
 }
 
 /// Feeds a checker the rest of the file that is chosen for reading, of which so many bytes may come.
-fn read_through<F: Files>(
-    alloc: Global,
-    mut checker: Checker<'_>,
-    files: &mut F,
-    most: u64,
-) -> Checked
+fn read_through<F: Files>(alloc: Global, mut checker: Checker, files: &mut F, most: u64) -> Checked
     requires { IsSome (F.chosen files.old) }
 
     ensures says { IsSome (F.left files.old)
-        → FileSays result (verdict_with checker.entry) most (F.left files.old) }
+        → FileSays result (verdict_with checker) most (F.left files.old) }
 
     ensures rose { result ≡ Checked.Failed → Rose (F.faults files.old) (F.faults files.new) }
     ensures fault_at { (file : List ℕ) → F.chosen files.old ≡ Some file

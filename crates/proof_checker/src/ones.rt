@@ -10,7 +10,7 @@ ghost use Rattle.proof_checker.specs.Ones.{Marks, AreUpTo};
 
 use super::fault::LineFault;
 use log_theory::Cause;
-use pb_terms::Constraint;
+use packed_terms::PackedConstraint;
 use std::alloc::{AllocError, Global};
 
 /// The greatest of the variables, or 0. One pass.
@@ -61,7 +61,7 @@ fn mark_all(values: &mut Vec<bool>, variables: u32, ones: &[u32]) -> bool
 }
 
 /// Whether all constraints hold under a 0/1 list. One pass over their terms.
-fn all_hold(model: &[Constraint], values: &[bool]) -> bool
+fn all_hold(model: &[PackedConstraint], values: &[bool]) -> bool
     ensures { result ≡ all_hold_at (assignment values.now) model.now }
 {
     for constraint in model {
@@ -77,7 +77,7 @@ fn all_hold(model: &[Constraint], values: &[bool]) -> bool
 pub fn check_ones(
     alloc: Global,
     variables: u32,
-    model: &[Constraint],
+    model: &[PackedConstraint],
     ones: &[u32],
 ) -> Result<(), LineFault>
     requires { in_range variables ones.now ≡ true }

@@ -14,13 +14,16 @@ ghost use Rattle.proof_checker.specs.Reach.{AllReach, Reaches, LiteralsReach, Al
 
 use super::clauses::clause;
 use super::fault::LineFault;
+use super::reach::reach;
+use super::short_propagate::follow_short;
 use super::table::Table;
 use log_theory::{Cause, Name, Ref};
+use packed_terms::{Kept, PackedConstraint};
 use pb_terms::{Constraint, Literal, Literals};
 use std::alloc::{AllocError, Global};
 
 /// The value of a variable, if it is set.
-fn value_of(set: &Literals, variable: u32) -> Option<bool>
+pub fn value_of(set: &Literals, variable: u32) -> Option<bool>
     ensures { result ≡ setting set.now variable }
 {
     match set.values().get(variable as usize) {
@@ -60,8 +63,8 @@ fn force(set: &mut Literals, terms: &[(u32, i128)], slack: i128)
     }
 }
 
-/// Whether a constraint is a conflict; else sets all that it forces. A pass or two over its terms.
-pub fn follow(set: &mut Literals, next: &Constraint) -> bool
+/// Whether a constraint of wide terms is a conflict; else sets all that it forces.
+fn follow_wide(set: &mut Literals, next: &Constraint) -> bool
     requires { Reaches (length set.old) next.now.terms }
     ensures follows { Follows result (setting set.old) next.now (setting set.new) }
     ensures rises { Rises 0 next.now.terms }
@@ -76,8 +79,21 @@ pub fn follow(set: &mut Literals, next: &Constraint) -> bool
     false
 }
 
+/// Whether a constraint is a conflict; else sets all that it forces. A pass or two over its terms.
+pub fn follow(set: &mut Literals, next: &PackedConstraint) -> bool
+    requires { Reaches (length set.old) next.now.terms }
+    ensures follows { Follows result (setting set.old) next.now (setting set.new) }
+    ensures rises { Rises 0 next.now.terms }
+    ensures long { length set.new ≡ length set.old }
+{
+    match next.kept() {
+        Kept::Short(short) => follow_short(set, short),
+        Kept::Wide(wide) => follow_wide(set, wide),
+    }
+}
+
 /// Whether the references lead to a conflict, each in its order.
-fn refute(set: &mut Literals, model: &[Constraint], table: &Table, refs: &[Ref]) -> bool
+fn refute(set: &mut Literals, model: &[PackedConstraint], table: &Table, refs: &[Ref]) -> bool
     requires { AllReach (length set.old) (forms_of (find model.now table.now) refs.now) }
     ensures { result ≡ refutes (setting set.old) (forms_of (find model.now table.now) refs.now) }
 {
@@ -91,21 +107,8 @@ fn refute(set: &mut Literals, model: &[Constraint], table: &Table, refs: &[Ref])
     false
 }
 
-/// The number after the last variable of terms that rise. Constant.
-pub fn reach(terms: &[(u32, i128)]) -> u64
-    requires { Rises 0 terms.now }
-    ensures reaches { Reaches result terms.now }
-    ensures small { result ≤ 2 ^ 32 }
-{
-    if terms.is_empty() {
-        return 0;
-    }
-    let (variable, _) = terms[terms.len() - 1];
-    u64::from(variable) + 1
-}
-
 /// A number above all variables of what the references name, or that one of them names nothing. Constant for each, but for the look-up.
-fn reach_of(model: &[Constraint], table: &Table, refs: &[Ref]) -> Result<u64, Cause>
+fn reach_of(model: &[PackedConstraint], table: &Table, refs: &[Ref]) -> Result<u64, Cause>
     ensures ok { IfOk result (λ n. AllNamed (find model.now table.now) n refs.now × (n ≤ 2 ^ 32)) }
     ensures err { IfErr result (λ e. find_all (find model.now table.now) refs.now ≡ Err e) }
 {
@@ -116,7 +119,7 @@ fn reach_of(model: &[Constraint], table: &Table, refs: &[Ref]) -> Result<u64, Ca
         let Some(named) = table.find(model, refs[i]) else {
             return Err(Cause::NoSuchName);
         };
-        most = most.max(reach(named.terms()));
+        most = most.max(reach(named));
     }
     Ok(most)
 }
@@ -190,11 +193,11 @@ pub fn negate_all(set: &mut Literals, literals: &[Literal]) -> bool
 pub fn derive(
     alloc: Global,
     set: &mut Literals,
-    model: &[Constraint],
+    model: &[PackedConstraint],
     table: &Table,
     literals: &[Literal],
     refs: &[Ref],
-) -> Result<Constraint, LineFault>
+) -> Result<PackedConstraint, LineFault>
     ensures { (name : Name)
         → Told result (makes (find model.now table.now) (U name literals.now refs.now)) }
 {

@@ -20,7 +20,8 @@ use super::propagate::{above, clear, negate_all};
 use super::table::Table;
 use super::uses::Use;
 use log_theory::Ref;
-use pb_terms::{Constraint, Literal, Literals};
+use packed_terms::PackedConstraint;
+use pb_terms::{Literal, Literals};
 use std::alloc::{AllocError, Global};
 
 /// Literals, the same on two levels, and the counters of the constraints so far.
@@ -45,13 +46,12 @@ impl Propagator {
     }
 }
 
-/// Follows the constraint of a number where it is due, unless there was a conflict before; whether there is one.
+/// Follows the constraint of a name, unless there was a conflict before; whether there is one.
 fn follow_due(
     set: &mut Levels,
     closed: bool,
-    due: bool,
     name: Option<&Ref>,
-    model: &[Constraint],
+    model: &[PackedConstraint],
     table: &Table,
 ) -> bool
     ensures comes { (s : Setting) → Comes closed s (all_forms model.now table.now) (now set.old)
@@ -60,9 +60,6 @@ fn follow_due(
 {
     if closed {
         return true;
-    }
-    if !due {
-        return false;
     }
     let Some(name) = name else {
         return false;
@@ -80,7 +77,7 @@ fn touch(
     slacks: &mut [Counter],
     names: &[Ref],
     uses: &[Use],
-    model: &[Constraint],
+    model: &[PackedConstraint],
     table: &Table,
 ) -> bool
     ensures comes { (s : Setting) → Led s (all_forms model.now table.now) (now set.old)
@@ -89,14 +86,15 @@ fn touch(
 {
     let mut closed = false;
     for next in uses {
-        let due = lower(slacks, *next);
-        closed = follow_due(set, closed, due, names.get(next.number()), model, table);
+        if lower(slacks, *next) {
+            closed = follow_due(set, closed, names.get(next.number()), model, table);
+        }
     }
     closed
 }
 
 /// Propagates what is in the queue, up to a conflict: whether there is one. At most as many literals as variables.
-fn run(set: &mut Levels, counters: &mut Counters, model: &[Constraint], table: &Table) -> bool
+fn run(set: &mut Levels, counters: &mut Counters, model: &[PackedConstraint], table: &Table) -> bool
     ensures comes { (s : Setting) → Led s (all_forms model.now table.now) (now set.old)
         → Comes result s (all_forms model.now table.now) (now set.new) }
     ensures kept { Keeps set.old set.new }
@@ -128,7 +126,7 @@ fn follow_from(
     slacks: &[Counter],
     names: &[Ref],
     from: usize,
-    model: &[Constraint],
+    model: &[PackedConstraint],
     table: &Table,
 ) -> bool
     ensures comes { (s : Setting) → Led s (all_forms model.now table.now) (now set.old)
@@ -136,8 +134,7 @@ fn follow_from(
     ensures kept { Keeps set.old set.new }
 {
     for number in from..slacks.len() {
-        let due = is_due(slacks, number);
-        if follow_due(set, false, due, names.get(number), model, table) {
+        if is_due(slacks, number) && follow_due(set, false, names.get(number), model, table) {
             return true;
         }
     }
@@ -149,7 +146,7 @@ fn follow_from(
 fn close_root(
     set: &mut Levels,
     counters: &mut Counters,
-    model: &[Constraint],
+    model: &[PackedConstraint],
     table: &Table,
 ) -> bool
     ensures comes { (s : Setting) → Led s (all_forms model.now table.now) (now set.old)
@@ -225,7 +222,7 @@ fn close_line(
     counters: &mut Counters,
     assumed: &Literals,
     literals: &[Literal],
-    model: &[Constraint],
+    model: &[PackedConstraint],
     table: &Table,
 ) -> bool
     ensures comes { Led (setting assumed.now) (all_forms model.now table.now) (now set.old)
@@ -247,7 +244,7 @@ fn close(
     counters: &mut Counters,
     assumed: &Literals,
     literals: &[Literal],
-    model: &[Constraint],
+    model: &[PackedConstraint],
     table: &Table,
 ) -> Result<bool, AllocError>
     requires { IsRooted model.now table.now levels.old }
@@ -272,7 +269,7 @@ fn close(
 pub fn is_closed(
     alloc: Global,
     work: &mut Propagator,
-    model: &[Constraint],
+    model: &[PackedConstraint],
     table: &Table,
     literals: &[Literal],
 ) -> Result<bool, AllocError>

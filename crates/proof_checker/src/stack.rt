@@ -14,7 +14,8 @@ use super::clauses::axiom;
 use super::fault::LineFault;
 use super::table::Table;
 use log_theory::{Cause, Name, Op, Ref};
-use pb_terms::{Constraint, PbFault, Sum};
+use packed_terms::{PackedConstraint, PackedSum};
+use pb_terms::{Constraint, PbFault};
 use std::alloc::{AllocError, Global};
 use std::marker::Model;
 
@@ -22,7 +23,7 @@ use std::marker::Model;
 /// one first.
 #[derive(Drop)]
 struct Stack {
-    items: Vec<Sum>,
+    items: Vec<PackedSum>,
 }
 
 impl Model for Stack {
@@ -34,19 +35,22 @@ impl Model for Stack {
     ghost view = { λ s. reverse s.items.items };
 }
 
-/// The answer of a rule as a line's.
-fn narrowed(made: Result<Constraint, PbFault>) -> Result<Constraint, LineFault>
+/// The answer of a rule as a line's, in short terms again where these do.
+fn narrowed(alloc: Global, made: Result<Constraint, PbFault>) -> Result<PackedSum, LineFault>
     ensures { (f : Form) → Gives made f → Told result (narrow f) }
 {
     match made {
-        Ok(made) => Ok(made),
+        Ok(made) => {
+            let packed = PackedConstraint::from_constraint(alloc, made)?;
+            Ok(PackedSum::from_constraint(packed))
+        }
         Err(PbFault::Wide) => Err(LineFault::Cause(Cause::Wide)),
         Err(PbFault::NoMemory) => Err(LineFault::NoMemory),
     }
 }
 
 /// The answer of a sum as a line's.
-fn summed(made: Result<Sum, PbFault>) -> Result<Sum, LineFault>
+fn summed(made: Result<PackedSum, PbFault>) -> Result<PackedSum, LineFault>
     ensures { (f : Form) → Gives made f → Told result (narrow f) }
 {
     match made {
@@ -67,7 +71,7 @@ impl Stack {
     }
 
     /// Puts one on top.
-    fn push(&mut self, top: Sum) -> Result<(), AllocError>
+    fn push(&mut self, top: PackedSum) -> Result<(), AllocError>
         ensures { OnOk result (self.new ≡ top ∷ self.old) }
     {
         self.items.push(top)?;
@@ -75,7 +79,7 @@ impl Stack {
     }
 
     /// Takes the top one.
-    fn pop(&mut self) -> Option<Sum>
+    fn pop(&mut self) -> Option<PackedSum>
         ensures { MatchOption result (self.old ≡ []) (λ top. self.old ≡ top ∷ self.new) }
     {
         self.items.pop()
@@ -105,8 +109,8 @@ impl Stack {
         let Some(top) = self.pop() else {
             return Err(LineFault::Cause(Cause::Stack));
         };
-        let made = narrowed(top.constraint(alloc)?.times(alloc, n))?;
-        self.push(Sum::from_constraint(made))?;
+        let made = narrowed(alloc, top.constraint(alloc)?.times(alloc, n))?;
+        self.push(made)?;
         Ok(())
     }
 
@@ -120,8 +124,8 @@ impl Stack {
         let Some(top) = self.pop() else {
             return Err(LineFault::Cause(Cause::Stack));
         };
-        let made = narrowed(top.constraint(alloc)?.divide(alloc, n))?;
-        self.push(Sum::from_constraint(made))?;
+        let made = narrowed(alloc, top.constraint(alloc)?.divide(alloc, n))?;
+        self.push(made)?;
         Ok(())
     }
 
@@ -132,8 +136,8 @@ impl Stack {
         let Some(top) = self.pop() else {
             return Err(LineFault::Cause(Cause::Stack));
         };
-        let made = narrowed(top.constraint(alloc)?.saturate(alloc))?;
-        self.push(Sum::from_constraint(made))?;
+        let made = narrowed(alloc, top.constraint(alloc)?.saturate(alloc))?;
+        self.push(made)?;
         Ok(())
     }
 
@@ -141,7 +145,7 @@ impl Stack {
     fn push_named(
         &mut self,
         alloc: Global,
-        model: &[Constraint],
+        model: &[PackedConstraint],
         table: &Table,
         at: Ref,
     ) -> Result<(), LineFault>
@@ -150,7 +154,7 @@ impl Stack {
         let Some(named) = table.find(model, at) else {
             return Err(LineFault::Cause(Cause::NoSuchName));
         };
-        self.push(Sum::of(alloc, named)?)?;
+        self.push(PackedSum::of(alloc, named)?)?;
         Ok(())
     }
 
@@ -158,7 +162,7 @@ impl Stack {
     fn operate(
         &mut self,
         alloc: Global,
-        model: &[Constraint],
+        model: &[PackedConstraint],
         table: &Table,
         op: Op,
     ) -> Result<(), LineFault>
@@ -167,7 +171,7 @@ impl Stack {
         match op {
             Op::Push(at) => self.push_named(alloc, model, table, at),
             Op::Axiom(literal) => {
-                self.push(Sum::from_constraint(axiom(alloc, literal)?))?;
+                self.push(PackedSum::from_constraint(axiom(alloc, literal)?))?;
                 Ok(())
             }
             Op::Add => self.add(alloc),
@@ -178,7 +182,7 @@ impl Stack {
     }
 
     /// The one constraint that is left, put in order.
-    fn only_one(&mut self, alloc: Global) -> Result<Constraint, LineFault>
+    fn only_one(&mut self, alloc: Global) -> Result<PackedConstraint, LineFault>
         ensures { Told result (only_one self.old) }
     {
         let Some(top) = self.pop() else {
@@ -187,7 +191,7 @@ impl Stack {
         if self.pop().is_some() {
             return Err(LineFault::Cause(Cause::Stack));
         }
-        Ok(top.constraint(alloc)?)
+        Ok(top.packed(alloc)?)
     }
 }
 
@@ -195,10 +199,10 @@ impl Stack {
 /// terms that they read times a logarithm, however they are nested, and each other operation the terms that it touches.
 pub fn evaluate(
     alloc: Global,
-    model: &[Constraint],
+    model: &[PackedConstraint],
     table: &Table,
     ops: &[Op],
-) -> Result<Constraint, LineFault>
+) -> Result<PackedConstraint, LineFault>
     ensures { (name : Name) → Told result (makes (find model.now table.now) (P name ops.now)) }
 {
     let mut stack = Stack::new(alloc);

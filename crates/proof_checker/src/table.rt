@@ -11,7 +11,7 @@ ghost use Rattle.proof_checker.specs.Rows.{StandsAt, WouldStand, grown};
 
 use super::fault::LineFault;
 use log_theory::{Cause, Name, Ref};
-use pb_terms::Constraint;
+use packed_terms::PackedConstraint;
 use std::alloc::{AllocError, Global};
 use std::marker::Model;
 
@@ -26,7 +26,7 @@ struct Place {
 /// definition. A name is looked up in constant time, and a row in a time logarithmic in the number of rows.
 #[derive(Drop)]
 pub struct Table {
-    made: Vec<Vec<Constraint>>,
+    made: Vec<Vec<PackedConstraint>>,
     rows: Vec<u32>,
     places: Vec<Place>,
 }
@@ -51,14 +51,14 @@ impl Model for Table {
 const OWNERS: usize = 65;
 
 /// The constraint at an index.
-fn item_at(items: &[Constraint], index: usize) -> Option<&Constraint>
+fn item_at(items: &[PackedConstraint], index: usize) -> Option<&PackedConstraint>
     ensures { option_copied result ≡ slice_get items.now index }
 {
     items.get(index)
 }
 
 /// The constraint with a number that counts from 1.
-fn from_one(items: &[Constraint], number: u64) -> Option<&Constraint>
+fn from_one(items: &[PackedConstraint], number: u64) -> Option<&PackedConstraint>
     ensures { option_copied result ≡ from_one items.now number }
 {
     if number == 0 {
@@ -68,7 +68,7 @@ fn from_one(items: &[Constraint], number: u64) -> Option<&Constraint>
 }
 
 /// A list for each owner, all without an item.
-fn no_lists(alloc: Global) -> Result<Vec<Vec<Constraint>>, AllocError>
+fn no_lists(alloc: Global) -> Result<Vec<Vec<PackedConstraint>>, AllocError>
     ensures { IfOk result (λ made. map (λ v. v.items) made.items ≡ replicate 65 []) }
 {
     let mut made = Vec::with_capacity(alloc, OWNERS)?;
@@ -80,9 +80,9 @@ fn no_lists(alloc: Global) -> Result<Vec<Vec<Constraint>>, AllocError>
 
 /// Puts a constraint behind an owner's others.
 fn push_at(
-    lists: &mut Vec<Vec<Constraint>>,
+    lists: &mut Vec<Vec<PackedConstraint>>,
     owner: usize,
-    made: Constraint,
+    made: PackedConstraint,
 ) -> Result<(), AllocError>
     requires { owner < length lists.old.items }
     ensures ok { OnOk result
@@ -137,7 +137,7 @@ impl Table {
     }
 
     /// The constraints of an owner.
-    fn made_by(&self, owner: u8) -> &[Constraint]
+    fn made_by(&self, owner: u8) -> &[PackedConstraint]
         ensures { result.now ≡ made_by self.now owner }
     {
         match self.made.get(owner as usize) {
@@ -147,7 +147,7 @@ impl Table {
     }
 
     /// The constraint of a row. Logarithmic in the number of rows.
-    fn shared_at(&self, row: u32) -> Option<&Constraint>
+    fn shared_at(&self, row: u32) -> Option<&PackedConstraint>
         ensures { option_copied result ≡ shared_at self.now.shared row }
     {
         match seek(&self.rows, row) {
@@ -160,7 +160,7 @@ impl Table {
     }
 
     /// The constraints of each owner in the order of their numbers; whatever a row shares is among them.
-    pub fn lists(&self) -> &[Vec<Constraint>]
+    pub fn lists(&self) -> &[Vec<PackedConstraint>]
         ensures made { map (λ v. v.items) result.now ≡ self.now.made }
         ensures shared { (f : Form) → IsAmong f (map (λ s. s.1) self.now.shared)
             → IsAmong f (flat_map (λ fs. fs) self.now.made) }
@@ -169,7 +169,11 @@ impl Table {
     }
 
     /// What a reference names in a model and the table. Constant, or logarithmic in the number of rows for a row.
-    pub fn find<'a>(&'a self, model: &'a [Constraint], at: Ref) -> Option<&'a Constraint>
+    pub fn find<'a>(
+        &'a self,
+        model: &'a [PackedConstraint],
+        at: Ref,
+    ) -> Option<&'a PackedConstraint>
         ensures { option_copied result ≡ find model.now self.now at }
     {
         match at {
@@ -209,7 +213,7 @@ impl Table {
     }
 
     /// Takes a constraint as its owner's next. An owner past 64 has no list, and takes nothing.
-    pub fn push_made(&mut self, name: Name, made: Constraint) -> Result<(), AllocError>
+    pub fn push_made(&mut self, name: Name, made: PackedConstraint) -> Result<(), AllocError>
         ensures { OnOk result (self.new ≡ with_made self.old name made) }
     {
         let owner = name.owner as usize;

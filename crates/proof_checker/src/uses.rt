@@ -1,6 +1,7 @@
 // The constraints in which each literal stands. A literal that stands in none has four bytes, so that a log which names great variables
 // takes little for those below. Like the counters that it serves this is advice, and no contract speaks of it.
 
+use packed_terms::{Kept, PackedConstraint};
 use std::alloc::{AllocError, Global};
 
 /// A constraint in which a literal stands, and its coefficient there.
@@ -89,17 +90,39 @@ impl Uses {
         Ok(())
     }
 
+    /// Notes the use of a term's literal.
+    fn note_term(
+        &mut self,
+        alloc: Global,
+        number: u32,
+        variable: u32,
+        is_negative: bool,
+        size: u32,
+    ) -> Result<(), AllocError> {
+        let place = place_of(variable, is_negative);
+        self.note(alloc, place, Use { number, size })
+    }
+
     /// Notes the uses of a constraint's literals. One pass.
     pub fn note_all(
         &mut self,
         alloc: Global,
         number: u32,
-        terms: &[(u32, i128)],
+        next: &PackedConstraint,
     ) -> Result<(), AllocError> {
-        for &(variable, coefficient) in terms {
-            let size = u32::try_from(coefficient.unsigned_abs()).unwrap_or(u32::MAX);
-            let place = place_of(variable, coefficient < 0);
-            self.note(alloc, place, Use { number, size })?;
+        match next.kept() {
+            Kept::Short(short) => {
+                for &(variable, coefficient) in short.terms() {
+                    let size = coefficient.unsigned_abs();
+                    self.note_term(alloc, number, variable, coefficient < 0, size)?;
+                }
+            }
+            Kept::Wide(wide) => {
+                for &(variable, coefficient) in wide.terms() {
+                    let size = u32::try_from(coefficient.unsigned_abs()).unwrap_or(u32::MAX);
+                    self.note_term(alloc, number, variable, coefficient < 0, size)?;
+                }
+            }
         }
         Ok(())
     }

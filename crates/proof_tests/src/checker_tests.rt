@@ -185,6 +185,53 @@ fn counting_refutes_three_into_two(rt: HostRuntime) -> Result<(), Fail> {
     Ok(())
 }
 
+/// Coefficients that sum to exactly 2^31, and to one less.
+const HEAVY: &[u8] = b"* #variable= 2 #constraint= 3
++2147483647 x1 +1 x2 >= 2147483648 ;
+-2147483646 x1 -1 x2 >= -2147483646 ;
++1 x1 >= 1 ;
+";
+
+/// Constraints whose coefficients sum to 2^31 or more, made by a model, a multiple and a sum, beside lighter ones.
+static AROUND_2_31: [Whole; 6] = [
+    Whole {
+        model: HEAVY,
+        log: "embedding proof 1\nm 3\nu 0.1 ; 1 2 ;\ne 0.1\n",
+        verdict: Is(Verdict::Unsatisfiable),
+    },
+    Whole {
+        model: HEAVY,
+        log: "embedding proof 2\nm 3\nu 0.1 ;\ne 0.1\n",
+        verdict: Is(Verdict::Unsatisfiable),
+    },
+    Whole {
+        model: HEAVY,
+        log: "embedding proof 1\nm 3\nu 0.1 ; 2 3 ;\n",
+        verdict: Stops(3, Cause::NoConflict),
+    },
+    Whole {
+        model: HEAVY,
+        log: "embedding proof 1\nm 3\ny x1 x2\n",
+        verdict: Stops(3, Cause::NotSolution),
+    },
+    Whole {
+        model: TWO_LINES,
+        log: "embedding proof 1\nm 2\np 0.1 1 2147483647 * ;\np 0.2 0.1 1 + ;\np 0.3 2 2147483648 * 0.2 + ;\ne 0.3\n",
+        verdict: Is(Verdict::Unsatisfiable),
+    },
+    Whole {
+        model: TWO_LINES,
+        log: "embedding proof 1\nm 2\np 0.1 1 4294967296 * 4294967296 d 2 + ;\ne 0.1\n",
+        verdict: Is(Verdict::Unsatisfiable),
+    },
+];
+
+#[test]
+fn coefficients_around_2_31(rt: HostRuntime) -> Result<(), Fail> {
+    assert_eq!(rt; first_wrong(&rt, rt.alloc(), &AROUND_2_31)?, None);
+    Ok(())
+}
+
 const WHOLE_LOG: &[u8] = b"embedding proof 1
 m 34
 p 0.1 15 24 + 6 + ;

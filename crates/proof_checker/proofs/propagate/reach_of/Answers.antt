@@ -1,6 +1,5 @@
-use Rattle.std.proofs.Common.{◌-◌, ℕ, ℤ, List, arith, sym, subst}
+use Rattle.std.proofs.Common.{◌-◌, arith, sym}
 use Rattle.log_theory.specs.Tables.{find}
-use Rattle.proof_checker.specs.Reach.{Reaches}
 use Rattle.proof_checker.proofs.Propagation.{reaches_wider, unnamed, named_more}
 use Rattle.proof_checker.proofs.propagate.reach_of.Goals as goal
 
@@ -18,7 +17,7 @@ loop-i-preserved c =
     let k = c.reach.ensures.small in
     let m = c.max-most.ensures in
     record {
-      named = named_more (find c.args.model.now c.args.table.now) c.loop-i.most c.max-most.result c.args.refs.now (c.loop-i.i - 1) c.loop-i.i c.in-Some.named.now (omega arith) (omega arith) (omega arith) (sym c.in-Some.ensures) (subst (λ (ts : List (ℕ × ℤ)). Reaches c.max-most.result ts) c.terms.ensures.exact (reaches_wider c.reach.result c.max-most.result c.terms.result.now (omega arith) c.reach.ensures.reaches)) c.loop-i.invariant.named;
+      named = named_more (find c.args.model.now c.args.table.now) c.loop-i.most c.max-most.result c.args.refs.now (c.loop-i.i - 1) c.loop-i.i c.in-Some.named.now (omega arith) (omega arith) (omega arith) (sym c.in-Some.ensures) (reaches_wider c.reach.result c.max-most.result c.in-Some.named.now.terms (omega arith) c.reach.ensures.reaches) c.loop-i.invariant.named;
       small = omega arith;
       inside = omega arith;
     }

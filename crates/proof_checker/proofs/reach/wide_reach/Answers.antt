@@ -1,7 +1,7 @@
 use Rattle.std.proofs.Common.{false, nat_eq, ◌≡◌, ◌+◌, ◌-◌, ℕ, length, arith}
 use Rattle.std.proofs.lemmas.Bool.Decides.{nat_tests}
 use Rattle.proof_checker.proofs.Propagation.{reaches_last}
-use Rattle.proof_checker.proofs.propagate.reach.Goals as goal
+use Rattle.proof_checker.proofs.reach.wide_reach.Goals as goal
 
 some_length : (n : ℕ) → false ≡ nat_eq n 0 → n ≡ n - 1 + 1
 some_length n h = grind (arith, nat_tests)

@@ -5,7 +5,7 @@ use Rattle.std.proofs.lemmas.Int.{ints}
 use Rattle.proof_theory.specs.declared.literal.Literal.{Literal}
 use Rattle.proof_theory.specs.Forms.{size}
 use Rattle.proof_theory.specs.Slack.{literal_term}
-use Rattle.proof_checker.proofs.clauses.clause.Goals as goal
+use Rattle.proof_checker.proofs.clauses.wide_clause.Goals as goal
 
 one_each : (b : Bool) → unsigned_abs (cond b (neg_ℤ (pos 1)) (pos 1)) ≤ 1
 one_each true = omega arith

@@ -3,7 +3,7 @@ use Rattle.std.specs.Int.{w128}
 use Rattle.std.proofs.lemmas.Int.{to_z-of_z}
 use Rattle.proof_checker.specs.Levels.{now}
 use Rattle.proof_checker.proofs.Led.{led_conflict, slack_as, conflict_as}
-use Rattle.proof_checker.proofs.following.follow.Goals as goal
+use Rattle.proof_checker.proofs.following.follow_wide.Goals as goal
 
 pub force-requires-clause-exact : goal.force-requires-clause-exact
 force-requires-clause-exact c =

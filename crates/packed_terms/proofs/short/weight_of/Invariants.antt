@@ -1,0 +1,6 @@
+use Rattle.std.proofs.Common.{◌≡◌, ◌+◌, drop}
+use Rattle.proof_theory.specs.Forms.{size}
+use Rattle.packed_terms.proofs.short.weight_of.Given as goal
+
+abbrev pub invariant-loop-coefficient : goal.invariant-loop-coefficient
+invariant-loop-coefficient l = l.sum + size (drop l.coefficient-index l.terms) ≡ size l.terms
