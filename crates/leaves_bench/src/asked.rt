@@ -3,6 +3,8 @@
 ghost use Rattle.std.specs.Prelude.{◌≡◌, ℕ, ◌+◌, ◌*◌, ◌/◌, ◌<◌, ◌≤◌};
 ghost use Rattle.bit_rows.specs.BitRows.{words_for};
 
+use bit_rows::words_for;
+
 /// How many vertices and values the domains have.
 #[derive(Clone, Copy)]
 pub struct Shape {
@@ -16,7 +18,7 @@ impl Shape {
     pub fn row_words(self) -> usize
         ensures { result ≡ words_for self.values }
     {
-        (usize::from(self.values) + 63) / 64
+        words_for(usize::from(self.values))
     }
 }
 

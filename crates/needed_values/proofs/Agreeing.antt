@@ -1,8 +1,7 @@
 -- Edges that agree, and values that are consistent.
-use Rattle.std.proofs.Common.{◌≡◌, ℕ, ◌<◌, ◌≤◌, ◌==◌, nat_lt, ◌&&◌, ◌||◌, not, Bool, true, false, is_some, List, Option, Some, None, Result, Ok, Err, OnOk, IfOk, slice_index, ◌+◌, refl, sym, ap, subst, ◌∙◌, arith, inl, inr, ◌⊎◌}
+use Rattle.std.proofs.Common.{◌≡◌, ℕ, ◌<◌, ◌≤◌, ◌==◌, nat_lt, ◌&&◌, not, Bool, true, false, is_some, List, Option, Some, None, slice_index, ◌+◌, refl, sym, ap, subst, ◌∙◌, arith, inl, inr, ◌⊎◌}
 use Rattle.std.proofs.lemmas.Bool.{true≢false, eq-eqb, ne_eqb, eqb-true, eqb-false, cases_eq, cases_lt, ltb-true, ltb-false, or_parts}
-use Rattle.std.specs.declared.alloc.AllocError.{AllocError}
-use Rattle.graph_theory.specs.Graph.{size, edge}
+use Rattle.graph_theory.specs.Graph.{Graph, size, edge}
 use Rattle.graph_theory.specs.Embedding.{Problem, Matches, Compatible}
 use Rattle.graph_theory.specs.Neighbours.{common}
 use Rattle.graph_theory.specs.Reversed.{reversed, reversed_problem, AreMutual}
@@ -152,11 +151,11 @@ pub not_itself : (q : Problem) (p t r : ℕ) (row : List ℕ) → AllGo q p t r 
 not_itself q p t r row all = at_either (has row t) (λ h. (all t h).apart refl)
 
 module _ (q : Problem) (p t r : ℕ) (p_in : p < size q.pattern) (r_in : r < size q.pattern) (t_in : t < size q.target) (old mid new : List ℕ) (within : (u : ℕ) → has old u ≡ true → u < size q.target) (all : AllGo q p t r old)
-    (along : Shares q p t r old mid) where
+    (along : Shares q.target t (common q.pattern p r) old mid) where
   pub out_leaves : Leaves q p t r old mid
   out_leaves = record { kept = along.kept; right = λ u was gone c. along.right u was gone c.shared }
 
-  pub out_all : AreMutual q → (b : Bool) → AllShare b q p t r mid → AllConsistent b q p t r mid
+  pub out_all : AreMutual q → (b : Bool) → AllShare b q.target t (common q.pattern p r) mid → AllConsistent b q p t r mid
   out_all ways false share = tt
   out_all ways true share = λ u h. let was = along.kept u h in mutual_consistent q p t r u ways p_in t_in r_in (within u was) (all u was) (share u h)
 
@@ -166,7 +165,7 @@ module _ (q : Problem) (p t r : ℕ) (p_in : p < size q.pattern) (r_in : r < siz
   pub mid_other : has mid t ≡ false
   mid_other = at_either (has mid t) (λ h. (all t (along.kept t h)).apart refl)
 
-  module _ (against : Shares (reversed_problem q) p t r mid new) where
+  module _ (against : Shares (reversed q.target) t (common (reversed q.pattern) p r) mid new) where
     pub both_leave : Leaves q p t r old new
     both_leave = record { kept = λ u h. along.kept u (against.kept u h); right = λ u was gone c. by u was gone c (has mid u) refl }
       where
@@ -174,16 +173,16 @@ module _ (q : Problem) (p t r : ℕ) (p_in : p < size q.pattern) (r_in : r < siz
         by u was gone c true there = against.right u there gone c.in_shared
         by u was gone c false left = along.right u was left c.shared
 
-    pub both_all : (a b : Bool) → AllShare a q p t r mid → AllShare b (reversed_problem q) p t r new → AllConsistent (a && b) q p t r new
+    pub both_all : (a b : Bool) → AllShare a q.target t (common q.pattern p r) mid → AllShare b (reversed q.target) t (common (reversed q.pattern) p r) new → AllConsistent (a && b) q p t r new
     both_all false b one two = tt
     both_all true false one two = tt
     both_all true true one two = λ u h. let there = against.kept u h in record { pair = all u (along.kept u there); shared = one u there; in_shared = two u h }
 
 -- What is left by counts of shared neighbours shares enough, and nothing else that was there does.
-module _ (q : Problem) (p t r shared : ℕ) (counts old new : List ℕ) (shared_is : shared ≡ common q.pattern p r)
-    (counts_are : (u : ℕ) → u < size q.target → (t ≡ u → ⊥) → slice_index counts u ≡ common q.target t u) (within : (u : ℕ) → has old u ≡ true → u < size q.target) (other : has old t ≡ false)
+module _ (g : Graph) (t shared values : ℕ) (counts old new : List ℕ)
+    (counts_are : (u : ℕ) → u < values → (t ≡ u → ⊥) → slice_index counts u ≡ common g t u) (within : (u : ℕ) → has old u ≡ true → u < values) (other : has old t ≡ false)
     (left : (u : ℕ) → has new u ≡ (has old u && not (nat_lt (slice_index counts u) shared))) where
-  count_of : (u : ℕ) → has old u ≡ true → slice_index counts u ≡ common q.target t u
+  count_of : (u : ℕ) → has old u ≡ true → slice_index counts u ≡ common g t u
   count_of u h = counts_are u (within u h) (λ e. true≢false (sym h ∙ ap (has old) (sym e) ∙ other))
 
   left_parts : (u : ℕ) → has new u ≡ true → (has old u ≡ true) × (nat_lt (slice_index counts u) shared ≡ false)
@@ -191,14 +190,14 @@ module _ (q : Problem) (p t r shared : ℕ) (counts old new : List ℕ) (shared_
       let a = and_true (has old u) (not (nat_lt (slice_index counts u) shared)) (sym (left u) ∙ h) in
       (a.0, not_true (nat_lt (slice_index counts u) shared) a.1)
 
-  pub all_counted : (u : ℕ) → has new u ≡ true → common q.pattern p r ≤ common q.target t u
+  pub all_counted : (u : ℕ) → has new u ≡ true → shared ≤ common g t u
   all_counted u h =
       let a = left_parts u h in
       let enough : shared ≤ slice_index counts u = ltb-false (slice_index counts u) shared a.1 in
       let is = count_of u a.0 in
-      omega (arith, enough, is, shared_is)
+      omega (arith, enough, is)
 
-  pub counted : Shares q p t r old new
+  pub counted : Shares g t shared old new
   counted = record {
     kept = λ u h. (left_parts u h).0;
     right = λ u was gone enough. less u was enough (by (nat_lt (slice_index counts u) shared) (sym (ap (λ (b : Bool). b && not (nat_lt (slice_index counts u) shared)) was) ∙ sym (left u) ∙ gone));
@@ -208,8 +207,8 @@ module _ (q : Problem) (p t r shared : ℕ) (counts old new : List ℕ) (shared_
       by true h = refl
       by false h = absurd cc
 
-      less : (u : ℕ) → has old u ≡ true → common q.pattern p r ≤ common q.target t u → nat_lt (slice_index counts u) shared ≡ true → ⊥
+      less : (u : ℕ) → has old u ≡ true → shared ≤ common g t u → nat_lt (slice_index counts u) shared ≡ true → ⊥
       less u was enough lt =
           let few : slice_index counts u < shared = ltb-true (slice_index counts u) shared lt in
           let is = count_of u was in
-          omega (arith, enough, few, is, shared_is)
+          omega (arith, enough, few, is)

@@ -1,7 +1,7 @@
 -- What a vertex at its place leaves to another.
 
 use Rattle.std.specs.Prelude.{◌≡◌, ℕ, ◌≤◌, Bool, true, false, not, ◌||◌, is_some, List}
-use Rattle.graph_theory.specs.Graph.{edge}
+use Rattle.graph_theory.specs.Graph.{Graph, edge}
 use Rattle.graph_theory.specs.Embedding.{Problem, Compatible}
 use Rattle.graph_theory.specs.Neighbours.{common}
 use Rattle.search_theory.specs.Consistency.{AreConsistent}
@@ -40,13 +40,12 @@ abbrev pub AllConsistent : Bool → Problem → ℕ → ℕ → ℕ → List ℕ
 AllConsistent true q p t r row = (u : ℕ) → has row u ≡ true → AreConsistent q p t r u
 AllConsistent false q p t r row = Unit {0}
 
--- Of a row of values some are left, and the others share fewer neighbours with t than p with r.
-pub record Shares (q : Problem) (p t r : ℕ) (old new : List ℕ) : Type 0 where
+-- Of a row of values some are left, and the others share fewer neighbours with t than n.
+pub record Shares (g : Graph) (t n : ℕ) (old new : List ℕ) : Type 0 where
   pub kept : (u : ℕ) → has new u ≡ true → has old u ≡ true
-  pub right : (u : ℕ) → has old u ≡ true → has new u ≡ false
-      → common q.pattern p r ≤ common q.target t u → ⊥
+  pub right : (u : ℕ) → has old u ≡ true → has new u ≡ false → n ≤ common g t u → ⊥
 
 -- Where the answer is true, each value of the row shares as many.
-abbrev pub AllShare : Bool → Problem → ℕ → ℕ → ℕ → List ℕ → Type 0
-AllShare true q p t r row = (u : ℕ) → has row u ≡ true → common q.pattern p r ≤ common q.target t u
-AllShare false q p t r row = Unit {0}
+abbrev pub AllShare : Bool → Graph → ℕ → ℕ → List ℕ → Type 0
+AllShare true g t n row = (u : ℕ) → has row u ≡ true → n ≤ common g t u
+AllShare false g t n row = Unit {0}

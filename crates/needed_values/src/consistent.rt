@@ -2,13 +2,14 @@
 
 ghost use Rattle.std.specs.Prelude.{◌≡◌, ℕ, ◌<◌, ◌&&◌, not, ◌==◌, true, false, length, IfOk, OnOk};
 ghost use Rattle.graph_theory.specs.Graph.{size};
-ghost use Rattle.graph_theory.specs.Reversed.{turned_problem};
+ghost use Rattle.graph_theory.specs.Neighbours.{common};
+ghost use Rattle.graph_theory.specs.Reversed.{turned, turned_problem};
 ghost use Rattle.bit_rows.specs.BitRows.{has, words_for};
 ghost use Rattle.needed_values.specs.Consistent.{edges_agree, are_joined, Leaves, AllConsistent, Goes, AllGo, Shares, AllShare};
 
 use bit_rows::{and_into, and_not_into, has_bit, keep_counted, next_member, unset_bit};
 use common_neighbour::Counts;
-use graph_rows::Problem;
+use graph_rows::{Graph, Problem};
 use graph_theory::direction::Direction;
 use std::alloc::{AllocError, Global};
 
@@ -80,35 +81,46 @@ fn keep_compatible(q: &Problem, p: u16, t: u16, r: u16, row: &mut [u64])
     }
 }
 
-/// Keeps of a row of values those that share as many neighbours with `t` in a direction as `p` with `r`, where these are few enough to be
-/// counted, and tells whether it did. Cost: for pattern vertices that share none, or a `t` of many neighbours, one step for each word of a
-/// row of the pattern; else also one for each value, and for each neighbour of a neighbour of `t`.
-fn keep_sharing(
+/// How many neighbours two vertices share in a direction. Cost: one step for each word of a row.
+fn shared_by(
     alloc: Global,
-    q: &Problem,
+    pattern: &Graph,
     direction: Direction,
     p: u16,
-    t: u16,
     r: u16,
+) -> Result<u16, AllocError>
+    requires p_in { p < size pattern.now }
+    requires r_in { r < size pattern.now }
+    requires apart { p ≡ r → ⊥ }
+    ensures { IfOk result (λ n. n ≡ common (turned direction pattern.now) p r) }
+{
+    Ok(Counts::new(alloc, pattern, direction)?.count(p, r))
+}
+
+/// Keeps of a row of values those that share so many neighbours with `t` in a direction, where these are few enough to be counted, and
+/// tells whether it did. Cost: where none need be shared, or `t` has many neighbours, two steps; else one for each value, and for each
+/// neighbour of a neighbour of `t`.
+fn keep_sharing(
+    alloc: Global,
+    target: &Graph,
+    direction: Direction,
+    t: u16,
+    shared: u16,
     row: &mut [u64],
     counts: &mut [u16],
 ) -> Result<bool, AllocError>
-    requires p_in { p < size q.now.pattern }
-    requires t_in { t < size q.now.target }
-    requires r_in { r < size q.now.pattern }
-    requires apart { p ≡ r → ⊥ }
-    requires long { length row.old ≡ words_for (size q.now.target) }
-    requires within { (u : ℕ) → has row.old u ≡ true → u < size q.now.target }
+    requires t_in { t < size target.now }
+    requires long { length row.old ≡ words_for (size target.now) }
+    requires within { (u : ℕ) → has row.old u ≡ true → u < size target.now }
     requires other { has row.old t ≡ false }
-    requires counts { length counts.old ≡ size q.now.target }
-    ensures shares { OnOk result (Shares (turned_problem direction q.now) p t r row.old row.new) }
-    ensures all { IfOk result (λ b. AllShare b (turned_problem direction q.now) p t r row.new) }
+    requires counts { length counts.old ≡ size target.now }
+    ensures shares { OnOk result (Shares (turned direction target.now) t shared row.old row.new) }
+    ensures all { IfOk result (λ b. AllShare b (turned direction target.now) t shared row.new) }
 {
-    let shared = Counts::new(alloc, q.pattern(), direction)?.count(p, r);
+    let _size = target.size();
     if shared == 0 {
         return Ok(true);
     }
-    let target = q.target();
     if target.degree_by(direction, t) > MOST_NEAR {
         return Ok(false);
     }
@@ -139,11 +151,14 @@ fn keep_sharing_both(
     ensures leaves { OnOk result (Leaves q.now p t r row.old row.new) }
     ensures all { IfOk result (λ b. AllConsistent b q.now p t r row.new) }
 {
-    let along = keep_sharing(alloc, q, Direction::Out, p, t, r, row, counts)?;
+    let (pattern, target) = (q.pattern(), q.target());
+    let out = shared_by(alloc, pattern, Direction::Out, p, r)?;
+    let along = keep_sharing(alloc, target, Direction::Out, t, out, row, counts)?;
     if q.is_mutual() {
         return Ok(along);
     }
-    let against = keep_sharing(alloc, q, Direction::In, p, t, r, row, counts)?;
+    let back = shared_by(alloc, pattern, Direction::In, p, r)?;
+    let against = keep_sharing(alloc, target, Direction::In, t, back, row, counts)?;
     Ok(along && against)
 }
 

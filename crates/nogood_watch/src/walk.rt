@@ -83,24 +83,33 @@ fn partner_of(x: u32) -> u32
     x + 1 - 2 * (x % 2)
 }
 
+/// The nogoods that are in force: their literals one after another, and an entry for each.
+#[derive(Drop)]
+pub(crate) struct NogoodList<'a> {
+    pub(crate) literals: &'a [(u16, u16)],
+    pub(crate) entries: &'a [Entry],
+}
+
 /// Looks at one nogood whose watch `x` is assigned and the first one in hand. It moves to a literal that is not assigned, also where the
 /// other watch has left its domain: a watch that stays is met again at each later assignment of its literal, and on hard refutations
 /// these were nine in ten of all visits. Its other watch stays where it is. Cost: at most two steps for each literal of the nogood.
 fn visit<T: Trail>(
     d: &Domains<T>,
-    literals: &[(u16, u16)],
-    entries: &[Entry],
+    nogoods: &NogoodList<'_>,
     watches: &mut [(u16, u16)],
     heads: &mut [u32],
     next: &mut [u32],
     forced: &mut Vec<(u16, u16, u32)>,
     x: u32,
 )
-    requires ready { Ready d.now (nogoods_of literals.now entries.now) watches.old heads.old
+    requires ready { Ready d.now
+        (nogoods_of nogoods.now.literals.now nogoods.now.entries.now) watches.old heads.old
         next.old x }
-    requires within { (i : ℕ) → i < length entries.now → Within literals.now (entry entries.now i) }
+    requires within { (i : ℕ) → i < length nogoods.now.entries.now
+        → Within nogoods.now.literals.now (entry nogoods.now.entries.now i) }
     requires room { length forced.old.items < vec_capacity forced.old }
-    ensures visited { Visited d.now (nogoods_of literals.now entries.now) watches.old watches.new
+    ensures visited { Visited d.now
+        (nogoods_of nogoods.now.literals.now nogoods.now.entries.now) watches.old watches.new
         forced.old.items forced.new.items x }
     ensures chained { (home : ℕ → ℕ) → Chained home heads.old next.old
         → home x ≡ d.now.vertices * d.now.values
@@ -109,8 +118,8 @@ fn visit<T: Trail>(
     ensures next_long { length next.new ≡ length next.old }
     ensures room { vec_capacity forced.new ≡ vec_capacity forced.old }
 {
-    let entry = &entries[x as usize / 2];
-    let nogood = &literals[entry.start as usize..entry.end as usize];
+    let entry = &nogoods.entries[x as usize / 2];
+    let nogood = &nogoods.literals[entry.start as usize..entry.end as usize];
     let hand = heads.len() - 1;
     let own = watches[x as usize];
     let other = watches[partner_of(x) as usize];
@@ -129,29 +138,32 @@ fn visit<T: Trail>(
 /// Visits the nogoods that are watched at the literal, each once. Cost: that of the visits.
 pub(crate) fn walk<T: Trail>(
     d: &Domains<T>,
-    literals: &[(u16, u16)],
-    entries: &[Entry],
+    nogoods: &NogoodList<'_>,
     watches: &mut [(u16, u16)],
     heads: &mut [u32],
     next: &mut [u32],
     forced: &mut Vec<(u16, u16, u32)>,
     literal: (u16, u16),
 )
-    requires kept { Kept d.now.vertices d.now.values literals.now entries.now watches.old heads.old
+    requires kept { Kept d.now.vertices d.now.values nogoods.now.literals.now
+        nogoods.now.entries.now
+        watches.old heads.old
         next.old (vec_capacity forced.old) }
     requires none { forced.old.items ≡ [] }
     requires vertex { literal.0 < d.now.vertices }
     requires assigned { IsAssigned d.now literal }
-    ensures kept { Kept d.now.vertices d.now.values literals.now entries.now watches.new heads.new
+    ensures kept { Kept d.now.vertices d.now.values nogoods.now.literals.now nogoods.now.entries.now
+        watches.new heads.new
         next.new (vec_capacity forced.new) }
-    ensures walked { Walked d.now (nogoods_of literals.now entries.now) watches.old watches.new
+    ensures walked { Walked d.now
+        (nogoods_of nogoods.now.literals.now nogoods.now.entries.now) watches.old watches.new
         literal forced.new.items }
 {
     let hand = heads.len() - 1;
     take_list(heads, cell_of(d.values(), literal), hand);
     while heads[hand] != END {
         let x = heads[hand];
-        visit(d, literals, entries, watches, heads, next, forced, x);
+        visit(d, nogoods, watches, heads, next, forced, x);
     }
 }
 

@@ -8,7 +8,7 @@ ghost use Rattle.nogood_watch.specs.Nogoods.{added, empty, AreLiterals, AreWatch
 ghost use Rattle.nogood_watch.specs.Watching.{AllFollow, Answers, GuardsAll, KeepsOthers, MovesToFree};
 
 use crate::lists::{END, link};
-use crate::walk::{answer_of, cell_of, walk};
+use crate::walk::{NogoodList, answer_of, cell_of, walk};
 use domain_bits::{Domains, Trail};
 use std::alloc::{AllocError, Global};
 use std::marker::Model;
@@ -152,10 +152,13 @@ impl Watched {
         ensures new_values { self.new.values ≡ self.old.values }
     {
         self.forced.clear();
+        let nogoods = NogoodList {
+            literals: &self.literals,
+            entries: &self.entries,
+        };
         walk(
             d,
-            &self.literals,
-            &self.entries,
+            &nogoods,
             &mut self.watches,
             &mut self.heads,
             &mut self.next,

@@ -12,6 +12,8 @@ mod encode_tests;
 #[cfg(test)]
 mod fault_tests;
 #[cfg(test)]
+mod refusal_tests;
+#[cfg(test)]
 mod solve_tests;
 #[cfg(test)]
 mod verify_tests;

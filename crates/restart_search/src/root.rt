@@ -12,6 +12,7 @@ ghost use Rattle.propagation.specs.Recording.{NoNewGuess};
 ghost use Rattle.propagation.specs.Telling.{Fails, IsEmptied, Tells, TellsOn};
 ghost use Rattle.restart_search.specs.Searching.{Begins, Roots, RootSays};
 
+use bit_rows::words_for;
 use domain_bits::{Domains, Trail};
 use first_rows::{FirstRows, fill_first};
 use graph_rows::Problem;
@@ -135,7 +136,7 @@ fn take_root<T: Trail, R: Recorder>(
     let mut domains = Domains::<T>::with_trail(alloc, vertices, values)?;
     let mut waiting = vec![in alloc; false; usize::from(vertices)]?;
     let mut undecided = SparseSet::new(alloc, vertices)?;
-    let row = vec![in alloc; 0u64; (usize::from(values) + 63) / 64]?;
+    let row = vec![in alloc; 0u64; words_for(usize::from(values))]?;
     let kept = FirstRows::new(alloc, q)?;
     let mut first = FirstRoom { kept, row };
     let mut filters = Filters::new(alloc, q, kinds, most)?;

@@ -17,6 +17,7 @@ use crate::position::{Position, Propagator, present};
 use crate::search::{Signals, Walk, run};
 use crate::sharing::Author;
 use crate::value_choice::ValueChoice;
+use bit_rows::words_for;
 use domain_bits::{Domains, Trail};
 use fail_account::Account;
 use graph_rows::Problem;
@@ -116,7 +117,7 @@ impl<'a, T: Trail, R: Recorder> Equipment<'a, T, R> {
         let vertices = usize::from(q.pattern().size());
         let marks = Vec::with_capacity(alloc, vertices)?;
         let waiting = vec![in alloc; false; vertices]?;
-        let words = (usize::from(q.target().size()) + 63) / 64;
+        let words = words_for(usize::from(q.target().size()));
         let untried = vec![in alloc; 0u64; words]?;
         let choice = ValueChoice::new(alloc, q, settings.seed, number)?;
         let undecided = undecided_of(alloc, q, &domains)?;

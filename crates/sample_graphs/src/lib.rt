@@ -8,9 +8,12 @@ ghost use Rattle.graph_theory.specs.Plain.{IsPlain, IsUndirected};
 ghost use Rattle.graph_theory.specs.declared.lad_text.LadKind.TheVariants.{Lad};
 ghost use Rattle.sample_graphs.specs.Samples.{IsGraphOf};
 
+mod triangle;
+
 use graph_rows::Graph;
 use lad_reader::{LadKind, read_lad};
 use std::alloc::Global;
+pub use triangle::triangle_into_cycle;
 
 /// Three vertices, each two of which are neighbours.
 pub const TRIANGLE: &[u8] = b"3 2 1 2 2 0 2 2 0 1";

@@ -1,25 +1,20 @@
-use Rattle.std.proofs.Common.{◌≡◌, ◌∙◌, ap}
-use Rattle.graph_theory.specs.Graph.{Graph}
+use Rattle.std.proofs.Common.{◌∙◌, ap}
+use Rattle.graph_theory.specs.Graph.{Graph, size}
 use Rattle.graph_theory.specs.Neighbours.{common}
-use Rattle.graph_theory.specs.Reversed.{turned, turned_problem}
+use Rattle.graph_theory.specs.Reversed.{turned}
 use Rattle.needed_values.proofs.Agreeing.{counted, all_counted}
 use Rattle.needed_values.proofs.consistent.keep_sharing.Goals as goal
 
--- the counts are those of both graphs, turned in the direction
 pub returns-clause-shares : goal.returns-clause-shares
 returns-clause-shares c =
-    let pattern_is : c.in_ok-new.field-0 ≡ turned c.args.direction c.args.q.now.pattern = c.in_ok-new.ensures ∙ ap (turned c.args.direction) c.pattern.ensures.pattern in
-    let target_is : c.in_ok-new-2.field-0 ≡ turned c.args.direction c.args.q.now.target = c.in_ok-new-2.ensures ∙ ap (turned c.args.direction) c.target-target.ensures.target in
-    counted (turned_problem c.args.direction c.args.q.now) c.args.p c.args.t c.args.r c.count-shared.result c.fill_counts.new.counts c.args.row.now c.keep_counted.new.row
-    (c.count-shared.ensures ∙ ap (λ (g : Graph). common g c.args.p c.args.r) pattern_is)
-    (λ u u_in apart. c.fill_counts.ensures.exact u (rw target_is u_in) apart ∙ ap (λ (g : Graph). common g c.args.t u) target_is)
+    let g = turned c.args.direction c.args.target.now in
+    counted g c.args.t c.args.shared (size c.args.target.now) c.fill_counts.new.counts c.args.row.now c.keep_counted.new.row
+    (λ u u_in apart. c.fill_counts.ensures.exact u (rw c.in_ok-new.ensures u_in) apart ∙ ap (λ (h : Graph). common h c.args.t u) c.in_ok-new.ensures)
     c.requires.within c.requires.other c.keep_counted.ensures
 
 pub returns-clause-all : goal.returns-clause-all
 returns-clause-all c =
-    let pattern_is : c.in_ok-new.field-0 ≡ turned c.args.direction c.args.q.now.pattern = c.in_ok-new.ensures ∙ ap (turned c.args.direction) c.pattern.ensures.pattern in
-    let target_is : c.in_ok-new-2.field-0 ≡ turned c.args.direction c.args.q.now.target = c.in_ok-new-2.ensures ∙ ap (turned c.args.direction) c.target-target.ensures.target in
-    all_counted (turned_problem c.args.direction c.args.q.now) c.args.p c.args.t c.args.r c.count-shared.result c.fill_counts.new.counts c.args.row.now c.keep_counted.new.row
-    (c.count-shared.ensures ∙ ap (λ (g : Graph). common g c.args.p c.args.r) pattern_is)
-    (λ u u_in apart. c.fill_counts.ensures.exact u (rw target_is u_in) apart ∙ ap (λ (g : Graph). common g c.args.t u) target_is)
+    let g = turned c.args.direction c.args.target.now in
+    all_counted g c.args.t c.args.shared (size c.args.target.now) c.fill_counts.new.counts c.args.row.now c.keep_counted.new.row
+    (λ u u_in apart. c.fill_counts.ensures.exact u (rw c.in_ok-new.ensures u_in) apart ∙ ap (λ (h : Graph). common h c.args.t u) c.in_ok-new.ensures)
     c.requires.within c.requires.other c.keep_counted.ensures

@@ -4,14 +4,14 @@ use Rattle.nogood_watch.proofs.Readiness.{cell_in, literal_in, ready_literals, r
 use Rattle.nogood_watch.proofs.walk.visit.Goals as goal
 
 pub free_literal-requires : goal.free_literal-requires
-free_literal-requires g c = ready_literals c.args.d.now c.args.literals.now c.args.entries.now c.args.watches.now c.args.heads.now c.args.next.now c.args.x c.requires.ready
+free_literal-requires g c = ready_literals c.args.d.now c.args.nogoods.now.literals.now c.args.nogoods.now.entries.now c.args.watches.now c.args.heads.now c.args.next.now c.args.x c.requires.ready
 
 pub move_watch-requires-clause-to_in : goal.move_watch-requires-clause-to_in
 move_watch-requires-clause-to_in g c =
     let d = c.args.d.now in
     let r = c.requires.ready in
     let f = c.in-Some.ensures.some in
-    let are = ready_literals d c.args.literals.now c.args.entries.now c.args.watches.now c.args.heads.now c.args.next.now c.args.x r in
+    let are = ready_literals d c.args.nogoods.now.literals.now c.args.nogoods.now.entries.now c.args.watches.now c.args.heads.now c.args.next.now c.args.x r in
     let within = literal_in d.vertices d.values _ f.place c.in-Some.free are f.within f.is in
     cell_in d.vertices d.values c.values.result _ c.in-Some.free c.values.ensures r.heads_long within.0 within.1
 
@@ -35,10 +35,10 @@ returns-then-not-has-clause-visited g c =
 
 pub returns-in-Some-clause-visited : goal.returns-in-Some-clause-visited
 returns-in-Some-clause-visited g c =
-    ready_free c.args.d.now c.args.literals.now c.args.entries.now c.args.watches.now c.move_watch.new.watches c.args.heads.now c.args.next.now c.args.forced.now.items c.args.x c.partner_of.result c.in-Some.free
+    ready_free c.args.d.now c.args.nogoods.now.literals.now c.args.nogoods.now.entries.now c.args.watches.now c.move_watch.new.watches c.args.heads.now c.args.next.now c.args.forced.now.items c.args.x c.partner_of.result c.in-Some.free
     c.requires.ready c.partner_of.ensures c.move_watch.ensures.watches c.in-Some.ensures.some
 
 pub returns-else-not-has-clause-visited : goal.returns-else-not-has-clause-visited
 returns-else-not-has-clause-visited g c =
-    ready_forced c.args.d.now c.args.literals.now c.args.entries.now c.args.watches.now c.args.heads.now c.args.next.now c.args.forced.now.items c.push_reserved.new.self.items c.args.x c.partner_of.result
+    ready_forced c.args.d.now c.args.nogoods.now.literals.now c.args.nogoods.now.entries.now c.args.watches.now c.args.heads.now c.args.next.now c.args.forced.now.items c.push_reserved.new.self.items c.args.x c.partner_of.result
     c.requires.ready c.partner_of.ensures (sym c.has.ensures ∙ c.if-not-has.false) c.in-None.ensures.none c.push_reserved.ensures.items

@@ -25,7 +25,7 @@ loop-heads-init g c =
     let d = c.args.d.now in
     let k = c.requires.kept in
     record {
-      walking = rw c.requires.none (walking_first d (nogoods_of c.args.literals.now c.args.entries.now) c.args.watches.now c.args.literal c.args.heads.now c.take_list.new.heads c.args.next.now c.values.result c.cell_of.result (length c.args.heads.now - 1)
+      walking = rw c.requires.none (walking_first d (nogoods_of c.args.nogoods.now.literals.now c.args.nogoods.now.entries.now) c.args.watches.now c.args.literal c.args.heads.now c.take_list.new.heads c.args.next.now c.values.result c.cell_of.result (length c.args.heads.now - 1)
           (λ i h. k.literals_are i (rw length-map at h)) k.watches_are k.heads_long k.next_long k.chained
           (in_below d c.args.literal.0 c.args.literal.1 c.requires.assigned.here) c.cell_of.ensures c.values.ensures refl c.take_list.ensures.chained c.take_list.ensures.heads_long);
       room = refl;
@@ -46,7 +46,7 @@ visit-requires-clause-room g c =
       walking_room c.args.d.now _ c.args.watches.now c.args.literal c.loop-heads.watches c.loop-heads.heads c.loop-heads.next c.loop-heads.forced.items (length c.args.heads.now - 1)
           i.walking (omega (arith, k.heads_long)) c.loop-heads-test.true,
       i.room,
-      length-map c.args.entries.now (nogood_at c.args.literals.now),
+      length-map c.args.nogoods.now.entries.now (nogood_at c.args.nogoods.now.literals.now),
       k.room,
     )
 

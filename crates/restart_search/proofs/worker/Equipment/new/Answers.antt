@@ -14,7 +14,7 @@ invariant_of-result g c = (
     few = c.requires.few;
     problem = ap (λ (f : Filtering). f.problem) c.requires.filters;
     long = ap length (c.in_ok-waiting.ensures.items_if_clones_equal (search rules)) ∙ (length-replicate _ _ ∙ (c.from-vertices.ensures ∙ (c.size.ensures.size ∙ ap size c.pattern.ensures.pattern)));
-    words = ap length (c.in_ok-untried.ensures.items_if_clones_equal (search rules)) ∙ (length-replicate _ _ ∙ ap words_for (c.from.ensures ∙ (c.size-2.ensures.size ∙ ap size c.target.ensures.target)));
+    words = ap length (c.in_ok-untried.ensures.items_if_clones_equal (search rules)) ∙ (length-replicate _ _ ∙ (c.words_for-words.ensures ∙ ap words_for (c.from.ensures ∙ (c.size-2.ensures.size ∙ ap size c.target.ensures.target))));
     degrees = c.in_ok-choice.ensures;
     room = omega (arith, c.in_ok-marks.ensures.capacity, c.from-vertices.ensures, c.size.ensures.size, ap size c.pattern.ensures.pattern);
   },

@@ -1,8 +1,7 @@
 -- One third image more that does not embed.
-use Rattle.std.proofs.Common.{◌≡◌, ℕ, ◌<◌, [], ◌∷◌, below_more, refl, ap, arith}
+use Rattle.std.proofs.Common.{below_more, ap, arith}
 use Rattle.graph_theory.specs.Graph.{size}
-use Rattle.graph_theory.specs.Embedding.{Embeds}
-use Rattle.locked_shelf.proofs.tests.none_with.Goals as goal
+use Rattle.sample_graphs.proofs.triangle.none_with.Goals as goal
 
 pub loop-c-preserved : goal.loop-c-preserved
 loop-c-preserved c = below_more _ _ c.loop-c.invariant (λ e. (let no = c.if-is_embedding.ensures.1 e in cc))

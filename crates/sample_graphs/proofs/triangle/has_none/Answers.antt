@@ -2,7 +2,7 @@
 use Rattle.std.proofs.Common.{◌≡◌, ℕ, ◌<◌, ◌≤◌, List, [], ◌∷◌, length, refl, below_more, ap, ◌∙◌, arith}
 use Rattle.graph_theory.specs.Graph.{size}
 use Rattle.graph_theory.specs.Embedding.{Problem, Embeds, HasNone}
-use Rattle.nogood_book.proofs.row_book.tests.has_none.Goals as goal
+use Rattle.sample_graphs.proofs.triangle.has_none.Goals as goal
 
 none_of_three : (q : Problem) (n : ℕ) → size q.pattern ≡ 3 → size q.target ≤ n
     → ((a b c : ℕ) → a < n → b < size q.target → c < size q.target → Embeds q (a ∷ b ∷ c ∷ []) → ⊥) → HasNone q
