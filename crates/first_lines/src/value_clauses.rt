@@ -228,30 +228,6 @@ impl<'a> ValueClauses<'a> {
         self.crowd_line(alloc, keeper, p, u, 0, Vec::new(alloc))
     }
 
-    /// Keeps the lines of a value whose degree is too small, and the name of its clause.
-    fn degree_ref<K: Keeper>(
-        &self,
-        alloc: Global,
-        keeper: &mut K,
-        units: &mut Units,
-        p: u16,
-        u: u16,
-    ) -> Result<Ref, AllocError>
-        requires p_in { p < size self.now.pattern }
-        requires u_in { u < size self.now.target }
-        requires less { degree self.now.target u < degree self.now.pattern p }
-        ensures goes { (w : Frame) → IsFrameFor self.now (K.owner keeper.old) w
-            → Goes w (K.kept keeper.old) (K.kept keeper.new) (AreUnits w units.old)
-            (IsGiven w result (refusal self.now p u) units.new) }
-        ensures fits { IfOk result IsRef }
-        ensures owner { K.owner keeper.new ≡ K.owner keeper.old }
-        ensures notes { K.notes keeper.new ≡ K.notes keeper.old }
-        ensures spare { K.spare keeper.new ≡ K.spare keeper.old }
-    {
-        let name = self.degree_line(alloc, keeper, p, u)?;
-        remember(units, self.variable(p, u), name)
-    }
-
     /// The clause against a value whose degree is too small: the one that is there, or one that is made now.
     fn lower_ref<K: Keeper>(
         &self,
@@ -275,7 +251,8 @@ impl<'a> ValueClauses<'a> {
         if let Some(found) = self.known(units, p, u) {
             return Ok(found);
         }
-        self.degree_ref(alloc, keeper, units, p, u)
+        let name = self.degree_line(alloc, keeper, p, u)?;
+        remember(units, self.variable(p, u), name)
     }
 
     /// Refers to the clause against one more value of `r`, whose degree is too small.
@@ -449,7 +426,8 @@ impl<'a> ValueClauses<'a> {
         }
     }
 
-    /// The clause against a value whose degree is too small, or the degrees of its neighbours, or none where neither are. It is made now.
+    /// The clause against a value whose degree is too small, or the degrees of its neighbours, or none where neither are. The caller has
+    /// looked for one that is there.
     pub(crate) fn large_ref<K: Keeper>(
         &self,
         alloc: Global,
@@ -472,6 +450,6 @@ impl<'a> ValueClauses<'a> {
         if self.turned.keeps_degree(p, u) {
             return self.sequence_ref(alloc, keeper, units, p, u);
         }
-        Ok(Some(self.degree_ref(alloc, keeper, units, p, u)?))
+        Ok(Some(self.lower_ref(alloc, keeper, units, p, u)?))
     }
 }

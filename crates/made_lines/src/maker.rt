@@ -14,7 +14,7 @@ use graph_rows::Problem;
 use journals::Keeper;
 use log_theory::{Name, Ref};
 use pb_encoding::Encoding;
-use row_lines::RowLines;
+use row_lines::{PlacedPair, RowLines};
 use std::alloc::{AllocError, Global};
 
 /// The names of the lines that were made so far for a problem. Cost of a line that is there: logarithmic in how many there are, and for a
@@ -89,7 +89,8 @@ impl<'a> LineMaker for MadeLines<'a> {
         r: u16,
     ) -> Result<Ref, AllocError> {
         let q = lines.problem();
-        self.rows.row(alloc, q, lines, keeper, p, t, r)
+        self.rows
+            .row(alloc, q, lines, keeper, PlacedPair { p, t, r })
     }
 
     fn set<K: Keeper>(

@@ -38,7 +38,7 @@ use Rattle.path_journal.specs.declared.refuted.Refuted.{Refuted}
 use Rattle.path_journal.specs.Ends.{end_as}
 use Rattle.path_journal.specs.Closing.{IsLined}
 use Rattle.path_journal.specs.Lines.{log_rows, row_clause, row_frame, StandsBeside, Steps, Refutes}
-use Rattle.path_journal.specs.Entries.{AreFrom, AreBelow, IsEntry, AreEntries, HasEntry, AreCovered, IsFreshWithout, entry_ref, entry_refs, entry_values, Writes}
+use Rattle.path_journal.specs.Entries.{AreFrom, AreBelow, AreRising, IsEntry, AreEntries, HasEntry, AreCovered, IsFreshWithout, entry_ref, entry_refs, entry_values, Writes}
 use Rattle.path_journal.specs.Numbers.{is_by, noted_ref, row_ref}
 use Rattle.path_journal.proofs.Levels.{level_within, length-path_of, path_of_more}
 use Rattle.path_journal.proofs.Lists.{has_drop, entries_drop}
@@ -299,6 +299,43 @@ lined knows later lines old new owner numbers entries q rows a above result cs s
         (subst (λ (e : PathEnd). Knowing (knows q (row_frame q rows old.owner)) (IsBegun q rows (row_frame q rows old.owner) (row_ref rows owner numbers) (path a) (end_by e short (entry_values (drop above entries))) refs) w.forms) (sym pe_same) before) in
         subst (λ (ys : List (ℕ × ℕ)). After (row_frame q rows old.owner) old.steps new.steps w.forms (IsDeadName q ys (row_frame q rows old.owner) (later q (row_frame q rows old.owner)) result)) xs_same
         (goes (row_frame q rows old.owner) (entry_values (drop above entries)) frame dies_here guessed w.forms w.beside.stands before_here)
+
+-- ---- what was counted
+
+-- The entries at a dead end have their lines; those from a place on are of the level after the path, and those before it of levels above.
+pub record Counted (knows : Problem → Frame → List Form → Type 0) (lines : Problem) (old : Keeping) (owner : ℕ) (numbers : List (ℕ × ℕ)) (entries : List Refuted) (q : Problem) (rows : List Row) (a : Account) (k : ℕ) : Type 0 where
+  pub writes : Writes knows lines old owner numbers entries q rows a
+  pub from : AreFrom (length (path a)) (drop k entries)
+  pub below : AreBelow (length (path a)) (take k entries)
+
+pub counted : (knows : Problem → Frame → List Form → Type 0) (lines : Problem) (old : Keeping) (owner : ℕ) (numbers : List (ℕ × ℕ)) (held entries seen : List Refuted) (q : Problem) (rows : List Row) (a : Account) (k : ℕ) (xs : List (ℕ × ℕ))
+    → entries ≡ held → seen ≡ entries → xs ≡ path a → Writes knows lines old owner numbers held q rows a → AreFrom (length xs) (drop k seen) → (AreRising seen → AreBelow (length xs) (take k seen))
+    → Counted knows lines old owner numbers entries q rows a k
+counted knows lines old owner numbers held entries seen q rows a k xs same seen_is xs_is w from below =
+    let writes : Writes knows lines old owner numbers entries q rows a = subst (λ (es : List Refuted). Writes knows lines old owner numbers es q rows a) (sym same) w in
+    let long : length xs ≡ length (path a) = ap (λ (ys : List (ℕ × ℕ)). length ys) xs_is in
+    record {
+      writes = writes;
+      from = subst (λ (n : ℕ). AreFrom n (drop k entries)) long (subst (λ (es : List Refuted). AreFrom (length xs) (drop k es)) seen_is from);
+      below = subst (λ (n : ℕ). AreBelow n (take k entries)) long (subst (λ (es : List Refuted). AreBelow (length xs) (take k es)) seen_is (below (subst AreRising (sym seen_is) writes.rising)));
+    }
+
+-- The lines that stood still do, whether or not the path's was added.
+pub counted_steps : (knows later : Problem → Frame → List Form → Type 0) (lines : Problem) (old new : Keeping) (owner : ℕ) (numbers : List (ℕ × ℕ)) (held entries seen : List Refuted) (q : Problem) (rows : List Row) (a : Account) (k : ℕ)
+    (xs : List (ℕ × ℕ)) (result : Result (Option Name) AllocError) → entries ≡ held → seen ≡ entries → xs ≡ path a → Writes knows lines old owner numbers held q rows a → AreFrom (length xs) (drop k seen)
+    → (AreRising seen → AreBelow (length xs) (take k seen)) → new.owner ≡ old.owner → new.notes ≡ old.notes → IsLined knows later lines old new owner numbers entries lines rows a k result → Steps lines new q rows
+counted_steps knows later lines old new owner numbers held entries seen q rows a k xs result same seen_is xs_is w from below owner_same notes_same done =
+    let n = counted knows lines old owner numbers held entries seen q rows a k xs same seen_is xs_is w from below in
+    steps_after knows lines old new owner numbers entries q rows a (IsDeadName q (path a) (row_frame q rows old.owner) (later q (row_frame q rows old.owner)) result) n.writes owner_same notes_same
+    (lined_for knows later lines q old new owner numbers entries rows a k result n.writes.problem_is done n.writes n.from n.below)
+
+-- The line that was added is the one named.
+pub counted_line : (knows later : Problem → Frame → List Form → Type 0) (lines : Problem) (old new : Keeping) (owner : ℕ) (numbers : List (ℕ × ℕ)) (entries : List Refuted) (q : Problem) (rows : List Row) (a : Account) (k : ℕ)
+    (answer : Option Name) (n : Name) → answer ≡ Some n → (c : Counted knows lines old owner numbers entries q rows a k) → IsLined knows later lines old new owner numbers entries lines rows a k (Ok answer)
+    → After (row_frame q rows old.owner) old.steps new.steps c.writes.forms (IsDeadName q (path a) (row_frame q rows old.owner) (later q (row_frame q rows old.owner)) (Ok (Some n)))
+counted_line knows later lines old new owner numbers entries q rows a k answer n is c done =
+    subst (λ (o : Option Name). IsLined knows later lines old new owner numbers entries q rows a k (Ok o)) is
+    (lined_for knows later lines q old new owner numbers entries rows a k (Ok answer) c.writes.problem_is done) c.writes c.from c.below
 
 -- ---- closed
 

@@ -1,34 +1,30 @@
 -- The clause of both directions, and the line that is made of it, may be kept.
-use Rattle.std.proofs.Common.{◌≡◌, ℕ, zero, suc, ◌+◌, ◌≤◌, ◌<◌, nat_lt, nat_le, Bool, true, false, ◌&&◌, List, [], ◌∷◌, ◌++◌, refl, sym, ap, subst, ◌∙◌, arith, Option, Some, Result, Ok, Err}
+use Rattle.std.proofs.Common.{◌≡◌, ℕ, zero, suc, ◌≤◌, ◌<◌, nat_lt, nat_le, Bool, true, false, ◌&&◌, List, [], ◌∷◌, ◌++◌, refl, sym, ap, subst, ◌∙◌, arith, Option, Result, Ok, Err}
 use Rattle.std.specs.declared.alloc.AllocError.{AllocError}
 use Rattle.std.proofs.lemmas.Bool.{lt-ltb, le-leb}
 use Rattle.graph_theory.specs.Graph.{size}
 use Rattle.graph_theory.specs.Embedding.{Problem}
-use Rattle.graph_theory.specs.Reversed.{reversed_problem}
 use Rattle.proof_theory.specs.declared.literal.Literal.{Literal}
 use Rattle.proof_theory.specs.Forms.{Form}
 use Rattle.log_theory.specs.declared.step.Name.{Name}
 use Rattle.log_theory.specs.declared.step.Ref.{Ref}
 use Rattle.log_theory.specs.declared.step.Ref.TheVariants.{Made}
 use Rattle.log_theory.specs.declared.step.Op.{Op}
-use Rattle.log_theory.specs.declared.step.Op.TheVariants.{Push, Axiom, Add}
 use Rattle.log_theory.specs.declared.step.Step.{Step}
 use Rattle.log_theory.specs.declared.step.Step.TheVariants.{P, U}
-use Rattle.log_theory.specs.Lookups.{Lookup, makes, variables_of}
+use Rattle.log_theory.specs.Lookups.{variables_of}
 use Rattle.log_theory.specs.LogText.{IsName, AreOps, AreLiterals, AreRefs}
 use Rattle.log_theory.specs.Verdicts.{in_range}
-use Rattle.journal_theory.specs.Journals.{Finds, HoldsOwn}
-use Rattle.journal_theory.specs.Referring.{NamesRow, op_refs}
 use Rattle.encoding_theory.specs.Variables.{variable, variables, collect, when}
-use Rattle.row_theory.specs.Rows.{at_least_line, at_most_line, there, is_consistent, consistent_places, consistent_clause, consistent_form, beside_ops}
+use Rattle.row_theory.specs.Rows.{at_least_line, there, is_consistent, consistent_places, consistent_clause, consistent_form, beside_ops}
 use Rattle.row_theory.specs.Laws.{InLimits, IsPlace}
 use Rattle.row_theory.proofs.Making.{row_laws}
 use Rattle.row_theory.proofs.BothWays.{row_serves}
 use Rattle.journals.specs.Keeping.{IsLine, Keeps}
 use Rattle.kept_lines.specs.Frames.{Frame, IsFrameOf, IsNamed, MayFollow, IsKept, Goes}
-use Rattle.kept_lines.proofs.Going.{goes_as, goes_then, goes_kept}
+use Rattle.kept_lines.proofs.Going.{goes_as, goes_kept}
 use Rattle.row_lines.specs.Claims.{AreBothLines, IsRowLine}
-use Rattle.row_lines.proofs.Good.{AreGood, IsGood, IsGoodRef, three, good_ref, good_ops, good_rows, good_range, good_there, good_most, good_least}
+use Rattle.row_lines.proofs.Good.{AreGood, three, good_ref, good_ops, good_there, good_most, good_least}
 use Rattle.row_lines.proofs.Spreading.{finds_encoding, good_follows}
 use Rattle.row_lines.proofs.Turning.{frame_of}
 

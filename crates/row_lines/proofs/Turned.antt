@@ -5,7 +5,6 @@ use Rattle.graph_theory.specs.Embedding.{Problem}
 use Rattle.graph_theory.specs.Reversed.{turned_problem}
 use Rattle.graph_theory.specs.declared.direction.Direction.{Direction}
 use Rattle.graph_theory.specs.declared.direction.Direction.TheVariants.{Out, In}
-use Rattle.log_theory.specs.declared.step.Ref.{Ref}
 use Rattle.log_theory.specs.declared.step.Ref.TheVariants.{Line}
 use Rattle.encoding_theory.specs.Pairs.{is_edge_pair, is_non_edge_pair}
 use Rattle.encoding_theory.specs.Places.{edge_place, non_edge_place}

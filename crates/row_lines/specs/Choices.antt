@@ -59,22 +59,26 @@ abbrev pub own_line : Problem → ℕ → ℕ → ℕ → Option Ref
 own_line q p r t = cond (is_edge_pair q p r) (Some (edge_line q p r t)) (cond
     (is_non_edge_pair q p r) (Some (non_edge_line q p r t)) None)
 
+-- The entries of a table: a name under each number.
+abbrev pub Names : Type 0
+Names = List (ℕ × Name)
+
 -- The number under which a table keeps the name of the line for p and r at w.
 abbrev pub pair_key : ℕ → ℕ → ℕ → ℕ
 pair_key p r w = (p * 1024 + r) * 8192 + w
 
 -- The name under a number.
-abbrev pub entry_at : List (ℕ × Name) → ℕ → Option Name
+abbrev pub entry_at : Names → ℕ → Option Name
 entry_at names k = lookup (is_at (nat_cmp k)) names
 
-abbrev pub pair_name : List (ℕ × Name) → ℕ → ℕ → ℕ → Option Name
+abbrev pub pair_name : Names → ℕ → ℕ → ℕ → Option Name
 pair_name names p r w = entry_at names (pair_key p r w)
 
 -- The number, and the name, of the clause that m and n are not both at w: a first vertex that no pattern has sets it apart.
 abbrev pub not_both_key : ℕ → ℕ → ℕ → ℕ
 not_both_key m n w = pair_key (m + 1024) n w
 
-abbrev pub not_both_name : List (ℕ × Name) → ℕ → ℕ → ℕ → Option Name
+abbrev pub not_both_name : Names → ℕ → ℕ → ℕ → Option Name
 not_both_name names m n w = entry_at names (not_both_key m n w)
 
 abbrev pub name_or_none : Option Name → Ref
@@ -82,7 +86,7 @@ name_or_none (Some n) = Made n
 name_or_none None = Line 0
 
 -- The line that counts them at w: the one neighbour's own, or the table's.
-abbrev pub spread_ref : Problem → List (ℕ × Name) → Sharing → ℕ → ℕ → ℕ → Ref
+abbrev pub spread_ref : Problem → Names → Sharing → ℕ → ℕ → ℕ → Ref
 spread_ref q names (One m) p r w = edge_line q m r w
 spread_ref q names (Many c) p r w = name_or_none (pair_name names p r w)
 spread_ref q names Nothing p r w = Line 0
@@ -96,7 +100,7 @@ begin_of q (Some own) t r = Push (at_most_line q r) ∷ Times 2 ∷ Push own ∷
 begin_of q None t r = Push (at_most_line q r) ∷ Push (target_line q t) ∷ Add ∷ Times
     (weight q t) ∷ []
 
-abbrev pub counted_ops : Problem → List (ℕ × Name) → Sharing → Option Ref → ℕ → ℕ → ℕ → List Op
+abbrev pub counted_ops : Problem → Names → Sharing → Option Ref → ℕ → ℕ → ℕ → List Op
 counted_ops q names sharing (Some own) p t r = joined_ops q own
     (spread_ref q names sharing p r) p t r
 counted_ops q names sharing None p t r = apart_ops q (spread_ref q names sharing p r) p t r
@@ -106,7 +110,7 @@ plain_ops q (Some own) t r = beside_ops q own r
 plain_ops q None t r = alone_ops q t
 
 -- The operations of the line for p at t and r.
-abbrev pub row_ops : Problem → List (ℕ × Name) → Sharing → Option Ref → ℕ → ℕ → ℕ → List Op
+abbrev pub row_ops : Problem → Names → Sharing → Option Ref → ℕ → ℕ → ℕ → List Op
 row_ops q names Nothing own p t r = plain_ops q own t r
 row_ops q names sharing own p t r = counted_ops q names sharing own p t r
 

@@ -22,7 +22,7 @@ use Rattle.row_lines.specs.declared.sharing.Sharing.{Sharing}
 use Rattle.row_lines.specs.declared.sharing.Sharing.TheVariants.{Nothing, Many}
 use Rattle.row_lines.specs.declared.sharing.Asked.TheVariants.{Out}
 use Rattle.row_lines.specs.declared.turned_names.Spreads.{Spreads}
-use Rattle.row_lines.specs.Choices.{IsAsked, entry_at, pair_name, not_both_name}
+use Rattle.row_lines.specs.Choices.{IsAsked, Names, entry_at, pair_name, not_both_name}
 
 -- The frame has the encoding of this problem, and its variables: it is one of this problem, or of the problem turned round.
 pub record HasEncoding (q : Problem) (owner : ℕ) (w : Frame) : Type 0 where
@@ -31,8 +31,7 @@ pub record HasEncoding (q : Problem) (owner : ℕ) (w : Frame) : Type 0 where
   pub model : HoldsModel q w.base
 
 -- Each name of the table is that of the line that counts shared neighbours there, or of the clause that two are not both there.
-pub record AreSpreads (w : Frame) (q : Problem) (names : List (ℕ
-    × Name)) (forms : List Form) : Type 0 where
+pub record AreSpreads (w : Frame) (q : Problem) (names : Names) (forms : List Form) : Type 0 where
   pub named : (p r v : ℕ) (n : Name) → p < size q.pattern → r < size q.pattern
       → v < size q.target → pair_name names p r v ≡ Some n
       → IsNamed w forms (Made n) (spread_form q p r v)
@@ -41,8 +40,8 @@ pub record AreSpreads (w : Frame) (q : Problem) (names : List (ℕ
       → IsNamed w forms (Made n) (not_both_form q m r v)
 
 -- So they are, and the name that is answered is that of the clause that m and r are not both at v.
-abbrev pub IsNotBoth : Frame → Problem → ℕ → ℕ → ℕ → List (ℕ × Name) → Result Name AllocError
-    → List Form → Type 0
+abbrev pub IsNotBoth : Frame → Problem → ℕ → ℕ → ℕ → Names → Result Name AllocError → List Form
+    → Type 0
 IsNotBoth w q m r v names result forms = AreSpreads w q names forms
     × IsKept w result (not_both_form q m r v) forms
 
@@ -54,17 +53,17 @@ MaySpread w q p r v (Ok ops) forms = (name : Name)
 MaySpread w q p r v (Err e) forms = Unit {0}
 
 -- So they may, and the table's names are right.
-abbrev pub HasSpreadOps : Frame → Problem → ℕ → ℕ → ℕ → List (ℕ × Name)
-    → Result (List Op) AllocError → List Form → Type 0
+abbrev pub HasSpreadOps : Frame → Problem → ℕ → ℕ → ℕ → Names → Result (List Op) AllocError
+    → List Form → Type 0
 HasSpreadOps w q p r v names result forms = AreSpreads w q names forms
     × MaySpread w q p r v result forms
 
 -- What has a name keeps one.
-abbrev pub Stay : List (ℕ × Name) → List (ℕ × Name) → Type 0
+abbrev pub Stay : Names → Names → Type 0
 Stay old new = (k : ℕ) → IsSome (entry_at old k) → IsSome (entry_at new k)
 
 -- The table has the names that a line at t needs.
-abbrev pub HasAround : Problem → List (ℕ × Name) → Sharing → ℕ → ℕ → ℕ → Type 0
+abbrev pub HasAround : Problem → Names → Sharing → ℕ → ℕ → ℕ → Type 0
 HasAround q names (Many c) p t r = (v : ℕ) → v < size q.target → is_neighbour q.target t v ≡ true
     → IsSome (pair_name names p r v)
 HasAround q names sharing p t r = Unit {0}
@@ -76,8 +75,8 @@ IsSharedLine w q p t r (Ok n) forms = (f : Form) × IsNamed w forms (Made n) f
 IsSharedLine w q p t r (Err e) forms = Unit {0}
 
 -- So it is, and the table's names are right.
-abbrev pub IsSharedRow : Frame → Problem → ℕ → ℕ → ℕ → List (ℕ × Name) → Result Name AllocError
-    → List Form → Type 0
+abbrev pub IsSharedRow : Frame → Problem → ℕ → ℕ → ℕ → Names → Result Name AllocError → List Form
+    → Type 0
 IsSharedRow w q p t r names result forms = AreSpreads w q names forms
     × IsSharedLine w q p t r result forms
 
@@ -111,8 +110,7 @@ abbrev pub IsRowNamed : Frame → Problem → ℕ → ℕ → ℕ → Ref → Li
 IsRowNamed w q p t r ref forms = (f : Form) × IsNamed w forms ref f × ForcesBeside q f p t r
 
 -- Each name of the table is that of such a line.
-pub record AreRows (w : Frame) (q : Problem) (names : List (ℕ
-    × Name)) (forms : List Form) : Type 0 where
+pub record AreRows (w : Frame) (q : Problem) (names : Names) (forms : List Form) : Type 0 where
   pub named : (p t r : ℕ) (n : Name) → p < size q.pattern → t < size q.target
       → r < size q.pattern → pair_name names p r t ≡ Some n → IsRowNamed w q p t r (Made n) forms
 

@@ -8,11 +8,13 @@ ghost use Rattle.proof_theory.specs.Forms.{Form};
 ghost use Rattle.log_theory.specs.declared.step.Ref.TheVariants.{Made as MadeRef};
 ghost use Rattle.log_theory.specs.LogText.{IsName};
 ghost use Rattle.encoding_theory.specs.Variables.{when};
+ghost use Rattle.row_theory.specs.Laws.{IsPlace};
 ghost use Rattle.row_theory.specs.Rows.{at_least_line, there as there_at, is_consistent as is_consistent_by, consistent_places, consistent_clause, beside_ops};
 ghost use Rattle.kept_lines.specs.Frames.{Frame, IsFrameOf, IsNamed, IsKept, Goes};
 ghost use Rattle.row_lines.specs.Claims.{AreBothLines, IsRowLine};
 
 use crate::known::Known;
+use crate::placed_pair::PlacedPair;
 use crate::spreads::NO_NAME;
 use common_neighbour::Counts;
 use graph_rows::Problem;
@@ -22,52 +24,38 @@ use log_theory::{Clause, Name, Op, Ops, Ref, Refs, Step};
 use proof_theory::Literal;
 use std::alloc::{AllocError, Global};
 
-/// Whether `t` and `u` share as many neighbours as `p` and `r` in a direction. Cost: one step for each word of two rows.
+/// Whether the place and `u` share as many neighbours as the two vertices in a direction. Cost: one step for each word of two rows.
 fn share_enough(
     alloc: Global,
     q: &Problem,
     direction: Direction,
-    p: u16,
-    t: u16,
-    r: u16,
+    pair: PlacedPair,
     u: u16,
 ) -> Result<bool, AllocError>
-    requires p_in { p < size q.now.pattern }
-    requires t_in { t < size q.now.target }
-    requires r_in { r < size q.now.pattern }
+    requires placed { IsPlace q.now pair.p pair.t pair.r }
     requires u_in { u < size q.now.target }
-    requires others { p ≡ r → ⊥ }
-    requires apart { t ≡ u → ⊥ }
+    requires apart { pair.t ≡ u → ⊥ }
     ensures { IfOk result
-        (λ b. b ≡ not (nat_lt (common (turned direction q.now.target) t u)
-        (common (turned direction q.now.pattern) p r))) }
+        (λ b. b ≡ not (nat_lt (common (turned direction q.now.target) pair.t u)
+        (common (turned direction q.now.pattern) pair.p pair.r))) }
 {
-    let asked = Counts::new(alloc, q.pattern(), direction)?.count(p, r);
-    let there = Counts::new(alloc, q.target(), direction)?.count(t, u);
+    let asked = Counts::new(alloc, q.pattern(), direction)?.count(pair.p, pair.r);
+    let there = Counts::new(alloc, q.target(), direction)?.count(pair.t, u);
     Ok(!(there < asked))
 }
 
-/// Whether `r` at `u` is consistent with `p` at `t`. Cost: four words, and where edges agree one step for each word of eight rows.
-fn is_consistent(
-    alloc: Global,
-    q: &Problem,
-    p: u16,
-    t: u16,
-    r: u16,
-    u: u16,
-) -> Result<bool, AllocError>
-    requires p_in { p < size q.now.pattern }
-    requires t_in { t < size q.now.target }
-    requires r_in { r < size q.now.pattern }
+/// Whether the other vertex at `u` is consistent with the first at its place. Cost: four words, and where edges agree one step for each word of
+/// eight rows.
+fn is_consistent(alloc: Global, q: &Problem, pair: PlacedPair, u: u16) -> Result<bool, AllocError>
+    requires placed { IsPlace q.now pair.p pair.t pair.r }
     requires u_in { u < size q.now.target }
-    requires others { p ≡ r → ⊥ }
-    ensures { IfOk result (λ b. b ≡ is_consistent_by q.now p t r u) }
+    ensures { IfOk result (λ b. b ≡ is_consistent_by q.now pair.p pair.t pair.r u) }
 {
-    if !q.compatible(p, t, r, u) {
+    if !q.compatible(pair.p, pair.t, pair.r, u) {
         return Ok(false);
     }
-    let out = share_enough(alloc, q, Direction::Out, p, t, r, u)?;
-    let back = share_enough(alloc, q, Direction::In, p, t, r, u)?;
+    let out = share_enough(alloc, q, Direction::Out, pair, u)?;
+    let back = share_enough(alloc, q, Direction::In, pair, u)?;
     Ok(out && back)
 }
 
@@ -90,28 +78,18 @@ fn add_place(
     Ok(())
 }
 
-/// The literals that `p` is not at `t`, or `r` at one of the values that are consistent with this. Cost: that of `is_consistent` for
-/// each target vertex.
-fn places(
-    alloc: Global,
-    q: &Problem,
-    known: &Known,
-    p: u16,
-    t: u16,
-    r: u16,
-) -> Result<Clause, AllocError>
+/// The literals that the first vertex is not at its place, or the other at one of the values that are consistent with this. Cost: that of
+/// `is_consistent` for each target vertex.
+fn places(alloc: Global, q: &Problem, known: &Known, pair: PlacedPair) -> Result<Clause, AllocError>
     requires same { known.now ≡ q.now }
-    requires p_in { p < size q.now.pattern }
-    requires t_in { t < size q.now.target }
-    requires r_in { r < size q.now.pattern }
-    requires others { p ≡ r → ⊥ }
-    ensures { IfOk result (λ lits. lits ≡ consistent_places q.now p t r) }
+    requires placed { IsPlace q.now pair.p pair.t pair.r }
+    ensures { IfOk result (λ lits. lits ≡ consistent_places q.now pair.p pair.t pair.r) }
 {
     let mut lits = Vec::new(alloc);
-    lits.push(known.not_there(t, p))?;
+    lits.push(known.not_there(pair.t, pair.p))?;
     for u in 0..known.targets() {
-        let wanted = is_consistent(alloc, q, p, t, r, u)?;
-        add_place(known, &mut lits, wanted, u, r)?;
+        let wanted = is_consistent(alloc, q, pair, u)?;
+        add_place(known, &mut lits, wanted, u, pair.r)?;
     }
     Ok(Clause::new(lits))
 }
@@ -142,29 +120,24 @@ fn keep_clause<K: Keeper>(
     known: &Known,
     keeper: &mut K,
     lines: (Name, Name),
-    p: u16,
-    t: u16,
-    r: u16,
+    pair: PlacedPair,
 ) -> Result<Name, AllocError>
     requires same { known.now ≡ q.now }
     requires first { IsName lines.0 }
     requires second { IsName lines.1 }
-    requires p_in { p < size q.now.pattern }
-    requires t_in { t < size q.now.target }
-    requires r_in { r < size q.now.pattern }
-    requires others { p ≡ r → ⊥ }
+    requires placed { IsPlace q.now pair.p pair.t pair.r }
     ensures goes { (w : Frame) → IsFrameOf q.now (K.owner keeper.old) w
         → Goes w (K.kept keeper.old) (K.kept keeper.new)
-        (AreBothLines w q.now p t r lines.0 lines.1)
-        (IsKept w result (consistent_clause q.now p t r)) }
+        (AreBothLines w q.now pair.p pair.t pair.r lines.0 lines.1)
+        (IsKept w result (consistent_clause q.now pair.p pair.t pair.r)) }
     ensures name { IfOk result IsName }
     ensures owner { K.owner keeper.new ≡ K.owner keeper.old }
     ensures notes { K.notes keeper.new ≡ K.notes keeper.old }
     ensures spare { K.spare keeper.new ≡ K.spare keeper.old }
 {
     known.in_limits();
-    let lits = places(alloc, q, known, p, t, r)?;
-    let refs = clause_refs(alloc, known, lines, r)?;
+    let lits = places(alloc, q, known, pair)?;
+    let refs = clause_refs(alloc, known, lines, pair.r)?;
     keeper.keep(Step::U {
         name: NO_NAME,
         lits,
@@ -190,26 +163,22 @@ fn keep_of_clause<K: Keeper>(
     known: &Known,
     keeper: &mut K,
     clause: Name,
-    p: u16,
-    t: u16,
-    r: u16,
+    pair: PlacedPair,
 ) -> Result<Name, AllocError>
     requires clause { IsName clause }
-    requires p_in { p < size known.now.pattern }
-    requires t_in { t < size known.now.target }
-    requires r_in { r < size known.now.pattern }
-    requires others { p ≡ r → ⊥ }
+    requires placed { IsPlace known.now pair.p pair.t pair.r }
     ensures goes { (w : Frame) → IsFrameOf known.now (K.owner keeper.old) w
         → Goes w (K.kept keeper.old) (K.kept keeper.new)
-        (λ forms. IsNamed w forms (MadeRef clause) (consistent_clause known.now p t r))
-        (IsRowLine w known.now p t r result) }
+        (λ forms. IsNamed w forms (MadeRef clause)
+        (consistent_clause known.now pair.p pair.t pair.r))
+        (IsRowLine w known.now pair.p pair.t pair.r result) }
     ensures name { IfOk result IsName }
     ensures owner { K.owner keeper.new ≡ K.owner keeper.old }
     ensures notes { K.notes keeper.new ≡ K.notes keeper.old }
     ensures spare { K.spare keeper.new ≡ K.spare keeper.old }
 {
     known.in_limits();
-    let ops = clause_ops(alloc, known, clause, r)?;
+    let ops = clause_ops(alloc, known, clause, pair.r)?;
     keeper.keep(Step::P { name: NO_NAME, ops })
 }
 
@@ -220,25 +189,21 @@ pub(crate) fn both_line<K: Keeper>(
     known: &Known,
     keeper: &mut K,
     lines: (Name, Name),
-    p: u16,
-    t: u16,
-    r: u16,
+    pair: PlacedPair,
 ) -> Result<Name, AllocError>
     requires same { known.now ≡ q.now }
     requires first { IsName lines.0 }
     requires second { IsName lines.1 }
-    requires p_in { p < size q.now.pattern }
-    requires t_in { t < size q.now.target }
-    requires r_in { r < size q.now.pattern }
-    requires others { p ≡ r → ⊥ }
+    requires placed { IsPlace q.now pair.p pair.t pair.r }
     ensures goes { (w : Frame) → IsFrameOf q.now (K.owner keeper.old) w
         → Goes w (K.kept keeper.old) (K.kept keeper.new)
-        (AreBothLines w q.now p t r lines.0 lines.1) (IsRowLine w q.now p t r result) }
+        (AreBothLines w q.now pair.p pair.t pair.r lines.0 lines.1)
+        (IsRowLine w q.now pair.p pair.t pair.r result) }
     ensures name { IfOk result IsName }
     ensures owner { K.owner keeper.new ≡ K.owner keeper.old }
     ensures notes { K.notes keeper.new ≡ K.notes keeper.old }
     ensures spare { K.spare keeper.new ≡ K.spare keeper.old }
 {
-    let clause = keep_clause(alloc, q, known, keeper, lines, p, t, r)?;
-    keep_of_clause(alloc, known, keeper, clause, p, t, r)
+    let clause = keep_clause(alloc, q, known, keeper, lines, pair)?;
+    keep_of_clause(alloc, known, keeper, clause, pair)
 }

@@ -11,12 +11,14 @@ mod both_ways;
 mod known;
 mod ops;
 mod pair_names;
+mod placed_pair;
 mod row;
 mod row_lines;
 mod sharing;
 mod spreads;
 mod turned_names;
 
+pub use placed_pair::PlacedPair;
 pub use row::{row_line, row_line_with};
 pub use row_lines::RowLines;
 pub use turned_names::Spreads;

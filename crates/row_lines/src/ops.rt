@@ -7,12 +7,14 @@ ghost use Rattle.log_theory.specs.declared.step.Op.TheVariants.{Push as PushOp, 
 ghost use Rattle.log_theory.specs.declared.step.Ref.TheVariants.{Made as MadeRef};
 ghost use Rattle.encoding_theory.specs.Variables.{when};
 ghost use Rattle.encoding_theory.specs.Pairs.{is_edge_pair};
+ghost use Rattle.row_theory.specs.Laws.{IsPlace};
 ghost use Rattle.row_theory.specs.Operations.{adds_where};
 ghost use Rattle.row_theory.specs.Rows.{edge_line, is_shared as is_shared_by, there as there_at, spread_ops as spread_ops_of, two_ops as two_ops_of, not_both as not_both_of, target_line};
 ghost use Rattle.row_lines.specs.Choices.{IsSharing, begin_of, own_line as own_line_of, spread_ref as spread_ref_of, plain_ops as plain_ops_of, counted_ops as counted_ops_of, row_ops as row_ops_of};
 
 use crate::known::Known;
 use crate::pair_names::PairNames;
+use crate::placed_pair::PlacedPair;
 use crate::sharing::Sharing;
 use log_theory::{Clause, Name, Op, Ops, Ref, Refs};
 use std::alloc::{AllocError, Global};
@@ -206,56 +208,48 @@ fn spread_ref(known: &Known, spreads: &PairNames, sharing: Sharing, p: u16, r: u
     }
 }
 
-/// Adds that line, where it is wanted.
+/// Adds that line, where `w` is a neighbour of the place.
 fn add_spread(
     known: &Known,
     spreads: &PairNames,
     ops: &mut Vec<Op>,
     sharing: Sharing,
-    wanted: bool,
-    p: u16,
-    r: u16,
+    pair: PlacedPair,
     w: u16,
 ) -> Result<(), AllocError>
-    requires p_in { p < size known.now.pattern }
-    requires r_in { r < size known.now.pattern }
+    requires placed { IsPlace known.now pair.p pair.t pair.r }
     requires w_in { w < size known.now.target }
-    requires sharing { IsSharing known.now p r sharing }
+    requires sharing { IsSharing known.now pair.p pair.r sharing }
     ensures { OnOk result
         (ops.new.items ≡ ops.old.items
-        ++ when wanted (PushOp (spread_ref_of known.now spreads.now sharing p r w) ∷ AddOp
-        ∷ [])) }
+        ++ when (is_neighbour known.now.target pair.t w)
+        (PushOp (spread_ref_of known.now spreads.now sharing pair.p pair.r w) ∷ AddOp ∷ [])) }
 {
-    if wanted {
-        ops.push(Op::Push(spread_ref(known, spreads, sharing, p, r, w)))?;
+    if known.is_near(pair.t, w) {
+        ops.push(Op::Push(spread_ref(known, spreads, sharing, pair.p, pair.r, w)))?;
         ops.push(Op::Add)?;
     }
     Ok(())
 }
 
-/// Adds it for each neighbour of `t`.
+/// Adds it for each neighbour of the place.
 fn add_spreads(
     known: &Known,
     spreads: &PairNames,
     ops: &mut Vec<Op>,
     sharing: Sharing,
-    p: u16,
-    t: u16,
-    r: u16,
+    pair: PlacedPair,
 ) -> Result<(), AllocError>
-    requires p_in { p < size known.now.pattern }
-    requires r_in { r < size known.now.pattern }
-    requires t_in { t < size known.now.target }
-    requires sharing { IsSharing known.now p r sharing }
+    requires placed { IsPlace known.now pair.p pair.t pair.r }
+    requires sharing { IsSharing known.now pair.p pair.r sharing }
     ensures { OnOk result
         (ops.new.items ≡ ops.old.items
-        ++ adds_where (is_neighbour known.now.target t)
-        (λ w. PushOp (spread_ref_of known.now spreads.now sharing p r w))
+        ++ adds_where (is_neighbour known.now.target pair.t)
+        (λ w. PushOp (spread_ref_of known.now spreads.now sharing pair.p pair.r w))
         (size known.now.target)) }
 {
     for w in 0..known.targets() {
-        let wanted = known.is_near(t, w);
-        add_spread(known, spreads, ops, sharing, wanted, p, r, w)?;
+        add_spread(known, spreads, ops, sharing, pair, w)?;
     }
     Ok(())
 }
@@ -325,51 +319,44 @@ fn begin(
     Ok(())
 }
 
-/// The operations where shared neighbours are asked for: a line for each, and one for each neighbour of `t`.
+/// The operations where shared neighbours are asked for: a line for each, and one for each neighbour of the place.
 fn counted_ops(
     alloc: Global,
     known: &Known,
     spreads: &PairNames,
     sharing: Sharing,
     own: Option<Ref>,
-    p: u16,
-    t: u16,
-    r: u16,
+    pair: PlacedPair,
 ) -> Result<Ops, AllocError>
-    requires p_in { p < size known.now.pattern }
-    requires r_in { r < size known.now.pattern }
-    requires t_in { t < size known.now.target }
-    requires sharing { IsSharing known.now p r sharing }
-    ensures { IfOk result (λ ops. ops ≡ counted_ops_of known.now spreads.now sharing own p t r) }
+    requires placed { IsPlace known.now pair.p pair.t pair.r }
+    requires sharing { IsSharing known.now pair.p pair.r sharing }
+    ensures { IfOk result
+        (λ ops. ops ≡ counted_ops_of known.now spreads.now sharing own pair.p pair.t pair.r) }
 {
     let mut ops = Vec::new(alloc);
-    begin(known, &mut ops, own, t, r)?;
-    add_shared(known, &mut ops, p, t, r)?;
-    add_spreads(known, spreads, &mut ops, sharing, p, t, r)?;
+    begin(known, &mut ops, own, pair.t, pair.r)?;
+    add_shared(known, &mut ops, pair.p, pair.t, pair.r)?;
+    add_spreads(known, spreads, &mut ops, sharing, pair)?;
     Ok(Ops::new(ops))
 }
 
-/// The operations of the line for `p` at `t` and `r`.
+/// The operations of the line for the pair.
 pub(crate) fn row_ops(
     alloc: Global,
     known: &Known,
     spreads: &PairNames,
     sharing: Sharing,
-    p: u16,
-    t: u16,
-    r: u16,
+    pair: PlacedPair,
 ) -> Result<Ops, AllocError>
-    requires p_in { p < size known.now.pattern }
-    requires r_in { r < size known.now.pattern }
-    requires t_in { t < size known.now.target }
-    requires sharing { IsSharing known.now p r sharing }
+    requires placed { IsPlace known.now pair.p pair.t pair.r }
+    requires sharing { IsSharing known.now pair.p pair.r sharing }
     ensures { IfOk result
-        (λ ops. ops ≡ row_ops_of known.now spreads.now sharing (own_line_of known.now p r t) p t
-        r) }
+        (λ ops. ops ≡ row_ops_of known.now spreads.now sharing
+        (own_line_of known.now pair.p pair.r pair.t) pair.p pair.t pair.r) }
 {
-    let own = own_line(known, p, r, t);
+    let own = own_line(known, pair.p, pair.r, pair.t);
     match sharing {
-        Sharing::Nothing => plain_ops(alloc, known, own, t, r),
-        sharing => counted_ops(alloc, known, spreads, sharing, own, p, t, r),
+        Sharing::Nothing => plain_ops(alloc, known, own, pair.t, pair.r),
+        sharing => counted_ops(alloc, known, spreads, sharing, own, pair),
     }
 }

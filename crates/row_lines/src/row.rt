@@ -5,6 +5,7 @@ ghost use Rattle.graph_theory.specs.Graph.{size};
 ghost use Rattle.graph_theory.specs.Neighbours.{is_neighbour};
 ghost use Rattle.graph_theory.specs.Reversed.{reversed_problem};
 ghost use Rattle.log_theory.specs.LogText.{IsName};
+ghost use Rattle.row_theory.specs.Laws.{IsPlace};
 ghost use Rattle.kept_lines.specs.Frames.{Frame, IsFrameOf, Goes, AnyForms};
 ghost use Rattle.row_lines.specs.declared.sharing.Sharing.TheVariants.{Many as ManyShared};
 ghost use Rattle.row_lines.specs.Choices.{IsSharing, pair_name};
@@ -14,6 +15,7 @@ use crate::both_ways::both_line;
 use crate::known::Known;
 use crate::ops::row_ops;
 use crate::pair_names::PairNames;
+use crate::placed_pair::PlacedPair;
 use crate::sharing::{Asked, Sharers, Sharing, asked_of};
 use crate::spreads::{NO_NAME, keep_around};
 use crate::turned_names::Spreads;
@@ -31,26 +33,26 @@ fn keep_spreads<K: Keeper>(
     spreads: &mut PairNames,
     keeper: &mut K,
     sharing: Sharing,
-    p: u16,
-    t: u16,
-    r: u16,
+    pair: PlacedPair,
 ) -> Result<(), AllocError>
-    requires p_in { p < size known.now.pattern }
-    requires t_in { t < size known.now.target }
-    requires r_in { r < size known.now.pattern }
-    requires others { p ≡ r → ⊥ }
-    requires shared { IsSharing known.now p r sharing }
+    requires placed { IsPlace known.now pair.p pair.t pair.r }
+    requires shared { IsSharing known.now pair.p pair.r sharing }
     ensures goes { (f : Frame) → HasEncoding known.now (K.owner keeper.old) f
         → Goes f (K.kept keeper.old) (K.kept keeper.new) (AreSpreads f known.now spreads.old)
         (AreSpreads f known.now spreads.new) }
-    ensures there { OnOk result (HasAround known.now spreads.new sharing p t r) }
+    ensures there { OnOk result (HasAround known.now spreads.new sharing pair.p pair.t pair.r) }
     ensures owner { K.owner keeper.new ≡ K.owner keeper.old }
     ensures notes { K.notes keeper.new ≡ K.notes keeper.old }
     ensures spare { K.spare keeper.new ≡ K.spare keeper.old }
 {
     match sharing {
         Sharing::Many(count) => {
-            keep_around(alloc, known, spreads, keeper, Sharers { p, r, count }, t)
+            let sharers = Sharers {
+                p: pair.p,
+                r: pair.r,
+                count,
+            };
+            keep_around(alloc, known, spreads, keeper, sharers, pair.t)
         }
         Sharing::Nothing => Ok(()),
         Sharing::One(_) => Ok(()),
@@ -64,19 +66,14 @@ fn keep_row<K: Keeper>(
     spreads: &PairNames,
     keeper: &mut K,
     sharing: Sharing,
-    p: u16,
-    t: u16,
-    r: u16,
+    pair: PlacedPair,
 ) -> Result<Name, AllocError>
-    requires p_in { p < size known.now.pattern }
-    requires t_in { t < size known.now.target }
-    requires r_in { r < size known.now.pattern }
-    requires others { p ≡ r → ⊥ }
-    requires shared { IsSharing known.now p r sharing }
-    requires there { HasAround known.now spreads.now sharing p t r }
+    requires placed { IsPlace known.now pair.p pair.t pair.r }
+    requires shared { IsSharing known.now pair.p pair.r sharing }
+    requires there { HasAround known.now spreads.now sharing pair.p pair.t pair.r }
     ensures goes { (f : Frame) → HasEncoding known.now (K.owner keeper.old) f
         → Goes f (K.kept keeper.old) (K.kept keeper.new) (AreSpreads f known.now spreads.now)
-        (IsSharedLine f known.now p t r result) }
+        (IsSharedLine f known.now pair.p pair.t pair.r result) }
     ensures name { IfOk result IsName }
     ensures owner { K.owner keeper.new ≡ K.owner keeper.old }
     ensures notes { K.notes keeper.new ≡ K.notes keeper.old }
@@ -84,7 +81,7 @@ fn keep_row<K: Keeper>(
 {
     known.in_limits();
     spreads.fit();
-    let ops = row_ops(alloc, known, spreads, sharing, p, t, r)?;
+    let ops = row_ops(alloc, known, spreads, sharing, pair)?;
     keeper.keep(Step::P { name: NO_NAME, ops })
 }
 
@@ -95,64 +92,54 @@ fn line_by<K: Keeper>(
     spreads: &mut PairNames,
     keeper: &mut K,
     sharing: Sharing,
-    p: u16,
-    t: u16,
-    r: u16,
+    pair: PlacedPair,
 ) -> Result<Name, AllocError>
-    requires p_in { p < size known.now.pattern }
-    requires t_in { t < size known.now.target }
-    requires r_in { r < size known.now.pattern }
-    requires others { p ≡ r → ⊥ }
-    requires shared { IsSharing known.now p r sharing }
+    requires placed { IsPlace known.now pair.p pair.t pair.r }
+    requires shared { IsSharing known.now pair.p pair.r sharing }
     ensures goes { (f : Frame) → HasEncoding known.now (K.owner keeper.old) f
         → Goes f (K.kept keeper.old) (K.kept keeper.new) (AreSpreads f known.now spreads.old)
-        (IsSharedRow f known.now p t r spreads.new result) }
+        (IsSharedRow f known.now pair.p pair.t pair.r spreads.new result) }
     ensures name { IfOk result IsName }
     ensures owner { K.owner keeper.new ≡ K.owner keeper.old }
     ensures notes { K.notes keeper.new ≡ K.notes keeper.old }
     ensures spare { K.spare keeper.new ≡ K.spare keeper.old }
 {
-    keep_spreads(alloc, known, spreads, keeper, sharing, p, t, r)?;
-    keep_row(alloc, known, spreads, keeper, sharing, p, t, r)
+    keep_spreads(alloc, known, spreads, keeper, sharing, pair)?;
+    keep_row(alloc, known, spreads, keeper, sharing, pair)
 }
 
 /// Keeps a line of each direction, and the line that follows from both.
 fn lines_both<K: Keeper>(
     alloc: Global,
     q: &Problem,
-    out: &Known,
-    back: &Known,
+    lines: &Encoding,
     spreads: &mut Spreads,
     keeper: &mut K,
     shared: (Sharing, Sharing),
-    p: u16,
-    t: u16,
-    r: u16,
+    pair: PlacedPair,
 ) -> Result<Name, AllocError>
-    requires out { out.now ≡ q.now }
-    requires back { back.now ≡ reversed_problem q.now }
-    requires p_in { p < size q.now.pattern }
-    requires t_in { t < size q.now.target }
-    requires r_in { r < size q.now.pattern }
-    requires others { p ≡ r → ⊥ }
-    requires shared { IsSharing q.now p r shared.0 }
-    requires in_shared { IsSharing (reversed_problem q.now) p r shared.1 }
+    requires encoding { lines.now ≡ q.now }
+    requires placed { IsPlace q.now pair.p pair.t pair.r }
+    requires shared { IsSharing q.now pair.p pair.r shared.0 }
+    requires in_shared { IsSharing (reversed_problem q.now) pair.p pair.r shared.1 }
     ensures goes { (w : Frame) → IsFrameOf q.now (K.owner keeper.old) w
         → Goes w (K.kept keeper.old) (K.kept keeper.new) (AreTurned w q.now spreads.old)
-        (IsRow w q.now p t r spreads.new result) }
+        (IsRow w q.now pair.p pair.t pair.r spreads.new result) }
     ensures name { IfOk result IsName }
     ensures owner { K.owner keeper.new ≡ K.owner keeper.old }
     ensures notes { K.notes keeper.new ≡ K.notes keeper.old }
     ensures spare { K.spare keeper.new ≡ K.spare keeper.old }
 {
-    let first = line_by(alloc, out, &mut spreads.out, keeper, shared.0, p, t, r)?;
-    let second = line_by(alloc, back, &mut spreads.back, keeper, shared.1, p, t, r)?;
-    both_line(alloc, q, out, keeper, (first, second), p, t, r)
+    let out = Known::new(q, lines, Direction::Out);
+    let back = Known::new(q, lines, Direction::In);
+    let first = line_by(alloc, &out, &mut spreads.out, keeper, shared.0, pair)?;
+    let second = line_by(alloc, &back, &mut spreads.back, keeper, shared.1, pair)?;
+    both_line(alloc, q, &out, keeper, (first, second), pair)
 }
 
-/// Gives a keeper the line that takes from `r` each value that is not consistent with `p` at `t`, and those that it rests on and that the
-/// table does not name. The line names two others, or one; where the two share neighbours it names one more for each of these and for
-/// each neighbour of `t`. Each line that it rests on names one for each shared neighbour, and a literal for each other vertex;
+/// Gives a keeper the line that takes from `pair.r` each value that is not consistent with `pair.p` at `pair.t`, and those that it rests on and
+/// that the table does not name. The line names two others, or one; where the two share neighbours it names one more for each of these and
+/// for each neighbour of the place. Each line that it rests on names one for each shared neighbour, and a literal for each other vertex;
 /// or where two are shared a clause in place of these literals. Where edges have directions and the two share neighbours in both,
 /// there is such a line for each, a clause that follows from these, and the line is the clause with one other.
 pub fn row_line_with<K: Keeper>(
@@ -161,18 +148,13 @@ pub fn row_line_with<K: Keeper>(
     lines: &Encoding,
     spreads: &mut Spreads,
     keeper: &mut K,
-    p: u16,
-    t: u16,
-    r: u16,
+    pair: PlacedPair,
 ) -> Result<Name, AllocError>
     requires encoding { lines.now ≡ q.now }
-    requires p_in { p < size q.now.pattern }
-    requires t_in { t < size q.now.target }
-    requires r_in { r < size q.now.pattern }
-    requires others { p ≡ r → ⊥ }
+    requires placed { IsPlace q.now pair.p pair.t pair.r }
     ensures goes { (w : Frame) → IsFrameOf q.now (K.owner keeper.old) w
         → Goes w (K.kept keeper.old) (K.kept keeper.new) (AreTurned w q.now spreads.old)
-        (IsRow w q.now p t r spreads.new result) }
+        (IsRow w q.now pair.p pair.t pair.r spreads.new result) }
     ensures name { IfOk result IsName }
     ensures owner { K.owner keeper.new ≡ K.owner keeper.old }
     ensures notes { K.notes keeper.new ≡ K.notes keeper.old }
@@ -180,12 +162,12 @@ pub fn row_line_with<K: Keeper>(
 {
     let out = Known::new(q, lines, Direction::Out);
     let back = Known::new(q, lines, Direction::In);
-    match asked_of(alloc, q, &out, &back, p, r)? {
-        Asked::Out(shared) => { line_by(alloc, &out, &mut spreads.out, keeper, shared, p, t, r) }
-        Asked::In(shared) => { line_by(alloc, &back, &mut spreads.back, keeper, shared, p, t, r) }
+    match asked_of(alloc, q, &out, &back, pair.p, pair.r)? {
+        Asked::Out(shared) => { line_by(alloc, &out, &mut spreads.out, keeper, shared, pair) }
+        Asked::In(shared) => { line_by(alloc, &back, &mut spreads.back, keeper, shared, pair) }
         Asked::Both(out_shared, in_shared) => {
             let shared = (out_shared, in_shared);
-            lines_both(alloc, q, &out, &back, spreads, keeper, shared, p, t, r)
+            lines_both(alloc, q, lines, spreads, keeper, shared, pair)
         }
     }
 }
@@ -196,22 +178,17 @@ pub fn row_line<K: Keeper>(
     q: &Problem,
     lines: &Encoding,
     keeper: &mut K,
-    p: u16,
-    t: u16,
-    r: u16,
+    pair: PlacedPair,
 ) -> Result<Name, AllocError>
     requires encoding { lines.now ≡ q.now }
-    requires p_in { p < size q.now.pattern }
-    requires t_in { t < size q.now.target }
-    requires r_in { r < size q.now.pattern }
-    requires others { p ≡ r → ⊥ }
+    requires placed { IsPlace q.now pair.p pair.t pair.r }
     ensures goes { (w : Frame) → IsFrameOf q.now (K.owner keeper.old) w
-        → Goes w (K.kept keeper.old) (K.kept keeper.new) AnyForms (IsRowLine w q.now p t r result) }
+        → Goes w (K.kept keeper.old) (K.kept keeper.new) AnyForms (IsRowLine w q.now pair.p pair.t pair.r result) }
     ensures name { IfOk result IsName }
     ensures owner { K.owner keeper.new ≡ K.owner keeper.old }
     ensures notes { K.notes keeper.new ≡ K.notes keeper.old }
     ensures spare { K.spare keeper.new ≡ K.spare keeper.old }
 {
     let mut spreads = Spreads::new(alloc);
-    row_line_with(alloc, q, lines, &mut spreads, keeper, p, t, r)
+    row_line_with(alloc, q, lines, &mut spreads, keeper, pair)
 }

@@ -1,16 +1,17 @@
 //! All lines for pairs of vertices that were made, so that each is made once.
 
 ghost use Rattle.std.specs.Prelude.{◌≡◌, ◌<◌, [], List, IfOk, IfSome};
-ghost use Rattle.graph_theory.specs.Graph.{size};
 ghost use Rattle.graph_theory.specs.Embedding.{Problem as TheProblem};
 ghost use Rattle.proof_theory.specs.Forms.{Form};
 ghost use Rattle.log_theory.specs.LogText.{IsRef};
+ghost use Rattle.row_theory.specs.Laws.{IsPlace};
 ghost use Rattle.kept_lines.specs.Frames.{Frame, IsFrameOf, Goes};
 ghost use Rattle.row_lines.specs.Choices.{IsAsked};
 ghost use Rattle.row_lines.specs.Claims.{Knows, IsKnownRow, IsThere};
 
 use crate::known::Known;
 use crate::pair_names::PairNames;
+use crate::placed_pair::PlacedPair;
 use crate::row::row_line_with;
 use crate::sharing::{Asked, Sharing, asked_of};
 use crate::turned_names::Spreads;
@@ -28,23 +29,21 @@ pub struct RowLines {
     spreads: Spreads,
 }
 
-/// The line of the encoding that serves where nothing but `t` itself is refused.
-fn line_there(known: &Known, asked: Asked, p: u16, t: u16, r: u16) -> Option<Ref>
-    requires p_in { p < size known.now.pattern }
-    requires t_in { t < size known.now.target }
-    requires r_in { r < size known.now.pattern }
-    requires asked { IsAsked known.now p r asked }
-    ensures there { IsThere known.now p t r result }
+/// The line of the encoding that serves where nothing but the place itself is refused.
+fn line_there(known: &Known, asked: Asked, pair: PlacedPair) -> Option<Ref>
+    requires placed { IsPlace known.now pair.p pair.t pair.r }
+    requires asked { IsAsked known.now pair.p pair.r asked }
+    ensures there { IsThere known.now pair.p pair.t pair.r result }
     ensures fits { IfSome result IsRef }
 {
     known.in_limits();
     match asked {
         Asked::Out(shared) => match shared {
             Sharing::Nothing => {
-                if known.is_paired(p, r) {
+                if known.is_paired(pair.p, pair.r) {
                     None
                 } else {
-                    Some(known.target(t))
+                    Some(known.target(pair.t))
                 }
             }
             Sharing::One(_) => None,
@@ -66,43 +65,38 @@ impl RowLines {
         }
     }
 
-    /// A reference to a line that takes from `r` each value that is not consistent with `p` at `t`. It is a line of the encoding where
-    /// one serves; else it is made when it is first asked for. Cost: where it was made, logarithmic in the number of lines.
+    /// A reference to a line that takes from `pair.r` each value that is not consistent with `pair.p` at `pair.t`. It is a line of the encoding
+    /// where one serves; else it is made when it is first asked for. Cost: where it was made, logarithmic in the number of lines.
     pub fn row<K: Keeper>(
         &mut self,
         alloc: Global,
         q: &Problem,
         lines: &Encoding<'_>,
         keeper: &mut K,
-        p: u16,
-        t: u16,
-        r: u16,
+        pair: PlacedPair,
     ) -> Result<Ref, AllocError>
         requires encoding { lines.now ≡ q.now }
-        requires p_in { p < size q.now.pattern }
-        requires t_in { t < size q.now.target }
-        requires r_in { r < size q.now.pattern }
-        requires others { p ≡ r → ⊥ }
+        requires placed { IsPlace q.now pair.p pair.t pair.r }
         ensures goes { (w : Frame) → IsFrameOf q.now (K.owner keeper.old) w
             → Goes w (K.kept keeper.old) (K.kept keeper.new) (Knows w q.now self.old)
-            (IsKnownRow w q.now p t r self.new result) }
+            (IsKnownRow w q.now pair.p pair.t pair.r self.new result) }
         ensures fits { IfOk result IsRef }
         ensures owner { K.owner keeper.new ≡ K.owner keeper.old }
         ensures notes { K.notes keeper.new ≡ K.notes keeper.old }
         ensures spare { K.spare keeper.new ≡ K.spare keeper.old }
     {
-        if let Some(name) = self.rows.find(p, r, t) {
+        if let Some(name) = self.rows.find(pair.p, pair.r, pair.t) {
             return Ok(Ref::Made(name));
         }
         let known = Known::new(q, lines, Direction::Out);
         let back = Known::new(q, lines, Direction::In);
-        let asked = asked_of(alloc, q, &known, &back, p, r)?;
+        let asked = asked_of(alloc, q, &known, &back, pair.p, pair.r)?;
         known.in_limits();
-        if let Some(line) = line_there(&known, asked, p, t, r) {
+        if let Some(line) = line_there(&known, asked, pair) {
             return Ok(line);
         }
-        let name = row_line_with(alloc, q, lines, &mut self.spreads, keeper, p, t, r)?;
-        self.rows.add(p, r, t, name)?;
+        let name = row_line_with(alloc, q, lines, &mut self.spreads, keeper, pair)?;
+        self.rows.add(pair.p, pair.r, pair.t, name)?;
         Ok(Ref::Made(name))
     }
 }

@@ -6,4 +6,4 @@ use Rattle.row_lines.specs.Choices.{spread_ref}
 use Rattle.row_lines.proofs.ops.add_spreads.Given as goal
 
 abbrev pub invariant-loop-w : goal.invariant-loop-w
-invariant-loop-w l = l.ops.items ≡ l.fn.ops.items ++ adds_where (is_neighbour l.known.target l.t) (λ w. Push (spread_ref l.known l.spreads l.sharing l.p l.r w)) l.w
+invariant-loop-w l = l.ops.items ≡ l.fn.ops.items ++ adds_where (is_neighbour l.known.target l.pair.t) (λ w. Push (spread_ref l.known l.spreads l.sharing l.pair.p l.pair.r w)) l.w

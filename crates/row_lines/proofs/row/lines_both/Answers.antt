@@ -1,24 +1,29 @@
-use Rattle.std.proofs.Common.{Ok, ◌∙◌}
+use Rattle.std.proofs.Common.{Ok, ◌∙◌, sym, subst}
 use Rattle.std.proofs.lemmas.Result.{err_from_is_err_and}
+use Rattle.graph_theory.specs.Embedding.{Problem}
+use Rattle.row_lines.specs.Choices.{IsSharing}
 use Rattle.row_lines.proofs.Turning.{first_stops, lines_pair, second_stops, both_join}
 use Rattle.row_lines.proofs.row.lines_both.Goals as goal
+
+pub line_by-requires-clause-shared : goal.line_by-requires-clause-shared
+line_by-requires-clause-shared g c = subst (λ (x : Problem). IsSharing x c.args.pair.p c.args.pair.r c.args.shared.0) (sym c.new-out.ensures) c.requires.shared
 
 pub returns-in_err-first-clause-goes : goal.returns-in_err-first-clause-goes
 returns-in_err-first-clause-goes g c = λ w frame.
     let e = err_from_is_err_and c.from_residual.result c.from_residual.ensures.1 in
-    rw e.1 (first_stops w c.args.q.now c.args.out.now c.args.p c.args.t c.args.r (g.K.Keeper.owner c.args.keeper.now) (g.K.Keeper.kept c.args.keeper.now) (g.K.Keeper.kept c.line_by.new.keeper) c.args.spreads.now c.line_by.new.spreads
-    c.line_by.result e.0 c.requires.out frame c.line_by.ensures.goes)
+    rw e.1 (first_stops w c.args.q.now c.new-out.result c.args.pair.p c.args.pair.t c.args.pair.r (g.K.Keeper.owner c.args.keeper.now) (g.K.Keeper.kept c.args.keeper.now) (g.K.Keeper.kept c.line_by.new.keeper) c.args.spreads.now c.line_by.new.spreads
+    c.line_by.result e.0 c.new-out.ensures frame c.line_by.ensures.goes)
 
 pub returns-in_err-second-clause-goes : goal.returns-in_err-second-clause-goes
 returns-in_err-second-clause-goes g c = λ w frame.
     let e = err_from_is_err_and c.from_residual-in_err-second.result c.from_residual-in_err-second.ensures.1 in
-    rw e.1 (second_stops w c.args.q.now c.args.p c.args.t c.args.r (g.K.Keeper.kept c.args.keeper.now) (g.K.Keeper.kept c.line_by-2.new.keeper) c.args.spreads.now c.line_by.new.spreads c.line_by-2.new.spreads c.in_ok-first.first c.line_by-2.result e.0
-    (lines_pair w c.args.q.now c.args.out.now c.args.back.now c.args.p c.args.t c.args.r (g.K.Keeper.owner c.args.keeper.now) (g.K.Keeper.owner c.line_by.new.keeper) (g.K.Keeper.kept c.args.keeper.now) (g.K.Keeper.kept c.line_by.new.keeper)
-    (g.K.Keeper.kept c.line_by-2.new.keeper) c.args.spreads.now c.line_by.new.spreads c.line_by-2.new.spreads c.in_ok-first.first c.line_by-2.result c.requires.out c.requires.back c.in_ok-first.ensures.owner frame c.in_ok-first.ensures.goes c.line_by-2.ensures.goes))
+    rw e.1 (second_stops w c.args.q.now c.args.pair.p c.args.pair.t c.args.pair.r (g.K.Keeper.kept c.args.keeper.now) (g.K.Keeper.kept c.line_by-2.new.keeper) c.args.spreads.now c.line_by.new.spreads c.line_by-2.new.spreads c.in_ok-first.first c.line_by-2.result e.0
+    (lines_pair w c.args.q.now c.new-out.result c.new-back.result c.args.pair.p c.args.pair.t c.args.pair.r (g.K.Keeper.owner c.args.keeper.now) (g.K.Keeper.owner c.line_by.new.keeper) (g.K.Keeper.kept c.args.keeper.now) (g.K.Keeper.kept c.line_by.new.keeper)
+    (g.K.Keeper.kept c.line_by-2.new.keeper) c.args.spreads.now c.line_by.new.spreads c.line_by-2.new.spreads c.in_ok-first.first c.line_by-2.result c.new-out.ensures c.new-back.ensures c.in_ok-first.ensures.owner frame c.in_ok-first.ensures.goes c.line_by-2.ensures.goes))
 
 pub returns-clause-goes : goal.returns-clause-goes
 returns-clause-goes g c = λ w frame.
-    both_join w c.args.q.now c.args.p c.args.t c.args.r (g.K.Keeper.owner c.args.keeper.now) (g.K.Keeper.owner c.line_by-2.new.keeper) (g.K.Keeper.kept c.args.keeper.now) (g.K.Keeper.kept c.line_by-2.new.keeper) (g.K.Keeper.kept c.both_line.new.keeper)
+    both_join w c.args.q.now c.args.pair.p c.args.pair.t c.args.pair.r (g.K.Keeper.owner c.args.keeper.now) (g.K.Keeper.owner c.line_by-2.new.keeper) (g.K.Keeper.kept c.args.keeper.now) (g.K.Keeper.kept c.line_by-2.new.keeper) (g.K.Keeper.kept c.both_line.new.keeper)
     c.args.spreads.now c.line_by.new.spreads c.line_by-2.new.spreads c.in_ok-first.first c.in_ok-second.second c.both_line.result (c.in_ok-second.ensures.owner ∙ c.in_ok-first.ensures.owner) frame
-    (lines_pair w c.args.q.now c.args.out.now c.args.back.now c.args.p c.args.t c.args.r (g.K.Keeper.owner c.args.keeper.now) (g.K.Keeper.owner c.line_by.new.keeper) (g.K.Keeper.kept c.args.keeper.now) (g.K.Keeper.kept c.line_by.new.keeper)
-    (g.K.Keeper.kept c.line_by-2.new.keeper) c.args.spreads.now c.line_by.new.spreads c.line_by-2.new.spreads c.in_ok-first.first (Ok c.in_ok-second.second) c.requires.out c.requires.back c.in_ok-first.ensures.owner frame c.in_ok-first.ensures.goes c.in_ok-second.ensures.goes) c.both_line.ensures.goes
+    (lines_pair w c.args.q.now c.new-out.result c.new-back.result c.args.pair.p c.args.pair.t c.args.pair.r (g.K.Keeper.owner c.args.keeper.now) (g.K.Keeper.owner c.line_by.new.keeper) (g.K.Keeper.kept c.args.keeper.now) (g.K.Keeper.kept c.line_by.new.keeper)
+    (g.K.Keeper.kept c.line_by-2.new.keeper) c.args.spreads.now c.line_by.new.spreads c.line_by-2.new.spreads c.in_ok-first.first (Ok c.in_ok-second.second) c.new-out.ensures c.new-back.ensures c.in_ok-first.ensures.owner frame c.in_ok-first.ensures.goes c.in_ok-second.ensures.goes) c.both_line.ensures.goes

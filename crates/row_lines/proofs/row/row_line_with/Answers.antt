@@ -14,12 +14,12 @@ returns-in_err-shared-clause-goes g c = λ w frame.
 
 pub returns-in-Out-clause-goes : goal.returns-in-Out-clause-goes
 returns-in-Out-clause-goes g c = λ w frame.
-    row_out w c.args.q.now c.new-out.result c.args.p c.args.t c.args.r (g.K.Keeper.owner c.args.keeper.now) (g.K.Keeper.kept c.args.keeper.now) (g.K.Keeper.kept c.line_by.new.keeper) c.args.spreads.now c.line_by.new.spreads c.line_by.result
-    c.new-out.ensures (record { first = c.requires.p_in; place = c.requires.t_in; second = c.requires.r_in; others = c.requires.others }) frame
-    (subst (λ (a : Asked). IsAsked c.args.q.now c.args.p c.args.r a) c.in-Out.is c.in_ok-shared.ensures).1 c.line_by.ensures.goes
+    row_out w c.args.q.now c.new-out.result c.args.pair.p c.args.pair.t c.args.pair.r (g.K.Keeper.owner c.args.keeper.now) (g.K.Keeper.kept c.args.keeper.now) (g.K.Keeper.kept c.line_by.new.keeper) c.args.spreads.now c.line_by.new.spreads c.line_by.result
+    c.new-out.ensures c.requires.placed frame
+    (subst (λ (a : Asked). IsAsked c.args.q.now c.args.pair.p c.args.pair.r a) c.in-Out.is c.in_ok-shared.ensures).1 c.line_by.ensures.goes
 
 pub returns-in-In-clause-goes : goal.returns-in-In-clause-goes
 returns-in-In-clause-goes g c = λ w frame.
-    row_back w c.args.q.now c.new-back.result c.args.p c.args.t c.args.r (g.K.Keeper.owner c.args.keeper.now) (g.K.Keeper.kept c.args.keeper.now) (g.K.Keeper.kept c.line_by-in-In.new.keeper) c.args.spreads.now c.line_by-in-In.new.spreads
-    c.line_by-in-In.result c.new-back.ensures (record { first = c.requires.p_in; place = c.requires.t_in; second = c.requires.r_in; others = c.requires.others }) frame
-    (subst (λ (a : Asked). IsAsked c.args.q.now c.args.p c.args.r a) c.in-In.is c.in_ok-shared.ensures).1 c.line_by-in-In.ensures.goes
+    row_back w c.args.q.now c.new-back.result c.args.pair.p c.args.pair.t c.args.pair.r (g.K.Keeper.owner c.args.keeper.now) (g.K.Keeper.kept c.args.keeper.now) (g.K.Keeper.kept c.line_by-in-In.new.keeper) c.args.spreads.now c.line_by-in-In.new.spreads
+    c.line_by-in-In.result c.new-back.ensures c.requires.placed frame
+    (subst (λ (a : Asked). IsAsked c.args.q.now c.args.pair.p c.args.pair.r a) c.in-In.is c.in_ok-shared.ensures).1 c.line_by-in-In.ensures.goes

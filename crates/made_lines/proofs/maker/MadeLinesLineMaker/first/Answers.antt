@@ -1,6 +1,5 @@
-use Rattle.std.proofs.Common.{◌≡◌, ℕ, ◌-◌, ◌≤◌, ◌==◌, cond, Option, Some, None, Ok, Err, refl, sym, ap, subst, ◌∙◌, arith}
+use Rattle.std.proofs.Common.{◌≡◌, ℕ, ◌≤◌, ◌==◌, cond, Option, Some, None, Ok, Err, refl, sym, ap, subst, ◌∙◌, arith}
 use Rattle.std.proofs.lemmas.Result.{err_from_is_err_and}
-use Rattle.std.specs.Prelude.{slice_get}
 use Rattle.graph_theory.specs.Embedding.{Problem}
 use Rattle.log_theory.specs.declared.step.Name.{Name}
 use Rattle.log_theory.specs.declared.step.Ref.TheVariants.{Line, Made}
@@ -9,7 +8,6 @@ use Rattle.kept_lines.proofs.Going.{goes_stay}
 use Rattle.dead_paths.specs.Making.{GivesFirst}
 use Rattle.first_lines.specs.Named.{name_at, AreUnits}
 use Rattle.first_lines.specs.Given.{IsFirstLine as IsGiven}
-use Rattle.encoding_theory.specs.Encoding.{encoding, at_least}
 use Rattle.pb_encoding.proofs.LineNumbers.{at_least_line}
 use Rattle.made_lines.specs.Made.{IsMade}
 use Rattle.made_lines.proofs.Giving.{goes_for, first_there, first_made, first_whole}

@@ -8,14 +8,13 @@ use Rattle.made_lines.specs.Made.{IsMade}
 use Rattle.made_lines.proofs.Giving.{goes_more, row_given}
 use Rattle.made_lines.proofs.maker.MadeLinesLineMaker.row.Goals as goal
 
-pub row-requires-clause-p_in : goal.row-requires-clause-p_in
-row-requires-clause-p_in g c = subst (λ (x : Problem). c.args.p < size x.pattern) (sym c.problem-q.ensures) c.requires.p_in
-
-pub row-requires-clause-t_in : goal.row-requires-clause-t_in
-row-requires-clause-t_in g c = subst (λ (x : Problem). c.args.t < size x.target) (sym c.problem-q.ensures) c.requires.t_in
-
-pub row-requires-clause-r_in : goal.row-requires-clause-r_in
-row-requires-clause-r_in g c = subst (λ (x : Problem). c.args.r < size x.pattern) (sym c.problem-q.ensures) c.requires.r_in
+pub row-requires-clause-placed : goal.row-requires-clause-placed
+row-requires-clause-placed g c = record {
+  first = subst (λ (x : Problem). c.args.p < size x.pattern) (sym c.problem-q.ensures) c.requires.p_in;
+  place = subst (λ (x : Problem). c.args.t < size x.target) (sym c.problem-q.ensures) c.requires.t_in;
+  second = subst (λ (x : Problem). c.args.r < size x.pattern) (sym c.problem-q.ensures) c.requires.r_in;
+  others = c.requires.apart;
+}
 
 pub returns-clause-goes : goal.returns-clause-goes
 returns-clause-goes g c = λ w frame.

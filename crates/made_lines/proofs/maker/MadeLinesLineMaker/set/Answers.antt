@@ -1,10 +1,7 @@
 use Rattle.std.proofs.Common.{ℕ, List, Err, refl, sym, subst}
 use Rattle.std.specs.List.Sorted.{IsPermutation}
 use Rattle.std.proofs.lemmas.Result.{err_from_is_err_and}
-use Rattle.graph_theory.specs.Embedding.{Problem}
-use Rattle.kept_lines.specs.Frames.{Frame, IsFrameOf, Goes}
 use Rattle.kept_lines.proofs.Going.{goes_stay}
-use Rattle.dead_paths.specs.Lines.{AreVertices}
 use Rattle.dead_paths.specs.Making.{GivesSet}
 use Rattle.made_lines.specs.Sets.{AreSets, IsKnownSet}
 use Rattle.made_lines.specs.Made.{IsMade}
