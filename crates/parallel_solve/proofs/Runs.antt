@@ -2,7 +2,8 @@
 use Rattle.std.proofs.Common.{◌≡◌, ℕ, zero, suc, ◌+◌, ◌-◌, ◌<◌, ◌≤◌, List, [], ◌∷◌, ◌++◌, length, map, get_or, set, take, Option, Some, None, refl, sym, ap, ◌∙◌, subst, arith, length-append, ◌⊎◌, inl, inr}
 use Rattle.std.specs.Prelude.{All, slice_get}
 use Rattle.std.proofs.lemmas.Option.{slice_get_cases, slice_get-get_or, slice_get_within, get_or_from_slice_get, none-some, same_Some}
-use Rattle.std.proofs.lemmas.List.{length-map, get_or-map, take_all}
+use Rattle.std.proofs.lemmas.List.{length-map, length-set, get_or-map, get_or-set_same, take_all, take-set}
+use Rattle.std.proofs.lemmas.List.Elements.{All-more}
 use Rattle.parallel_solve.specs.Jobs.{AreRun}
 use Rattle.search_proof.specs.Making.{AreOfOwners}
 use Rattle.parallel_solve.specs.Teaming.{IsRefuter}
@@ -47,6 +48,11 @@ nothing_left (x ∷ xs) none = absurd (omega arith)
 -- all of them were taken
 pub all_taken : {X : Type 0} (P : X → Type 0) (xs : List X) (n : ℕ) → length xs ≤ n → All P (take n xs) → All P xs
 all_taken P xs n whole h = subst (All P) (take_all n xs whole) h
+
+-- one more is so, where it was written
+pub taken_set : {X : Type 0} (P : X → Type 0) (xs : List X) (i : ℕ) (x : X) → i < length xs → All P (take i xs) → P x → All P (take (i + 1) (set xs i x))
+taken_set P xs i x there before here =
+    All-more P (set xs i x) i x (omega (arith, there, length-set xs i x)) (subst (All P) (sym (take-set xs i x)) before) (subst P (sym (get_or-set_same xs i x x there)) here)
 
 -- one more is made
 pub pushed_map : {X Y : Type 0} (f : X → Y) (xs : List X) (x : X) (ys : List Y) (y : Y) → ys ≡ map f xs → y ≡ f x → ys ++ y ∷ [] ≡ map f (xs ++ x ∷ [])

@@ -1,6 +1,7 @@
 -- The workers of one solve: before they run, after it, and what their outcomes say together.
 
-use Rattle.std.specs.Prelude.{◌≡◌, ◌≢◌, ℕ, ◌<◌, ◌≤◌, Bool, true, List, [], ◌∷◌, length, All, Option, Some, IfSome, unwrap_or}
+use Rattle.std.specs.Prelude.{◌≡◌, ◌≢◌, ◌⊎◌, ℕ, ◌<◌, ◌≤◌, Bool, true, List, [], ◌∷◌, length, All, Option, Some, IfSome, unwrap_or}
+use Rattle.std.specs.List.{Any}
 use Rattle.graph_theory.specs.Graph.{size}
 use Rattle.graph_theory.specs.Embedding.{Problem, Embeds, HasNone}
 use Rattle.search_theory.specs.Bounds.{enough}
@@ -13,7 +14,7 @@ use Rattle.restart_search.specs.declared.outcome.Outcome.TheVariants.{Found, Ref
 use Rattle.restart_search.specs.declared.outcome.Stage.{Stage}
 use Rattle.restart_search.specs.declared.outcome.Stage.TheVariants.{Over}
 use Rattle.parallel_solve.specs.declared.tally.Tally.{Tally}
-use Rattle.restart_search.specs.Searching.{Search, Ends, stage_after}
+use Rattle.restart_search.specs.Searching.{Search, Ends, IsNotStopped, stage_after}
 use Rattle.restart_search.specs.Sharing.{IsSeatFor}
 use Rattle.restart_search.specs.Logging.{IfRefuted}
 use Rattle.search_proof.specs.Making.{IsFinisher}
@@ -57,6 +58,21 @@ pub record IsTally (q : Problem) (budget : ℕ) (t : Tally) : Type 0 where
   pub map_of : IfSome t.map (λ m. Embeds q m.items)
   pub refuted_of : IfSome t.refuted (λ _. HasNone q)
   pub spent_of : t.spent ≡ true → All (IsSpent q budget) t.accounts.items
+
+-- ---- who decided
+
+-- The outcome decides the problem.
+abbrev pub Decides : Outcome → Type 0
+Decides (Found m) = Unit {0}
+Decides Refuted = Unit {0}
+Decides Spent = ⊥
+Decides (Stopped n) = ⊥
+Decides NoMemory = ⊥
+
+-- One of these decides the problem, or none of them was stopped.
+abbrev pub AreSettled : {X : Type 0} → (X → Outcome) → List X → Type 0
+AreSettled outcome xs = Any (λ x. Decides (outcome x)) xs
+    ⊎ All (λ x. IsNotStopped (outcome x)) xs
 
 -- ---- who refuted
 

@@ -13,7 +13,7 @@ ghost use Rattle.parallel_solve.specs.Solving.{IsSolved};
 
 use crate::answers::{Settings, Solved};
 use crate::tally::conclude;
-use crate::team::{make_jobs, run_team};
+use crate::team::{Root, make_jobs, run_team};
 use domain_bits::{Domains, WordTrail};
 use fail_account::Account;
 use graph_rows::Problem;
@@ -110,7 +110,14 @@ where
     };
     match root::<WordTrail, L::Told>(alloc, q, &kinds, MOST_WORDS, told) {
         Rooted::Quiet(domains, told) => {
-            solve_from(rt, alloc, q, &kinds, domains, told, s, gate, maker)
+            let root = Root {
+                alloc,
+                q,
+                kinds: &kinds,
+                maker,
+                settings: s,
+            };
+            solve_from(rt, &root, domains, told, gate)
         }
         Rooted::Failed(failure, told) => match root_proof(alloc, q, &told, failure, maker) {
             Ok(proof) => Solved::NoEmbedding(proof),
@@ -141,49 +148,44 @@ fn root_proof<L: ProofLogger, M: ProofMaker<L>>(
 /// Decides the problem from the domains of the root, with what was told of them.
 fn solve_from<'a, R: Threads + Sync, G: Gate + Sync, L: ProofLogger + Send, M: ProofMaker<L>>(
     rt: &R,
-    alloc: Global,
-    q: &'a Problem,
-    kinds: &'a PairKinds<'a>,
+    root: &Root<'_, 'a, M>,
     domains: Domains<WordTrail>,
     told: L::Told,
-    s: &Settings,
     gate: &G,
-    maker: &M,
 ) -> Solved
 where
     L::Told: Send,
-    requires kinds { kinds.now.problem ≡ q.now }
-    requires is_of { IsOf q.now domains }
-    requires rest { AtRest q.now [] domains }
-    requires told { IsTold q.now None domains [] [] (L.Told.changes told) }
-    requires maker { M.problem maker.now ≡ q.now }
-    requires some { 1 ≤ s.now.threads }
-    requires few { s.now.threads ≤ 64 }
-    requires budget { s.now.budget < 2 ^ 63 }
-    requires rows { s.now.rows ≤ 4194304 }
-    ensures { IsSolved result q.entry.now s.now.threads s.now.budget (M.logged maker.now) }
+    requires kinds { root.now.kinds.now.problem ≡ root.now.q.now }
+    requires is_of { IsOf root.now.q.now domains }
+    requires rest { AtRest root.now.q.now [] domains }
+    requires told { IsTold root.now.q.now None domains [] [] (L.Told.changes told) }
+    requires maker { M.problem root.now.maker.now ≡ root.now.q.now }
+    requires some { 1 ≤ root.now.settings.now.threads }
+    requires few { root.now.settings.now.threads ≤ 64 }
+    requires budget { root.now.settings.now.budget < 2 ^ 63 }
+    requires rows { root.now.settings.now.rows ≤ 4194304 }
+    ensures { IsSolved result root.now.q.now root.now.settings.now.threads
+        root.now.settings.now.budget (M.logged root.now.maker.now) }
 {
+    let alloc = root.alloc;
+    let s = root.settings;
     let Ok(accounts) = Vec::with_capacity(alloc, s.threads as usize) else {
         return Solved::NoMemory;
     };
     let Ok(logs) = Vec::with_capacity(alloc, s.threads as usize) else {
         return Solved::NoMemory;
     };
-    let Ok((book, mut first)) = RowBook::new(alloc, q, s.rows) else {
+    let Ok((book, mut first)) = RowBook::new(alloc, root.q, s.rows) else {
         return Solved::NoMemory;
     };
     let mut jobs = Vec::new(alloc);
-    let Ok(()) = make_jobs(
-        alloc, q, kinds, &domains, &told, maker, s, &book, &mut first, &mut jobs,
-    ) else {
+    let Ok(()) = make_jobs(root, &domains, &told, &book, &mut first, &mut jobs) else {
         return Solved::NoMemory;
     };
     drop(domains);
     drop(told);
-    let Ok(done) = run_team(rt, alloc, q, s.budget, &book, gate, jobs) else {
+    let Ok(done) = run_team(rt, alloc, root.q, s.budget, &book, gate, jobs) else {
         return Solved::NoMemory;
     };
-    conclude(
-        alloc, q, s.budget, maker, &book, &mut first, accounts, logs, done,
-    )
+    conclude(root, &book, &mut first, accounts, logs, done)
 }

@@ -9,7 +9,7 @@ ghost use Rattle.parallel_solve.specs.Solving.{IsSolved};
 ghost use Rattle.parallel_solve.specs.Teaming.{HasRun, IsRefuter, IsTally, refuted_by, StaysBeside};
 
 use crate::answers::Solved;
-use crate::team::Done;
+use crate::team::{Done, Root};
 use fail_account::account::Account;
 use graph_rows::Problem;
 use nogood_book::{BookSeat, Row, RowBook, RowSeat};
@@ -168,17 +168,14 @@ fn answer<L: ProofLogger, M: ProofMaker<L>>(
 
 /// The answer of workers that have run. All memory but a proof's was taken before.
 pub(crate) fn conclude<'a, L: ProofLogger, M: ProofMaker<L>>(
-    alloc: Global,
-    q: &Problem,
-    budget: u64,
-    maker: &M,
+    root: &Root<'_, 'a, M>,
     book: &RowBook,
     first: &mut BookSeat,
     accounts: Vec<Account>,
     logs: Vec<L>,
     done: Vec<Done<'a, L>>,
 ) -> Solved
-    requires maker { M.problem maker.now ≡ q.now }
+    requires maker { M.problem root.now.maker.now ≡ root.now.q.now }
     requires none { length accounts.items ≡ 0 }
     requires room { length done.items ≤ vec_capacity accounts }
     requires no_logs { logs.items ≡ [] }
@@ -188,13 +185,17 @@ pub(crate) fn conclude<'a, L: ProofLogger, M: ProofMaker<L>>(
     requires of { IsSeatOf book.now first.old }
     requires made { HasMade (length done.items + 1) first.old.view }
     requires ran { All
-        (λ d. HasRun L.owner L.steps L.refutes book.now q.now budget d.worker d.outcome)
+        (λ d. HasRun L.owner L.steps L.refutes book.now root.now.q.now
+        root.now.settings.now.budget d.worker d.outcome)
         done.items }
     requires numbers { AreOfOwners (λ d. d.worker.number) done.items }
-    ensures { IsSolved result q.now (length done.entry.items) budget (M.logged maker.now) }
+    ensures { IsSolved result root.now.q.now (length done.entry.items)
+        root.now.settings.now.budget (M.logged root.now.maker.now) }
 {
+    let q = root.q;
+    let budget = root.settings.budget;
     let mut logs = logs;
     let tally = gather_all(q, budget, book, first, accounts, &mut logs, done);
     all_stay(&logs);
-    answer(alloc, q, budget, maker, first.rows(), logs, tally)
+    answer(root.alloc, q, budget, root.maker, first.rows(), logs, tally)
 }

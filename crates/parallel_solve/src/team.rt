@@ -1,13 +1,14 @@
 //! The workers of one solve: their making, their runs beside each other, and the runs of those that were stopped.
 
-ghost use Rattle.std.specs.Prelude.{◌≡◌, [], ◌≤◌, ◌<◌, ◌^◌, ◌+◌, None, length, All, IfOk, OnOk};
+ghost use Rattle.std.specs.Prelude.{◌≡◌, [], ◌≤◌, ◌<◌, ◌^◌, ◌+◌, true, false, None, length, All, IfOk, OnOk};
+ghost use Rattle.std.specs.List.{Any};
 ghost use Rattle.propagation.specs.Propagation.{IsOf};
 ghost use Rattle.nogood_book.specs.Seats.{IsSeatOf};
 ghost use Rattle.restart_search.specs.Searching.{AtRest, IsNotStopped};
 ghost use Rattle.restart_search.specs.Logging.{IsTold};
 ghost use Rattle.search_proof.specs.Making.{AreOfOwners};
 ghost use Rattle.parallel_solve.specs.Gathering.{HasMade};
-ghost use Rattle.parallel_solve.specs.Teaming.{IsJob, HasRun};
+ghost use Rattle.parallel_solve.specs.Teaming.{IsJob, HasRun, Decides, AreSettled};
 
 use crate::answers::Settings;
 use crate::job::{Job, run_all};
@@ -58,96 +59,103 @@ impl<'r, 'a, G: Gate, L: ProofLogger> Job<Shared<'r, 'a, G>>
     }
 }
 
+/// What a solve reads from its root on: the problem with the kinds of its pairs, the maker of logs, and what was asked for.
+#[derive(Drop)]
+pub(crate) struct Root<'r, 'a, M> {
+    pub(crate) alloc: Global,
+    pub(crate) q: &'a Problem,
+    pub(crate) kinds: &'a PairKinds<'a>,
+    pub(crate) maker: &'r M,
+    pub(crate) settings: &'r Settings,
+}
+
 /// The worker of this number, its seat split from the first one. All that may be refused for memory is made before the seat.
 fn make_job<'a, L: ProofLogger, M: ProofMaker<L>>(
-    alloc: Global,
-    q: &'a Problem,
-    kinds: &'a PairKinds<'a>,
+    root: &Root<'_, 'a, M>,
     domains: &Domains<WordTrail>,
     told: &L::Told,
-    maker: &M,
-    s: &Settings,
     number: u8,
     book: &RowBook,
     first: &mut BookSeat,
 ) -> Result<Worker<'a, BookSeat, WordTrail, L>, AllocError>
-    requires kinds { kinds.now.problem ≡ q.now }
-    requires is_of { IsOf q.now domains.now }
-    requires rest { AtRest q.now [] domains.now }
-    requires told { IsTold q.now None domains.now [] [] (L.Told.changes told.now) }
-    requires maker { M.problem maker.now ≡ q.now }
-    requires threads { 1 ≤ s.now.threads }
+    requires kinds { root.now.kinds.now.problem ≡ root.now.q.now }
+    requires is_of { IsOf root.now.q.now domains.now }
+    requires rest { AtRest root.now.q.now [] domains.now }
+    requires told { IsTold root.now.q.now None domains.now [] [] (L.Told.changes told.now) }
+    requires maker { M.problem root.now.maker.now ≡ root.now.q.now }
+    requires threads { 1 ≤ root.now.settings.now.threads }
     requires some { 1 ≤ number }
     requires few { number ≤ 64 }
-    requires budget { s.now.budget < 2 ^ 63 }
-    requires book { book.now.problem ≡ q.now }
+    requires budget { root.now.settings.now.budget < 2 ^ 63 }
+    requires book { book.now.problem ≡ root.now.q.now }
     requires of { IsSeatOf book.now first.old }
     requires made { HasMade number first.old.view }
     requires unseen { first.old.view.seen ≡ [] }
-    ensures job { IfOk result (λ w. IsJob L.owner book.now q.entry.now s.now.budget w) }
+    ensures job { IfOk result
+        (λ w. IsJob L.owner book.now root.now.q.now root.now.settings.now.budget w) }
     ensures number { IfOk result (λ w. w.number ≡ number) }
     ensures of { IsSeatOf book.now first.new }
     ensures unseen { first.new.view.seen ≡ [] }
     ensures made { OnOk result (HasMade (number + 1) first.new.view) }
 {
+    let alloc = root.alloc;
     let copy = domains.copy(alloc)?;
-    let filters = Filters::new(alloc, q, kinds, MOST_WORDS / s.threads as usize)?;
+    let words = MOST_WORDS / root.settings.threads as usize;
+    let filters = Filters::new(alloc, root.q, root.kinds, words)?;
     let settings = WorkerSettings {
         number,
-        seed: s.seed,
-        budget: s.budget,
+        seed: root.settings.seed,
+        budget: root.settings.budget,
     };
-    let equipment = Equipment::new(alloc, q, copy, told.copy(alloc), filters, settings)?;
-    let log = maker.logger(alloc, number)?;
+    let equipment = Equipment::new(alloc, root.q, copy, told.copy(alloc), filters, settings)?;
+    let log = root.maker.logger(alloc, number)?;
     let seat = book.split(alloc, first, number)?;
     Ok(Worker::new(equipment, seat, log))
 }
 
 /// Adds the workers of a solve. Where memory is refused, those that were made so far are there.
 pub(crate) fn make_jobs<'a, L: ProofLogger, M: ProofMaker<L>>(
-    alloc: Global,
-    q: &'a Problem,
-    kinds: &'a PairKinds<'a>,
+    root: &Root<'_, 'a, M>,
     domains: &Domains<WordTrail>,
     told: &L::Told,
-    maker: &M,
-    s: &Settings,
     book: &RowBook,
     first: &mut BookSeat,
     jobs: &mut Vec<Worker<'a, BookSeat, WordTrail, L>>,
 ) -> Result<(), AllocError>
-    requires kinds { kinds.now.problem ≡ q.now }
-    requires is_of { IsOf q.now domains.now }
-    requires rest { AtRest q.now [] domains.now }
-    requires told { IsTold q.now None domains.now [] [] (L.Told.changes told.now) }
-    requires maker { M.problem maker.now ≡ q.now }
-    requires some { 1 ≤ s.now.threads }
-    requires few { s.now.threads ≤ 64 }
-    requires budget { s.now.budget < 2 ^ 63 }
-    requires book { book.now.problem ≡ q.now }
+    requires kinds { root.now.kinds.now.problem ≡ root.now.q.now }
+    requires is_of { IsOf root.now.q.now domains.now }
+    requires rest { AtRest root.now.q.now [] domains.now }
+    requires told { IsTold root.now.q.now None domains.now [] [] (L.Told.changes told.now) }
+    requires maker { M.problem root.now.maker.now ≡ root.now.q.now }
+    requires some { 1 ≤ root.now.settings.now.threads }
+    requires few { root.now.settings.now.threads ≤ 64 }
+    requires budget { root.now.settings.now.budget < 2 ^ 63 }
+    requires book { book.now.problem ≡ root.now.q.now }
     requires of { IsSeatOf book.now first.old }
     requires made { HasMade 1 first.old.view }
     requires unseen { first.old.view.seen ≡ [] }
     requires none { jobs.old.items ≡ [] }
-    ensures jobs { All (λ w. IsJob L.owner book.now q.entry.now s.now.budget w) jobs.new.items }
+    ensures jobs { All
+        (λ w. IsJob L.owner book.now root.now.q.now root.now.settings.now.budget w)
+        jobs.new.items }
     ensures numbers { AreOfOwners (λ w. w.number) jobs.new.items }
-    ensures count { OnOk result (length jobs.new.items ≡ s.now.threads) }
+    ensures count { OnOk result (length jobs.new.items ≡ root.now.settings.now.threads) }
     ensures of { IsSeatOf book.now first.new }
-    ensures made { OnOk result (HasMade (s.now.threads + 1) first.new.view) }
+    ensures made { OnOk result (HasMade (root.now.settings.now.threads + 1) first.new.view) }
 {
-    for worker in 0..s.threads {
+    for worker in 0..root.settings.threads {
         jobs.reserve(1)?;
-        let number = worker as u8 + 1;
-        let job = make_job(
-            alloc, q, kinds, domains, told, maker, s, number, book, first,
-        )?;
+        let job = make_job(root, domains, told, worker as u8 + 1, book, first)?;
         jobs.push_reserved(job);
     }
     Ok(())
 }
 
 /// Whether the outcome decides the problem.
-fn decides(outcome: &Outcome) -> bool {
+fn decides(outcome: &Outcome) -> bool
+    ensures yes { result ≡ true → Decides outcome.now }
+    ensures no { result ≡ false → Decides outcome.now → ⊥ }
+{
     match outcome {
         Outcome::Found(_) => true,
         Outcome::Refuted => true,
@@ -155,6 +163,18 @@ fn decides(outcome: &Outcome) -> bool {
         Outcome::Stopped(_) => false,
         Outcome::NoMemory => false,
     }
+}
+
+/// Whether one of the workers decides the problem.
+fn is_decided<'a, L: ProofLogger>(done: &[Done<'a, L>]) -> bool
+    ensures { result ≡ true → Any (λ d. Decides d.outcome) done.now }
+{
+    for place in 0..done.len() {
+        if decides(&done[place].outcome) {
+            return true;
+        }
+    }
+    false
 }
 
 /// Runs a stopped worker again, without a cell, and says whether it decides the problem.
@@ -172,6 +192,7 @@ fn go_on<'a, G: Gate, L: ProofLogger>(
         one.new.outcome }
     ensures number { one.new.worker.number ≡ one.old.worker.number }
     ensures alone { IsNotStopped one.new.outcome }
+    ensures decided { result ≡ true → Decides one.new.outcome }
 {
     match &one.outcome {
         Outcome::Stopped(_) => (),
@@ -202,8 +223,9 @@ fn finish<'a, G: Gate, L: ProofLogger>(
         done.new.items }
     ensures numbers { AreOfOwners (λ d. d.worker.number) done.new.items }
     ensures count { length done.new.items ≡ length done.old.items }
+    ensures settled { AreSettled (λ d. d.outcome) done.new.items }
 {
-    if done.iter().any(|one| decides(&one.outcome)) {
+    if is_decided(done) {
         return;
     }
     for place in 0..done.len() {
@@ -232,6 +254,7 @@ where
         v.items) }
     ensures numbers { IfOk result (λ v. AreOfOwners (λ d. d.worker.number) v.items) }
     ensures count { IfOk result (λ v. length v.items ≡ length jobs.entry.items) }
+    ensures settled { IfOk result (λ v. AreSettled (λ d. d.outcome) v.items) }
 {
     let cell = AnswerCell::new(alloc);
     let shared = Shared {

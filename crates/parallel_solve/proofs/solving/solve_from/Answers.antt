@@ -27,4 +27,4 @@ conclude-requires-clause-made g c =
 
 pub returns : goal.returns
 returns g c =
-    subst (λ (n : ℕ). IsSolved c.conclude.result c.args.q.now n c.args.s.now.budget (g.M.ProofMaker.logged c.args.maker.now)) (c.in-Ok-run_team.ensures.count ∙ c.in-Ok-make_jobs.ensures.count) c.conclude.ensures
+    subst (λ (n : ℕ). IsSolved c.conclude.result c.args.root.now.q.now n c.args.root.now.settings.now.budget (g.M.ProofMaker.logged c.args.root.now.maker.now)) (c.in-Ok-run_team.ensures.count ∙ c.in-Ok-make_jobs.ensures.count) c.conclude.ensures

@@ -36,9 +36,9 @@ answer-requires-clause-steps g c =
     let logs = c.gather_all-tally.ensures.logs in
     let same : All (λ (d : Done g.row.L.Denot g.row.L-Told.Denot). g.L.ProofLogger.owner d.worker.log ≡ d.worker.number) c.args.done.items = λ k d k_in. (c.requires.ran k d k_in).owner_is in
     let stays = subst (All (λ (l : g.row.L.Denot). StaysBeside (g.L.ProofLogger.owner l) (g.L.ProofLogger.steps l))) (c.deref.ensures.value ∙ logs) c.all_stay.ensures.steps in
-    let more = says_more log number seen g.L.ProofLogger.owner g.L.ProofLogger.steps c.args.q.now rows c.args.done.items same c.gather_all-tally.ensures.grown stays in
-    subst (λ (rs : List Row). All (λ (l : g.row.L.Denot). g.L.ProofLogger.steps l c.args.q.now rs) c.gather_all-tally.new.logs.items) (sym c.rows.ensures.seen)
-    (all_say log seen g.L.ProofLogger.steps c.args.q.now rows c.args.done.items _ logs more (λ k d k_in. (c.requires.ran k d k_in).steps_of))
+    let more = says_more log number seen g.L.ProofLogger.owner g.L.ProofLogger.steps c.args.root.now.q.now rows c.args.done.items same c.gather_all-tally.ensures.grown stays in
+    subst (λ (rs : List Row). All (λ (l : g.row.L.Denot). g.L.ProofLogger.steps l c.args.root.now.q.now rs) c.gather_all-tally.new.logs.items) (sym c.rows.ensures.seen)
+    (all_say log seen g.L.ProofLogger.steps c.args.root.now.q.now rows c.args.done.items _ logs more (λ k d k_in. (c.requires.ran k d k_in).steps_of))
 
 pub answer-requires-clause-refuter : goal.answer-requires-clause-refuter
 answer-requires-clause-refuter g c =
@@ -49,6 +49,6 @@ answer-requires-clause-refuter g c =
     let logs = c.gather_all-tally.ensures.logs in
     let same : All (λ (d : Done g.row.L.Denot g.row.L-Told.Denot). g.L.ProofLogger.owner d.worker.log ≡ d.worker.number) c.args.done.items = λ k d k_in. (c.requires.ran k d k_in).owner_is in
     let stays = subst (All (λ (l : g.row.L.Denot). StaysBeside (g.L.ProofLogger.owner l) (g.L.ProofLogger.refutes l))) (c.deref.ensures.value ∙ logs) c.all_stay.ensures.refutes in
-    let more = says_more log number seen g.L.ProofLogger.owner g.L.ProofLogger.refutes c.args.q.now rows c.args.done.items same c.gather_all-tally.ensures.grown stays in
-    subst (λ (rs : List Row). IfSome c.gather_all-tally.result.refuted (IsRefuter (λ (l : g.row.L.Denot). g.L.ProofLogger.refutes l c.args.q.now rs) c.gather_all-tally.new.logs.items)) (sym c.rows.ensures.seen)
-    (refuter_among log seen g.L.ProofLogger.refutes c.args.q.now rows c.args.done.items _ c.gather_all-tally.result.refuted logs more c.gather_all-tally.ensures.refuter)
+    let more = says_more log number seen g.L.ProofLogger.owner g.L.ProofLogger.refutes c.args.root.now.q.now rows c.args.done.items same c.gather_all-tally.ensures.grown stays in
+    subst (λ (rs : List Row). IfSome c.gather_all-tally.result.refuted (IsRefuter (λ (l : g.row.L.Denot). g.L.ProofLogger.refutes l c.args.root.now.q.now rs) c.gather_all-tally.new.logs.items)) (sym c.rows.ensures.seen)
+    (refuter_among log seen g.L.ProofLogger.refutes c.args.root.now.q.now rows c.args.done.items _ c.gather_all-tally.result.refuted logs more c.gather_all-tally.ensures.refuter)

@@ -1,4 +1,5 @@
-use Rattle.std.specs.Prelude.{◌≡◌, length, All}
+use Rattle.std.specs.Prelude.{◌≡◌, length, take, All}
+use Rattle.restart_search.specs.Searching.{IsNotStopped}
 use Rattle.search_proof.specs.Making.{AreOfOwners}
 use Rattle.parallel_solve.specs.Teaming.{HasRun}
 use Rattle.parallel_solve.proofs.team.finish.Given as goal
@@ -8,4 +9,5 @@ invariant-loop-place g l = record {
   ran : All (λ d. HasRun g.L.ProofLogger.owner g.L.ProofLogger.steps g.L.ProofLogger.refutes l.book l.q l.budget d.worker d.outcome) l.done.items;
   numbers : AreOfOwners (λ d. d.worker.number) l.done.items;
   count : length l.done.items ≡ length l.fn.done.items;
+  alone : All (λ d. IsNotStopped d.outcome) (take l.place l.done.items);
 }

@@ -14,8 +14,8 @@ loop-worker-preserved g c =
     let items : c.push_reserved.new.self.items ≡ c.loop-worker.jobs.items ++ c.in_ok-job.job ∷ [] =
     c.push_reserved.ensures.items ∙ ap (λ (ws : List (Search SeatName g.row.L.Denot)). ws ++ c.in_ok-job.job ∷ []) c.in_ok-reserve.ensures.items in
     record {
-      jobs = subst (All (λ (w : Search SeatName g.row.L.Denot). IsJob g.L.ProofLogger.owner c.args.book.now c.args.q.now c.args.s.now.budget w)) (sym items)
-          (All-push (λ (w : Search SeatName g.row.L.Denot). IsJob g.L.ProofLogger.owner c.args.book.now c.args.q.now c.args.s.now.budget w) c.loop-worker.jobs.items c.in_ok-job.job before.jobs c.in_ok-job.ensures.job);
+      jobs = subst (All (λ (w : Search SeatName g.row.L.Denot). IsJob g.L.ProofLogger.owner c.args.book.now c.args.root.now.q.now c.args.root.now.settings.now.budget w)) (sym items)
+          (All-push (λ (w : Search SeatName g.row.L.Denot). IsJob g.L.ProofLogger.owner c.args.book.now c.args.root.now.q.now c.args.root.now.settings.now.budget w) c.loop-worker.jobs.items c.in_ok-job.job before.jobs c.in_ok-job.ensures.job);
       numbers = subst (AreOfOwners (λ (w : Search SeatName g.row.L.Denot). w.number)) (sym items)
           (numbers_push (λ (w : Search SeatName g.row.L.Denot). w.number) c.loop-worker.jobs.items c.in_ok-job.job (c.in_ok-job.ensures.number ∙ ap (λ n. n + 1) (sym before.count)) before.numbers);
       count = omega (arith, ap (λ (ws : List (Search SeatName g.row.L.Denot)). length ws) items, length-append c.loop-worker.jobs.items (c.in_ok-job.job ∷ []), before.count);
