@@ -1,6 +1,6 @@
 //! Memory that a walk back needs, and that the next one uses again.
 
-ghost use Rattle.std.specs.Prelude.{◌≡◌, ◌≤◌, length, OnOk};
+ghost use Rattle.std.specs.Prelude.{◌≡◌, ◌≤◌, [], length, OnOk};
 ghost use Rattle.bit_rows.specs.BitRows.{words_for};
 ghost use Rattle.needed_values.specs.Needed.{AreRows};
 
@@ -79,8 +79,12 @@ pub struct Scratch {
 }
 
 impl Scratch {
-    /// Nothing yet. It takes no memory.
-    pub fn new(alloc: Global) -> Scratch {
+    /// Nothing yet: no vertex is marked, no value needed and no change chosen. It takes no memory.
+    pub fn new(alloc: Global) -> Scratch
+        ensures marked { result.marked.items ≡ [] }
+        ensures needed { result.needed.items ≡ [] }
+        ensures chosen { result.chosen.items ≡ [] }
+    {
         Scratch {
             marked: Vec::new(alloc),
             needed: Vec::new(alloc),

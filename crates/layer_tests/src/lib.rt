@@ -12,22 +12,14 @@ mod cause_tests;
 #[cfg(test)]
 mod command_tests;
 #[cfg(test)]
-mod dead_path_tests;
-#[cfg(test)]
-mod first_line_tests;
-#[cfg(test)]
 mod logger_tests;
 #[cfg(test)]
 mod problems;
 #[cfg(test)]
 mod proof_file_tests;
 #[cfg(test)]
-mod row_line_tests;
-#[cfg(test)]
 mod row_tests;
 #[cfg(test)]
 mod search_tests;
-#[cfg(test)]
-mod set_line_tests;
 #[cfg(test)]
 mod worker_tests;

@@ -1,0 +1,37 @@
+-- Lists of numbers in range, one number more.
+use Rattle.std.proofs.Common.{◌≡◌, ℕ, suc, ◌+◌, ◌<◌, true, List, [], ◌∷◌, ◌++◌, take, slice_index, length, sym, ap, subst, ◌∙◌, arith, inl, inr}
+use Rattle.std.specs.Prelude.{map}
+use Rattle.std.proofs.lemmas.List.{reverse-append}
+use Rattle.graph_theory.specs.Graph.{size}
+use Rattle.graph_theory.specs.Embedding.{Problem}
+use Rattle.log_theory.specs.declared.step.Ref.{Ref}
+use Rattle.log_theory.specs.LogText.{IsRef, AreRefs}
+use Rattle.log_theory.specs.Lookups.{is_among}
+use Rattle.nogood_book.specs.Rows.{AreInRange}
+use Rattle.propagation.specs.declared.change.Entry.{Entry}
+use Rattle.propagation.specs.Recording.{change_of, changes_of}
+use Rattle.dead_theory.specs.Changes.{IsInProblem, AreInProblem}
+use Rattle.dead_paths.proofs.Marking.{among_next}
+use Rattle.dead_paths.proofs.LineRefs.{refs_behind}
+
+pub below_next : (xs : List ℕ) (i v n : ℕ) → i < length xs → slice_index xs i ≡ v → v < n → ((p : ℕ) → is_among p (take i xs) ≡ true → p < n) → (p : ℕ) → is_among p (take (i + 1) xs) ≡ true → p < n
+below_next xs i v n below is small old p among =
+    let e : i + 1 ≡ suc i = omega arith in
+    elim (among_next xs i p below (sym (ap (λ (k : ℕ). is_among p (take k xs)) e) ∙ among)) [ inl h ↦ old p h | inr here ↦ omega (arith, here, is, small) ]
+
+range_more : (q : Problem) (xs : List (ℕ × ℕ)) (x : ℕ × ℕ) → AreInRange q xs → x.0 < size q.pattern → x.1 < size q.target → AreInRange q (xs ++ x ∷ [])
+range_more q [] x all p t = (p, t, tt)
+range_more q (y ∷ ys) x all p t = (all.0, all.1, range_more q ys x all.2 p t)
+
+pub range_pushed : (q : Problem) (old new : List (ℕ × ℕ)) (x : ℕ × ℕ) → new ≡ old ++ x ∷ [] → AreInRange q old → x.0 < size q.pattern → x.1 < size q.target → AreInRange q new
+range_pushed q old new x is all p t = subst (AreInRange q) (sym is) (range_more q old x all p t)
+
+pub refs_pushed : (old new : List Ref) (r : Ref) → new ≡ old ++ r ∷ [] → AreRefs old → IsRef r → AreRefs new
+refs_pushed old new r is all fits = subst AreRefs (sym is) (refs_behind old (r ∷ []) all (fits, tt))
+
+-- The change of the last entry is the first.
+pub changes_pushed : (q : Problem) (numbers : List ℕ) (old new : List Entry) (e : Entry) → new ≡ old ++ e ∷ [] → AreInProblem q (changes_of numbers old) → IsInProblem q (change_of numbers e)
+    → AreInProblem q (changes_of numbers new)
+changes_pushed q numbers old new e is all fits =
+    let first : changes_of numbers new ≡ change_of numbers e ∷ changes_of numbers old = ap (changes_of numbers) is ∙ ap (map (change_of numbers)) (reverse-append old (e ∷ [])) in
+    subst (AreInProblem q) (sym first) (fits, all)

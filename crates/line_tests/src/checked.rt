@@ -1,0 +1,224 @@
+//! Dead paths as tables have them, and the line of one, once its numbers are seen to be in the range of the problem.
+
+ghost use Rattle.std.specs.Prelude.{◌≡◌, ℕ, ◌^◌, ◌<◌, ◌≤◌, [], true, length, IfOk};
+ghost use Rattle.graph_theory.specs.Graph.{size};
+ghost use Rattle.log_theory.specs.LogText.{AreRefs};
+ghost use Rattle.log_theory.specs.Lookups.{is_among};
+ghost use Rattle.nogood_book.specs.Rows.{Sound, AreInRange};
+ghost use Rattle.nogood_book.specs.Places.{IsNogoodRow};
+ghost use Rattle.propagation.specs.Recording.{change_by, changes_of, set_at};
+ghost use Rattle.dead_theory.specs.Changes.{IsInBy, IsInProblem, AreInProblem};
+ghost use Rattle.dead_paths.specs.Explaining.{end_by, IsEndIn};
+
+use dead_paths::{Basis, DeadPath, LineMaker, PathEnd, RowNames, Scratch, explain};
+use domain_bits::{Domains, Mark};
+use graph_rows::Problem;
+use journals::Journal;
+use log_theory::{Name, Ref};
+use nogood_book::{Row, RowKind};
+use propagation::{Cause, Entry, Failure, Place, What};
+use std::alloc::{AllocError, Global};
+
+/// How a path ended, with the place of the set that was found short, or the numbers of the lines of owner 1 against refuted values.
+pub enum Ended {
+    Empty(u16),
+    Whole(u32),
+    Short(Place),
+    Exhausted(u16, &'static [u64]),
+}
+
+/// A dead path: its pairs, what changed, and how it ended.
+pub struct Dead(pub &'static [(u16, u16)], pub &'static [What], pub Ended);
+
+impl Ended {
+    /// The same, as a search tells it.
+    fn end(&self) -> PathEnd {
+        match self {
+            Ended::Empty(p) => PathEnd::Failed(Failure::Empty(*p)),
+            Ended::Whole(name) => PathEnd::Failed(Failure::Whole(*name)),
+            Ended::Short(_) => PathEnd::Failed(Failure::Short(0)),
+            Ended::Exhausted(p, _) => PathEnd::Exhausted(*p),
+        }
+    }
+
+    /// The set.
+    fn short(&self) -> Option<Place> {
+        match self {
+            Ended::Short(place) => Some(*place),
+            _ => None,
+        }
+    }
+
+    /// The numbers of lines.
+    fn refuted(&self) -> &'static [u64] {
+        match self {
+            Ended::Exhausted(_, numbers) => *numbers,
+            _ => &[],
+        }
+    }
+}
+
+/// Whether all are below the limit.
+fn are_below(numbers: &[u16], limit: u16) -> bool
+    ensures { result ≡ true → (p : ℕ) → is_among p numbers.now ≡ true → p < limit }
+{
+    for x in numbers {
+        if *x >= limit {
+            return false;
+        }
+    }
+    true
+}
+
+/// Whether a set stands among the numbers, and is one of vertices of the pattern and of values.
+fn is_set(q: &Problem, numbers: &[u16], place: Place) -> bool
+    ensures { result ≡ true → IsInProblem q.now (change_by numbers.now (What.Others place) 0) }
+{
+    if place.start > place.middle || place.middle > place.end || place.end > numbers.len() {
+        return false;
+    }
+    are_below(&numbers[place.start..place.middle], q.pattern().size())
+        && are_below(&numbers[place.middle..place.end], q.target().size())
+}
+
+/// Whether the numbers of a cause, and the vertex whose values it took, are in range.
+fn is_cause(q: &Problem, cause: Cause, r: u16) -> bool
+    ensures { result ≡ true → IsInBy cause q.now r }
+{
+    if r >= q.pattern().size() {
+        return false;
+    }
+    match cause {
+        Cause::First => true,
+        Cause::Guess(t) => t < q.target().size(),
+        Cause::Vertex(p, t) => p < q.pattern().size() && t < q.target().size() && p != r,
+        Cause::Nogood(_) => true,
+    }
+}
+
+/// Whether a change is of the problem.
+fn is_change(q: &Problem, numbers: &[u16], what: What, from: Mark) -> bool
+    ensures { result ≡ true → IsInProblem q.now (change_by numbers.now what from) }
+{
+    match what {
+        What::One(r, cause) => is_cause(q, cause, r),
+        What::Others(place) => is_set(q, numbers, place),
+    }
+}
+
+/// The changes as they are kept, all from one moment.
+fn entries_of(
+    alloc: Global,
+    q: &Problem,
+    numbers: &[u16],
+    changes: &[What],
+    from: Mark,
+) -> Result<Vec<Entry>, AllocError>
+    ensures { IfOk result (λ entries. AreInProblem q.now (changes_of numbers.now entries.items)) }
+{
+    let mut entries = Vec::new(alloc);
+    for what in changes {
+        if !is_change(q, numbers, *what, from) {
+            return Err(AllocError);
+        }
+        entries.push(Entry { what: *what, from })?;
+    }
+    Ok(entries)
+}
+
+/// The pairs of a path.
+fn pairs_of(alloc: Global, q: &Problem, path: &[(u16, u16)]) -> Result<Vec<(u16, u16)>, AllocError>
+    ensures { IfOk result (λ pairs. AreInRange q.now pairs.items) }
+{
+    let mut pairs = Vec::new(alloc);
+    for x in path {
+        if x.0 >= q.pattern().size() || x.1 >= q.target().size() {
+            return Err(AllocError);
+        }
+        pairs.push(*x)?;
+    }
+    Ok(pairs)
+}
+
+/// References to lines of owner 1 by their numbers.
+fn refs_of(alloc: Global, numbers: &[u64]) -> Result<Vec<Ref>, AllocError>
+    ensures { IfOk result (λ refs. AreRefs refs.items) }
+{
+    let mut refs = Vec::new(alloc);
+    for number in numbers {
+        if *number == 0 || *number >= 1 << 62 {
+            return Err(AllocError);
+        }
+        refs.push(Ref::Made(Name {
+            owner: 1,
+            number: *number,
+        }))?;
+    }
+    Ok(refs)
+}
+
+/// Whether a row of that place is a nogood.
+fn is_nogood(rows: &[Row], k: u32) -> bool
+    ensures { result ≡ true → IsNogoodRow rows.now k }
+{
+    if k as usize >= rows.len() {
+        return false;
+    }
+    match rows[k as usize].kind {
+        RowKind::Nogood => true,
+        RowKind::Step => false,
+    }
+}
+
+/// Whether an end is one of the problem and these rows.
+fn is_end(q: &Problem, rows: &[Row], numbers: &[u16], end: PathEnd, short: Option<Place>) -> bool
+    ensures { result ≡ true → IsEndIn q.now rows.now (end_by end (set_at numbers.now short) []) }
+{
+    match end {
+        PathEnd::Failed(failure) => match failure {
+            Failure::Empty(p) => p < q.pattern().size(),
+            Failure::Whole(name) => is_nogood(rows, name),
+            Failure::Short(_) => match short {
+                Some(place) => is_set(q, numbers, place),
+                None => false,
+            },
+        },
+        PathEnd::Exhausted(p) => p < q.pattern().size(),
+    }
+}
+
+/// The mark of full domains.
+fn first_mark(alloc: Global) -> Result<Mark, AllocError> {
+    let domains = Domains::new(alloc, 1, 1)?;
+    Ok(domains.mark())
+}
+
+/// Gives the line of a dead path.
+pub fn explain_in<M: LineMaker, N: RowNames>(
+    basis: &Basis<'_, N>,
+    dead: &Dead,
+    maker: &mut M,
+    journal: &mut Journal,
+) -> Result<Option<Name>, AllocError>
+    requires sound { Sound basis.now.lines.now basis.now.rows.now }
+    requires few { length basis.now.rows.now ≤ 2 ^ 22 }
+{
+    let q = basis.lines.problem();
+    let alloc = basis.alloc;
+    let path = pairs_of(alloc, q, dead.0)?;
+    let entries = entries_of(alloc, q, basis.numbers, dead.1, first_mark(alloc)?)?;
+    let refuted = refs_of(alloc, dead.2.refuted())?;
+    let end = dead.2.end();
+    let short = dead.2.short();
+    if !is_end(q, basis.rows, basis.numbers, end, short) {
+        return Err(AllocError);
+    }
+    let dead = DeadPath {
+        path: &path,
+        entries: &entries,
+        end,
+        short,
+        refuted: &refuted,
+    };
+    explain(basis, &dead, maker, journal, &mut Scratch::new(alloc))
+}

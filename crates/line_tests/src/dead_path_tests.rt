@@ -1,0 +1,360 @@
+//! The lines of dead paths, and those of sets, without nogoods.
+
+use crate::checked::{Dead, Ended, explain_in};
+use crate::logs::{Log, Sample, is_log};
+use dead_paths::{Basis, LineMaker, RowNames};
+use graph_rows::Problem;
+use journals::Journal;
+use lad_reader::LadKind;
+use log_theory::Ref;
+use made_lines::MadeLines;
+use pb_encoding::Encoding;
+use propagation::{Cause, Place, What};
+use sample_graphs::{APART, FOUR_CYCLE, TRIANGLE};
+use std::alloc::{AllocError, Global};
+use std::test::Fail;
+use worked_examples::{Example, first_wrong};
+
+/// Names each row by its place.
+struct ByPlace {}
+
+impl RowNames for ByPlace {
+    ghost use Rattle.log_theory.specs.declared.step.Ref.TheVariants.{Shared};
+
+    ghost names = { λ n k. Shared k };
+
+    fn name(&self, k: u32) -> Ref {
+        Ref::Shared(k)
+    }
+}
+
+/// A problem, the numbers of the sets that are counted, the dead paths in order, and a log with their lines.
+struct Deaths {
+    sample: Sample,
+    numbers: &'static [u16],
+    paths: &'static [Dead],
+    log: Log,
+}
+
+/// Gives the lines of the dead paths.
+fn add<M: LineMaker>(
+    alloc: Global,
+    lines: &Encoding<'_>,
+    case: &Deaths,
+    maker: &mut M,
+    journal: &mut Journal,
+) -> Result<(), AllocError> {
+    let basis = Basis {
+        alloc,
+        lines,
+        rows: &[],
+        names: &ByPlace {},
+        numbers: case.numbers,
+    };
+    for dead in case.paths {
+        explain_in(&basis, dead, maker, journal)?;
+    }
+    Ok(())
+}
+
+/// Whether the lines are these, and a checker takes them.
+fn are_explained(alloc: Global, q: &Problem, case: &Deaths) -> Result<bool, AllocError> {
+    let lines = Encoding::new(alloc, q)?;
+    let mut journal = Journal::new(alloc, 1);
+    let mut maker = MadeLines::new(alloc, q, &lines)?;
+    add(alloc, &lines, case, &mut maker, &mut journal)?;
+    is_log(alloc, &lines, &journal, &case.log)
+}
+
+impl<R> Example<R> for Deaths {
+    fn holds(&self, _rt: &R, alloc: Global) -> Result<bool, AllocError> {
+        match self.sample.problem(alloc) {
+            Some(q) => are_explained(alloc, &q, self),
+            None => Ok(false),
+        }
+    }
+}
+
+static DEATHS: [Deaths; 10] = [
+    // The end rests on two changes of three, and the one between, whose vertex the path has, is not named.
+    Deaths {
+        sample: Sample(b"3 0 0 0", APART, LadKind::Lad, false),
+        numbers: &[],
+        paths: &[Dead(
+            &[(0, 0), (1, 1)],
+            &[
+                What::One(0, Cause::Guess(0)),
+                What::One(2, Cause::Vertex(0, 0)),
+                What::One(1, Cause::Vertex(0, 0)),
+                What::One(1, Cause::Guess(1)),
+                What::One(2, Cause::Vertex(1, 1)),
+            ],
+            Ended::Empty(2),
+        )],
+        log: Log {
+            head: b"embedding proof 1\nm 8\n",
+            lines: b"u 1.1 ~x1 ~x4 ; 7 8 5 ;\n",
+            end: b"q\n",
+        },
+    },
+    // The place itself is all that is refused, and its constraint serves.
+    Deaths {
+        sample: Sample(APART, b"1 0", LadKind::Lad, false),
+        numbers: &[],
+        paths: &[Dead(
+            &[(0, 0)],
+            &[
+                What::One(0, Cause::Guess(0)),
+                What::One(1, Cause::Vertex(0, 0)),
+            ],
+            Ended::Empty(1),
+        )],
+        log: Log {
+            head: b"embedding proof 1\nm 5\n",
+            lines: b"u 1.1 ~x1 ; 5 3 ;\n",
+            end: b"q\n",
+        },
+    },
+    // A set is short: three vertices into two, the first at 0. Whatever the order of the set, its line is made once. At the root it is the set
+    // of all, whose sum is false.
+    Deaths {
+        sample: Sample(b"3 0 0 0", APART, LadKind::Lad, false),
+        numbers: &[1, 2, 1, 2, 1, 1, 0, 1, 2, 0, 1],
+        paths: &[
+            Dead(
+                &[(0, 0)],
+                &[
+                    What::One(0, Cause::Guess(0)),
+                    What::One(1, Cause::Vertex(0, 0)),
+                    What::One(2, Cause::Vertex(0, 0)),
+                ],
+                Ended::Short(Place {
+                    start: 0,
+                    middle: 2,
+                    end: 3,
+                }),
+            ),
+            Dead(
+                &[(0, 0)],
+                &[
+                    What::One(0, Cause::Guess(0)),
+                    What::One(1, Cause::Vertex(0, 0)),
+                    What::One(2, Cause::Vertex(0, 0)),
+                ],
+                Ended::Short(Place {
+                    start: 3,
+                    middle: 5,
+                    end: 6,
+                }),
+            ),
+            Dead(
+                &[],
+                &[],
+                Ended::Short(Place {
+                    start: 6,
+                    middle: 9,
+                    end: 11,
+                }),
+            ),
+        ],
+        log: Log {
+            head: b"embedding proof 1\nm 8\n",
+            lines: b"p 1.1 3 5 + 8 + ;
+u 1.2 ~x1 ; 7 7 1.1 ;
+u 1.3 ~x1 ; 7 7 1.1 ;
+p 1.4 1 3 + 5 + 7 + 8 + ;
+u 1.5 ; 1.4 ;
+",
+            end: b"e 1.5\n",
+        },
+    },
+    // A set is as large as its values, and takes these from another vertex: four into three, the first at 0.
+    Deaths {
+        sample: Sample(b"4 0 0 0 0", b"3 0 0 0", LadKind::Lad, false),
+        numbers: &[1, 2, 1, 2],
+        paths: &[Dead(
+            &[(0, 0)],
+            &[
+                What::One(0, Cause::Guess(0)),
+                What::One(1, Cause::Vertex(0, 0)),
+                What::One(2, Cause::Vertex(0, 0)),
+                What::One(3, Cause::Vertex(0, 0)),
+                What::Others(Place {
+                    start: 0,
+                    middle: 2,
+                    end: 4,
+                }),
+            ],
+            Ended::Empty(3),
+        )],
+        log: Log {
+            head: b"embedding proof 1\nm 11\n",
+            lines: b"p 1.1 3 5 + 10 + 11 + ;\nu 1.2 ~x1 ; 9 9 9 1.1 7 ;\n",
+            end: b"q\n",
+        },
+    },
+    // A triangle into a cycle of four, whole.
+    Deaths {
+        sample: Sample(TRIANGLE, FOUR_CYCLE, LadKind::Lad, false),
+        numbers: &[],
+        paths: &[
+            Dead(
+                &[(0, 1)],
+                &[
+                    What::One(0, Cause::Guess(1)),
+                    What::One(1, Cause::Vertex(0, 1)),
+                ],
+                Ended::Empty(1),
+            ),
+            Dead(
+                &[(0, 0)],
+                &[
+                    What::One(0, Cause::Guess(0)),
+                    What::One(1, Cause::Vertex(0, 0)),
+                ],
+                Ended::Empty(1),
+            ),
+            Dead(
+                &[(0, 3)],
+                &[
+                    What::One(0, Cause::Guess(3)),
+                    What::One(1, Cause::Vertex(0, 3)),
+                ],
+                Ended::Empty(1),
+            ),
+            Dead(
+                &[(0, 2)],
+                &[
+                    What::One(0, Cause::Guess(2)),
+                    What::One(1, Cause::Vertex(0, 2)),
+                ],
+                Ended::Empty(1),
+            ),
+            Dead(&[], &[], Ended::Exhausted(0, &[2, 4, 6, 8])),
+        ],
+        log: Log {
+            head: b"embedding proof 1\nm 34\n",
+            lines: b"p 1.1 4 2 * 12 + 3 * 16 + 31 + 33 + ;
+u 1.2 ~x2 ; 1.1 3 ;
+p 1.3 4 2 * 11 + 3 * 15 + 32 + 34 + ;
+u 1.4 ~x1 ; 1.3 3 ;
+p 1.5 4 2 * 14 + 3 * 18 + 31 + 33 + ;
+u 1.6 ~x4 ; 1.5 3 ;
+p 1.7 4 2 * 13 + 3 * 17 + 32 + 34 + ;
+u 1.8 ~x3 ; 1.7 3 ;
+u 1.9 ; 1.2 1.4 1.6 1.8 1 ;
+",
+            end: b"e 1.9\n",
+        },
+    },
+    // A domain is empty at the root by its label.
+    Deaths {
+        sample: Sample(b"1 1 0", b"1 2 0", LadKind::VertexLabelledLad, false),
+        numbers: &[],
+        paths: &[Dead(&[], &[What::One(0, Cause::First)], Ended::Empty(0))],
+        log: Log {
+            head: b"embedding proof 1\nm 4\n",
+            lines: b"p 1.1 4 ;\nu 1.2 ; 1.1 1 ;\n",
+            end: b"e 1.2\n",
+        },
+    },
+    // The first domain lacks by its label what the decided vertex leaves: an edge into a path of labels 1, 3 and 2.
+    Deaths {
+        sample: Sample(
+            b"2 1 1 1 2 1 0",
+            b"3 1 1 1 3 2 0 2 2 1 1",
+            LadKind::VertexLabelledLad,
+            false,
+        ),
+        numbers: &[],
+        paths: &[Dead(
+            &[(0, 0)],
+            &[
+                What::One(1, Cause::First),
+                What::One(0, Cause::Guess(0)),
+                What::One(1, Cause::Vertex(0, 0)),
+            ],
+            Ended::Empty(1),
+        )],
+        log: Log {
+            head: b"embedding proof 1\nm 17\n",
+            lines: b"p 1.1 10 11 + ;\np 1.2 12 4 + ;\nu 1.3 ~x1 ; 1.1 1.2 3 ;\n",
+            end: b"q\n",
+        },
+    },
+    // Two without an edge into an edge in the induced kind, of which one has a loop, as one of the two has.
+    Deaths {
+        sample: Sample(b"2 1 0 0", b"2 2 0 1 1 0", LadKind::Lad, true),
+        numbers: &[],
+        paths: &[Dead(
+            &[(0, 0)],
+            &[
+                What::One(0, Cause::Guess(0)),
+                What::One(1, Cause::Vertex(0, 0)),
+            ],
+            Ended::Empty(1),
+        )],
+        log: Log {
+            head: b"embedding proof 1\nm 12\n",
+            lines: b"p 1.1 9 4 + ;\nu 1.2 ~x1 ; 1.1 3 ;\n",
+            end: b"q\n",
+        },
+    },
+    // An edge one way into one the other way round, along it and against it.
+    Deaths {
+        sample: Sample(b"2 1 1 0", b"2 0 1 0", LadKind::DirectedLad, false),
+        numbers: &[],
+        paths: &[
+            Dead(
+                &[(0, 0)],
+                &[
+                    What::One(0, Cause::Guess(0)),
+                    What::One(1, Cause::Vertex(0, 0)),
+                ],
+                Ended::Empty(1),
+            ),
+            Dead(
+                &[(1, 1)],
+                &[
+                    What::One(1, Cause::Guess(1)),
+                    What::One(0, Cause::Vertex(1, 1)),
+                ],
+                Ended::Empty(0),
+            ),
+        ],
+        log: Log {
+            head: b"embedding proof 1\nm 10\n",
+            lines: b"p 1.1 7 4 + ;\nu 1.2 ~x1 ; 1.1 3 ;\np 1.3 10 2 + ;\nu 1.4 ~x4 ; 1.3 1 ;\n",
+            end: b"q\n",
+        },
+    },
+    // The edge is there with another label.
+    Deaths {
+        sample: Sample(
+            b"2 0 1 1 1 0 0",
+            b"2 0 1 1 2 0 0",
+            LadKind::LabelledLad,
+            false,
+        ),
+        numbers: &[],
+        paths: &[Dead(
+            &[(0, 0)],
+            &[
+                What::One(0, Cause::Guess(0)),
+                What::One(1, Cause::Vertex(0, 0)),
+            ],
+            Ended::Empty(1),
+        )],
+        log: Log {
+            head: b"embedding proof 1\nm 10\n",
+            lines: b"p 1.1 7 4 + ;\nu 1.2 ~x1 ; 1.1 3 ;\n",
+            end: b"q\n",
+        },
+    },
+];
+
+#[test]
+fn a_dead_path_is_one_line(rt: HostRuntime) -> Result<(), Fail> {
+    assert_eq!(rt; first_wrong(&rt, rt.alloc(), &DEATHS)?, None);
+    Ok(())
+}
