@@ -5,6 +5,8 @@
 //! the next word of the worker's stream, so that runs can be repeated. The bias is that of solution-biased search (Archibald, Dunlop,
 //! Hoffmann, McCreesh, Prosser and Trimble 2019), the generator xoshiro256++ (Blackman and Vigna 2021).
 
+mod shared;
+
 ghost use Rattle.std.specs.Prelude.{◌≡◌, ℕ, ◌-◌, ◌*◌, ◌^◌, ◌<◌, ◌≤◌, true, length};
 ghost use Rattle.bit_rows.specs.BitRows.{has};
 ghost use Rattle.graph_theory.specs.Neighbours.{count};

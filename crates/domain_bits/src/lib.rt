@@ -10,6 +10,7 @@
 
 mod domains;
 mod row_filters;
+mod shared;
 mod trail;
 mod word_trail;
 

@@ -8,6 +8,7 @@
 
 mod journal;
 mod keeper;
+mod shared;
 
 pub use journal::Journal;
 pub use keeper::{Keeper, NoLog};

@@ -12,6 +12,7 @@
 
 mod in_force;
 mod lists;
+mod shared;
 mod walk;
 mod watched;
 

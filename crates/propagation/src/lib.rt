@@ -15,6 +15,7 @@ mod propagation;
 mod recorder;
 mod removal;
 mod sets;
+mod shared;
 
 // What follows from domains.
 pub use filters::Filters;

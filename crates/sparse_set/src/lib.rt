@@ -8,6 +8,8 @@
 //! The pair of lists is the sparse set of Briggs and Torczon (1993, "An efficient representation for sparse sets"); that a set of
 //! variables of a search is given back by one number is long known in constraint solvers.
 
+mod shared;
+
 ghost use Rattle.std.specs.Prelude.{◌≡◌, ℕ, ◌+◌, ◌<◌, ◌≤◌, true, length, IfOk, if◌then◌else◌, slice_index, slice_set};
 ghost use Rattle.sparse_set.specs.Inside.{Held};
 ghost use Rattle.sparse_set.specs.Removals.{State, has, undone, whole, without};
