@@ -1,6 +1,6 @@
 -- What the graph says that labels and marks hold.
 
-use Rattle.std.proofs.Common.{◌≡◌, ℕ, ◌+◌, ◌*◌, ◌<◌, ◌≤◌, Bool, true, false, not, eqb, ◌&&◌, ◌||◌, subst, List, [], length, map, get_or, take, drop, Option, None, is_some, refl, sym, ap, ◌∙◌, zero-add, arith, inl, inr, ◌⊎◌}
+use Rattle.std.proofs.Common.{◌≡◌, ℕ, ◌+◌, ◌*◌, ◌<◌, ◌≤◌, Bool, true, false, not, eqb, ◌&&◌, ◌||◌, subst, List, [], length, map, get_or, take, drop, Option, Some, None, is_some, refl, sym, ap, ◌∙◌, zero-add, arith, inl, inr, ◌⊎◌}
 use Rattle.std.specs.List.{range_with_len}
 use Rattle.std.proofs.lemmas.Bool.{cases_lt, cases_eq, eq-eqb, ne_eqb, false≢true}
 use Rattle.std.proofs.lemmas.List.FromFn.{get_or-map-range_with_len, length-map-range_with_len, fill_by_all}
@@ -14,6 +14,7 @@ use Rattle.graph_theory.proofs.Counts.{count-same}
 use Rattle.graph_theory.proofs.Tables.{slice_get-tabulate}
 use Rattle.bit_rows.specs.BitRows.{has}
 use Rattle.graph_rows.specs.Held.{marked, marks_other, edge_held, graph_held, label_kept, AreMarks, AreMutual, AreTurned, AreBack, AreBeside, AreListed, AreLoops}
+use Rattle.graph_rows.specs.Labels.{HasZeroLabels}
 use Rattle.bit_rows.proofs.Rows.{has_past}
 use Rattle.graph_rows.proofs.Places.{has-row}
 use Rattle.graph_rows.proofs.Marking.{room_in_row}
@@ -309,6 +310,17 @@ back_kept n width words back degrees turned = record {
 -- where none are kept the label is 0
 pub no_label : (starts labels words : List ℕ) (width a b : ℕ) → length labels ≡ 0 → label_kept starts labels words width a b ≡ 0
 no_label starts labels words width a b none = get_or_past labels (get_or starts a 0 + count (marked words width a) b) 0 (omega arith)
+
+-- so where none are kept each edge has label 0
+pub zero_labels : (labels words : List ℕ) (label_at : ℕ → ℕ → ℕ) (width : ℕ) (g : Graph) → graph_held labels words label_at width ≡ g → ((a b : ℕ) → label_at a b ≡ 0) → HasZeroLabels g
+zero_labels labels words label_at width g is zero = record {
+  zeros = λ a b l a_in b_in e.
+      by (marked words width a b) (label_at a b) l (zero a b) (edge_is labels words label_at width g a b _ _ is a_in b_in refl refl ∙ e);
+}
+  where
+    by : (m : Bool) (k l : ℕ) → k ≡ 0 → edge_held m k ≡ Some l → l ≡ 0
+    by true k l none e = cc
+    by false k l none e = absurd cc
 
 -- no labels of edges are kept
 pub none_beside : (n width : ℕ) (words starts labels : List ℕ) → starts ≡ [] → labels ≡ [] → AreBeside n width words starts labels

@@ -1,6 +1,6 @@
 //! Graphs as bit rows: an edge is one bit, and the vertices to which edges lead from one are one row of words. (Ullmann 2010.)
 
-ghost use Rattle.std.specs.Prelude.{◌≡◌, ℕ, ◌^◌, ◌<◌, ◌≤◌, ◌↔◌, true, length, is_some, Some, IsTrue, IfOk, slice_index};
+ghost use Rattle.std.specs.Prelude.{◌≡◌, ℕ, ◌^◌, ◌<◌, ◌≤◌, ◌↔◌, true, false, length, is_some, Some, IsTrue, IfOk, slice_index};
 ghost use Rattle.graph_theory.specs.Graph.{size as size_of, label as label_of, edge as edge_of};
 ghost use Rattle.graph_theory.specs.GraphText.{text_graph};
 ghost use Rattle.graph_theory.specs.Plain.{IsPlain, IsUndirected};
@@ -9,6 +9,7 @@ ghost use Rattle.graph_theory.specs.Graph.{graph_of};
 ghost use Rattle.graph_theory.specs.Reversed.{turned, IsMutual};
 ghost use Rattle.lad_reader.specs.Parts.{vertices_of, vertices_from, AllBelow};
 ghost use Rattle.bit_rows.specs.BitRows.{has, words_for};
+ghost use Rattle.graph_rows.specs.Labels.{HasZeroLabels};
 
 use crate::edge_labels::{EdgeLabels, labels_beside};
 use crate::marks::{gather_loops, is_marked, mark_all, mark_all_in, mark_all_out};
@@ -160,6 +161,13 @@ impl Graph {
         } else {
             None
         }
+    }
+
+    /// Whether labels of edges are kept. Where none are, each edge has label 0. Cost: one step.
+    pub fn keeps_edge_labels(&self) -> bool
+        ensures { result ≡ false → HasZeroLabels self.now }
+    {
+        !self.edge_labels.starts.is_empty()
     }
 
     /// The label of the edge that leads from `a` to `b`: as many labels after the first of those of `a` as edges lead to vertices before `b`.

@@ -9,7 +9,7 @@ use Rattle.graph_theory.proofs.ReversedGraphs.{edge-reversed}
 use Rattle.search_theory.specs.Consistency.{AreConsistent}
 use Rattle.search_theory.proofs.Pairs.{mutual_consistent}
 use Rattle.bit_rows.specs.BitRows.{has}
-use Rattle.needed_values.specs.Consistent.{agree, edges_agree, are_joined, Goes, AllGo, Leaves, AllConsistent, Shares, AllShare}
+use Rattle.needed_values.specs.Consistent.{agree, edges_agree, are_joined, HaveZeroLabels, Goes, AllGo, Leaves, AllConsistent, Shares, AllShare}
 
 agreed : (induced : Bool) (e f : Option ℕ) → Matches induced e f → agree (is_some e) induced (is_some f) ≡ true
 agreed false None f m = refl
@@ -24,6 +24,16 @@ unasked false None f none h = tt
 unasked true None None none h = (tt, tt)
 unasked true None (Some k) none h = absurd cc
 unasked induced (Some l) f none h = absurd cc
+
+-- Where all labels are 0 either.
+zeros_match : (induced : Bool) (e f : Option ℕ) → ((l : ℕ) → e ≡ Some l → l ≡ 0) → ((l : ℕ) → f ≡ Some l → l ≡ 0) → agree (is_some e) induced (is_some f) ≡ true → Matches induced e f
+zeros_match false None f one two h = tt
+zeros_match false (Some l) None one two h = absurd cc
+zeros_match false (Some l) (Some k) one two h = ap Some (two k refl ∙ sym (one l refl))
+zeros_match true None None one two h = (tt, tt)
+zeros_match true None (Some k) one two h = absurd cc
+zeros_match true (Some l) None one two h = absurd cc
+zeros_match true (Some l) (Some k) one two h = (ap Some (two k refl ∙ sym (one l refl)), ap Some (one l refl ∙ sym (two k refl)))
 
 and_true : (a b : Bool) → (a && b) ≡ true → (a ≡ true) × (b ≡ true)
 and_true true b h = (refl, h)
@@ -58,6 +68,14 @@ module _ (q : Problem) (p t r u : ℕ) (p_in : p < size q.pattern) (r_in : r < s
         back = unasked q.induced (edge q.pattern r p) (edge q.target u t) none.1 (sym back_is ∙ against);
       }
 
+  -- Nor where all labels are 0.
+  free_zeros : HaveZeroLabels q → (t ≡ u → ⊥) → edges_agree q p t r u ≡ true → edges_agree (reversed_problem q) p t r u ≡ true → Compatible q p t r u
+  free_zeros zero other along against = record {
+    apart = other;
+    out = zeros_match q.induced (edge q.pattern p r) (edge q.target t u) (λ l. zero.pattern_zeros.zeros p r l p_in r_in) (λ l. zero.target_zeros.zeros t u l t_in u_in) along;
+    back = zeros_match q.induced (edge q.pattern r p) (edge q.target u t) (λ l. zero.pattern_zeros.zeros r p l r_in p_in) (λ l. zero.target_zeros.zeros u t l u_in t_in) (sym back_is ∙ against);
+  }
+
 -- What is left after the edges of each direction, then without t.
 module _ (q : Problem) (p t r : ℕ) (old out near mid : List ℕ) (p_in : p < size q.pattern) (r_in : r < size q.pattern) (t_in : t < size q.target) (within : (u : ℕ) → has old u ≡ true → u < size q.target)
     (out_is : (u : ℕ) → has out u ≡ (has old u && edges_agree q p t r u)) (near_is : (u : ℕ) → has near u ≡ (has out u && edges_agree (reversed_problem q) p t r u))
@@ -89,8 +107,9 @@ module _ (q : Problem) (p t r : ℕ) (old out near mid : List ℕ) (p_in : p < s
         true≢false (sym in_mid ∙ gone);
   }
 
-  pub words_all : are_joined q p r ≡ false → AllGo q p t r mid
-  words_all apart u h = let m = mid_parts u h in free q p t r u p_in r_in t_in (within u m.was) apart m.other m.along m.against
+  pub words_all : (are_joined q p r ≡ false) ⊎ HaveZeroLabels q → AllGo q p t r mid
+  words_all (inl apart) u h = let m = mid_parts u h in free q p t r u p_in r_in t_in (within u m.was) apart m.other m.along m.against
+  words_all (inr zero) u h = let m = mid_parts u h in free_zeros q p t r u p_in r_in t_in (within u m.was) zero m.other m.along m.against
 
 pub goes_on : (q : Problem) (p t r : ℕ) (old mid new : List ℕ) → Goes q p t r old mid → Goes q p t r mid new → Goes q p t r old new
 goes_on q p t r old mid new first second = record {

@@ -6,6 +6,7 @@ use Rattle.graph_theory.specs.Embedding.{Problem, Compatible}
 use Rattle.graph_theory.specs.Neighbours.{common}
 use Rattle.search_theory.specs.Consistency.{AreConsistent}
 use Rattle.bit_rows.specs.BitRows.{has}
+use Rattle.graph_rows.specs.Labels.{HasZeroLabels}
 
 -- Whether a pattern edge, and an edge of its image, are as they have to be: an edge goes to an edge, and in the induced kind no edge to none.
 abbrev pub agree : Bool → Bool → Bool → Bool
@@ -20,6 +21,11 @@ edges_agree q p t r u = agree (is_some (edge q.pattern p r)) q.induced (is_some 
 -- An edge leads from one of the two pattern vertices to the other.
 abbrev pub are_joined : Problem → ℕ → ℕ → Bool
 are_joined q p r = is_some (edge q.pattern p r) || is_some (edge q.pattern r p)
+
+-- The edges of both graphs all have label 0.
+pub record HaveZeroLabels (q : Problem) : Type 0 where
+  pub pattern_zeros : HasZeroLabels q.pattern
+  pub target_zeros : HasZeroLabels q.target
 
 -- Of a row of values of r some are left, and none of the others goes together with p at t.
 pub record Goes (q : Problem) (p t r : ℕ) (old new : List ℕ) : Type 0 where

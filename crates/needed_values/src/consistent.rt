@@ -1,11 +1,11 @@
 //! What a vertex at its place leaves to another.
 
-ghost use Rattle.std.specs.Prelude.{◌≡◌, ℕ, ◌<◌, ◌&&◌, not, ◌==◌, true, false, length, IfOk, OnOk};
+ghost use Rattle.std.specs.Prelude.{◌≡◌, ℕ, ◌<◌, ◌&&◌, not, ◌==◌, ◌⊎◌, true, false, length, IfOk, OnOk};
 ghost use Rattle.graph_theory.specs.Graph.{size};
 ghost use Rattle.graph_theory.specs.Neighbours.{common};
 ghost use Rattle.graph_theory.specs.Reversed.{turned, turned_problem};
 ghost use Rattle.bit_rows.specs.BitRows.{has, words_for};
-ghost use Rattle.needed_values.specs.Consistent.{edges_agree, are_joined, Leaves, AllConsistent, Goes, AllGo, Shares, AllShare};
+ghost use Rattle.needed_values.specs.Consistent.{edges_agree, are_joined, HaveZeroLabels, Leaves, AllConsistent, Goes, AllGo, Shares, AllShare};
 
 use bit_rows::{and_into, and_not_into, has_bit, keep_counted, next_member, unset_bit};
 use common_neighbour::Counts;
@@ -62,8 +62,18 @@ fn are_joined_by(q: &Problem, p: u16, r: u16) -> bool
     q.pattern().has_edge(p, r) || q.pattern().has_edge(r, p)
 }
 
-/// Keeps of a row of values of `r` those that go together with `p` at `t`. Cost: two steps for each word, and where an edge joins `p` and
-/// `r` four words for each value that these leave.
+/// Whether labels of edges may tell values of `r` apart: an edge joins it to `p`, and one of the graphs keeps labels. Cost: at most four
+/// words.
+fn asks_labels(q: &Problem, p: u16, r: u16) -> bool
+    requires p_in { p < size q.now.pattern }
+    requires r_in { r < size q.now.pattern }
+    ensures { result ≡ false → (are_joined q.now p r ≡ false) ⊎ HaveZeroLabels q.now }
+{
+    (q.pattern().keeps_edge_labels() || q.target().keeps_edge_labels()) && are_joined_by(q, p, r)
+}
+
+/// Keeps of a row of values of `r` those that go together with `p` at `t`. Cost: two steps for each word, and where a graph keeps labels of
+/// edges and one joins `p` and `r` four words for each value that these leave.
 fn keep_compatible(q: &Problem, p: u16, t: u16, r: u16, row: &mut [u64])
     requires p_in { p < size q.now.pattern }
     requires t_in { t < size q.now.target }
@@ -76,7 +86,7 @@ fn keep_compatible(q: &Problem, p: u16, t: u16, r: u16, row: &mut [u64])
     keep_near(q, Direction::Out, p, t, r, row);
     keep_near(q, Direction::In, p, t, r, row);
     unset_bit(row, usize::from(t));
-    if are_joined_by(q, p, r) {
+    if asks_labels(q, p, r) {
         keep_tested(q, p, t, r, row);
     }
 }
@@ -163,7 +173,7 @@ fn keep_sharing_both(
 }
 
 /// Keeps of a row of values of `r` those that are consistent with `p` at `t`, as far as is quickly told, and tells whether all that are
-/// left are. Cost: a few steps for each word, and where an edge joins `p` and `r` for each value that edges leave; where they share
+/// left are. Cost: a few steps for each word, and where an edge with a label joins `p` and `r` for each value that edges leave; where they share
 /// neighbours and `t` has at most 12, also one for each value, and for each neighbour of a neighbour of `t`.
 pub fn keep_consistent(
     alloc: Global,

@@ -3,19 +3,19 @@ use Rattle.bit_rows.specs.BitRows.{has}
 use Rattle.needed_values.proofs.Agreeing.{words_go, words_all, goes_on}
 use Rattle.needed_values.proofs.consistent.keep_compatible.Goals as goal
 
-pub returns-then-are_joined_by-clause-goes : goal.returns-then-are_joined_by-clause-goes
-returns-then-are_joined_by-clause-goes c =
+pub returns-then-asks_labels-clause-goes : goal.returns-then-asks_labels-clause-goes
+returns-then-asks_labels-clause-goes c =
     goes_on c.args.q.now c.args.p c.args.t c.args.r c.args.row.now c.unset_bit.new.row c.keep_tested.new.row
     (words_go c.args.q.now c.args.p c.args.t c.args.r c.args.row.now c.keep_near.new.row c.keep_near-2.new.row c.unset_bit.new.row c.requires.p_in c.requires.r_in c.requires.t_in c.requires.within c.keep_near.ensures c.keep_near-2.ensures
     (λ u. c.unset_bit.ensures u ∙ ap (λ (v : ℕ). has c.keep_near-2.new.row u && not (v == u)) c.from.ensures)) c.keep_tested.ensures.goes
 
-pub returns-else-are_joined_by-clause-goes : goal.returns-else-are_joined_by-clause-goes
-returns-else-are_joined_by-clause-goes c =
+pub returns-else-asks_labels-clause-goes : goal.returns-else-asks_labels-clause-goes
+returns-else-asks_labels-clause-goes c =
     words_go c.args.q.now c.args.p c.args.t c.args.r c.args.row.now c.keep_near.new.row c.keep_near-2.new.row c.unset_bit.new.row c.requires.p_in c.requires.r_in c.requires.t_in c.requires.within c.keep_near.ensures c.keep_near-2.ensures
     (λ u. c.unset_bit.ensures u ∙ ap (λ (v : ℕ). has c.keep_near-2.new.row u && not (v == u)) c.from.ensures)
 
-pub returns-else-are_joined_by-clause-all : goal.returns-else-are_joined_by-clause-all
-returns-else-are_joined_by-clause-all c =
+pub returns-else-asks_labels-clause-all : goal.returns-else-asks_labels-clause-all
+returns-else-asks_labels-clause-all c =
     words_all c.args.q.now c.args.p c.args.t c.args.r c.args.row.now c.keep_near.new.row c.keep_near-2.new.row c.unset_bit.new.row c.requires.p_in c.requires.r_in c.requires.t_in c.requires.within c.keep_near.ensures c.keep_near-2.ensures
     (λ u. c.unset_bit.ensures u ∙ ap (λ (v : ℕ). has c.keep_near-2.new.row u && not (v == u)) c.from.ensures)
-    (sym c.are_joined_by.ensures ∙ c.if-are_joined_by.false)
+    (c.asks_labels.ensures c.if-asks_labels.false)
