@@ -29,9 +29,10 @@ pub enum TrailKind {
     Words,
 }
 
-/// An operation on whole rows.
+/// An operation on whole rows, or none, which tells what the rounds cost by themselves.
 #[derive(Clone, Copy)]
 pub enum Kernel {
+    Nothing,
     And,
     AndNot,
     Or,
@@ -102,6 +103,7 @@ fn work_of(word: &str) -> Option<Work> {
     match word {
         "domains" => Some(Work::Domains),
         "prune" => Some(Work::Prune),
+        "nothing" => Some(Work::Kernel(Kernel::Nothing)),
         "and" => Some(Work::Kernel(Kernel::And)),
         "and_not" => Some(Work::Kernel(Kernel::AndNot)),
         "or" => Some(Work::Kernel(Kernel::Or)),

@@ -45,7 +45,7 @@ fn main(rt: HostRuntime) -> Result<()> {
     let words: Vec<String> = env::args(&rt)?.collect(alloc)?;
     let Some(asked) = asked_by(&words) else {
         bail!(
-            "usage: leaves_bench 10x64|10x128|10x192|10x256|100x1000|500x8192 pairs|words domains|prune|and|and_not|or|ones ROUNDS"
+            "usage: leaves_bench 10x64|10x128|10x192|10x256|100x1000|500x8192 pairs|words domains|prune|nothing|and|and_not|or|ones ROUNDS"
         )
     };
     let sum = checksum(alloc, asked)?;

@@ -92,17 +92,60 @@ pub fn prune_domains<T: Trail>(
     Ok(sum)
 }
 
-/// Puts a row through an operation.
-fn pass(kernel: Kernel, into: &mut [u64], from: &[u64]) -> u64
-    requires { length into.old ≡ length from.now }
-{
-    match kernel {
-        Kernel::And => and_into(into, from),
-        Kernel::AndNot => and_not_into(into, from),
-        Kernel::Or => or_into(into, from),
-        Kernel::Ones => return count_ones(from),
+/// An operation on rows of one length.
+trait Operation {
+    /// Puts a row through it, and gives what it counted.
+    fn pass(into: &mut [u64], from: &[u64]) -> u64
+        requires same_length { length into.old ≡ length from.now }
+        ensures long { length into.new ≡ length into.old };
+}
+
+/// No operation.
+struct Nothing;
+
+/// Keeps what is in both.
+struct And;
+
+/// Keeps what is not in the other.
+struct AndNot;
+
+/// Adds what is in the other.
+struct Or;
+
+/// Counts what is in the other.
+struct Ones;
+
+impl Operation for Nothing {
+    fn pass(_into: &mut [u64], from: &[u64]) -> u64 {
+        from.len() as u64
     }
-    0
+}
+
+impl Operation for And {
+    fn pass(into: &mut [u64], from: &[u64]) -> u64 {
+        and_into(into, from);
+        0
+    }
+}
+
+impl Operation for AndNot {
+    fn pass(into: &mut [u64], from: &[u64]) -> u64 {
+        and_not_into(into, from);
+        0
+    }
+}
+
+impl Operation for Or {
+    fn pass(into: &mut [u64], from: &[u64]) -> u64 {
+        or_into(into, from);
+        0
+    }
+}
+
+impl Operation for Ones {
+    fn pass(_into: &mut [u64], from: &[u64]) -> u64 {
+        count_ones(from)
+    }
 }
 
 /// Where the next row begins, and at the start again after the last.
@@ -116,12 +159,11 @@ fn next_row(at: usize, words: usize, all: usize) -> usize
     if words <= all - next { next } else { 0 }
 }
 
-/// Puts as many rows as all domains have through an operation, in turn.
-pub fn pass_kernel(
+/// Puts as many rows as all domains have through one operation, in turn.
+fn pass_rows<O: Operation>(
     alloc: Global,
     shape: Shape,
     rows: &Rows,
-    kernel: Kernel,
     rounds: u32,
 ) -> Result<u64, AllocError> {
     let words = shape.row_words();
@@ -129,9 +171,26 @@ pub fn pass_kernel(
     let mut at = 0;
     let mut sum = 0;
     for round in 0..rounds {
-        let counted = pass(kernel, &mut table[at..at + words], rows.row(round, words));
+        let counted = O::pass(&mut table[at..at + words], rows.row(round, words));
         sum = mixed(sum, counted);
         at = next_row(at, words, table.len());
     }
     Ok(mixed(sum, count_ones(&table)))
+}
+
+/// The same by the operation that is asked for: each has a loop of its own, so that no choice is made in it.
+pub fn pass_kernel(
+    alloc: Global,
+    shape: Shape,
+    rows: &Rows,
+    kernel: Kernel,
+    rounds: u32,
+) -> Result<u64, AllocError> {
+    match kernel {
+        Kernel::Nothing => pass_rows::<Nothing>(alloc, shape, rows, rounds),
+        Kernel::And => pass_rows::<And>(alloc, shape, rows, rounds),
+        Kernel::AndNot => pass_rows::<AndNot>(alloc, shape, rows, rounds),
+        Kernel::Or => pass_rows::<Or>(alloc, shape, rows, rounds),
+        Kernel::Ones => pass_rows::<Ones>(alloc, shape, rows, rounds),
+    }
 }
