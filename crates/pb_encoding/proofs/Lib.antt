@@ -7,4 +7,6 @@ pub mod LineNumbers
 pub mod TermLists
 pub mod WrittenModel
 pub mod Gathered
+pub mod Agreements
 pub mod Beside
+pub mod RowTerms

@@ -10,7 +10,7 @@ ghost use Rattle.encoding_theory.specs.Places.{at_least_place, at_most_place, at
 
 use crate::line::line_at;
 use crate::numbers::{edge_numbers, non_edge_numbers, place_in, place_of, refused_numbers};
-use crate::terms::constraint_of;
+use crate::terms::{Room, constraint_of};
 use graph_rows::Problem;
 use pb_terms::Constraint;
 use std::alloc::{AllocError, Global};
@@ -182,8 +182,24 @@ impl<'a> Encoding<'a> {
         line_number(self.non_edge_start(), before, self.targets, t)
     }
 
-    /// The constraint of line `i`, counted from 1. Cost: four words for each target vertex.
+    /// The constraint of line `i`, counted from 1. Cost: a few steps for each of its terms, and for that of a pair of pattern vertices a few for
+    /// each word of a row; where a graph keeps labels of edges and one joins the pair, also one test for each place to which edges lead as
+    /// they have to. The memory is four words for each target vertex.
     pub fn constraint(&self, alloc: Global, i: u64) -> Result<Constraint, AllocError>
+        requires first { 1 ≤ i }
+        requires last { i ≤ length (encoding_of self.now) }
+        ensures { IfOk result (λ c. slice_get (encoding_of self.now) (i - 1) ≡ Some c) }
+    {
+        self.constraint_in(alloc, i, &mut Room::new(alloc))
+    }
+
+    /// The same in room that the next line uses again.
+    pub(crate) fn constraint_in(
+        &self,
+        alloc: Global,
+        i: u64,
+        room: &mut Room,
+    ) -> Result<Constraint, AllocError>
         requires first { 1 ≤ i }
         requires last { i ≤ length (encoding_of self.now) }
         ensures { IfOk result (λ c. slice_get (encoding_of self.now) (i - 1) ≡ Some c) }
@@ -195,7 +211,7 @@ impl<'a> Encoding<'a> {
             &self.non_edges,
             i - 1,
         );
-        constraint_of(alloc, self.problem, line)
+        constraint_of(alloc, self.problem, line, room)
     }
 
     /// How many lines stand before the refusals.

@@ -12,6 +12,7 @@ mod line;
 pub mod model;
 mod numbers;
 mod pair_tests;
+mod right_row;
 mod shared;
 mod terms;
 mod writer;

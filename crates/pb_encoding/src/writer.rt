@@ -11,6 +11,7 @@ ghost use Rattle.pb_encoding.specs.Writing.{encoding_text, forms_text, HasPutCau
 ghost use Rattle.pb_encoding.specs.Gathering.{PutsFront};
 
 use crate::encoding::Encoding;
+use crate::terms::Room;
 use opb_text::{append_line, write_head};
 use outer_io::{Failed, PutFault, Sink};
 use std::alloc::{AllocError, Global};
@@ -38,6 +39,7 @@ impl<'a> Encoding<'a> {
         &self,
         alloc: Global,
         i: u64,
+        room: &mut Room,
         buffer: &mut Vec<u8>,
     ) -> Result<(), AllocError>
         requires first { 1 ≤ i }
@@ -45,7 +47,7 @@ impl<'a> Encoding<'a> {
         ensures { (f : Form) → slice_get (encoding_of self.now) (i - 1) ≡ Some f
             → OnOk result (buffer.new.items ≡ buffer.old.items ++ line_text (form_words f)) }
     {
-        let constraint = self.constraint(alloc, i)?;
+        let constraint = self.constraint_in(alloc, i, room)?;
         append_line(&constraint, buffer)
     }
 
@@ -61,8 +63,9 @@ impl<'a> Encoding<'a> {
         ensures cause { HasPutCause S.spot S.rest S.faults S.blamed sink.old sink.new result }
     {
         let mut buffer = Vec::new(alloc);
+        let mut room = Room::new(alloc);
         for i in 0..self.len() {
-            self.append_constraint(alloc, i + 1, &mut buffer)?;
+            self.append_constraint(alloc, i + 1, &mut room, &mut buffer)?;
             put_piece(least, &mut buffer, sink)?;
         }
         sink.put(buffer.as_slice())?;

@@ -1,5 +1,5 @@
-use Rattle.std.proofs.Common.{◌≡◌, ◌≤◌, ℕ, ℤ, not, nat_lt, pos, negsuc, List, [], ◌∷◌, ◌++◌, ap, subst, ◌∙◌, arith}
-use Rattle.graph_theory.specs.Graph.{Graph, size}
+use Rattle.std.proofs.Common.{◌≡◌, ℕ, ℤ, not, nat_lt, pos, negsuc, List, [], ◌∷◌, ◌++◌, ap, ◌∙◌, arith}
+use Rattle.graph_theory.specs.Graph.{size}
 use Rattle.proof_theory.specs.Forms.{form_of}
 use Rattle.encoding_theory.specs.Variables.{variable, when}
 use Rattle.encoding_theory.specs.Pairs.{is_compatible}
@@ -16,7 +16,7 @@ returns-clause-few c =
     ∙ ap (λ (xs : List (ℕ × ℤ)). xs ++ when (not (nat_lt c.args.p c.args.r)) (own ∷ []))
     (c.in_ok-push_compatible.ensures
     ∙ ap (λ (xs : List (ℕ × ℤ)). xs ++ others)
-    (c.in_ok-push_where.ensures ∙ ap (λ (xs : List (ℕ × ℤ)). xs ++ when (nat_lt c.args.p c.args.r) (own ∷ [])) c.new-out.ensures.items)) in
+    (c.in_ok-push_where.ensures ∙ ap (λ (xs : List (ℕ × ℤ)). xs ++ when (nat_lt c.args.p c.args.r) (own ∷ [])) c.in_ok-begin_terms.ensures)) in
     few-placed (nat_lt c.args.p c.args.r) own (is_compatible c.args.q.now c.args.p c.args.t c.args.r) (variable c.args.q.now c.args.r) (size c.args.q.now.target)
     c.push_where-2.new.out.items e (omega arith) c.requires.targets
 
@@ -29,6 +29,6 @@ returns-clause-form c =
     ∙ ap (λ (xs : List (ℕ × ℤ)). xs ++ when (not (nat_lt c.args.p c.args.r)) (own ∷ []))
     (c.in_ok-push_compatible.ensures
     ∙ ap (λ (xs : List (ℕ × ℤ)). xs ++ others)
-    (c.in_ok-push_where.ensures ∙ ap (λ (xs : List (ℕ × ℤ)). xs ++ when (nat_lt c.args.p c.args.r) (own ∷ [])) c.new-out.ensures.items)) in
+    (c.in_ok-push_where.ensures ∙ ap (λ (xs : List (ℕ × ℤ)). xs ++ when (nat_lt c.args.p c.args.r) (own ∷ [])) c.in_ok-begin_terms.ensures)) in
     rw e (form-placed (nat_lt c.args.p c.args.r) own others (pos 0)
-    ∙ ap (λ (v : ℕ). form_of ((v, negsuc 0) ∷ others) (pos 0)) c.variable.ensures)
+    ∙ ap (λ (v : ℕ). form_of ((v, negsuc 0) ∷ others) (pos 0)) c.variable.ensures.variable)
