@@ -1,4 +1,6 @@
 pub mod Pairs
+pub mod Walking
+pub mod Tables
 pub mod Turned
 pub mod Good
 pub mod Spreading

@@ -1,9 +1,7 @@
 -- Which line a pair of vertices gets, by what they share in each direction and whether they have lines of their own; and how the lines that count are named.
 
-use Rattle.std.specs.Prelude.{◌≡◌, ℕ, ◌+◌, ◌*◌, ◌<◌, ◌≤◌, true, false, ◌⊎◌, cond, List, [], ◌∷◌, Option, Some, None}
-use Rattle.std.specs.BTreeMap.{is_at}
+use Rattle.std.specs.Prelude.{◌≡◌, ℕ, ◌+◌, ◌*◌, ◌<◌, ◌≤◌, ◌==◌, Bool, true, false, ◌⊎◌, cond, List, [], ◌∷◌, Option, Some, None}
 use Rattle.std.specs.Map.{lookup}
-use Rattle.std.specs.Ordering.{nat_cmp}
 use Rattle.graph_theory.specs.Graph.{size}
 use Rattle.graph_theory.specs.Embedding.{Problem}
 use Rattle.graph_theory.specs.Neighbours.{common}
@@ -22,6 +20,15 @@ use Rattle.row_lines.specs.declared.sharing.Asked.{Asked}
 use Rattle.row_lines.specs.declared.sharing.Asked.TheVariants.{Out, In, Both}
 use Rattle.row_lines.specs.declared.sharing.Sharing.{Sharing}
 use Rattle.row_lines.specs.declared.sharing.Sharing.TheVariants.{Nothing, One, Many}
+
+-- ---- walks
+
+-- From a number on the first that passes a test, or n where none below it does.
+pub record IsNext (test : ℕ → Bool) (from n next : ℕ) : Type 0 where
+  pub low : from ≤ next
+  pub high : next ≤ n
+  pub none : (v : ℕ) → from ≤ v → v < next → test v ≡ false
+  pub passes : next < n → test next ≡ true
 
 -- ---- what two vertices share
 
@@ -69,7 +76,7 @@ pair_key p r w = (p * 1024 + r) * 8192 + w
 
 -- The name under a number.
 abbrev pub entry_at : Names → ℕ → Option Name
-entry_at names k = lookup (is_at (nat_cmp k)) names
+entry_at names k = lookup (λ x. k == x) names
 
 abbrev pub pair_name : Names → ℕ → ℕ → ℕ → Option Name
 pair_name names p r w = entry_at names (pair_key p r w)

@@ -1,16 +1,18 @@
 //! A problem with its encoding, as its edges lead or with both graphs turned round: the tests that the lines go by, and the references that
 //! they make. The encoding is the same either way.
 
-ghost use Rattle.std.specs.Prelude.{◌≡◌, ◌<◌, ◌≤◌, true, IfOk};
+ghost use Rattle.std.specs.Prelude.{◌≡◌, ◌<◌, ◌≤◌, ◌*◌, ◌==◌, ◌&&◌, not, true, length, IfOk};
 ghost use Rattle.graph_theory.specs.Graph.{size};
-ghost use Rattle.graph_theory.specs.Neighbours.{is_neighbour, common};
+ghost use Rattle.graph_theory.specs.Neighbours.{is_neighbour, common, degree as degree_of};
 ghost use Rattle.graph_theory.specs.Reversed.{turned, turned_problem};
+ghost use Rattle.bit_rows.specs.BitRows.{has};
 ghost use Rattle.encoding_theory.specs.Pairs.{is_edge_pair as is_edge, is_non_edge_pair as is_non_edge};
 ghost use Rattle.reason_theory.specs.Reasons.{not_there};
 ghost use Rattle.row_theory.specs.Laws.{InLimits};
 ghost use Rattle.row_theory.specs.Rows.{at_least_line, at_most_line, target_line, edge_line, non_edge_line, is_shared as is_shared_by, is_paired as is_paired_by, there as there_at, weight as weight_at};
+ghost use Rattle.row_lines.specs.Choices.{IsNext};
 
-use bit_rows::has_bit;
+use bit_rows::{has_bit, next_member};
 use common_neighbour::Counts;
 use graph_rows::{Graph, Problem};
 use graph_theory::direction::Direction;
@@ -47,6 +49,54 @@ fn are_neighbours(g: &Graph, direction: Direction, a: u16, b: u16) -> bool
     ensures { result ≡ is_neighbour (turned direction g.now) a b }
 {
     a != b && has_bit(g.row_by(direction, a), usize::from(b))
+}
+
+/// The first member of a row from a value on that is not this one, or the number of the row's bits where there is none. Cost: a step for
+/// each word on the way.
+fn next_other(row: &[u64], itself: usize, from: usize) -> usize
+    requires short { length row.now ≤ 1024 }
+    requires itself { itself < 64 * length row.now }
+    requires from { from ≤ 64 * length row.now }
+    ensures { IsNext (λ v. not (itself == v) && has row.now v) from (64 * length row.now) result }
+{
+    let first = next_member(row, from);
+    if first == itself {
+        return next_member(row, first + 1);
+    }
+    first
+}
+
+/// The first neighbour of `a` from a vertex on in the graph turned in this direction, or the number of vertices where there is none. Cost:
+/// a step for each word on the way.
+fn next_neighbour(g: &Graph, direction: Direction, a: u16, from: u16) -> u16
+    requires vertex { a < size g.now }
+    requires from { from ≤ size g.now }
+    ensures { IsNext (is_neighbour (turned direction g.now) a) from (size g.now) result }
+{
+    let size = g.size();
+    let next = next_other(g.row_by(direction, a), usize::from(a), usize::from(from));
+    if next < usize::from(size) {
+        return next as u16;
+    }
+    size
+}
+
+/// The first vertex from one on that is a neighbour of both in the graph turned in this direction, or the number of vertices where there is none.
+/// Cost: a step for each neighbour of `a` on the way, and for each word.
+fn next_of_both(g: &Graph, direction: Direction, a: u16, b: u16, from: u16) -> u16
+    requires a_in { a < size g.now }
+    requires b_in { b < size g.now }
+    requires from { from ≤ size g.now }
+    ensures { IsNext (is_shared_by (turned direction g.now) a b) from (size g.now) result }
+{
+    let mut m = next_neighbour(g, direction, a, from);
+    while m < g.size() {
+        if are_neighbours(g, direction, b, m) {
+            return m;
+        }
+        m = next_neighbour(g, direction, a, m + 1);
+    }
+    m
 }
 
 /// Whether an edge joins two pattern vertices, whichever way it leads.
@@ -119,25 +169,24 @@ impl<'a, 'b> Known<'a, 'b> {
         let _targets = target.size();
     }
 
-    /// Whether `m` is a neighbour of both.
-    pub(crate) fn is_shared(&self, p: u16, r: u16, m: u16) -> bool
+    /// The first neighbour of both from a vertex on, or the number of vertices where there is none. Cost: a step for each neighbour of `p` on the
+    /// way, and for each word.
+    pub(crate) fn next_shared(&self, p: u16, r: u16, from: u16) -> u16
         requires p_in { p < size self.now.pattern }
         requires r_in { r < size self.now.pattern }
-        requires m_in { m < size self.now.pattern }
-        ensures { result ≡ is_shared_by self.now.pattern p r m }
+        requires from { from ≤ size self.now.pattern }
+        ensures { IsNext (is_shared_by self.now.pattern p r) from (size self.now.pattern) result }
     {
-        let pattern = self.q.pattern();
-        are_neighbours(pattern, self.direction, p, m)
-            && are_neighbours(pattern, self.direction, r, m)
+        next_of_both(self.q.pattern(), self.direction, p, r, from)
     }
 
-    /// Whether `w` is a neighbour of `t`.
-    pub(crate) fn is_near(&self, t: u16, w: u16) -> bool
+    /// The first neighbour of `t` from a target vertex on, or the number of these where there is none. Cost: a step for each word on the way.
+    pub(crate) fn next_near(&self, t: u16, from: u16) -> u16
         requires t_in { t < size self.now.target }
-        requires w_in { w < size self.now.target }
-        ensures { result ≡ is_neighbour self.now.target t w }
+        requires from { from ≤ size self.now.target }
+        ensures { IsNext (is_neighbour self.now.target t) from (size self.now.target) result }
     {
-        are_neighbours(self.q.target(), self.direction, t, w)
+        next_neighbour(self.q.target(), self.direction, t, from)
     }
 
     pub(crate) fn is_edge_pair(&self, p: u16, r: u16) -> bool
@@ -231,11 +280,19 @@ impl<'a, 'b> Known<'a, 'b> {
         }
     }
 
+    /// How many neighbours `t` has.
+    pub(crate) fn degree(&self, t: u16) -> u16
+        requires { t < size self.now.target }
+        ensures { result ≡ degree_of self.now.target t }
+    {
+        self.q.target().degree_by(self.direction, t)
+    }
+
     /// One more than `t` has neighbours.
     pub(crate) fn weight(&self, t: u16) -> u64
         requires { t < size self.now.target }
         ensures { result ≡ weight_at self.now t }
     {
-        u64::from(self.q.target().degree_by(self.direction, t)) + 1
+        u64::from(self.degree(t)) + 1
     }
 }

@@ -14,6 +14,7 @@ mod pair_names;
 mod placed_pair;
 mod row;
 mod row_lines;
+mod shared;
 mod sharing;
 mod spreads;
 mod turned_names;

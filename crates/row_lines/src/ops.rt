@@ -19,31 +19,21 @@ use crate::sharing::Sharing;
 use log_theory::{Clause, Name, Op, Ops, Ref, Refs};
 use std::alloc::{AllocError, Global};
 
-/// Adds the line of two vertices at `t`, where it is wanted.
-fn add_edge(
-    known: &Known,
-    ops: &mut Vec<Op>,
-    wanted: bool,
-    a: u16,
-    b: u16,
-    t: u16,
-) -> Result<(), AllocError>
+/// Adds the line of two vertices at `t`.
+fn add_edge(known: &Known, ops: &mut Vec<Op>, a: u16, b: u16, t: u16) -> Result<(), AllocError>
     requires a_in { a < size known.now.pattern }
     requires b_in { b < size known.now.pattern }
     requires t_in { t < size known.now.target }
-    requires pair { wanted ≡ true → is_edge_pair known.now a b ≡ true }
+    requires pair { is_edge_pair known.now a b ≡ true }
     ensures { OnOk result
-        (ops.new.items ≡ ops.old.items
-        ++ when wanted (PushOp (edge_line known.now a b t) ∷ AddOp ∷ [])) }
+        (ops.new.items ≡ ops.old.items ++ PushOp (edge_line known.now a b t) ∷ AddOp ∷ []) }
 {
-    if wanted {
-        ops.push(Op::Push(known.edge(a, b, t)))?;
-        ops.push(Op::Add)?;
-    }
+    ops.push(Op::Push(known.edge(a, b, t)))?;
+    ops.push(Op::Add)?;
     Ok(())
 }
 
-/// Adds the line of `p` and each shared neighbour, at `t`.
+/// Adds the line of `p` and each shared neighbour, at `t`. Cost: a step for each neighbour of `p`.
 #[tactic(auto, using(crate::proofs::Pairs::shared_first))]
 fn add_shared(known: &Known, ops: &mut Vec<Op>, p: u16, t: u16, r: u16) -> Result<(), AllocError>
     requires p_in { p < size known.now.pattern }
@@ -54,14 +44,15 @@ fn add_shared(known: &Known, ops: &mut Vec<Op>, p: u16, t: u16, r: u16) -> Resul
         ++ adds_where (is_shared_by known.now.pattern p r)
         (λ m. PushOp (edge_line known.now p m t)) (size known.now.pattern)) }
 {
-    for m in 0..known.vertices() {
-        let wanted = known.is_shared(p, r, m);
-        add_edge(known, ops, wanted, p, m, t)?;
+    let mut m = known.next_shared(p, r, 0);
+    while m < known.vertices() {
+        add_edge(known, ops, p, m, t)?;
+        m = known.next_shared(p, r, m + 1);
     }
     Ok(())
 }
 
-/// Adds the line of each shared neighbour and `r`, at `w`.
+/// Adds the line of each shared neighbour and `r`, at `w`. Cost: a step for each neighbour of `p`.
 #[tactic(auto, using(crate::proofs::Pairs::shared_second))]
 fn add_backs(known: &Known, ops: &mut Vec<Op>, p: u16, r: u16, w: u16) -> Result<(), AllocError>
     requires p_in { p < size known.now.pattern }
@@ -72,35 +63,27 @@ fn add_backs(known: &Known, ops: &mut Vec<Op>, p: u16, r: u16, w: u16) -> Result
         ++ adds_where (is_shared_by known.now.pattern p r)
         (λ m. PushOp (edge_line known.now m r w)) (size known.now.pattern)) }
 {
-    for m in 0..known.vertices() {
-        let wanted = known.is_shared(p, r, m);
-        add_edge(known, ops, wanted, m, r, w)?;
+    let mut m = known.next_shared(p, r, 0);
+    while m < known.vertices() {
+        add_edge(known, ops, m, r, w)?;
+        m = known.next_shared(p, r, m + 1);
     }
     Ok(())
 }
 
-/// Adds that `v` is at `w`, where it is wanted.
-fn add_there(
-    known: &Known,
-    ops: &mut Vec<Op>,
-    wanted: bool,
-    w: u16,
-    v: u16,
-) -> Result<(), AllocError>
+/// Adds that `v` is at `w`.
+fn add_there(known: &Known, ops: &mut Vec<Op>, w: u16, v: u16) -> Result<(), AllocError>
     requires v_in { v < size known.now.pattern }
     requires w_in { w < size known.now.target }
     ensures { OnOk result
-        (ops.new.items ≡ ops.old.items
-        ++ when wanted (AxiomOp (there_at known.now w v) ∷ AddOp ∷ [])) }
+        (ops.new.items ≡ ops.old.items ++ AxiomOp (there_at known.now w v) ∷ AddOp ∷ []) }
 {
-    if wanted {
-        ops.push(Op::Axiom(known.there(w, v)))?;
-        ops.push(Op::Add)?;
-    }
+    ops.push(Op::Axiom(known.there(w, v)))?;
+    ops.push(Op::Add)?;
     Ok(())
 }
 
-/// Adds that each vertex which is not shared is at `w`.
+/// Adds that each vertex which is not shared is at `w`. Cost: two operations for each of these.
 fn add_others(known: &Known, ops: &mut Vec<Op>, p: u16, r: u16, w: u16) -> Result<(), AllocError>
     requires p_in { p < size known.now.pattern }
     requires r_in { r < size known.now.pattern }
@@ -110,9 +93,13 @@ fn add_others(known: &Known, ops: &mut Vec<Op>, p: u16, r: u16, w: u16) -> Resul
         ++ adds_where (λ v. not (is_shared_by known.now.pattern p r v))
         (λ v. AxiomOp (there_at known.now w v)) (size known.now.pattern)) }
 {
+    let mut shared = known.next_shared(p, r, 0);
     for v in 0..known.vertices() {
-        let wanted = !known.is_shared(p, r, v);
-        add_there(known, ops, wanted, w, v)?;
+        if v == shared {
+            shared = known.next_shared(p, r, v + 1);
+            continue;
+        }
+        add_there(known, ops, w, v)?;
     }
     Ok(())
 }
@@ -131,7 +118,7 @@ pub(crate) fn spread_ops(
     requires w_in { w < size known.now.target }
     ensures { IfOk result (λ ops. ops ≡ spread_ops_of known.now p r w less) }
 {
-    let mut ops = Vec::new(alloc);
+    let mut ops = Vec::with_capacity(alloc, 2 * usize::from(known.vertices()) + 3)?;
     ops.push(Op::Push(known.target(w)))?;
     add_others(known, &mut ops, p, r, w)?;
     ops.push(Op::Times(u64::from(less)))?;
@@ -154,7 +141,7 @@ pub(crate) fn two_ops(
     requires w_in { w < size known.now.target }
     ensures { IfOk result (λ ops. ops ≡ two_ops_of known.now (MadeRef clause) p r w) }
 {
-    let mut ops = Vec::new(alloc);
+    let mut ops = Vec::with_capacity(alloc, 6)?;
     ops.push(Op::Push(Ref::Made(clause)))?;
     add_backs(known, &mut ops, p, r, w)?;
     ops.push(Op::Divide(2))?;
@@ -208,7 +195,7 @@ fn spread_ref(known: &Known, spreads: &PairNames, sharing: Sharing, p: u16, r: u
     }
 }
 
-/// Adds that line, where `w` is a neighbour of the place.
+/// Adds that line.
 fn add_spread(
     known: &Known,
     spreads: &PairNames,
@@ -222,17 +209,14 @@ fn add_spread(
     requires sharing { IsSharing known.now pair.p pair.r sharing }
     ensures { OnOk result
         (ops.new.items ≡ ops.old.items
-        ++ when (is_neighbour known.now.target pair.t w)
-        (PushOp (spread_ref_of known.now spreads.now sharing pair.p pair.r w) ∷ AddOp ∷ [])) }
+        ++ PushOp (spread_ref_of known.now spreads.now sharing pair.p pair.r w) ∷ AddOp ∷ []) }
 {
-    if known.is_near(pair.t, w) {
-        ops.push(Op::Push(spread_ref(known, spreads, sharing, pair.p, pair.r, w)))?;
-        ops.push(Op::Add)?;
-    }
+    ops.push(Op::Push(spread_ref(known, spreads, sharing, pair.p, pair.r, w)))?;
+    ops.push(Op::Add)?;
     Ok(())
 }
 
-/// Adds it for each neighbour of the place.
+/// Adds it for each neighbour of the place. Cost: where more than one is shared that of finding a name, for each of these.
 fn add_spreads(
     known: &Known,
     spreads: &PairNames,
@@ -248,8 +232,10 @@ fn add_spreads(
         (λ w. PushOp (spread_ref_of known.now spreads.now sharing pair.p pair.r w))
         (size known.now.target)) }
 {
-    for w in 0..known.targets() {
+    let mut w = known.next_near(pair.t, 0);
+    while w < known.targets() {
         add_spread(known, spreads, ops, sharing, pair, w)?;
+        w = known.next_near(pair.t, w + 1);
     }
     Ok(())
 }
@@ -319,7 +305,15 @@ fn begin(
     Ok(())
 }
 
-/// The operations where shared neighbours are asked for: a line for each, and one for each neighbour of the place.
+/// How many operations are made where shared neighbours are asked for, at most. It is the room that is taken for them at once.
+fn operations(known: &Known, sharing: Sharing, t: u16) -> usize
+    requires { t < size known.now.target }
+{
+    2 * usize::from(sharing.count()) + 2 * usize::from(known.degree(t)) + 5
+}
+
+/// The operations where shared neighbours are asked for: a line for each, and one for each neighbour of the place. Cost: two operations for
+/// each of these, and that of `add_spreads`.
 fn counted_ops(
     alloc: Global,
     known: &Known,
@@ -333,7 +327,7 @@ fn counted_ops(
     ensures { IfOk result
         (λ ops. ops ≡ counted_ops_of known.now spreads.now sharing own pair.p pair.t pair.r) }
 {
-    let mut ops = Vec::new(alloc);
+    let mut ops = Vec::with_capacity(alloc, operations(known, sharing, pair.t))?;
     begin(known, &mut ops, own, pair.t, pair.r)?;
     add_shared(known, &mut ops, pair.p, pair.t, pair.r)?;
     add_spreads(known, spreads, &mut ops, sharing, pair)?;

@@ -7,7 +7,7 @@ ghost use Rattle.row_lines.specs.Choices.{pair_key, pair_name, not_both_key, not
 
 use log_theory::Name;
 use std::alloc::{AllocError, Global};
-use std::collections::BTreeMap;
+use std::collections::HashMap;
 use std::marker::Model;
 
 /// What is added to the first vertex of a clause, so that its number is none of another line.
@@ -17,7 +17,7 @@ const NOT_BOTH: u16 = 1024;
 /// the clause that they are not both there. Contracts see the entries.
 #[derive(Drop)]
 pub struct PairNames {
-    names: BTreeMap<u64, Name>,
+    names: HashMap<u64, Name>,
 }
 
 impl Model for PairNames {
@@ -40,11 +40,11 @@ impl PairNames {
         ensures { result ≡ [] }
     {
         PairNames {
-            names: BTreeMap::new(alloc),
+            names: HashMap::new(alloc),
         }
     }
 
-    /// The name for `p` and `r` at `w`. Cost: logarithmic in the number of names.
+    /// The name for `p` and `r` at `w`. Cost: a few steps, however many names there are.
     pub(crate) fn find(&self, p: u16, r: u16, w: u16) -> Option<Name>
         ensures name { result ≡ pair_name self.now p r w }
         ensures fits { IfSome result IsName }
@@ -68,7 +68,7 @@ impl PairNames {
         let _names = &self.names;
     }
 
-    /// Adds the name for `p` and `r` at `w`, which had none. Cost: as that of `find`.
+    /// Adds the name for `p` and `r` at `w`, which had none. Cost: as that of `find`; where the room is doubled, one step for each name.
     pub(crate) fn add(&mut self, p: u16, r: u16, w: u16, name: Name) -> Result<(), AllocError>
         requires { IsName name }
         ensures added { OnOk result
@@ -80,7 +80,7 @@ impl PairNames {
         Ok(())
     }
 
-    /// Adds the name of the clause that `m` and `n` are not both at `w`, which had none. Cost: as that of `find`.
+    /// Adds the name of the clause that `m` and `n` are not both at `w`, which had none. Cost: as that of `add`.
     pub(crate) fn add_not_both(
         &mut self,
         m: u16,

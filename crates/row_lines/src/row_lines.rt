@@ -66,7 +66,7 @@ impl RowLines {
     }
 
     /// A reference to a line that takes from `pair.r` each value that is not consistent with `pair.p` at `pair.t`. It is a line of the encoding
-    /// where one serves; else it is made when it is first asked for. Cost: where it was made, logarithmic in the number of lines.
+    /// where one serves; else it is made when it is first asked for. Cost: where it was made, that of finding its name.
     pub fn row<K: Keeper>(
         &mut self,
         alloc: Global,

@@ -1,7 +1,8 @@
 //! How many neighbours two pattern vertices share.
 
-ghost use Rattle.std.specs.Prelude.{◌≡◌, ◌<◌, true, IfOk, IfSome};
+ghost use Rattle.std.specs.Prelude.{◌≡◌, ◌<◌, ℕ, true, IfOk, IfSome};
 ghost use Rattle.graph_theory.specs.Graph.{size};
+ghost use Rattle.graph_theory.specs.Embedding.{Problem as TheProblem};
 ghost use Rattle.graph_theory.specs.Neighbours.{common};
 ghost use Rattle.row_theory.specs.Rows.{is_shared as is_shared_by};
 ghost use Rattle.row_theory.specs.Laws.{AreTwoShared};
@@ -21,6 +22,20 @@ pub(crate) enum Sharing {
     Many(u16),
 }
 
+impl Sharing {
+    /// How many there are.
+    pub(crate) fn count(self) -> u16
+        ensures { (q : TheProblem) (p r : ℕ) → IsSharing q p r self
+            → result ≡ common q.pattern p r }
+    {
+        match self {
+            Sharing::Nothing => 0,
+            Sharing::One(_) => 1,
+            Sharing::Many(count) => count,
+        }
+    }
+}
+
 /// In which directions a line has to count shared neighbours, and which there are: in one where edges are known to stand both ways or the
 /// other has none.
 #[derive(Clone, Copy, PartialEq, Eq, Debug)]
@@ -38,16 +53,15 @@ pub(crate) struct Sharers {
     pub(crate) count: u16,
 }
 
-/// The first shared neighbour.
+/// The first shared neighbour. Cost: a step for each neighbour of `p` up to it.
 fn first_shared(known: &Known, p: u16, r: u16) -> Option<u16>
     requires p_in { p < size known.now.pattern }
     requires r_in { r < size known.now.pattern }
     ensures { IsFirstShared known.now p r result }
 {
-    for m in 0..known.vertices() {
-        if known.is_shared(p, r, m) {
-            return Some(m);
-        }
+    let m = known.next_shared(p, r, 0);
+    if m < known.vertices() {
+        return Some(m);
     }
     None
 }
@@ -62,15 +76,14 @@ fn next_shared(known: &Known, p: u16, r: u16, m: u16) -> Option<u16>
         × (is_shared_by known.now.pattern p r n ≡ true)) }
 {
     let _vertices = known.vertices();
-    for n in m + 1..known.vertices() {
-        if known.is_shared(p, r, n) {
-            return Some(n);
-        }
+    let n = known.next_shared(p, r, m + 1);
+    if n < known.vertices() {
+        return Some(n);
     }
     None
 }
 
-/// The two shared neighbours, where there are two. Cost: four words for each vertex up to the second.
+/// The two shared neighbours, where there are two. Cost: a step for each neighbour of `p` up to the second.
 pub(crate) fn two_shared(known: &Known, pair: Sharers) -> Option<(u16, u16)>
     requires p_in { pair.p < size known.now.pattern }
     requires r_in { pair.r < size known.now.pattern }
@@ -91,7 +104,8 @@ pub(crate) fn two_shared(known: &Known, pair: Sharers) -> Option<(u16, u16)>
     }
 }
 
-/// How many neighbours the two share. Cost: two words for each word of a row, and only where it is one alone, four for each vertex up to it.
+/// How many neighbours the two share. Cost: two words for each word of a row, and only where it is one alone, a step for each neighbour of `p`
+/// up to it.
 pub(crate) fn sharing_of(
     alloc: Global,
     known: &Known,

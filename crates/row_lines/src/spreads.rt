@@ -3,7 +3,6 @@
 
 ghost use Rattle.std.specs.Prelude.{◌≡◌, ◌<◌, true, OnOk, IfOk, IsSome};
 ghost use Rattle.graph_theory.specs.Graph.{size};
-ghost use Rattle.graph_theory.specs.Neighbours.{is_neighbour};
 ghost use Rattle.log_theory.specs.LogText.{IsName, AreOps};
 ghost use Rattle.row_theory.specs.Rows.{not_both_form};
 ghost use Rattle.row_theory.specs.Laws.{AreTwoShared};
@@ -168,39 +167,33 @@ fn keep_spread<K: Keeper>(
     spreads.add(pair.p, pair.r, w, name)
 }
 
-/// Keeps it where `w` is a neighbour of `t`, unless it is there.
+/// Keeps it unless it is there. Cost: where it is there, that of finding its name.
 fn keep_spread_at<K: Keeper>(
     alloc: Global,
     known: &Known,
     spreads: &mut PairNames,
     keeper: &mut K,
     pair: Sharers,
-    t: u16,
     w: u16,
 ) -> Result<(), AllocError>
     requires pair { AreSharers known.now pair }
-    requires t_in { t < size known.now.target }
     requires w_in { w < size known.now.target }
     ensures goes { (f : Frame) → HasEncoding known.now (K.owner keeper.old) f
         → Goes f (K.kept keeper.old) (K.kept keeper.new) (AreSpreads f known.now spreads.old)
         (AreSpreads f known.now spreads.new) }
-    ensures there { OnOk result
-        (is_neighbour known.now.target t w ≡ true
-        → IsSome (pair_name spreads.new pair.p pair.r w)) }
+    ensures there { OnOk result (IsSome (pair_name spreads.new pair.p pair.r w)) }
     ensures stay { Stay spreads.old spreads.new }
     ensures owner { K.owner keeper.new ≡ K.owner keeper.old }
     ensures notes { K.notes keeper.new ≡ K.notes keeper.old }
     ensures spare { K.spare keeper.new ≡ K.spare keeper.old }
 {
-    if known.is_near(t, w) {
-        if spreads.find(pair.p, pair.r, w).is_none() {
-            keep_spread(alloc, known, spreads, keeper, pair, w)?;
-        }
+    if spreads.find(pair.p, pair.r, w).is_none() {
+        keep_spread(alloc, known, spreads, keeper, pair, w)?;
     }
     Ok(())
 }
 
-/// Keeps it for each neighbour of `t`.
+/// Keeps it for each neighbour of `t`. Cost: that of finding a name for each of these, beside what is kept.
 pub(crate) fn keep_around<K: Keeper>(
     alloc: Global,
     known: &Known,
@@ -220,8 +213,10 @@ pub(crate) fn keep_around<K: Keeper>(
     ensures notes { K.notes keeper.new ≡ K.notes keeper.old }
     ensures spare { K.spare keeper.new ≡ K.spare keeper.old }
 {
-    for w in 0..known.targets() {
-        keep_spread_at(alloc, known, spreads, keeper, pair, t, w)?;
+    let mut w = known.next_near(t, 0);
+    while w < known.targets() {
+        keep_spread_at(alloc, known, spreads, keeper, pair, w)?;
+        w = known.next_near(t, w + 1);
     }
     Ok(())
 }

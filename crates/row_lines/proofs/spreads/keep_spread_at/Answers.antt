@@ -4,6 +4,3 @@ use Rattle.row_lines.proofs.spreads.keep_spread_at.Goals as goal
 
 pub returns-else-is_none-clause-goes : goal.returns-else-is_none-clause-goes
 returns-else-is_none-clause-goes g c = λ f frame. goes_same f (g.K.Keeper.kept c.args.keeper.now) (AreSpreads f c.args.known.now c.args.spreads.now)
-
-pub returns-else-is_near-clause-goes : goal.returns-else-is_near-clause-goes
-returns-else-is_near-clause-goes g c = λ f frame. goes_same f (g.K.Keeper.kept c.args.keeper.now) (AreSpreads f c.args.known.now c.args.spreads.now)
