@@ -12,11 +12,11 @@ use Rattle.nogood_book.specs.declared.row.RowKind.{RowKind}
 use Rattle.nogood_book.specs.declared.row.RowKind.TheVariants.{Step, Nogood}
 use Rattle.nogood_book.specs.Rows.{Pairs, path_at}
 use Rattle.nogood_book.specs.Places.{StartsWith, place_or, places, places_from}
-use Rattle.nogood_book.specs.Facts.{Facts, CaughtUp, StandsAt}
+use Rattle.nogood_book.specs.Facts.{Facts, CaughtUp, IsFull, StandsAt}
 use Rattle.nogood_book.specs.Reaching.{Reaches}
 use Rattle.nogood_book.proofs.Lists.{get_front, starts_length}
 use Rattle.nogood_book.proofs.Reaching.{path_stays, row_placed}
-use Rattle.restart_search.specs.Sharing.{Went, if_nogood, nogood_of, nogoods_at, learned_by, refuted_at, refuted_below, refuted_in, HasLearned}
+use Rattle.restart_search.specs.Sharing.{Went, if_nogood, nogood_of, nogoods_at, learned_by, refuted_at, refuted_below, refuted_in, LearnsFirst, HasLearned}
 use Rattle.restart_search.proofs.Publishing.{no_vertex_after}
 
 -- ---- the nogoods at places
@@ -93,7 +93,55 @@ learned_step r at o s t above h reaches kind owner =
     (learned_one o at s.seen t.seen r xs h.grew.seen (subst (λ (n : ℕ). places n t.seen ≡ places n s.seen ++ at ∷ []) owner h.mine) placed.0 placed.1)
     ∙ append-nil (learned_by o s.seen)
 
+-- nor where the book is full
+pub learned_full : (o : ℕ) (s t : Facts) → IsFull s t → s.owner ≡ o → learned_by o t.seen ≡ learned_by o s.seen
+learned_full o s t h owner = learned_same o s.seen t.seen h.grew.seen (subst (λ (n : ℕ). places n t.seen ≡ places n s.seen) owner h.mine)
+
+-- ---- the first ones of some paths
+
+-- all of them
+pub first_all : (o : ℕ) (rows more : List Row) (xs : List Pairs) → learned_by o more ≡ learned_by o rows ++ xs → LearnsFirst o rows more xs
+first_all o rows more xs is = ([], sym is ∙ sym (append-nil (learned_by o more)))
+
+-- all of some that others follow, and of these the first ones
+pub first_more : (o : ℕ) (rows mid more : List Row) (xs ys rest all : List Pairs) → learned_by o mid ≡ learned_by o rows ++ xs → LearnsFirst o mid more ys → all ≡ (xs ++ ys) ++ rest
+    → LearnsFirst o rows more all
+first_more o rows mid more xs ys rest all before h split = (
+  h.0 ++ rest,
+  ap (λ (zs : List Pairs). learned_by o rows ++ zs) split
+      ∙ (sym (append_assoc (learned_by o rows) (xs ++ ys) rest)
+      ∙ (ap (λ (zs : List Pairs). zs ++ rest) (sym (append_assoc (learned_by o rows) xs ys) ∙ (ap (λ (zs : List Pairs). zs ++ ys) (sym before) ∙ h.1))
+      ∙ append_assoc (learned_by o more) h.0 rest)),
+)
+
 -- ---- a level
+
+-- the members below a number are the first ones of those below a greater one
+members_front : (f : ℕ → Bool) (a b : ℕ) → a ≤ b → (rest : List ℕ) × (members f b ≡ members f a ++ rest)
+members_front f a zero le = let none_left : zero ≡ a = omega (arith, le) in ([], ap (members f) none_left ∙ sym (append-nil (members f a)))
+members_front f a (suc b) le = by (members_front f a b) (cases_eq a (suc b))
+  where
+    last : List ℕ
+    last = if f b then b ∷ [] else []
+
+    by : (a ≤ b → (rest : List ℕ) × (members f b ≡ members f a ++ rest)) → (a ≡ suc b) ⊎ (a ≡ suc b → ⊥) → (rest : List ℕ) × (members f (suc b) ≡ members f a ++ rest)
+    by earlier (inl is) = ([], sym (ap (members f) is) ∙ sym (append-nil (members f a)))
+    by earlier (inr other) =
+        let r = earlier (omega (arith, le, other)) in
+        (r.0 ++ last, ap (λ (us : List ℕ). us ++ last) r.1 ∙ append_assoc (members f a) r.0 last)
+
+-- before its last value the first ones of a level are learned
+pub level_first_ones : (o : ℕ) (rows mid more : List Row) (above : Pairs) (p : ℕ) (f : ℕ → Bool) (t n : ℕ) → learned_by o mid ≡ learned_by o rows ++ refuted_at above (Some p) (members f t)
+    → learned_by o more ≡ learned_by o mid → t ≤ n → LearnsFirst o rows more (refuted_at above (Some p) (members f n))
+level_first_ones o rows mid more above p f t n before same le =
+    let r = members_front f t n le in (
+      map of r.0,
+      ap (λ (zs : List Pairs). learned_by o rows ++ zs) (ap (map of) r.1 ∙ map-append of (members f t) r.0)
+          ∙ (sym (append_assoc (learned_by o rows) (map of (members f t)) (map of r.0)) ∙ ap (λ (zs : List Pairs). zs ++ map of r.0) (sym before ∙ sym same)),
+    )
+  where
+    of : ℕ → Pairs
+    of u = above ++ (p, u) ∷ []
 
 members_skip : (f : ℕ → Bool) (a b : ℕ) → a ≤ b → ((i : ℕ) → a ≤ i → i < b → f i ≡ false) → members f b ≡ members f a
 members_skip f a zero le none = let none_left : zero ≡ a = omega (arith, le) in ap (members f) none_left
@@ -150,18 +198,20 @@ level_end old new above p f t n all past_t past_n = all ∙ ap (λ (us : List �
 
 -- ---- the levels
 
+-- what a level has refuted, as its account tells
+level_as : (above : Pairs) (i p : ℕ) (us : List ℕ) (a : Account) → above ≡ take i (path a) → (level_at a i).vertex ≡ Some p → us ≡ (level_at a i).refuted
+    → refuted_at above (Some p) us ≡ refuted_at (take i (path a)) (level_at a i).vertex (level_at a i).refuted
+level_as above i p us a above_is vertex us_are =
+    ap (λ (xs : Pairs). refuted_at xs (Some p) us) above_is
+    ∙ (ap (λ (v : Option ℕ). refuted_at (take i (path a)) v us) (sym vertex) ∙ ap (refuted_at (take i (path a)) (level_at a i).vertex) us_are)
+
 -- one level more
 pub below_more : (a : Account) (old mid next new : List Pairs) (above : Pairs) (i p : ℕ) (us : List ℕ) → mid ≡ old ++ refuted_below a i → next ≡ mid ++ refuted_at above (Some p) us → new ≡ next
     → above ≡ take i (path a) → (level_at a i).vertex ≡ Some p → us ≡ (level_at a i).refuted → new ≡ old ++ refuted_below a (i + 1)
 below_more a old mid next new above i p us before level guess above_is vertex us_are =
     guess ∙ (level ∙ (ap (λ (zs : List Pairs). zs ++ refuted_at above (Some p) us) before ∙ (append_assoc old (refuted_below a i) (refuted_at above (Some p) us)
-    ∙ ap (λ (zs : List Pairs). old ++ zs) (ap (λ (zs : List Pairs). refuted_below a i ++ zs) here ∙ ap (refuted_below a) one_more))))
+    ∙ ap (λ (zs : List Pairs). old ++ zs) (ap (λ (zs : List Pairs). refuted_below a i ++ zs) (level_as above i p us a above_is vertex us_are) ∙ ap (refuted_below a) one_more))))
   where
-    here : refuted_at above (Some p) us ≡ refuted_at (take i (path a)) (level_at a i).vertex (level_at a i).refuted
-    here =
-        ap (λ (xs : Pairs). refuted_at xs (Some p) us) above_is
-        ∙ (ap (λ (v : Option ℕ). refuted_at (take i (path a)) v us) (sym vertex) ∙ ap (refuted_at (take i (path a)) (level_at a i).vertex) us_are)
-
     one_more : suc i ≡ i + 1
     one_more = omega arith
 
@@ -183,6 +233,40 @@ past_path [] v us (suc j) le = refl
 past_path (s ∷ ss) v us zero le = absurd (omega (arith, le))
 past_path (s ∷ ss) v us (suc j) le = past_path ss v us j (omega (arith, le))
 
+-- what the first levels have refuted comes first
+below_front : (a : Account) (i n : ℕ) → i ≤ n → (rest : List Pairs) × (refuted_below a n ≡ refuted_below a i ++ rest)
+below_front a i zero le = let none_left : zero ≡ i = omega (arith, le) in ([], ap (refuted_below a) none_left ∙ sym (append-nil (refuted_below a i)))
+below_front a i (suc n) le = by (below_front a i n) (cases_eq i (suc n))
+  where
+    last : List Pairs
+    last = refuted_at (take n (path a)) (level_at a n).vertex (level_at a n).refuted
+
+    by : (i ≤ n → (rest : List Pairs) × (refuted_below a n ≡ refuted_below a i ++ rest)) → (i ≡ suc n) ⊎ (i ≡ suc n → ⊥) → (rest : List Pairs) × (refuted_below a (suc n) ≡ refuted_below a i ++ rest)
+    by earlier (inl is) = ([], sym (ap (refuted_below a) is) ∙ sym (append-nil (refuted_below a i)))
+    by earlier (inr other) =
+        let r = earlier (omega (arith, le, other)) in
+        (r.0 ++ last, ap (λ (zs : List Pairs). zs ++ last) r.1 ∙ append_assoc (refuted_below a i) r.0 last)
+
+-- so it does where its last level has a vertex
+in_front : (a : Account) (i p : ℕ) → (level_at a i).vertex ≡ Some p → (rest : List Pairs) × (refuted_in a ≡ refuted_below a (suc i) ++ rest)
+in_front a i p vertex = by (cases_lt i (length (path a) + 1))
+  where
+    clash : (v : Option ℕ) → v ≡ Some p → v ≡ None → ⊥
+    clash None is none = cc
+    clash (Some r) is none = cc
+
+    by : (i < length (path a) + 1) ⊎ (length (path a) + 1 ≤ i) → (rest : List Pairs) × (refuted_in a ≡ refuted_below a (suc i) ++ rest)
+    by (inl less) = below_front a (suc i) (length (path a) + 1) (omega (arith, less))
+    by (inr least) = absurd (clash (level_at a i).vertex vertex (past_path a.steps a.vertex a.refuted i least))
+
+-- with the first ones of a level those of the position are learned
+pub position_first_ones : (a : Account) (o : ℕ) (rows mid more : List Row) (above : Pairs) (i p : ℕ) (us : List ℕ) → learned_by o mid ≡ learned_by o rows ++ refuted_below a i
+    → LearnsFirst o mid more (refuted_at above (Some p) us) → above ≡ take i (path a) → (level_at a i).vertex ≡ Some p → us ≡ (level_at a i).refuted → LearnsFirst o rows more (refuted_in a)
+position_first_ones a o rows mid more above i p us before h above_is vertex us_are =
+    let r = in_front a i p vertex in
+    first_more o rows mid more (refuted_below a i) (refuted_at above (Some p) us) r.0 (refuted_in a) before h
+    (r.1 ∙ ap (λ (zs : List Pairs). (refuted_below a i ++ zs) ++ r.0) (sym (level_as above i p us a above_is vertex us_are)))
+
 -- so all is learned once no further level has a vertex
 pub below_all : (a : Account) (i : ℕ) → ((j : ℕ) → i ≤ j → (level_at a j).vertex ≡ None) → refuted_below a i ≡ refuted_in a
 below_all a i none = by (cases_lt i (length (path a) + 1))
@@ -202,17 +286,27 @@ none_after a i none j le = no_vertex (level_at a j).vertex (λ p is. no_vertex_a
 
 -- ---- a restart
 
--- what was published is learned, and catching up adds nothing of one's own
+-- catching up adds nothing of one's own
+pub learned_caught : (o : ℕ) (t u : Facts) → t.owner ≡ o → CaughtUp t u → learned_by o u.seen ≡ learned_by o t.seen
+learned_caught o t u owner caught = learned_same o t.seen u.seen caught.grew.seen (subst (λ (n : ℕ). places n u.seen ≡ places n t.seen) owner caught.mine)
+
+pub first_caught : (o : ℕ) (rows : List Row) (t u : Facts) (xs : List Pairs) → t.owner ≡ o → CaughtUp t u → LearnsFirst o rows t.seen xs → LearnsFirst o rows u.seen xs
+first_caught o rows t u xs owner caught h = (h.0, h.1 ∙ ap (λ (zs : List Pairs). zs ++ h.0) (sym (learned_caught o t u owner caught)))
+
+-- what was published is learned
 pub has_learned : (a : Account) (o : ℕ) (whole : Bool) (s t u : Facts) → s.owner ≡ o → Went s t → CaughtUp t u
-    → (whole ≡ true → learned_by o t.seen ≡ learned_by o s.seen ++ refuted_in a) → (whole ≡ false → length t.seen ≡ t.size) → HasLearned a s u
-has_learned a o whole s t u owner went caught published full = by whole published full
+    → (whole ≡ true → learned_by o t.seen ≡ learned_by o s.seen ++ refuted_in a) → LearnsFirst o s.seen t.seen (refuted_in a) → (whole ≡ false → length t.seen ≡ t.size) → HasLearned a s u
+has_learned a o whole s t u owner went caught published part full = by whole published full
   where
-    same : learned_by s.owner u.seen ≡ learned_by s.owner t.seen
-    same = learned_same s.owner t.seen u.seen caught.grew.seen (subst (λ (n : ℕ). places n u.seen ≡ places n t.seen) went.grew.owner caught.mine)
+    mine : t.owner ≡ s.owner
+    mine = went.grew.owner
+
+    first : LearnsFirst s.owner s.seen t.seen (refuted_in a)
+    first = subst (λ (n : ℕ). LearnsFirst n s.seen t.seen (refuted_in a)) (sym owner) part
 
     by : (b : Bool) → (b ≡ true → learned_by o t.seen ≡ learned_by o s.seen ++ refuted_in a) → (b ≡ false → length t.seen ≡ t.size) → HasLearned a s u
-    by true all none = inl (same ∙ subst (λ (n : ℕ). learned_by n t.seen ≡ learned_by n s.seen ++ refuted_in a) (sym owner) (all refl))
-    by false all none = inr (omega (arith, none refl, starts_length t.seen u.seen caught.grew.seen, caught.grew.size))
+    by true all none = inl (learned_caught s.owner t u mine caught ∙ subst (λ (n : ℕ). learned_by n t.seen ≡ learned_by n s.seen ++ refuted_in a) (sym owner) (all refl))
+    by false all none = inr (omega (arith, none refl, starts_length t.seen u.seen caught.grew.seen, caught.grew.size), first_caught s.owner s.seen t u (refuted_in a) mine caught first)
 
 pub on_ok : {A E : Type 0} (answer : Result A E) (P : Type 0) → P → OnOk answer P
 on_ok (Ok x) P p = p

@@ -9,6 +9,7 @@ pub mod Moments
 pub mod Positions
 pub mod Publishing
 pub mod Learning
+pub mod Runs
 pub mod KeepingUp
 pub mod BetweenRuns
 pub mod Logging

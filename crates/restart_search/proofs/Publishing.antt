@@ -16,7 +16,7 @@ use Rattle.nogood_book.specs.declared.row.Row.{Row}
 use Rattle.nogood_book.specs.declared.row.RowKind.TheVariants.{Nogood}
 use Rattle.nogood_book.specs.Rows.{Pairs, Sound, DeadFor, MayFollow}
 use Rattle.nogood_book.specs.Places.{StartsWith}
-use Rattle.nogood_book.specs.Facts.{Facts, StandsAt, IsFull}
+use Rattle.nogood_book.specs.Facts.{Facts, Grew, StandsAt, IsFull}
 use Rattle.nogood_book.specs.Reaching.{Reaches, MayStand}
 use Rattle.nogood_book.proofs.Lists.{starts_same, starts_on}
 use Rattle.nogood_book.proofs.Reaching.{row_of_more, may_follow, row_placed}
@@ -30,17 +30,17 @@ pub went_none : (s : Facts) → Sound s.problem s.seen → Went s s
 went_none s sound = record { grew = record { problem = refl; owner = refl; size = refl; seen = starts_same s.seen; sound = sound }; looks = refl }
 
 -- one after the other
-pub went_more : (a b c : Facts) → Went a b → Went b c → Went a c
-went_more a b c g h = record {
-  grew = record {
-    problem = h.grew.problem ∙ g.grew.problem;
-    owner = h.grew.owner ∙ g.grew.owner;
-    size = h.grew.size ∙ g.grew.size;
-    seen = starts_on a.seen b.seen c.seen g.grew.seen h.grew.seen;
-    sound = h.grew.sound;
-  };
-  looks = h.looks ∙ g.looks;
+pub grew_on : (a b c : Facts) → Grew a b → Grew b c → Grew a c
+grew_on a b c g h = record {
+  problem = h.problem ∙ g.problem;
+  owner = h.owner ∙ g.owner;
+  size = h.size ∙ g.size;
+  seen = starts_on a.seen b.seen c.seen g.seen h.seen;
+  sound = h.sound;
 }
+
+pub went_more : (a b c : Facts) → Went a b → Went b c → Went a c
+went_more a b c g h = record { grew = grew_on a b c g.grew h.grew; looks = h.looks ∙ g.looks }
 
 pub went_at : (r : Row) (at : ℕ) (s t : Facts) → StandsAt r at s t → Went s t
 went_at r at s t h = record { grew = h.grew; looks = h.looks }

@@ -126,6 +126,14 @@ Leaves Spent P = P
 Leaves (Stopped n) P = P
 Leaves NoMemory P = Unit {0}
 
+-- The first holds after an outcome, and the second where memory was refused.
+abbrev pub IfMemory : Outcome → Type 0 → Type 0 → Type 0
+IfMemory (Found m) P Q = P
+IfMemory Refuted P Q = P
+IfMemory Spent P Q = P
+IfMemory (Stopped n) P Q = P
+IfMemory NoMemory P Q = Q
+
 -- The vertex p is undecided.
 abbrev pub IsUndecided : State → ℕ → Type 0
 IsUndecided d p = (p < d.vertices) × ((t : ℕ) → Single (in_domain d) p t → ⊥)

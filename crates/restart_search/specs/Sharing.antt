@@ -2,7 +2,8 @@
 
 use Rattle.std.specs.Prelude.{◌≡◌, ℕ, zero, suc, ◌+◌, ◌<◌, ◌≤◌, ◌⊎◌, false, List, [], ◌∷◌, ◌++◌, length, map, take, Contains, Option, Some, None, slice_get}
 use Rattle.graph_theory.specs.Embedding.{Problem}
-use Rattle.search_theory.specs.Account.{Account, path, level_at}
+use Rattle.search_theory.specs.Bounds.{cutoff}
+use Rattle.search_theory.specs.Account.{Account, Event, Leads, path, level_at, restarted}
 use Rattle.domain_bits.specs.Removals.{State, in_domain}
 use Rattle.nogood_watch.specs.Nogoods.{literal}
 use Rattle.nogood_watch.specs.Watching.{IsAssigned, AllBut}
@@ -68,15 +69,57 @@ refuted_below a (suc n) = refuted_below a n
 abbrev pub refuted_in : Account → List Pairs
 refuted_in a = refuted_below a (length (path a) + 1)
 
--- From the first to the second of these the seat's owner has learned exactly what the position had refuted, in order; or every row of the book is used and seen.
+-- Of these paths the owner has learned, from the one list of rows to the other, the first ones in order, and nothing else.
+abbrev pub LearnsFirst : ℕ → List Row → List Row → List Pairs → Type 0
+LearnsFirst owner rows more xs = (rest : List Pairs)
+    × (learned_by owner rows ++ xs ≡ learned_by owner more ++ rest)
+
+-- From the first to the second of these the seat's owner has learned exactly these paths, in order; or the first ones of them, and every row of the book is used and seen.
+abbrev pub Learns : Facts → Facts → List Pairs → Type 0
+Learns s t xs = (learned_by s.owner t.seen ≡ learned_by s.owner s.seen ++ xs)
+    ⊎ ((t.size ≤ length t.seen) × LearnsFirst s.owner s.seen t.seen xs)
+
+-- It has learned what the position had refuted.
 abbrev pub HasLearned : Account → Facts → Facts → Type 0
-HasLearned a s t = (learned_by s.owner t.seen ≡ learned_by s.owner s.seen ++ refuted_in a)
-    ⊎ (t.size ≤ length t.seen)
+HasLearned a s t = Learns s t (refuted_in a)
 
 -- The same seat has seen no less, and has not looked again.
 pub record Went (s t : Facts) : Type 0 where
   pub grew : Grew s t
   pub looks : t.looks ≡ s.looks
+
+-- ---- what a worker learns over its runs
+
+-- Lawful events, none of which is a restart, lead from the first account to the second.
+pub record GoesWithinRun (q : Problem) (a b : Account) : Type 0 where
+  pub events : List Event
+  pub lead : Leads q a events b
+  pub run : b.run ≡ a.run
+
+-- From a the search came to its cutoff at each of these accounts in turn, began the next run there, and came to b in the last.
+abbrev pub RestartsAt : Problem → Account → List Account → Account → Type 0
+RestartsAt q a [] b = GoesWithinRun q a b
+RestartsAt q a (c ∷ cs) b = GoesWithinRun q a c × (c.count ≡ cutoff c.run)
+    × RestartsAt q (restarted c) cs b
+
+-- What positions have refuted, one after the other.
+abbrev pub refuted_in_all : List Account → List Pairs
+refuted_in_all [] = []
+refuted_in_all (a ∷ rest) = refuted_in a ++ refuted_in_all rest
+
+-- From the old account to the new one, and from the first to the second of these facts, the seat's owner has learned all that its position had refuted at each of its restarts, in order, and nothing else; or the first ones of that, and every row of the book is used and seen.
+pub record LearnedInRuns (q : Problem) (old new : Account) (s t : Facts) : Type 0 where
+  pub ends : List Account
+  pub restarts : RestartsAt q old ends new
+  pub run : new.run ≡ old.run + length ends
+  pub learned : Learns s t (refuted_in_all ends)
+
+-- It has learned the first ones of these, in order, and nothing else: where memory is refused at a restart, the rest of what is due there is lacking.
+pub record LearnedPart (q : Problem) (old : Account) (s t : Facts) : Type 0 where
+  pub ends : List Account
+  pub last : Account
+  pub restarts : RestartsAt q old ends last
+  pub learned : LearnsFirst s.owner s.seen t.seen (refuted_in_all ends)
 
 -- ---- which rows are in force
 

@@ -2,12 +2,13 @@
 
 ghost use Rattle.std.specs.Prelude.{◌≡◌, ◌≢◌, ◌<◌, ◌≤◌, length, take, IfOk, OnOk, vec_capacity};
 ghost use Rattle.graph_theory.specs.Graph.{size};
+ghost use Rattle.search_theory.specs.Account.{restarted};
 ghost use Rattle.search_theory.specs.Bounds.{cutoff};
 ghost use Rattle.search_theory.specs.Remaining.{remaining};
-ghost use Rattle.nogood_book.specs.Facts.{CaughtUp};
+ghost use Rattle.nogood_book.specs.Facts.{CaughtUp, Grew};
 ghost use Rattle.propagation.specs.Holding.{HoldsRows};
 ghost use Rattle.restart_search.specs.Positions.{BeginsAt, GoesOn, IsAtStage, LogsAt, LogsOnAt, StandsAtRoot, TookUpAt};
-ghost use Rattle.restart_search.specs.Sharing.{IsSeatFor, HasLearned};
+ghost use Rattle.restart_search.specs.Sharing.{IsSeatFor, HasLearned, LearnsFirst, learned_by, refuted_in};
 
 use crate::outcome::Stage;
 use crate::position::{Position, Propagator, present};
@@ -43,6 +44,7 @@ fn take_up_book<T: Trail, B: Book, L: ProofLogger>(
     requires long { length propagator.old.waiting.items ≡ size author.now.problem.now.pattern }
     ensures fits { B.fits author.now.book.now seat.new }
     ensures caught { CaughtUp (B.Seat.shows seat.old) (B.Seat.shows seat.new) }
+    ensures few { length (B.Seat.shows seat.new).seen ≤ (B.Seat.shows seat.new).size }
     ensures problem { propagator.new.filters.problem ≡ author.now.problem.now }
     ensures took { IfOk result
         (λ some. TookUpAt some author.now.problem.now propagator.new.filters.nogoods position.new
@@ -113,6 +115,12 @@ pub(crate) fn begin_again<T: Trail, B: Book, L: ProofLogger>(
         (B.Seat.shows seat.new)) }
     ensures learned { OnOk result
         (HasLearned position.old.account (B.Seat.shows seat.old) (B.Seat.shows seat.new)) }
+    ensures part { LearnsFirst author.now.owner (B.Seat.shows seat.old).seen
+        (B.Seat.shows seat.new).seen (refuted_in position.old.account) }
+    ensures grew { Grew (B.Seat.shows seat.old) (B.Seat.shows seat.new) }
+    ensures few { length (B.Seat.shows seat.new).seen ≤ (B.Seat.shows seat.new).size }
+    ensures restarted { OnOk result
+        (position.new.account ≡ restarted position.old.account) }
     ensures owner { L.owner log.new ≡ L.owner log.old }
     ensures logged { IfOk result
         (λ some. LogsOnAt some author.now.problem.now (B.Seat.shows seat.new).seen
@@ -128,6 +136,7 @@ pub(crate) fn begin_again<T: Trail, B: Book, L: ProofLogger>(
     let taken = seat.rows().len();
     let published = publish_position(author, seat, &position.account, log);
     log.stays();
+    let _seen = seat.rows();
     let _whole = published?;
     position.restart(author.problem);
     log.restart();
@@ -168,6 +177,8 @@ pub(crate) fn begin<T: Trail, B: Book, L: ProofLogger>(
         propagator.new.filters.nogoods position.new (L.Told.changes position.new.told)
         (L.writes log.new) (L.refutes log.new)) }
     ensures steps { L.steps log.new author.now.problem.now (B.Seat.shows seat.new).seen }
+    ensures learned { learned_by author.now.owner (B.Seat.shows seat.new).seen
+        ≡ learned_by author.now.owner (B.Seat.shows seat.old).seen }
     ensures account { position.new.account ≡ position.old.account }
     ensures marks { position.new.marks ≡ position.old.marks }
     ensures long { length propagator.new.waiting.items ≡ size author.now.problem.now.pattern }

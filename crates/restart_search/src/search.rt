@@ -13,8 +13,8 @@ ghost use Rattle.propagation.specs.Holding.{HoldsRows, KeepsSame};
 ghost use Rattle.propagation.specs.Propagation.{IsOf};
 ghost use Rattle.restart_search.specs.Logging.{IfRefuted};
 ghost use Rattle.restart_search.specs.Positions.{Acts, GoesOn, IsAtStage, IsSound, LogsAt};
-ghost use Rattle.restart_search.specs.Searching.{Ends, FoundOf, IsNotStopped, Knows, Leaves};
-ghost use Rattle.restart_search.specs.Sharing.{IsSeatFor};
+ghost use Rattle.restart_search.specs.Searching.{Ends, FoundOf, IfMemory, IsNotStopped, Knows, Leaves};
+ghost use Rattle.restart_search.specs.Sharing.{GoesWithinRun, IsSeatFor, LearnedInRuns, LearnedPart};
 
 use crate::outcome::{Outcome, Stage};
 use crate::position::{Position, Propagator, present};
@@ -86,6 +86,8 @@ fn guess<T: Trail, L: ProofLogger>(
         (L.Told.changes position.new.told) (L.writes log.new)) }
     ensures owner { L.owner log.new ≡ L.owner log.old }
     ensures steps { L.steps log.new q.now rows.now }
+    ensures went { OnOk result
+        (GoesWithinRun q.now position.old.account position.new.account) }
     ensures nearer { OnOk result
         (remaining position.new.account < remaining position.old.account) }
     ensures budget { position.new.account.budget ≡ position.old.account.budget }
@@ -191,6 +193,11 @@ pub(crate) fn run<'a, T: Trail, B: Book, L: ProofLogger, G: Gate>(
     ensures ends { Ends result author.now.problem.now walk.new.position.account }
     ensures alone { signals.now.cell ≡ None → IsNotStopped result }
     ensures budget { walk.new.position.account.budget ≡ walk.old.position.account.budget }
+    ensures learned { IfMemory result
+        (LearnedInRuns author.now.problem.now walk.old.position.account walk.new.position.account
+        (B.Seat.shows seat.old) (B.Seat.shows seat.new))
+        (LearnedPart author.now.problem.now walk.old.position.account (B.Seat.shows seat.old)
+        (B.Seat.shows seat.new)) }
     ensures begun { Leaves result
         (GoesOn author.now.problem.now walk.new.propagator.filters.nogoods walk.new.position
         (B.Seat.shows seat.new)) }

@@ -11,7 +11,7 @@ ghost use Rattle.graph_theory.specs.Neighbours.{members};
 ghost use Rattle.search_theory.specs.Account.{InRange, Honest, path, level_at};
 ghost use Rattle.proof_logger.specs.Logging.{GrowsBeside};
 ghost use Rattle.nogood_book.specs.Reaching.{Reaches, MayStand};
-ghost use Rattle.restart_search.specs.Sharing.{IsSeatFor, IsRowOf, IsPublished, Went, learned_by, refuted_at, refuted_in};
+ghost use Rattle.restart_search.specs.Sharing.{IsSeatFor, IsRowOf, IsPublished, LearnsFirst, Went, learned_by, refuted_at, refuted_in};
 
 use bit_rows::next_member;
 use fail_account::Account;
@@ -77,6 +77,9 @@ fn publish_nogood<B: Book, L: ProofLogger>(
         → learned_by author.now.owner (B.Seat.shows seat.new).seen
         ≡ learned_by author.now.owner (B.Seat.shows seat.old).seen
         ++ (level.now.above.now ++ pair ∷ []) ∷ [] }
+    ensures kept { result ≡ false
+        → learned_by author.now.owner (B.Seat.shows seat.new).seen
+        ≡ learned_by author.now.owner (B.Seat.shows seat.old).seen }
     ensures full { result ≡ false
         → length (B.Seat.shows seat.new).seen ≡ (B.Seat.shows seat.new).size }
 {
@@ -118,8 +121,8 @@ fn publish_step<B: Book>(
         (B.Seat.shows seat.new).seen }
     ensures next { IfSome result
         (λ at. Reaches (B.Seat.shows seat.new).seen (Some at) (above.now ++ pair ∷ [])) }
-    ensures learned { IfSome result (λ at. learned_by author.now.owner (B.Seat.shows seat.new).seen
-        ≡ learned_by author.now.owner (B.Seat.shows seat.old).seen) }
+    ensures learned { learned_by author.now.owner (B.Seat.shows seat.new).seen
+        ≡ learned_by author.now.owner (B.Seat.shows seat.old).seen }
     ensures full { IfNone result
         (length (B.Seat.shows seat.new).seen ≡ (B.Seat.shows seat.new).size) }
 {
@@ -179,6 +182,9 @@ fn publish_level<B: Book, L: ProofLogger>(
         → learned_by author.now.owner (B.Seat.shows seat.new).seen
         ≡ learned_by author.now.owner (B.Seat.shows seat.old).seen
         ++ refuted_at level.now.above.now (Some p) (members (has refuted.now) account.now.target)) }
+    ensures part { LearnsFirst author.now.owner (B.Seat.shows seat.old).seen
+        (B.Seat.shows seat.new).seen
+        (refuted_at level.now.above.now (Some p) (members (has refuted.now) account.now.target)) }
     ensures full { IfOk result
         (λ whole. whole ≡ false
         → length (B.Seat.shows seat.new).seen ≡ (B.Seat.shows seat.new).size) }
@@ -218,8 +224,7 @@ fn publish_guess<B: Book>(
         (B.Seat.shows seat.new).seen }
     ensures next { result ≡ true
         → Reaches (B.Seat.shows seat.new).seen parent.new (take (at + 1) path.now) }
-    ensures learned { result ≡ true
-        → learned_by author.now.owner (B.Seat.shows seat.new).seen
+    ensures learned { learned_by author.now.owner (B.Seat.shows seat.new).seen
         ≡ learned_by author.now.owner (B.Seat.shows seat.old).seen }
     ensures full { result ≡ false
         → length (B.Seat.shows seat.new).seen ≡ (B.Seat.shows seat.new).size }
@@ -265,6 +270,8 @@ pub(crate) fn publish_position<B: Book, L: ProofLogger>(
     ensures learned { IfOk result (λ whole. whole ≡ true
         → learned_by author.now.owner (B.Seat.shows seat.new).seen
         ≡ learned_by author.now.owner (B.Seat.shows seat.old).seen ++ refuted_in account.now) }
+    ensures part { LearnsFirst author.now.owner (B.Seat.shows seat.old).seen
+        (B.Seat.shows seat.new).seen (refuted_in account.now) }
     ensures full { IfOk result
         (λ whole. whole ≡ false
         → length (B.Seat.shows seat.new).seen ≡ (B.Seat.shows seat.new).size) }

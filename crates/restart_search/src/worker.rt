@@ -8,9 +8,9 @@ ghost use Rattle.search_theory.specs.Account.{fresh};
 ghost use Rattle.search_theory.specs.Claims.{Quiet};
 ghost use Rattle.propagation.specs.Learning.{unlearned};
 ghost use Rattle.propagation.specs.Propagation.{IsOf, LeavesPast};
-ghost use Rattle.restart_search.specs.Sharing.{IsSeatFor};
+ghost use Rattle.restart_search.specs.Sharing.{IsSeatFor, LearnedInRuns, LearnedPart};
 ghost use Rattle.restart_search.specs.Logging.{IsTold, IfRefuted};
-ghost use Rattle.restart_search.specs.Searching.{AtRest, Ends, IsNotStopped, IsPaused, IsTrueFor, Leaves, stage_after};
+ghost use Rattle.restart_search.specs.Searching.{AtRest, Ends, IfMemory, IsNotStopped, IsPaused, IsTrueFor, Leaves, stage_after};
 
 use crate::outcome::{Outcome, Stage, stage_of};
 use crate::position::{Position, Propagator, present};
@@ -223,7 +223,8 @@ impl<'a, S: RowSeat + Drop, T: Trail, L: ProofLogger> Worker<'a, S, T, L> {
     }
 
     /// Searches to an outcome, and offers what it decides to the cell; a refused offer changes nothing. After `Stopped` it may run
-    /// again, from the guess that was due.
+    /// again, from the guess that was due. At each restart it publishes all that its position has refuted, in order, and at no other
+    /// moment anything; the rest is lacking only where the book is full, or memory was refused at the last restart.
     pub fn run<B: Book<Seat = S>, G: Gate>(
         &mut self,
         alloc: Global,
@@ -249,6 +250,10 @@ impl<'a, S: RowSeat + Drop, T: Trail, L: ProofLogger> Worker<'a, S, T, L> {
         ensures budget { self.new.account.budget ≡ self.old.account.budget }
         ensures stage { self.new.stage ≡ stage_after result }
         ensures paused { Leaves result (IsPaused self.new) }
+        ensures learned { IfMemory result
+            (LearnedInRuns self.new.problem self.old.account self.new.account self.old.facts
+            self.new.facts)
+            (LearnedPart self.new.problem self.old.account self.old.facts self.new.facts) }
     {
         let author = Author {
             problem: self.problem,

@@ -5,6 +5,7 @@ use Rattle.propagation.specs.Holding.{HoldsRows}
 use Rattle.propagation.proofs.Holding.{holds_none}
 use Rattle.restart_search.specs.Sharing.{KeepsUp}
 use Rattle.restart_search.proofs.KeepingUp.{keeps_first}
+use Rattle.restart_search.proofs.Learning.{learned_caught}
 use Rattle.restart_search.proofs.BetweenRuns.{began_again, fresh_of, halfway_of}
 use Rattle.restart_search.proofs.restarting.begin.Goals as goal
 
@@ -37,3 +38,6 @@ returns-in-Halfway-clause-begun g c = halfway_of c.args.stage _ _ _ _ _ _ _ _ c.
 
 pub returns-in-Halfway-clause-steps : goal.returns-in-Halfway-clause-steps
 returns-in-Halfway-clause-steps g c = c.stays.ensures.steps _ _ _ c.requires.logged.writes
+
+pub returns-in-Fresh-clause-learned : goal.returns-in-Fresh-clause-learned
+returns-in-Fresh-clause-learned g c = learned_caught c.args.author.now.owner _ _ c.requires.seat.owner_is c.take_up_book.ensures.caught

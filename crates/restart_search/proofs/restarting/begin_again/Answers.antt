@@ -6,9 +6,9 @@ use Rattle.nogood_book.proofs.Lists.{starts_length}
 use Rattle.propagation.specs.Holding.{HoldsRows}
 use Rattle.restart_search.specs.Sharing.{KeepsUp}
 use Rattle.restart_search.proofs.KeepingUp.{keeps_again}
-use Rattle.restart_search.proofs.Learning.{has_learned, on_ok}
+use Rattle.restart_search.proofs.Learning.{has_learned, first_caught, on_ok}
 use Rattle.restart_search.proofs.BetweenRuns.{began_again, take_all_seen}
-use Rattle.restart_search.proofs.Publishing.{seat_went}
+use Rattle.restart_search.proofs.Publishing.{seat_went, grew_on}
 use Rattle.restart_search.proofs.restarting.begin_again.Goals as goal
 
 pub take_up_book-requires-clause-seat : goal.take_up_book-requires-clause-seat
@@ -70,4 +70,15 @@ pub returns-clause-learned : goal.returns-clause-learned
 returns-clause-learned g c =
     on_ok c.take_up_book.result _
     (has_learned c.args.position.now.account c.args.author.now.owner c.in_ok-_whole._whole (g.B.Seat.RowSeat.shows c.args.seat.now) (g.B.Seat.RowSeat.shows c.publish_position-published.new.seat) (g.B.Seat.RowSeat.shows c.take_up_book.new.seat)
-    c.requires.seat.owner_is c.publish_position-published.ensures.went c.take_up_book.ensures.caught c.in_ok-_whole.ensures.learned c.in_ok-_whole.ensures.full)
+    c.requires.seat.owner_is c.publish_position-published.ensures.went c.take_up_book.ensures.caught c.in_ok-_whole.ensures.learned c.publish_position-published.ensures.part c.in_ok-_whole.ensures.full)
+
+pub returns-clause-grew : goal.returns-clause-grew
+returns-clause-grew g c = grew_on _ _ _ c.publish_position-published.ensures.went.grew c.take_up_book.ensures.caught.grew
+
+pub returns-clause-part : goal.returns-clause-part
+returns-clause-part g c =
+    first_caught c.args.author.now.owner (g.B.Seat.RowSeat.shows c.args.seat.now).seen (g.B.Seat.RowSeat.shows c.publish_position-published.new.seat) (g.B.Seat.RowSeat.shows c.take_up_book.new.seat) _
+    (c.publish_position-published.ensures.went.grew.owner ∙ c.requires.seat.owner_is) c.take_up_book.ensures.caught c.publish_position-published.ensures.part
+
+pub returns-clause-restarted : goal.returns-clause-restarted
+returns-clause-restarted g c = on_ok c.take_up_book.result _ (c.take_up_book.ensures.account ∙ c.restart.ensures.restarted)

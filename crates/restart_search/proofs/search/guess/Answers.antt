@@ -9,6 +9,7 @@ use Rattle.propagation.proofs.Holding.{holds_same, same_moved}
 use Rattle.restart_search.proofs.Logging.{told_guessed, ends_path}
 use Rattle.restart_search.proofs.Guessing.{ready_assigned, inside_assigned, dead_assigned, path_deepened}
 use Rattle.propagation.proofs.Past.{leaves_on}
+use Rattle.restart_search.proofs.Runs.{within_guess, within_fail, within_on}
 use Rattle.restart_search.proofs.Steps.{guessed_room, based_narrowed, sound_guessed}
 use Rattle.propagation.proofs.Waiting.{first_on}
 use Rattle.propagation.proofs.Visits.{single_of}
@@ -131,3 +132,17 @@ returns-in_ok-close-in-Err-clause-logged g c = record {
       (c.give.ensures.told c.args.q.now c.args.propagator.now.filters.nogoods c.requires.sound.based.is_of) c.give.ensures.guesses c.propagate.ensures.told c.propagate.ensures.guesses c.requires.logged.told);
   writes = c.in_ok-close-in-Err.ensures.closed.failed _ c.take_back.ensures.failed;
 }
+
+pub returns-in-Ok-clause-went : goal.returns-in-Ok-clause-went
+returns-in-Ok-clause-went g c = within_guess c.args.q.now _ _ c.args.pair.0 c.args.pair.1 c.requires.unspent c.requires.before_cutoff c.requires.may c.deepen.ensures.deepened
+
+pub returns-in_ok-close-in-Err-clause-went : goal.returns-in_ok-close-in-Err-clause-went
+returns-in_ok-close-in-Err-clause-went g c =
+    let told = c.in-Err.ensures.propagated in
+    let dead = subst (λ (a : Account). Dead c.args.q.now (path a)) (sym c.deepen.ensures.deepened)
+    (subst (λ (ps : List (ℕ × ℕ)). Dead c.args.q.now ps) (sym (path_deepened c.args.position.now.account c.args.pair.0 c.args.pair.1))
+    (dead_assigned _ _ c.give.new.d _ _
+    (inside_assigned _ _ c.args.position.now.domains c.give.new.d _ _ _ c.requires.sound.here.stands c.give.ensures.keeps (single_of _ _ _ c.give.ensures.single)) told.1)) in
+    within_on c.args.q.now _ _ _
+    (within_guess c.args.q.now _ _ c.args.pair.0 c.args.pair.1 c.requires.unspent c.requires.before_cutoff c.requires.may c.deepen.ensures.deepened)
+    (within_fail c.args.q.now _ _ dead c.take_back.ensures.failed)

@@ -6,6 +6,7 @@ use Rattle.restart_search.specs.Sharing.{KeepsUp}
 use Rattle.propagation.proofs.Holding.{holds_same}
 use Rattle.restart_search.proofs.Closing.{dead_where_all_refuted, none_where_dead, may_guess, spends_where_due}
 use Rattle.restart_search.proofs.Steps.{none_left, enough_for}
+use Rattle.restart_search.proofs.Runs.{learned_none, learned_on, learned_again, part_again, part_of, within_fail, memory_of}
 use Rattle.restart_search.proofs.BetweenRuns.{goes_on, found_ends, found_alone, found_refutes, leaves_of}
 use Rattle.nogood_book.specs.declared.row.Row.{Row}
 use Rattle.restart_search.specs.Logging.{IsLogged}
@@ -71,6 +72,7 @@ loop-p-init g c = record {
   problem = c.begin.ensures.problem;
   begun = goes_on c.in-Ok-true.field-0 _ _ _ _ _ _ _ _ c.in-Ok-true.field-0-test c.in-Ok-true.ensures.begun;
   budget = ap (λ (a : Account). a.budget) c.begin.ensures.account;
+  learned = learned_none c.args.author.now.problem.now _ _ _ _ c.args.author.now.owner c.begin.ensures.account c.requires.seat.owner_is c.begin.ensures.learned;
   long = c.begin.ensures.long;
   words = c.requires.words;
   choice = c.requires.choice;
@@ -82,7 +84,11 @@ loop-p-init g c = record {
 pub loop-p-preserved-then-not-has_value : goal.loop-p-preserved-then-not-has_value
 loop-p-preserved-then-not-has_value g c =
     let len = c.fill_untried.ensures.long ∙ ap words_for c.loop-p.invariant.begun.sound.based.is_of.values_is ∙ sym c.loop-p.invariant.words ∙ sym c.loop-p.walk.untried.ok.0 in
+    let row : c.deref.result.now ≡ c.fill_untried.new.row = c.deref.ensures.value ∙ written _ _ _ len in
     let begun = c.loop-p.invariant.begun in
+    let dead =
+    dead_where_all_refuted _ c.loop-p.walk.position.domains c.loop-p.walk.position.undecided c.loop-p.walk.position.account _ _ c.in-Some.p c.loop-p.invariant.begun.sound c.in-Some.ensures.some.0 c.in-Some.ensures.some.2
+    (none_left c.loop-p.walk.position.domains c.loop-p.walk.position.account.refuted c.fill_untried.new.row c.in-Some.p c.fill_untried.ensures.all (subst (λ (ws : List ℕ). (t : ℕ) → has ws t ≡ false) row (c.if-not-has_value.ensures.none refl))) in
     record {
       fits = c.loop-p.invariant.fits;
       seat = c.loop-p.invariant.seat;
@@ -95,6 +101,7 @@ loop-p-preserved-then-not-has_value g c =
         keeps = subst (λ (n : ℕ). KeepsUp (g.B.Seat.RowSeat.shows c.loop-p.seat) n) (sym c.take_back.ensures.run) begun.keeps;
       };
       budget = c.take_back.ensures.budget ∙ c.loop-p.invariant.budget;
+      learned = learned_on c.args.author.now.problem.now _ c.loop-p.walk.position.account c.take_back.new.self.account _ _ c.loop-p.invariant.learned (within_fail c.args.author.now.problem.now _ _ dead c.take_back.ensures.failed);
       long = c.loop-p.invariant.long;
       words = ap length (written _ _ _ len) ∙ c.fill_untried.ensures.long ∙ ap words_for begun.sound.based.is_of.values_is;
       choice = c.loop-p.invariant.choice;
@@ -122,6 +129,7 @@ loop-p-preserved g c =
         keeps = subst (λ (n : ℕ). KeepsUp (g.B.Seat.RowSeat.shows c.loop-p.seat) n) (sym c.guess.ensures.run) begun.keeps;
       };
       budget = c.guess.ensures.budget ∙ c.loop-p.invariant.budget;
+      learned = learned_on c.args.author.now.problem.now _ _ _ _ _ c.loop-p.invariant.learned c.in-Ok-guess.ensures.went;
       long = c.guess.ensures.long;
       words = ap length (written _ _ _ len) ∙ c.fill_untried.ensures.long ∙ ap words_for begun.sound.based.is_of.values_is;
       choice = c.choose-t.ensures.same ∙ c.loop-p.invariant.choice;
@@ -165,3 +173,52 @@ guess-requires-clause-holds g c = rw c.rows.ensures.seen c.loop-p.invariant.begu
 
 pub guess-requires-clause-logged : goal.guess-requires-clause-logged
 guess-requires-clause-logged g c = rw c.rows.ensures.seen c.loop-p.invariant.logged
+
+pub returns-in_default-clause-learned : goal.returns-in_default-clause-learned
+returns-in_default-clause-learned g c = memory_of c.found.result _ _ c.loop-p.invariant.learned (part_of c.args.author.now.problem.now _ _ _ _)
+
+pub returns-in-Ok-false-clause-learned : goal.returns-in-Ok-false-clause-learned
+returns-in-Ok-false-clause-learned g c = learned_none c.args.author.now.problem.now _ _ _ _ c.args.author.now.owner c.begin.ensures.account c.requires.seat.owner_is c.begin.ensures.learned
+
+pub returns-in-Err-clause-learned : goal.returns-in-Err-clause-learned
+returns-in-Err-clause-learned g c =
+    part_of c.args.author.now.problem.now c.args.walk.now.position.account c.begin.new.position.account (g.B.Seat.RowSeat.shows c.args.seat.now) (g.B.Seat.RowSeat.shows c.begin.new.seat)
+    (learned_none c.args.author.now.problem.now _ _ _ _ c.args.author.now.owner c.begin.ensures.account c.requires.seat.owner_is c.begin.ensures.learned)
+
+pub returns-in_default-close-clause-learned : goal.returns-in_default-close-clause-learned
+returns-in_default-close-clause-learned g c = part_of c.args.author.now.problem.now _ _ _ _ c.loop-p.invariant.learned
+
+pub returns-in_default-guess-clause-learned : goal.returns-in_default-guess-clause-learned
+returns-in_default-guess-clause-learned g c = part_of c.args.author.now.problem.now _ _ _ _ c.loop-p.invariant.learned
+
+pub returns-in-Ok-false-begin_again-clause-learned : goal.returns-in-Ok-false-begin_again-clause-learned
+returns-in-Ok-false-begin_again-clause-learned g c =
+    learned_again c.args.author.now.problem.now c.args.walk.now.position.account c.loop-p.walk.position.account c.begin_again.new.position.account (g.B.Seat.RowSeat.shows c.args.seat.now) (g.B.Seat.RowSeat.shows c.loop-p.seat)
+    (g.B.Seat.RowSeat.shows c.begin_again.new.seat) c.loop-p.invariant.learned (c.if-at_cutoff.ensures.exactly.0 refl) c.in-Ok-false-begin_again.ensures.restarted c.in-Ok-false-begin_again.ensures.learned
+    (c.loop-p.invariant.seat.owner_is ∙ sym c.requires.seat.owner_is) c.begin_again.ensures.grew c.begin_again.ensures.few
+
+pub returns-in-Err-begin_again-clause-learned : goal.returns-in-Err-begin_again-clause-learned
+returns-in-Err-begin_again-clause-learned g c =
+    part_again c.args.author.now.problem.now c.args.walk.now.position.account c.loop-p.walk.position.account (g.B.Seat.RowSeat.shows c.args.seat.now) (g.B.Seat.RowSeat.shows c.loop-p.seat)
+    (g.B.Seat.RowSeat.shows c.begin_again.new.seat) c.args.author.now.owner c.loop-p.invariant.learned (c.if-at_cutoff.ensures.exactly.0 refl) c.begin_again.ensures.part c.requires.seat.owner_is
+    c.begin_again.ensures.grew c.begin_again.ensures.few
+
+pub loop-p-preserved-in-Ok-true-begin_again : goal.loop-p-preserved-in-Ok-true-begin_again
+loop-p-preserved-in-Ok-true-begin_again g c =
+    let len = c.fill_untried.ensures.long ∙ ap words_for c.loop-p.invariant.begun.sound.based.is_of.values_is ∙ sym c.loop-p.invariant.words ∙ sym c.loop-p.walk.untried.ok.0 in
+    record {
+      fits = c.begin_again.ensures.fits;
+      seat = c.begin_again.ensures.seat;
+      problem = c.begin_again.ensures.problem;
+      begun = goes_on c.in-Ok-true-begin_again.field-0 _ _ _ _ _ _ _ _ c.in-Ok-true-begin_again.field-0-test c.in-Ok-true-begin_again.ensures.begun;
+      budget = c.begin_again.ensures.budget ∙ c.loop-p.invariant.budget;
+      learned = learned_again c.args.author.now.problem.now c.args.walk.now.position.account c.loop-p.walk.position.account c.begin_again.new.position.account (g.B.Seat.RowSeat.shows c.args.seat.now) (g.B.Seat.RowSeat.shows c.loop-p.seat)
+          (g.B.Seat.RowSeat.shows c.begin_again.new.seat) c.loop-p.invariant.learned (c.if-at_cutoff.ensures.exactly.0 refl) c.in-Ok-true-begin_again.ensures.restarted c.in-Ok-true-begin_again.ensures.learned
+          (c.loop-p.invariant.seat.owner_is ∙ sym c.requires.seat.owner_is) c.begin_again.ensures.grew c.begin_again.ensures.few;
+      long = c.begin_again.ensures.long;
+      words = ap length (written _ _ _ len) ∙ c.fill_untried.ensures.long ∙ ap words_for c.loop-p.invariant.begun.sound.based.is_of.values_is;
+      choice = c.loop-p.invariant.choice;
+      owner = c.begin_again.ensures.owner ∙ c.loop-p.invariant.owner;
+      logged = logs_true c.in-Ok-true-begin_again.field-0 _ _ _ _ _ _ _ _ _ c.in-Ok-true-begin_again.field-0-test c.in-Ok-true-begin_again.ensures.logged;
+      room = omega (arith, c.loop-p.invariant.room, c.begin_again.ensures.room);
+    }

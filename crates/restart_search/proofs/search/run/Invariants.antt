@@ -2,7 +2,7 @@ use Rattle.std.proofs.Common.{◌≡◌, ◌≤◌, length, vec_capacity}
 use Rattle.graph_theory.specs.Graph.{size}
 use Rattle.bit_rows.specs.BitRows.{words_for}
 use Rattle.search_theory.specs.Remaining.{remaining}
-use Rattle.restart_search.specs.Sharing.{IsSeatFor}
+use Rattle.restart_search.specs.Sharing.{IsSeatFor, LearnedInRuns}
 use Rattle.restart_search.specs.Positions.{GoesOn, LogsAt}
 use Rattle.restart_search.proofs.search.run.Given as goal
 
@@ -13,6 +13,7 @@ invariant-loop-p g l = record {
   problem : l.walk.propagator.filters.problem ≡ l.author.problem.now;
   begun : GoesOn l.author.problem.now l.walk.propagator.filters.nogoods l.walk.position (g.B.Seat.RowSeat.shows l.seat);
   budget : l.walk.position.account.budget ≡ l.fn.walk.position.account.budget;
+  learned : LearnedInRuns l.author.problem.now l.fn.walk.position.account l.walk.position.account (g.B.Seat.RowSeat.shows l.fn.seat) (g.B.Seat.RowSeat.shows l.seat);
   long : length l.walk.propagator.waiting.items ≡ size l.author.problem.now.pattern;
   words : length l.walk.untried.items ≡ words_for (size l.author.problem.now.target);
   choice : l.walk.choice ≡ size l.author.problem.now.target;

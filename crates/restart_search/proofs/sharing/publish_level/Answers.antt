@@ -1,10 +1,11 @@
-use Rattle.std.proofs.Common.{length, refl, arith, ◌∙◌}
+use Rattle.std.proofs.Common.{Some, length, refl, arith, ◌∙◌}
+use Rattle.graph_theory.specs.Neighbours.{members}
 use Rattle.bit_rows.specs.BitRows.{has}
 use Rattle.bit_rows.proofs.Rows.{has_past}
 use Rattle.nogood_book.proofs.Reaching.{reaches_more}
-use Rattle.restart_search.specs.Sharing.{IsRowOf, learned_by}
+use Rattle.restart_search.specs.Sharing.{IsRowOf, learned_by, refuted_at}
 use Rattle.restart_search.proofs.Publishing.{went_none, level_before, went_more, row_on, row_later, level_more}
-use Rattle.restart_search.proofs.Learning.{level_first, level_next, level_end, has_none}
+use Rattle.restart_search.proofs.Learning.{level_first, level_next, level_end, has_none, first_all, level_first_ones}
 use Rattle.restart_search.proofs.Noting.{passes_member}
 use Rattle.restart_search.proofs.sharing.publish_level.Goals as goal
 
@@ -69,3 +70,20 @@ loop-t-init g c =
       owner = refl;
       writes = c.requires.writes;
     }
+
+pub returns-clause-part : goal.returns-clause-part
+returns-clause-part g c =
+    first_all c.args.author.now.owner (g.B.Seat.RowSeat.shows c.args.seat.now).seen (g.B.Seat.RowSeat.shows c.loop-t.seat).seen (refuted_at c.args.level.now.above.now (Some c.args.p) (members (has c.args.refuted.now) c.args.account.now.target))
+    (returns-clause-learned g c refl)
+
+pub returns-in_err-room-clause-part : goal.returns-in_err-room-clause-part
+returns-in_err-room-clause-part g c =
+    let here = c.loop-t.invariant.member c.loop-t-test.true in
+    level_first_ones c.args.author.now.owner (g.B.Seat.RowSeat.shows c.args.seat.now).seen (g.B.Seat.RowSeat.shows c.loop-t.seat).seen (g.B.Seat.RowSeat.shows c.loop-t.seat).seen c.args.level.now.above.now c.args.p (has c.args.refuted.now) c.loop-t.t c.args.account.now.target
+    c.loop-t.invariant.learned refl (omega (arith, (c.requires.refuted c.loop-t.t here).0, c.requires.target))
+
+pub returns-then-not-publish_nogood-clause-part : goal.returns-then-not-publish_nogood-clause-part
+returns-then-not-publish_nogood-clause-part g c =
+    let here = c.loop-t.invariant.member c.loop-t-test.true in
+    level_first_ones c.args.author.now.owner (g.B.Seat.RowSeat.shows c.args.seat.now).seen (g.B.Seat.RowSeat.shows c.loop-t.seat).seen (g.B.Seat.RowSeat.shows c.publish_nogood.new.seat).seen c.args.level.now.above.now c.args.p (has c.args.refuted.now) c.loop-t.t c.args.account.now.target
+    c.loop-t.invariant.learned (c.if-not-publish_nogood.ensures.kept refl) (omega (arith, (c.requires.refuted c.loop-t.t here).0, c.requires.target))

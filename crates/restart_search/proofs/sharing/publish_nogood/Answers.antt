@@ -2,7 +2,7 @@ use Rattle.std.proofs.Common.{◌≤◌, refl, sym, subst, ◌∙◌}
 use Rattle.graph_theory.specs.Graph.{Graph, size}
 use Rattle.restart_search.proofs.Publishing.{may_publish, went_at, went_full, full_after, row_published}
 use Rattle.restart_search.proofs.Noting.{beside_full, publishes_at}
-use Rattle.restart_search.proofs.Learning.{learned_nogood}
+use Rattle.restart_search.proofs.Learning.{learned_nogood, learned_full}
 use Rattle.restart_search.proofs.sharing.publish_nogood.Goals as goal
 
 pub publish-requires-clause-owner : goal.publish-requires-clause-owner
@@ -39,3 +39,6 @@ returns-in-Full-clause-writes g c =
 
 pub returns-in-At-clause-learned : goal.returns-in-At-clause-learned
 returns-in-At-clause-learned g c = λ yes. learned_nogood _ _ c.args.author.now.owner _ _ c.args.level.now.above.now c.in-At.ensures.placed c.requires.parent refl c.requires.seat.owner_is
+
+pub returns-in-Full-clause-kept : goal.returns-in-Full-clause-kept
+returns-in-Full-clause-kept g c = λ no. learned_full c.args.author.now.owner _ _ c.in-Full.ensures.placed c.requires.seat.owner_is

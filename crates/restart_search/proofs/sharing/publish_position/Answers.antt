@@ -1,14 +1,16 @@
-use Rattle.std.proofs.Common.{◌≡◌, ℕ, ◌+◌, ◌<◌, ◌≤◌, ◌++◌, List, Option, IfSome, length, take, refl, sym, ap, ◌∙◌, subst, arith}
+use Rattle.std.proofs.Common.{◌≡◌, ℕ, ◌+◌, ◌<◌, ◌≤◌, ◌++◌, List, Option, Some, IfSome, length, take, refl, sym, ap, ◌∙◌, subst, arith}
 use Rattle.std.proofs.lemmas.List.{length-take-le}
 use Rattle.graph_theory.specs.Graph.{size}
 use Rattle.graph_theory.specs.Path.{NotOn}
+use Rattle.graph_theory.specs.Neighbours.{members}
+use Rattle.bit_rows.specs.BitRows.{has}
 use Rattle.search_theory.specs.Account.{path}
 use Rattle.nogood_book.specs.Rows.{Pairs}
 use Rattle.nogood_book.proofs.Reaching.{reaches_more}
-use Rattle.restart_search.specs.Sharing.{IsRowOf, learned_by}
+use Rattle.restart_search.specs.Sharing.{IsRowOf, learned_by, refuted_at, refuted_in}
 use Rattle.restart_search.proofs.Positions.{level_is, refuted_dead}
 use Rattle.restart_search.proofs.Publishing.{went_more, row_on, row_later, published_on, published_more, published_ended, published_all, level_few}
-use Rattle.restart_search.proofs.Learning.{below_more, below_all, none_after, no_vertex}
+use Rattle.restart_search.proofs.Learning.{below_more, below_all, none_after, no_vertex, first_all, position_first_ones}
 use Rattle.proof_logger.specs.Logging.{GrowsBeside}
 use Rattle.restart_search.proofs.sharing.publish_position.Goals as goal
 
@@ -77,7 +79,7 @@ loop-i-preserved g c =
       published = published_on c.args.account.now K (IsRowOf o (length first.seen) last.seen) (c.loop-i.i + 1)
           (λ xs. row_on o (length first.seen) (length first.seen) next.seen last.seen xs c.publish_guess.ensures.went.grew.seen (omega arith)) level;
       learned = below_more c.args.account.now (learned_by o first.seen) (learned_by o mid.seen) (learned_by o next.seen) (learned_by o last.seen) (take c.from-at.result c.path-path.result.now) c.loop-i.i c.in-Some.p _
-          c.loop-i.invariant.learned (c.in_ok-whole.ensures.learned c.if-not-whole.false) (c.if-not-publish_guess.ensures.learned refl) above (sym c.level-vertex.ensures.vertex ∙ c.in-Some.is) c.level-vertex.ensures.refuted;
+          c.loop-i.invariant.learned (c.in_ok-whole.ensures.learned c.if-not-whole.false) c.publish_guess.ensures.learned above (sym c.level-vertex.ensures.vertex ∙ c.in-Some.is) c.level-vertex.ensures.refuted;
       owner = c.publish_level.ensures.owner ∙ c.loop-i.invariant.owner;
       writes = c.stays.ensures.grown c.args.author.now.problem.now next.seen last.seen c.args.account.now
           (subst (λ (n : ℕ). GrowsBeside n next.seen last.seen) (sym (c.publish_level.ensures.owner ∙ (c.loop-i.invariant.owner ∙ c.requires.owner))) c.publish_guess.ensures.beside)
@@ -133,3 +135,29 @@ returns-clause-learned g c = λ yes.
       level_few c.args.author.now.problem.now c.args.account.now j p c.requires.honest c.path-path.ensures.vertices c.path-path.ensures.in_range
           (subst (λ (v : Option ℕ). IfSome v (λ r. (r < c.args.account.now.pattern) × NotOn (path c.args.account.now) r)) c.vertex-vertex.ensures.is c.vertex-vertex.ensures.off_path) is,
     ))))
+
+pub returns-in_default-clause-part : goal.returns-in_default-clause-part
+returns-in_default-clause-part g c =
+    first_all c.args.author.now.owner (g.B.Seat.RowSeat.shows c.args.seat.now).seen (g.B.Seat.RowSeat.shows c.loop-i.seat).seen (refuted_in c.args.account.now) (returns-in_default-clause-learned g c refl)
+
+pub returns-clause-part : goal.returns-clause-part
+returns-clause-part g c =
+    first_all c.args.author.now.owner (g.B.Seat.RowSeat.shows c.args.seat.now).seen (g.B.Seat.RowSeat.shows c.loop-i.seat).seen (refuted_in c.args.account.now) (returns-clause-learned g c refl)
+
+pub returns-in_err-whole-clause-part : goal.returns-in_err-whole-clause-part
+returns-in_err-whole-clause-part g c =
+    let above : take c.from-at.result c.path-path.result.now ≡ take c.loop-i.i (path c.args.account.now) = rw (c.from-at.ensures, c.path-path.ensures.is) refl in
+    position_first_ones c.args.account.now c.args.author.now.owner (g.B.Seat.RowSeat.shows c.args.seat.now).seen (g.B.Seat.RowSeat.shows c.loop-i.seat).seen (g.B.Seat.RowSeat.shows c.publish_level.new.seat).seen (take c.from-at.result c.path-path.result.now) c.loop-i.i c.in-Some.p (members (has c.level-vertex.result.1.now) c.args.account.now.target)
+    c.loop-i.invariant.learned c.publish_level.ensures.part above (sym c.level-vertex.ensures.vertex ∙ c.in-Some.is) c.level-vertex.ensures.refuted
+
+pub returns-then-not-whole-clause-part : goal.returns-then-not-whole-clause-part
+returns-then-not-whole-clause-part g c =
+    let above : take c.from-at.result c.path-path.result.now ≡ take c.loop-i.i (path c.args.account.now) = rw (c.from-at.ensures, c.path-path.ensures.is) refl in
+    position_first_ones c.args.account.now c.args.author.now.owner (g.B.Seat.RowSeat.shows c.args.seat.now).seen (g.B.Seat.RowSeat.shows c.loop-i.seat).seen (g.B.Seat.RowSeat.shows c.publish_level.new.seat).seen (take c.from-at.result c.path-path.result.now) c.loop-i.i c.in-Some.p (members (has c.level-vertex.result.1.now) c.args.account.now.target)
+    c.loop-i.invariant.learned c.publish_level.ensures.part above (sym c.level-vertex.ensures.vertex ∙ c.in-Some.is) c.level-vertex.ensures.refuted
+
+pub returns-then-not-publish_guess-clause-part : goal.returns-then-not-publish_guess-clause-part
+returns-then-not-publish_guess-clause-part g c =
+    let above : take c.from-at.result c.path-path.result.now ≡ take c.loop-i.i (path c.args.account.now) = rw (c.from-at.ensures, c.path-path.ensures.is) refl in
+    position_first_ones c.args.account.now c.args.author.now.owner (g.B.Seat.RowSeat.shows c.args.seat.now).seen (g.B.Seat.RowSeat.shows c.loop-i.seat).seen (g.B.Seat.RowSeat.shows c.publish_guess.new.seat).seen (take c.from-at.result c.path-path.result.now) c.loop-i.i c.in-Some.p (members (has c.level-vertex.result.1.now) c.args.account.now.target)
+    c.loop-i.invariant.learned (first_all c.args.author.now.owner (g.B.Seat.RowSeat.shows c.loop-i.seat).seen (g.B.Seat.RowSeat.shows c.publish_guess.new.seat).seen (refuted_at (take c.from-at.result c.path-path.result.now) (Some c.in-Some.p) (members (has c.level-vertex.result.1.now) c.args.account.now.target)) (c.publish_guess.ensures.learned ∙ c.in_ok-whole.ensures.learned c.if-not-whole.false)) above (sym c.level-vertex.ensures.vertex ∙ c.in-Some.is) c.level-vertex.ensures.refuted

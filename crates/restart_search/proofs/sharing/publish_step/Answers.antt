@@ -3,7 +3,7 @@ use Rattle.graph_theory.specs.Graph.{Graph, size}
 use Rattle.nogood_book.proofs.Reaching.{reaches_next}
 use Rattle.restart_search.proofs.Publishing.{may_publish, went_at, went_full, full_after}
 use Rattle.restart_search.proofs.Noting.{beside_full, beside_step}
-use Rattle.restart_search.proofs.Learning.{learned_step}
+use Rattle.restart_search.proofs.Learning.{learned_step, learned_full}
 use Rattle.restart_search.proofs.sharing.publish_step.Goals as goal
 
 pub publish-requires-clause-owner : goal.publish-requires-clause-owner
@@ -37,3 +37,6 @@ returns-in-Full-clause-beside g c = beside_full c.args.author.now.owner _ _ c.re
 
 pub returns-in-At-clause-learned : goal.returns-in-At-clause-learned
 returns-in-At-clause-learned g c = learned_step _ _ c.args.author.now.owner _ _ c.args.above.now c.in-At.ensures.placed c.requires.parent refl c.requires.seat.owner_is
+
+pub returns-in-Full-clause-learned : goal.returns-in-Full-clause-learned
+returns-in-Full-clause-learned g c = learned_full c.args.author.now.owner _ _ c.in-Full.ensures.placed c.requires.seat.owner_is
