@@ -1,13 +1,13 @@
 -- Counts of values, one more for each member of a row, and the values that are counted often enough.
 
-use Rattle.std.proofs.Common.{◌≡◌, ℕ, ◌*◌, ◌+◌, ◌-◌, ◌/◌, ◌%◌, ◌^◌, ◌<◌, ◌≤◌, Bool, true, false, not, eqb, leb, nat_lt, ◌==◌, ◌&&◌, ◌||◌, List, length, take, drop, get_or, refl, sym, ap, ◌∙◌, arith, inl, inr, ◌⊎◌, bit_and, bit_or, w64}
+use Rattle.std.proofs.Common.{◌≡◌, ℕ, ◌*◌, ◌+◌, ◌/◌, ◌%◌, ◌^◌, ◌<◌, ◌≤◌, Bool, true, false, not, eqb, leb, nat_lt, ◌==◌, ◌&&◌, ◌||◌, List, length, get_or, refl, sym, ap, ◌∙◌, arith, inl, inr, ◌⊎◌, bit_and, bit_or, w64}
 use Rattle.std.specs.Int.{from_bool, trailing_zeros}
 use Rattle.std.specs.Int.RustNames.{bit_xor}
 use Rattle.std.proofs.Math.ListN.{set}
 use Rattle.std.proofs.lemmas.Bool.{cases_eq, cases_lt, eq-eqb, ne_eqb, lt-ltb, le-ltb, le-leb, lt-leb, false≢true}
-use Rattle.std.proofs.lemmas.List.{get_or-set_same, get_or-set_other, get_or-take, get_or-drop}
-use Rattle.bit_rows.specs.BitRows.{is_set, has}
-use Rattle.bit_rows.proofs.WordBits.{is_set_and, is_set_or, is_set_pow, is_set-zero, low_bit, low_is_set, xor_same, xor_other, one_shifted}
+use Rattle.std.proofs.lemmas.List.{get_or-set_same, get_or-set_other}
+use Rattle.bit_rows.specs.BitRows.{is_set, has, word_values}
+use Rattle.bit_rows.proofs.WordBits.{is_set_and, is_set_or, is_set_pow, is_set-zero, low_bit, low_is_set, word_values-first, xor_same, xor_other, one_shifted}
 use Rattle.bit_rows.proofs.Rows.{has_past}
 use Rattle.bit_rows.proofs.WordsAt.{has_written, has_elsewhere}
 
@@ -57,6 +57,20 @@ left_in_word word rest part some small b = rw (one_shifted (trailing_zeros w64 r
     by : (b ≡ trailing_zeros w64 rest) ⊎ (b ≡ trailing_zeros w64 rest → ⊥) → is_set (bit_xor rest (2 ^ trailing_zeros w64 rest)) b ≡ true → is_set word b ≡ true
     by (inl e) h = absurd (false≢true (sym (ap (is_set (bit_xor rest (2 ^ trailing_zeros w64 rest))) e ∙ xor_same rest (trailing_zeros w64 rest) (low_is_set rest some small)) ∙ h))
     by (inr ne) h = part b (sym (xor_other rest (trailing_zeros w64 rest) b ne) ∙ h)
+
+-- one value fewer is left
+pub fewer : (place word : ℕ) → 0 < word → word < 2 ^ 64
+    → length (word_values place word) ≡ length (word_values place (bit_xor word (1 * 2 ^ trailing_zeros w64 word % 2 ^ 64))) + 1
+fewer place word some small = rw (one_shifted (trailing_zeros w64 word) (low_bit word some small)) (omega (arith, ap length (word_values-first place word some small)))
+
+-- the lowest value that is left is one of the word
+pub in_range : (place word rest n : ℕ) → ((v : ℕ) → v / 64 ≡ place → is_set word (v % 64) ≡ true → v < n) → ((b : ℕ) → is_set rest b ≡ true → is_set word b ≡ true)
+    → 0 < rest → rest < 2 ^ 64 → 64 * place + trailing_zeros w64 rest < n
+in_range place word rest n within part some small =
+    let k_in = low_bit rest some small in
+    let here : (64 * place + trailing_zeros w64 rest) / 64 ≡ place = omega arith in
+    let bit : trailing_zeros w64 rest ≡ (64 * place + trailing_zeros w64 rest) % 64 = omega arith in
+    within (64 * place + trailing_zeros w64 rest) here (part ((64 * place + trailing_zeros w64 rest) % 64) (ap (is_set rest) (sym bit) ∙ low_is_set rest some small))
 
 -- where nothing is left all has been counted
 pub counted_word : (counts first : List ℕ) (place word rest : ℕ) → rest ≡ 0
@@ -153,31 +167,88 @@ bit_more test word b n t b_in n_is t_is done todo = rw n_is (
         no false true = refl
         no false false = refl
 
--- the bits of the part of the counts that belongs to a word
-pub part_counted : (counts part : List ℕ) (place to least v result : ℕ) → part ≡ take (to - 64 * place) (drop (64 * place) counts)
-    → ((b : ℕ) → b < length part → is_set result b ≡ enough part least b) → length part ≡ to - 64 * place
-    → v / 64 ≡ place → v < to → is_set result (v % 64) ≡ enough counts least v
-part_counted counts part place to least v result is bits long here v_in =
-    let place_is : 64 * place + v % 64 ≡ v = omega arith in
-    let within : v % 64 < to - 64 * place = omega arith in
-    let at : get_or part (v % 64) 0 ≡ get_or counts v 0 =
-    ap (λ (xs : List ℕ). get_or xs (v % 64) 0) is ∙ get_or-take (to - 64 * place) (drop (64 * place) counts) (v % 64) 0 within
-    ∙ get_or-drop (64 * place) counts (v % 64) 0 ∙ ap (λ (k : ℕ). get_or counts k 0) place_is in
-    bits (v % 64) (omega arith) ∙ ap (λ (n : ℕ). not (nat_lt n least)) at
+-- the values of a word that have been looked at stand in the other where they are counted often enough, and those that have not do not
+pub record CountedOf (test : ℕ → Bool) (place word rest kept : ℕ) : Type 0 where
+  pub part : (b : ℕ) → is_set rest b ≡ true → is_set word b ≡ true
+  pub done : (b : ℕ) → is_set word b ≡ true → is_set rest b ≡ false → is_set kept b ≡ test (64 * place + b)
+  pub todo : (b : ℕ) → is_set rest b ≡ true → is_set kept b ≡ false
+
+-- none has been
+pub counted_none : (test : ℕ → Bool) (place word : ℕ) → CountedOf test place word word 0
+counted_none test place word = record {
+  part = λ b h. h;
+  done = λ b h none. absurd (false≢true (sym none ∙ h));
+  todo = λ b h. is_set-zero b;
+}
+
+-- the lowest value that is left is looked at
+pub counted_of : (test : ℕ → Bool) (place word rest kept n : ℕ) (t : Bool) → 0 < rest → rest < 2 ^ 64 → n ≡ from_bool t → t ≡ test (64 * place + trailing_zeros w64 rest)
+    → CountedOf test place word rest kept
+    → CountedOf test place word (bit_xor rest (1 * 2 ^ trailing_zeros w64 rest % 2 ^ 64)) (bit_or kept (n * 2 ^ trailing_zeros w64 rest % 2 ^ 64))
+counted_of test place word rest kept n t some small n_is t_is before = rw n_is (record {
+  part = left_in_word word rest before.part some small;
+  done = λ b h gone. is_set_or kept (from_bool t * 2 ^ low % 2 ^ 64) b ∙ looked b h (sym (left b) ∙ gone) (cases_eq b low);
+  todo = λ b h. is_set_or kept (from_bool t * 2 ^ low % 2 ^ 64) b ∙ waits b (sym (left b) ∙ h) (cases_eq b low);
+})
+  where
+    low : ℕ
+    low = trailing_zeros w64 rest
+
+    low_in : trailing_zeros w64 rest < 64
+    low_in = low_bit rest some small
+
+    left : (b : ℕ) → is_set (bit_xor rest (1 * 2 ^ trailing_zeros w64 rest % 2 ^ 64)) b ≡ is_set (bit_xor rest (2 ^ trailing_zeros w64 rest)) b
+    left b = ap (λ (x : ℕ). is_set (bit_xor rest x) b) (one_shifted (trailing_zeros w64 rest) low_in)
+
+    flag : (x : Bool) (v : ℕ) → is_set (from_bool x * 2 ^ low % 2 ^ 64) v ≡ (x && eqb v low)
+    flag true v = ap (λ (m : ℕ). is_set m v) (one_shifted low low_in) ∙ is_set_pow low v
+    flag false v = let none : 0 * 2 ^ low % 2 ^ 64 ≡ 0 = omega arith in ap (λ (m : ℕ). is_set m v) none ∙ is_set-zero v
+
+    yes : (x : Bool) → (false || (x && true)) ≡ x
+    yes true = refl
+    yes false = refl
+
+    no : (y x : Bool) → (y || (x && false)) ≡ y
+    no true x = refl
+    no false true = refl
+    no false false = refl
+
+    looked : (b : ℕ) → is_set word b ≡ true → is_set (bit_xor rest (2 ^ low)) b ≡ false → (b ≡ low) ⊎ (b ≡ low → ⊥)
+        → (is_set kept b || is_set (from_bool t * 2 ^ low % 2 ^ 64) b) ≡ test (64 * place + b)
+    looked b h gone (inl e) =
+        rw (before.todo b (ap (is_set rest) e ∙ low_is_set rest some small), flag t b, eq-eqb b low e) (yes t) ∙ t_is ∙ ap (λ (k : ℕ). test (64 * place + k)) (sym e)
+    looked b h gone (inr ne) =
+        rw (flag t b, ne_eqb b low ne) (no (is_set kept b) t) ∙ before.done b h (sym (xor_other rest low b ne) ∙ gone)
+
+    waits : (b : ℕ) → is_set (bit_xor rest (2 ^ low)) b ≡ true → (b ≡ low) ⊎ (b ≡ low → ⊥) → (is_set kept b || is_set (from_bool t * 2 ^ low % 2 ^ 64) b) ≡ false
+    waits b h (inl e) = absurd (false≢true (sym (ap (is_set (bit_xor rest (2 ^ low))) e ∙ xor_same rest low (low_is_set rest some small)) ∙ h))
+    waits b h (inr ne) = rw (flag t b, ne_eqb b low ne) (no (is_set kept b) t) ∙ before.todo b (sym (xor_other rest low b ne) ∙ h)
+
+-- where nothing is left all values of the word have been looked at
+pub counted_last : (test : ℕ → Bool) (place word rest kept : ℕ) → rest ≡ 0 → CountedOf test place word rest kept
+    → (v : ℕ) → v / 64 ≡ place → is_set word (v % 64) ≡ true → is_set kept (v % 64) ≡ test v
+counted_last test place word rest kept none all v here h =
+    let at : 64 * place + v % 64 ≡ v = omega arith in
+    all.done (v % 64) h (ap (λ (x : ℕ). is_set x (v % 64)) none ∙ is_set-zero (v % 64)) ∙ ap test at
+
+-- what a word still has is a member of the row as it was
+pub here_within : (old row : List ℕ) (place n : ℕ) → ((v : ℕ) → has old v ≡ true → v < n) → ((v : ℕ) → place ≤ v / 64 → has row v ≡ has old v) → (v : ℕ) → v / 64 ≡ place
+    → is_set (get_or row place 0) (v % 64) ≡ true → v < n
+here_within old row place n within todo v here h = within v (sym (todo v (omega arith)) ∙ ap (λ (k : ℕ). is_set (get_or row k 0) (v % 64)) here ∙ h)
 
 -- one word more
-pub kept_next : (test : ℕ → Bool) (old row : List ℕ) (place word n : ℕ) → place < length row → ((v : ℕ) → has old v ≡ true → v < n)
-    → ((v : ℕ) → v / 64 ≡ place → v < n → is_set word (v % 64) ≡ test v)
+pub kept_next : (test : ℕ → Bool) (old row : List ℕ) (place word : ℕ) → place < length row
+    → ((v : ℕ) → v / 64 ≡ place → is_set (get_or row place 0) (v % 64) ≡ true → is_set word (v % 64) ≡ test v)
     → ((v : ℕ) → v / 64 < place → has row v ≡ (has old v && test v)) → ((v : ℕ) → place ≤ v / 64 → has row v ≡ has old v)
     → ((v : ℕ) → v / 64 < place + 1 → has (set row place (bit_and (get_or row place 0) word)) v ≡ (has old v && test v))
     × ((v : ℕ) → place + 1 ≤ v / 64 → has (set row place (bit_and (get_or row place 0) word)) v ≡ has old v)
-kept_next test old row place word n inside within bits done todo = (
+kept_next test old row place word inside bits done todo = (
   λ v v_in. by v v_in (cases_eq (v / 64) place),
   λ v past. has_elsewhere row place (bit_and (get_or row place 0) word) v (λ e. omega arith) ∙ todo v (omega arith),
 )
   where
     kept : (v : ℕ) → v / 64 ≡ place → (t : Bool) → has old v ≡ t → (t && is_set word (v % 64)) ≡ (t && test v)
-    kept v here true h = bits v here (within v h)
+    kept v here true h = bits v here (ap (λ (k : ℕ). is_set (get_or row k 0) (v % 64)) (sym here) ∙ todo v (omega arith) ∙ h)
     kept v here false h = refl
 
     by : (v : ℕ) → v / 64 < place + 1 → (v / 64 ≡ place) ⊎ (v / 64 ≡ place → ⊥)

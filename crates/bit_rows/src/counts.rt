@@ -35,7 +35,8 @@ fn count_in_word(word: u64, place: usize, counts: &mut [u16])
     }
 }
 
-/// Keeps of the row the values that are counted at least `least` times. Cost: one step for each count; none where `least` is 0.
+/// Keeps of the row the values that are counted at least `least` times. Cost: one step for each word and for each member; none where
+/// `least` is 0.
 pub fn keep_counted(row: &mut [u64], counts: &[u16], least: u16)
     requires short { length row.old ≤ 1024 }
     requires within { (v : ℕ) → has row.old v ≡ true → v < length counts.now }
@@ -47,31 +48,24 @@ pub fn keep_counted(row: &mut [u64], counts: &[u16], least: u16)
         return;
     }
     for place in 0..row.len() {
-        row[place] &= word_counted(counts, place, least);
+        row[place] &= word_counted(row[place], place, counts, least);
     }
 }
 
-/// Which values of one word of a row are counted at least so often. Cost: one step for each count.
-fn word_counted(counts: &[u16], place: usize, least: u16) -> u64
+/// Which values of one word of a row are counted at least so often. Cost: one step for each of them.
+fn word_counted(word: u64, place: usize, counts: &[u16], least: u16) -> u64
     requires short { place < 1024 }
-    requires begins { 64 * place ≤ length counts.now }
-    ensures { (v : ℕ) → v / 64 ≡ place → v < length counts.now
+    requires within { (v : ℕ) → v / 64 ≡ place → is_set word (v % 64) ≡ true
+        → v < length counts.now }
+    ensures { (v : ℕ) → v / 64 ≡ place → is_set word (v % 64) ≡ true
         → is_set result (v % 64) ≡ not (nat_lt (slice_index counts.now v) least) }
 {
-    let from = 64 * place;
-    let to = counts.len().min(from + 64);
-    bits_counted(&counts[from..to], least)
-}
-
-/// Bit b tells whether count b is at least so much. Cost: one step for each count.
-fn bits_counted(counts: &[u16], least: u16) -> u64
-    requires { length counts.now ≤ 64 }
-    ensures { (b : ℕ) → b < length counts.now
-        → is_set result b ≡ not (nat_lt (slice_index counts.now b) least) }
-{
-    let mut word = 0;
-    for b in 0..counts.len() {
-        word |= u64::from(counts[b] >= least) << b;
+    let mut kept = 0;
+    let mut rest = word;
+    while rest != 0 {
+        let bit = rest.trailing_zeros();
+        kept |= u64::from(counts[64 * place + bit as usize] >= least) << bit;
+        rest ^= 1 << bit;
     }
-    word
+    kept
 }

@@ -2,13 +2,14 @@
 
 use Rattle.std.proofs.Common.{◌≡◌, ◌↔◌, ℕ, ◌<◌, ◌≤◌, Bool, true, false, ◌==◌, nat_lt, ◌&&◌, ◌||◌, not, is_some, List, Option, Some, None, get_or, refl, sym, ap, ◌∙◌, subst, arith, inl, inr, ◌⊎◌}
 use Rattle.std.proofs.lemmas.Bool.{cases_lt, eq-eqb, ne_eqb, lt-ltb, le-ltb, ltb-true, false≢true, and_parts}
-use Rattle.graph_theory.specs.Graph.{size, edge}
+use Rattle.graph_theory.specs.Graph.{Graph, size, edge}
 use Rattle.graph_theory.specs.Embedding.{Problem, KeepsEdge, Matches}
 use Rattle.graph_theory.specs.Neighbours.{is_neighbour, common}
 use Rattle.graph_theory.specs.Reversed.{reversed, IsMutual, MutualShared}
 use Rattle.bit_rows.specs.BitRows.{has}
+use Rattle.graph_rows.specs.Labels.{HasZeroLabels}
 use Rattle.pair_rows.specs.declared.kinds.PairKind.{PairKind}
-use Rattle.pair_rows.specs.Kinds.{Joins, RowIs, Shares, HasNoEdge, Serve}
+use Rattle.pair_rows.specs.Kinds.{Joins, RowIs, Shares, MatchEdges, agree, IsTold, AreTold, Serve}
 use Rattle.bit_rows.proofs.Filled.{FilledBelow}
 
 -- an edge of the pattern is kept
@@ -73,51 +74,7 @@ brings_none false e f none m = refl
 brings_none true e None none m = refl
 brings_none true e (Some l) none m = absurd (false≢true (sym none ∙ ap is_some m.1))
 
--- the steps by which the row of such a kind is made leave what joins
-pub apart_whole : (q : Problem) (k : PairKind) (first free shared row : List ℕ) (t : ℕ) → (is_some k.out || is_some k.back) ≡ false
-    → ((u : ℕ) → has first u ≡ nat_lt u (size q.target))
-    → ((u : ℕ) → has free u ≡ true → (has first u ≡ true) × HasNoEdge q t u) → ((u : ℕ) → has first u ≡ true → HasNoEdge q t u → has free u ≡ true)
-    → ((u : ℕ) → has shared u ≡ true → (has free u ≡ true) × ((t ≡ u → ⊥) → Shares q k t u)) → ((u : ℕ) → has free u ≡ true → (t ≡ u → ⊥) → Shares q k t u → has shared u ≡ true)
-    → ((u : ℕ) → has row u ≡ (has shared u && not (t == u))) → RowIs q k t row
-apart_whole q k first free shared row t none below free_right free_complete shared_right shared_complete cut = record {
-  right = λ u h. found u (both_of (has shared u) (t == u) (sym (cut u) ∙ h));
-  complete = λ u u_in j.
-      cut u
-      ∙ to_both (has shared u) (t == u)
-      (shared_complete u
-      (free_complete u (below u ∙ lt-ltb u (size q.target) u_in)
-      (record { out = brings_none q.induced k.out (edge q.target t u) edges.0 j.out; back = brings_none q.induced k.back (edge q.target u t) edges.1 j.back }))
-      j.apart (record { shared = j.shared; in_shared = j.in_shared })) (ne_eqb t u j.apart);
-}
-  where
-    edges : (is_some k.out ≡ false) × (is_some k.back ≡ false)
-    edges = none_of (is_some k.out) (is_some k.back) none
-
-    both_of : (a b : Bool) → (a && not b) ≡ true → (a ≡ true) × (b ≡ false)
-    both_of true false h = (refl, refl)
-    both_of true true h = absurd (false≢true h)
-    both_of false b h = absurd (false≢true h)
-
-    to_both : (a b : Bool) → a ≡ true → b ≡ false → (a && not b) ≡ true
-    to_both a b x y = rw (x, y) refl
-
-    found : (u : ℕ) → (has shared u ≡ true) × ((t == u) ≡ false) → (u < size q.target) × Joins q k t u
-    found u h =
-        let ne : t ≡ u → ⊥ = λ e. false≢true (sym h.1 ∙ eq-eqb t u e) in
-        let kept = shared_right u h.0 in
-        let alone = free_right u kept.0 in
-        let enough = kept.1 ne in (
-          ltb-true u (size q.target) (sym (below u) ∙ alone.0),
-          record {
-            apart = ne;
-            out = matches_none q.induced k.out (edge q.target t u) edges.0 alone.1.out;
-            back = matches_none q.induced k.back (edge q.target u t) edges.1 alone.1.back;
-            shared = enough.shared;
-            in_shared = enough.in_shared;
-          },
-        )
-
--- ---- the steps
+-- ---- rows by whole words
 
 left_of : (a b : Bool) → (a && not b) ≡ true → (a ≡ true) × (b ≡ false)
 left_of true false h = (refl, refl)
@@ -127,60 +84,77 @@ left_of false b h = absurd (false≢true h)
 left_by : (a b : Bool) → a ≡ true → b ≡ false → (a && not b) ≡ true
 left_by a b x y = rw (x, y) refl
 
+-- edges that match are as bits have to be,
+agreed : (induced : Bool) (e f : Option ℕ) → Matches induced e f → agree induced (is_some e) (is_some f) ≡ true
+agreed false None f m = refl
+agreed false (Some l) f m = ap is_some m
+agreed true None None m = refl
+agreed true None (Some l) m = absurd cc
+agreed true (Some l) f m = ap is_some m.0
+
+-- and where bits tell all, edges that are so match
+told : (induced : Bool) (e f : Option ℕ) (g : Graph) → IsTold g e → ((l : ℕ) → HasZeroLabels g → f ≡ Some l → l ≡ 0) → agree induced (is_some e) (is_some f) ≡ true → Matches induced e f
+told false None f g t zero h = tt
+told false (Some l) None g t zero h = absurd cc
+told false (Some l) (Some k) g t zero h = ap Some (zero k t.1 refl ∙ sym t.0)
+told true None None g t zero h = (tt, tt)
+told true None (Some k) g t zero h = absurd cc
+told true (Some l) None g t zero h = absurd cc
+told true (Some l) (Some k) g t zero h = (ap Some (zero k t.1 refl ∙ sym t.0), ap Some (t.0 ∙ sym (zero k t.1 refl)))
+
+-- the vertices that both directions leave
+module _ (q : Problem) (k : PairKind) (t : ℕ) (old now new out back : List ℕ) (out_is : (u : ℕ) → has out u ≡ is_some (edge q.target t u)) (back_is : (u : ℕ) → has back u ≡ is_some (edge q.target u t))
+    (now_is : (u : ℕ) → has now u ≡ (has old u && agree q.induced (is_some k.out) (has out u))) (new_is : (u : ℕ) → has new u ≡ (has now u && agree q.induced (is_some k.back) (has back u))) where
+  pub matching_right : AreTold q k → t < size q.target → ((u : ℕ) → has old u ≡ true → u < size q.target) → (u : ℕ) → has new u ≡ true → (has old u ≡ true) × MatchEdges q k t u
+  matching_right are t_in within u h =
+      let last = and_parts (has now u) (agree q.induced (is_some k.back) (has back u)) (sym (new_is u) ∙ h) in
+      let first = and_parts (has old u) (agree q.induced (is_some k.out) (has out u)) (sym (now_is u) ∙ last.0) in
+      let u_in = within u first.0 in (
+        first.0,
+        record {
+          out = told q.induced k.out (edge q.target t u) q.target are.out (λ l zeros. zeros.zeros t u l t_in u_in) (ap (agree q.induced (is_some k.out)) (sym (out_is u)) ∙ first.1);
+          back = told q.induced k.back (edge q.target u t) q.target are.back (λ l zeros. zeros.zeros u t l u_in t_in) (ap (agree q.induced (is_some k.back)) (sym (back_is u)) ∙ last.1);
+        },
+      )
+
+  pub matching_complete : (u : ℕ) → has old u ≡ true → MatchEdges q k t u → has new u ≡ true
+  matching_complete u h m =
+      let first = to_all (has old u) (agree q.induced (is_some k.out) (has out u)) h (ap (agree q.induced (is_some k.out)) (out_is u) ∙ agreed q.induced k.out (edge q.target t u) m.out) in
+      new_is u ∙ to_all (has now u) (agree q.induced (is_some k.back) (has back u)) (now_is u ∙ first)
+      (ap (agree q.induced (is_some k.back)) (back_is u) ∙ agreed q.induced k.back (edge q.target u t) m.back)
+    where
+      to_all : (a b : Bool) → a ≡ true → b ≡ true → (a && b) ≡ true
+      to_all a b x y = rw (x, y) refl
+
+-- the steps by which such a row is made leave what joins
+pub whole_by_words : (q : Problem) (k : PairKind) (first free shared row : List ℕ) (t : ℕ) → ((u : ℕ) → has first u ≡ nat_lt u (size q.target))
+    → ((u : ℕ) → has free u ≡ true → (has first u ≡ true) × MatchEdges q k t u) → ((u : ℕ) → has first u ≡ true → MatchEdges q k t u → has free u ≡ true)
+    → ((u : ℕ) → has shared u ≡ true → (has free u ≡ true) × ((t ≡ u → ⊥) → Shares q k t u)) → ((u : ℕ) → has free u ≡ true → (t ≡ u → ⊥) → Shares q k t u → has shared u ≡ true)
+    → ((u : ℕ) → has row u ≡ (has shared u && not (t == u))) → RowIs q k t row
+whole_by_words q k first free shared row t below free_right free_complete shared_right shared_complete cut = record {
+  right = λ u h. found u (left_of (has shared u) (t == u) (sym (cut u) ∙ h));
+  complete = λ u u_in j.
+      cut u
+      ∙ left_by (has shared u) (t == u)
+      (shared_complete u (free_complete u (below u ∙ lt-ltb u (size q.target) u_in) (record { out = j.out; back = j.back })) j.apart (record { shared = j.shared; in_shared = j.in_shared }))
+      (ne_eqb t u j.apart);
+}
+  where
+    found : (u : ℕ) → (has shared u ≡ true) × ((t == u) ≡ false) → (u < size q.target) × Joins q k t u
+    found u h =
+        let ne : t ≡ u → ⊥ = λ e. false≢true (sym h.1 ∙ eq-eqb t u e) in
+        let kept = shared_right u h.0 in
+        let alone = free_right u kept.0 in
+        let enough = kept.1 ne in (
+          ltb-true u (size q.target) (sym (below u) ∙ alone.0),
+          record { apart = ne; out = alone.1.out; back = alone.1.back; shared = enough.shared; in_shared = enough.in_shared },
+        )
+
+-- ---- the steps
+
 second_of : (i b : Bool) → i ≡ true → (i && b) ≡ false → b ≡ false
 second_of true b e h = h
 second_of false b e h = absurd (false≢true e)
-
--- taken out are the vertices of the row of t, and where edges stand both ways those are all
-pub mutual_right : (q : Problem) (t : ℕ) (old new out : List ℕ) → IsMutual q.target → t < size q.target → ((u : ℕ) → has old u ≡ true → u < size q.target)
-    → ((u : ℕ) → has out u ≡ is_some (edge q.target t u)) → ((u : ℕ) → has new u ≡ (has old u && not (has out u))) → (u : ℕ) → has new u ≡ true
-    → (has old u ≡ true) × HasNoEdge q t u
-mutual_right q t old new out ways t_in within row cut u h =
-    let left = left_of (has old u) (has out u) (sym (cut u) ∙ h) in
-    let none : is_some (edge q.target t u) ≡ false = sym (row u) ∙ left.1 in (
-      left.0,
-      record {
-        out = never q.induced (is_some (edge q.target t u)) none;
-        back = never q.induced (is_some (edge q.target u t)) (ways.both u t (within u left.0) t_in ∙ none);
-      },
-    )
-  where
-    never : (a b : Bool) → b ≡ false → (a && b) ≡ false
-    never true b e = e
-    never false b e = refl
-
-pub mutual_complete : (q : Problem) (t : ℕ) (old new out : List ℕ) → q.induced ≡ true
-    → ((u : ℕ) → has out u ≡ is_some (edge q.target t u)) → ((u : ℕ) → has new u ≡ (has old u && not (has out u))) → (u : ℕ) → has old u ≡ true → HasNoEdge q t u → has new u ≡ true
-mutual_complete q t old new out induced row cut u h none =
-    cut u ∙ left_by (has old u) (has out u) h (row u ∙ second_of q.induced (is_some (edge q.target t u)) induced none.out)
-
--- else those of the row of the edges that lead in too
-pub turned_right : (q : Problem) (t : ℕ) (old now new out back : List ℕ)
-    → ((u : ℕ) → has out u ≡ is_some (edge q.target t u)) → ((u : ℕ) → has back u ≡ is_some (edge q.target u t))
-    → ((u : ℕ) → has now u ≡ (has old u && not (has out u))) → ((u : ℕ) → has new u ≡ (has now u && not (has back u))) → (u : ℕ) → has new u ≡ true
-    → (has old u ≡ true) × HasNoEdge q t u
-turned_right q t old now new out back row in_row cut in_cut u h =
-    let last = left_of (has now u) (has back u) (sym (in_cut u) ∙ h) in
-    let left = left_of (has old u) (has out u) (sym (cut u) ∙ last.0) in (
-      left.0,
-      record {
-        out = never q.induced (is_some (edge q.target t u)) (sym (row u) ∙ left.1);
-        back = never q.induced (is_some (edge q.target u t)) (sym (in_row u) ∙ last.1);
-      },
-    )
-  where
-    never : (a b : Bool) → b ≡ false → (a && b) ≡ false
-    never true b e = e
-    never false b e = refl
-
-pub turned_complete : (q : Problem) (t : ℕ) (old now new out back : List ℕ) → q.induced ≡ true
-    → ((u : ℕ) → has out u ≡ is_some (edge q.target t u)) → ((u : ℕ) → has back u ≡ is_some (edge q.target u t))
-    → ((u : ℕ) → has now u ≡ (has old u && not (has out u))) → ((u : ℕ) → has new u ≡ (has now u && not (has back u))) → (u : ℕ) → has old u ≡ true → HasNoEdge q t u
-    → has new u ≡ true
-turned_complete q t old now new out back induced row in_row cut in_cut u h none =
-    in_cut u
-    ∙ left_by (has now u) (has back u) (mutual_complete q t old now out induced row cut u h none)
-    (in_row u ∙ second_of q.induced (is_some (edge q.target u t)) induced none.back)
 
 -- a count that is kept is not too small
 pub enough_of : (counts : List ℕ) (least u : ℕ) → not (nat_lt (get_or counts u 0) least) ≡ true → least ≤ get_or counts u 0

@@ -1,11 +1,12 @@
 -- Kinds of pairs of pattern vertices, and the rows that belong to them.
 
-use Rattle.std.specs.Prelude.{◌≡◌, ℕ, ◌+◌, ◌*◌, ◌<◌, ◌≤◌, ◌↔◌, Bool, true, false, ◌&&◌, is_some, ◌⊎◌, List, Some, length, take, slice_get, slice_index}
-use Rattle.graph_theory.specs.Graph.{size, edge}
+use Rattle.std.specs.Prelude.{◌≡◌, ℕ, ◌+◌, ◌*◌, ◌<◌, ◌≤◌, ◌↔◌, Bool, true, false, not, ◌⊎◌, List, Option, Some, None, length, take, slice_get, slice_index}
+use Rattle.graph_theory.specs.Graph.{Graph, size, edge}
 use Rattle.graph_theory.specs.Embedding.{Problem, Matches}
 use Rattle.graph_theory.specs.Neighbours.{common}
 use Rattle.graph_theory.specs.Reversed.{reversed, IsMutual}
 use Rattle.bit_rows.specs.BitRows.{has}
+use Rattle.graph_rows.specs.Labels.{HasZeroLabels}
 use Rattle.pair_rows.specs.declared.kinds.PairKind.{PairKind}
 
 -- The edges between two pattern vertices, and how many neighbours they share in each direction.
@@ -30,10 +31,26 @@ pub record Shares (q : Problem) (k : PairKind) (t u : ℕ) : Type 0 where
   pub shared : k.shared ≤ common q.target t u
   pub in_shared : k.in_shared ≤ common (reversed q.target) t u
 
--- In the induced kind no edge leads from one of them to the other.
-pub record HasNoEdge (q : Problem) (t u : ℕ) : Type 0 where
-  pub out : (q.induced && is_some (edge q.target t u)) ≡ false
-  pub back : (q.induced && is_some (edge q.target u t)) ≡ false
+-- The edges between t and u match those of the kind, in each direction.
+pub record MatchEdges (q : Problem) (k : PairKind) (t u : ℕ) : Type 0 where
+  pub out : Matches q.induced k.out (edge q.target t u)
+  pub back : Matches q.induced k.back (edge q.target u t)
+
+-- An edge goes to an edge, and in the induced kind no edge to none; labels aside.
+abbrev pub agree : Bool → Bool → Bool → Bool
+agree induced true image = image
+agree true false image = not image
+agree false false image = true
+
+-- Where an edge stands it has label 0, as all edges of the target: so bits tell what matches it.
+abbrev pub IsTold : Graph → Option ℕ → Type 0
+IsTold target None = Unit {0}
+IsTold target (Some l) = (l ≡ 0) × HasZeroLabels target
+
+-- So it is with the edges of a kind.
+pub record AreTold (q : Problem) (k : PairKind) : Type 0 where
+  pub out : IsTold q.target k.out
+  pub back : IsTold q.target k.back
 
 -- The counts tell of each other vertex, in each direction, whether it shares as many neighbours with t as the kind asks for: the right ones do, and
 -- any do for a kind that asks for none. Where it is said so, edges stand both ways.

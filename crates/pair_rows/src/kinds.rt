@@ -6,11 +6,13 @@ ghost use Rattle.graph_theory.specs.Neighbours.{common, is_neighbour};
 ghost use Rattle.graph_theory.specs.Embedding.{Matches};
 ghost use Rattle.graph_theory.specs.Reversed.{reversed, IsMutual};
 ghost use Rattle.bit_rows.specs.BitRows.{has, words_for};
-ghost use Rattle.pair_rows.specs.Kinds.{kind_of, Joins, Shares, HasNoEdge, Serve, ServeAll, RowIs, HasRow, AreKinds, KindsStay, WordsStay};
+ghost use Rattle.pair_rows.specs.Kinds.{kind_of, Joins, Shares, MatchEdges, agree, IsTold, AreTold, Serve, ServeAll, RowIs, HasRow, AreKinds, KindsStay, WordsStay};
 
-use bit_rows::{and_not_into, clear, fill_below, keep_counted, next_member, set_bit, unset_bit};
+use bit_rows::{
+    and_into, and_not_into, clear, fill_below, keep_counted, next_member, set_bit, unset_bit,
+};
 use common_neighbour::Counts;
-use graph_rows::Problem;
+use graph_rows::{Graph, Problem};
 use graph_theory::direction::{Direction, reversed_laws};
 use std::alloc::{AllocError, Global};
 
@@ -271,9 +273,17 @@ fn find_kind(kinds: &[PairKind], kind: PairKind) -> Option<u32>
     None
 }
 
-/// Makes the rows of all kinds at `t`, one after another from row `first` on; the other rows stay. Cost: for each kind one step for
-/// each word of a row, and one for each neighbour of `t` in a direction that the kind has an edge in; else, where it shares neighbours, one
-/// for each count.
+/// Whether a kind has an edge and `t` so few neighbours that testing each costs less than some steps for each word of a row. Cost: two steps.
+fn has_few(q: &Problem, kind: &PairKind, t: u16, words: usize) -> bool
+    requires t_in { t < size q.now.target }
+    ensures { IsTrue result → (is_some kind.now.out || is_some kind.now.back) ≡ true }
+{
+    has_edge(kind) && 4 * usize::from(q.target().degree(t)) < words
+}
+
+/// Makes the rows of all kinds at `t`, one after another from row `first` on; the other rows stay. Cost: for each kind some steps for
+/// each word of a row, and where it shares neighbours one for each value that edges leave; where labels of edges have to be compared, one for
+/// each neighbour of `t` in a direction that the kind has an edge in.
 pub(crate) fn fill_block(
     q: &Problem,
     kinds: &[PairKind],
@@ -308,11 +318,30 @@ fn fill_row(q: &Problem, kind: &PairKind, t: u16, counts: &SharedCounts<'_>, row
     requires long { length row.old ≡ words_for (size q.now.target) }
     ensures { RowIs q.now kind.now t row.new }
 {
-    if has_edge(kind) {
+    if asks_labels(q, kind) || has_few(q, kind, t, row.len()) {
         fill_near(q, kind, t, counts, row);
     } else {
-        fill_apart(q, kind, t, counts, row);
+        fill_by_words(q, kind, t, counts, row);
     }
+}
+
+/// Whether the label of an edge of a kind, where it has one, may tell images apart: it is not 0, or the target keeps labels. Cost: two steps.
+fn asks_label(target: &Graph, edge: Option<u32>) -> bool
+    ensures some { IsTrue result → is_some edge ≡ true }
+    ensures told { result ≡ false → IsTold target.now edge }
+{
+    match edge {
+        Some(label) => label != 0 || target.keeps_edge_labels(),
+        None => false,
+    }
+}
+
+/// Whether labels of edges may tell images of a pair of the kind apart. Cost: at most four steps.
+fn asks_labels(q: &Problem, kind: &PairKind) -> bool
+    ensures some { IsTrue result → (is_some kind.now.out || is_some kind.now.back) ≡ true }
+    ensures told { result ≡ false → AreTold q.now kind.now }
+{
+    asks_label(q.target(), kind.out) || asks_label(q.target(), kind.back)
 }
 
 /// Whether a pair of the kind has an edge, in one direction or the other.
@@ -347,7 +376,7 @@ pub(crate) fn asks_no_edge(q: &Problem, kind: &PairKind, both_ways: bool) -> boo
 }
 
 /// Makes the row of a kind with an edge: its values are among the neighbours of `t` in the direction of an edge of the kind, of which each
-/// is tested. Cost: one step for each of them and for each word of a row.
+/// is tested, its label too. Cost: one step for each of them and for each word of a row.
 fn fill_near(q: &Problem, kind: &PairKind, t: u16, counts: &SharedCounts<'_>, row: &mut [u64])
     requires edge { (is_some kind.now.out || is_some kind.now.back) ≡ true }
     requires t_in { t < size q.now.target }
@@ -384,10 +413,10 @@ fn near_row<'a>(q: &'a Problem, kind: &PairKind, t: u16) -> &'a [u64]
     }
 }
 
-/// Makes the row of a kind without edges, by whole words. Cost: three steps for each word, and one for each count where the kind
-/// shares neighbours.
-fn fill_apart(q: &Problem, kind: &PairKind, t: u16, counts: &SharedCounts<'_>, row: &mut [u64])
-    requires none { (is_some kind.now.out || is_some kind.now.back) ≡ false }
+/// Makes the row of a kind whose edges bits tell, by whole words. Cost: four steps for each word, and where the kind shares neighbours
+/// one for each value that edges leave.
+fn fill_by_words(q: &Problem, kind: &PairKind, t: u16, counts: &SharedCounts<'_>, row: &mut [u64])
+    requires told { AreTold q.now kind.now }
     requires t_in { t < size q.now.target }
     requires counted { Serve q.now kind.now t counts.now.out.now counts.now.back.now
         counts.now.both_ways }
@@ -395,33 +424,41 @@ fn fill_apart(q: &Problem, kind: &PairKind, t: u16, counts: &SharedCounts<'_>, r
     ensures { RowIs q.now kind.now t row.new }
 {
     fill_below(row, usize::from(q.target().size()));
-    take_neighbours(q, t, counts.both_ways, row);
+    keep_matching(q, kind, t, row);
     keep_shared(q, kind, t, counts, row);
     unset_bit(row, usize::from(t));
 }
 
-/// In the induced kind takes out of the row the vertices with an edge from or to `t`. Cost: one step for each word, and another where
-/// edges are not known to stand both ways.
-fn take_neighbours(q: &Problem, t: u16, both_ways: bool, row: &mut [u64])
-    requires both { IsTrue both_ways → IsMutual q.now.target }
+/// Keeps of a row of vertices those whose edge, which `near` tells, is as the pattern's edge asks. Cost: one step for four words.
+fn keep_agreeing(row: &mut [u64], induced: bool, stands: bool, near: &[u64])
+    requires same_length { length row.old ≡ length near.now }
+    ensures { (u : ℕ)
+        → has row.new u ≡ (has row.old u && agree induced stands (has near.now u)) }
+{
+    if stands {
+        and_into(row, near);
+    } else if induced {
+        and_not_into(row, near);
+    }
+}
+
+/// Keeps of the row the vertices whose edges from and to `t` match those of the kind, which bits tell. Cost: two steps for four words.
+fn keep_matching(q: &Problem, kind: &PairKind, t: u16, row: &mut [u64])
+    requires told { AreTold q.now kind.now }
     requires t_in { t < size q.now.target }
     requires long { length row.old ≡ words_for (size q.now.target) }
     requires within { (u : ℕ) → has row.old u ≡ true → u < size q.now.target }
     ensures right { (u : ℕ) → has row.new u ≡ true
-        → (has row.old u ≡ true) × HasNoEdge q.now t u }
-    ensures complete { (u : ℕ) → has row.old u ≡ true → HasNoEdge q.now t u
+        → (has row.old u ≡ true) × MatchEdges q.now kind.now t u }
+    ensures complete { (u : ℕ) → has row.old u ≡ true → MatchEdges q.now kind.now t u
         → has row.new u ≡ true }
 {
-    if q.induced() {
-        and_not_into(row, q.target().row(t));
-        if !both_ways {
-            and_not_into(row, q.target().in_row(t));
-        }
-    }
+    keep_agreeing(row, q.induced(), kind.out.is_some(), q.target().row(t));
+    keep_agreeing(row, q.induced(), kind.back.is_some(), q.target().in_row(t));
 }
 
 /// Keeps of the row, beside `t` itself, the vertices that share as many neighbours with `t` as the kind asks for. Cost: one step for each
-/// count where the kind shares neighbours, and another where it asks for more in the other direction.
+/// of them where the kind shares neighbours, and another where it asks for more in the other direction.
 fn keep_shared(q: &Problem, kind: &PairKind, t: u16, counts: &SharedCounts<'_>, row: &mut [u64])
     requires t_in { t < size q.now.target }
     requires counted { Serve q.now kind.now t counts.now.out.now counts.now.back.now

@@ -1,26 +1,10 @@
 use Rattle.std.proofs.Common.{◌≡◌, ℕ, ◌+◌, ◌*◌, ◌/◌, ◌%◌, ◌^◌, ◌<◌, ◌≤◌, Bool, true, false, List, length, get_or, refl, ap, ◌∙◌, sym, arith, w64}
 use Rattle.std.proofs.Math.Facts.{Fits-lt-pow}
 use Rattle.std.specs.Int.{from_bool, trailing_zeros}
-use Rattle.std.specs.Int.RustNames.{bit_xor}
 use Rattle.std.proofs.lemmas.Bool.{eq-eqb}
-use Rattle.bit_rows.specs.BitRows.{is_set, word_values}
-use Rattle.bit_rows.proofs.WordBits.{one_shifted, word_values-first, low_bit, low_is_set}
-use Rattle.bit_rows.proofs.Counting.{in_word, counted_one, left_in_word, counted_word}
+use Rattle.bit_rows.proofs.WordBits.{low_bit, low_is_set}
+use Rattle.bit_rows.proofs.Counting.{in_word, fewer, in_range, counted_one, left_in_word, counted_word}
 use Rattle.bit_rows.proofs.counts.count_in_word.Goals as goal
-
--- one value fewer is left
-fewer : (place word : ℕ) → 0 < word → word < 2 ^ 64
-    → length (word_values place word) ≡ length (word_values place (bit_xor word (1 * 2 ^ trailing_zeros w64 word % 2 ^ 64))) + 1
-fewer place word some small = rw (one_shifted (trailing_zeros w64 word) (low_bit word some small)) (omega (arith, ap length (word_values-first place word some small)))
-
--- the lowest value that is left is one of the word
-in_range : (place word rest n : ℕ) → ((v : ℕ) → v / 64 ≡ place → is_set word (v % 64) ≡ true → v < n) → ((b : ℕ) → is_set rest b ≡ true → is_set word b ≡ true)
-    → 0 < rest → rest < 2 ^ 64 → 64 * place + trailing_zeros w64 rest < n
-in_range place word rest n within part some small =
-    let k_in = low_bit rest some small in
-    let here : (64 * place + trailing_zeros w64 rest) / 64 ≡ place = omega arith in
-    let bit : trailing_zeros w64 rest ≡ (64 * place + trailing_zeros w64 rest) % 64 = omega arith in
-    within (64 * place + trailing_zeros w64 rest) here (part ((64 * place + trailing_zeros w64 rest) % 64) (ap (is_set rest) (sym bit) ∙ low_is_set rest some small))
 
 -- and there is room for one more
 room_left : (place word rest : ℕ) (counts first : List ℕ) → ((v : ℕ) → v / 64 ≡ place → get_or first v 0 < 65535) → 0 < rest → rest < 2 ^ 64
