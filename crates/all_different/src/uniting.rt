@@ -1,6 +1,6 @@
 //! Unions of domains, as rows of bits.
 
-ghost use Rattle.std.specs.Prelude.{◌≡◌, ℕ, ◌+◌, ◌*◌, ◌<◌, ◌≤◌, ◌&&◌, ◌||◌, true, false, not, length, bit_and, slice_index};
+ghost use Rattle.std.specs.Prelude.{◌≡◌, ℕ, ◌+◌, ◌<◌, ◌≤◌, ◌&&◌, ◌||◌, true, false, not, length};
 ghost use Rattle.bit_rows.specs.BitRows.{has, words_for};
 ghost use Rattle.domain_bits.specs.Removals.{in_domain, size_of};
 ghost use Rattle.all_different.specs.Ranks.{rank};
@@ -8,14 +8,8 @@ ghost use Rattle.all_different.specs.Prefixes.{in_prefix, in_union};
 ghost use Rattle.all_different.specs.Steps.{Ordered, Shares, in_rest};
 
 use crate::ordering::is_later;
-use bit_rows::{clear, or_into, set_bit};
+use bit_rows::{WORDS, are_apart, blocks_of, clear, or_into, set_bit};
 use domain_bits::{Domains, Trail};
-
-/// How many words are looked at together.
-const WORDS: usize = 4;
-
-/// The words of the shortest row that is looked at so.
-const LONG: usize = 16;
 
 /// Adds a domain to the row. Cost: one step for a domain of one value, else one for each word.
 fn add_domain<T: Trail>(d: &Domains<T>, p: u16, row: &mut [u64])
@@ -93,25 +87,4 @@ pub(crate) fn meets(row: &[u64], other: &[u64]) -> bool
         }
     }
     false
-}
-
-/// How many times four words of a row of so many are looked at together.
-fn blocks_of(words: usize) -> usize
-    ensures { WORDS * result ≤ words }
-{
-    if words < LONG { 0 } else { words / WORDS }
-}
-
-/// Whether two rows have no value in common in the four words from `at` on. Cost: one step.
-fn are_apart(row: &[u64], other: &[u64], at: usize) -> bool
-    requires room { at + WORDS ≤ length row.now }
-    requires long { length other.now ≡ length row.now }
-    ensures { result ≡ true → (k : ℕ) → at ≤ k → k < at + WORDS
-        → bit_and (slice_index row.now k) (slice_index other.now k) ≡ 0 }
-{
-    let first = row[at] & other[at];
-    let second = row[at + 1] & other[at + 1];
-    let third = row[at + 2] & other[at + 2];
-    let fourth = row[at + 3] & other[at + 3];
-    first == 0 && second == 0 && third == 0 && fourth == 0
 }

@@ -1,8 +1,8 @@
 //! Rows of words: single bits, the walk from member to member, counts of the values, and operations on whole rows.
 //!
 //! A row of words is a set of numbers: value v is bit v % 64 of word v / 64. The layers above keep graphs and domains in such rows:
-//! they fill rows value by value, walk over the members of one, keep of one what a count allows, and combine whole rows word by
-//! word. (Sets of values as words: J. R. Ullmann, "Bit-vector algorithms for binary constraint satisfaction and subgraph
+//! they fill rows value by value, walk over the members of one, keep of one what a count allows, combine whole rows word by
+//! word, and look at long ones four words at a time. (Sets of values as words: J. R. Ullmann, "Bit-vector algorithms for binary constraint satisfaction and subgraph
 //! isomorphism", 2010.)
 #![tactic(auto)]
 
@@ -11,11 +11,13 @@ ghost use Rattle.bit_rows.specs.BitRows.{has, is_set, words_for};
 ghost use Rattle.graph_theory.specs.Neighbours.{count};
 
 mod counts;
+mod fours;
 mod kernels;
 mod members;
 mod numbers;
 
 pub use counts::{count_members, keep_counted};
+pub use fours::{WORDS, are_apart, are_within, blocks_of};
 pub use kernels::{and_into, and_not_into, count_ones, or_into};
 pub use members::next_member;
 pub use numbers::keep_equal;

@@ -7,12 +7,7 @@ ghost use Rattle.graph_theory.specs.Neighbours.{count, members};
 ghost use Rattle.domain_bits.specs.Removals.{at_vertex};
 
 use crate::trail::{Run, Trail};
-
-/// How many words are looked at together, to see whether any of them loses something.
-const WORDS: usize = 4;
-
-/// The words of the shortest row that is looked at so. In shorter ones nearly every four words lose something.
-const LONG: usize = 16;
+use bit_rows::{WORDS, are_within, blocks_of};
 
 /// Filters a row by another one.
 #[inline(always)]
@@ -33,7 +28,7 @@ pub(crate) fn filter_row<T: Trail>(p: u16, domain: &mut [u64], keep: &[u64], tra
     let mut gone = 0;
     let fours = blocks_of(domain.len());
     for block in 0..fours {
-        if is_kept(domain, keep, WORDS * block) {
+        if are_within(domain, keep, WORDS * block) {
             continue;
         }
         for k in WORDS * block..WORDS * block + WORDS {
@@ -44,27 +39,6 @@ pub(crate) fn filter_row<T: Trail>(p: u16, domain: &mut [u64], keep: &[u64], tra
         gone += filter_word(p, place, domain, keep[place], trail);
     }
     gone
-}
-
-/// How many times four words of a row of so many are looked at together.
-fn blocks_of(words: usize) -> usize
-    ensures { WORDS * result ≤ words }
-{
-    if words < LONG { 0 } else { words / WORDS }
-}
-
-/// Whether the other row has all that is in the four words from `at` on. Cost: one step.
-fn is_kept(domain: &[u64], keep: &[u64], at: usize) -> bool
-    requires room { at + WORDS ≤ length domain.now }
-    requires long { length keep.now ≡ length domain.now }
-    ensures { result ≡ true → (k : ℕ) → at ≤ k → k < at + WORDS
-        → bit_and (slice_index domain.now k) (bit_not w64 (slice_index keep.now k)) ≡ 0 }
-{
-    let first = domain[at] & !keep[at];
-    let second = domain[at + 1] & !keep[at + 1];
-    let third = domain[at + 2] & !keep[at + 2];
-    let fourth = domain[at + 3] & !keep[at + 3];
-    first == 0 && second == 0 && third == 0 && fourth == 0
 }
 
 /// Filters a row by one value.

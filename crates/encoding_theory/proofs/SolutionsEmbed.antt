@@ -1,14 +1,15 @@
 -- An assignment that satisfies the encoding shows a map, and the map embeds.
 
-use Rattle.std.proofs.Common.{◌≡◌, ℕ, ◌<◌, Bool, true, false, ◌==◌, ◌&&◌, not, is_some, List, [], ◌∷◌, ◌++◌, slice_index, Option, Some, None, refl, sym, subst, ◌∙◌, arith, inl, inr, ◌⊎◌}
-use Rattle.std.proofs.lemmas.Bool.{eq-eqb, ne_eqb, and_parts, and_from, or_parts, not_from_false, cases_eq}
+use Rattle.std.proofs.Common.{◌≡◌, ℕ, ◌<◌, Bool, true, false, ◌==◌, ◌&&◌, not, is_some, List, [], ◌∷◌, ◌++◌, slice_index, Option, Some, None, refl, sym, subst, ◌∙◌, arith}
+use Rattle.std.proofs.lemmas.Bool.{eq-eqb, ne_eqb, and_parts, and_from, or_parts, not_from_false}
 use Rattle.std.proofs.lemmas.List.FromFn.{get_or-map-range_with_len, length-map-range_with_len}
 use Rattle.graph_theory.specs.Graph.{size, edge, tabulate}
-use Rattle.graph_theory.specs.Embedding.{Problem, Matches, Embeds, Allowed, Compatible, Pairwise}
+use Rattle.graph_theory.specs.Embedding.{Problem, Matches, Embeds, Allowed, Compatible}
 use Rattle.proof_theory.specs.Forms.{Holds, Satisfies}
 use Rattle.encoding_theory.specs.Variables.{variable}
 use Rattle.encoding_theory.specs.Pairs.{is_allowed, is_compatible, is_linked, is_edge_pair, is_non_edge_pair}
 use Rattle.encoding_theory.specs.Encoding.{every, vertex_forms, vertex_group, at_most_target, target_forms, target_group, is_refused, refusal, refused_at, refused_of, refused_group, pair_form, pair_at, pair_forms, pairs_at, pairs_of, pair_group, edge_group, non_edge_group, encoding}
+use Rattle.graph_theory.proofs.ByPairs.{embeds-from_pairs}
 use Rattle.encoding_theory.proofs.PairTests.{allowed_from, compatible_from}
 use Rattle.encoding_theory.proofs.Counting.{count_one, some_passes, pick, pick_passes}
 use Rattle.encoding_theory.proofs.Collected.{satisfies_left, satisfies_right, satisfies_at, satisfies_where}
@@ -155,29 +156,9 @@ images_compatible q a p r s p_in r_in other = by-cases (is_linked q.pattern p r)
           back = free_match q.induced (edge q.pattern r p) _ d (no_edge (edge q.pattern r p) none.1);
         }
 
--- a map that is right by single vertices and by pairs embeds
-embeds_from_pairs : (q : Problem) (m : List ℕ) → Pairwise q m → Embeds q m
-embeds_from_pairs q m w = record {
-  size_is = w.size_is;
-  values = w.values;
-  distinct = λ p r p_in r_in same. distinct p r p_in r_in same (cases_eq p r);
-  labels = λ p p_in. (w.alone p p_in).label_is;
-  edges = λ p r p_in r_in. edges p r p_in r_in (cases_eq p r);
-}
-  where
-    distinct : (p r : ℕ) → p < size q.pattern → r < size q.pattern → slice_index m p ≡ slice_index m r → (p ≡ r) ⊎ (p ≡ r → ⊥) → p ≡ r
-    distinct p r p_in r_in same (inl e) = e
-    distinct p r p_in r_in same (inr other) = absurd ((w.pairs p r p_in r_in other).apart same)
-
-    edges : (p r : ℕ) → p < size q.pattern → r < size q.pattern → (p ≡ r) ⊎ (p ≡ r → ⊥)
-        → Matches q.induced (edge q.pattern p r) (edge q.target (slice_index m p) (slice_index m r))
-    edges p r p_in r_in (inl e) =
-        subst (λ (x : ℕ). Matches q.induced (edge q.pattern p x) (edge q.target (slice_index m p) (slice_index m x))) e (w.alone p p_in).loop_is
-    edges p r p_in r_in (inr other) = (w.pairs p r p_in r_in other).out
-
 -- the map that a solution shows embeds
 pub images_embed : (q : Problem) (a : ℕ → Bool) → Satisfies (encoding q) a → Embeds q (images q a)
-images_embed q a s = embeds_from_pairs q (images q a) (record {
+images_embed q a s = embeds-from_pairs q (images q a) (record {
   size_is = length-map-range_with_len (image q a) 0 (size q.pattern);
   values = λ p p_in. subst (λ (t : ℕ). t < size q.target) (sym (images_at q a p p_in)) (image_is q a p s p_in).0;
   alone = λ p p_in. subst (λ (t : ℕ). Allowed q p t) (sym (images_at q a p p_in)) (images_allowed q a p s p_in);

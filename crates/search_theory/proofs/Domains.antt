@@ -9,7 +9,7 @@ use Rattle.search_theory.specs.Fits.{GoesWith}
 use Rattle.search_theory.specs.Claims.{Pins, Quiet}
 use Rattle.search_theory.specs.Account.{AllDead, NotAmong}
 use Rattle.search_theory.specs.Laws.{SinglesEmbed, AllRefutedIsDead, DomainValuesFit, DomainLaws}
-use Rattle.search_theory.proofs.Pairs.{embeds-from_pairs}
+use Rattle.graph_theory.proofs.ByPairs.{embeds-from_pairs}
 
 -- quiet domains of one value each are an embedding
 pub singles_embed : SinglesEmbed

@@ -1,35 +1,14 @@
 -- An embedding, by its vertices one by one and in pairs.
 
-use Rattle.std.proofs.Common.{◌≡◌, ℕ, ◌<◌, ◌≤◌, List, slice_index, subst, sym, ◌⊎◌, inl, inr}
-use Rattle.std.proofs.lemmas.Bool.{cases_eq}
-use Rattle.graph_theory.specs.Graph.{Graph, size, edge}
+use Rattle.std.proofs.Common.{◌≡◌, ℕ, ◌<◌, ◌≤◌, List, slice_index, subst, sym}
+use Rattle.graph_theory.specs.Graph.{Graph, size}
 use Rattle.graph_theory.specs.Neighbours.{degree, common, sequence, IsKeptBy}
 use Rattle.graph_theory.proofs.NeighbourCounts.{degree_is_kept, sequence_is_kept, shared_are_kept, shared_is_symmetric}
 use Rattle.graph_theory.specs.Plain.{ArePlain}
 use Rattle.graph_theory.specs.Reversed.{reversed, reversed_problem, AreMutual}
 use Rattle.graph_theory.proofs.ReversedGraphs.{embeds_reversed, degree-mutual, sequence-mutual, common-mutual, mutual_of_plain}
 use Rattle.search_theory.specs.Consistency.{IsFirstValue, AreConsistent}
-use Rattle.graph_theory.specs.Embedding.{Problem, Embeds, Allowed, Compatible, Pairwise, Matches}
-
--- what is right vertex by vertex and pair by pair embeds
-pub embeds-from_pairs : (q : Problem) (m : List ℕ) → Pairwise q m → Embeds q m
-embeds-from_pairs q m w = record {
-  size_is = w.size_is;
-  values = w.values;
-  distinct = λ p r p_in r_in same. by_same p r p_in r_in same (cases_eq p r);
-  labels = λ p p_in. (w.alone p p_in).label_is;
-  edges = λ p r p_in r_in. by_edge p r p_in r_in (cases_eq p r);
-}
-  where
-    by_same : (p r : ℕ) → p < size q.pattern → r < size q.pattern → slice_index m p ≡ slice_index m r → (p ≡ r) ⊎ (p ≡ r → ⊥) → p ≡ r
-    by_same p r p_in r_in same (inl e) = e
-    by_same p r p_in r_in same (inr n) = absurd ((w.pairs p r p_in r_in n).apart same)
-
-    by_edge : (p r : ℕ) → p < size q.pattern → r < size q.pattern → (p ≡ r) ⊎ (p ≡ r → ⊥)
-        → Matches q.induced (edge q.pattern p r) (edge q.target (slice_index m p) (slice_index m r))
-    by_edge p r p_in r_in (inl e) =
-        subst (λ (v : ℕ). Matches q.induced (edge q.pattern p v) (edge q.target (slice_index m p) (slice_index m v))) e (w.alone p p_in).loop_is
-    by_edge p r p_in r_in (inr n) = (w.pairs p r p_in r_in n).out
+use Rattle.graph_theory.specs.Embedding.{Problem, Embeds, Allowed, Compatible}
 
 -- an embedding sends a vertex only where it is allowed by itself
 pub alone_of : (q : Problem) (m : List ℕ) (p t : ℕ) → Embeds q m → p < size q.pattern → slice_index m p ≡ t → Allowed q p t

@@ -5,11 +5,11 @@ use Rattle.bit_rows.proofs.Rows.{has_at}
 use Rattle.domain_bits.proofs.Filtering.{Filtering, filtering_room, filtering_more, filtering_past, filtering_count, few_gone}
 use Rattle.domain_bits.proofs.row_filters.filter_row.Goals as goal
 
-pub loop-block-preserved-then-is_kept : goal.loop-block-preserved-then-is_kept
-loop-block-preserved-then-is_kept g c = record {
+pub loop-block-preserved-then-are_within : goal.loop-block-preserved-then-are_within
+loop-block-preserved-then-are_within g c = record {
   filtering = subst (λ n. Filtering c.args.domain.now c.loop-block.domain (has c.args.keep.now) n c.args.p (g.T.Trail.removed c.args.trail.now) (g.T.Trail.removed c.loop-block.trail) c.loop-block.gone) (omega arith)
       (filtering_past c.args.domain.now c.loop-block.domain c.args.keep.now (4 * c.loop-block.block) 4 c.args.p _ _ c.loop-block.gone c.loop-block.invariant.filtering
-      (λ k. Fits-lt-pow (c.type_inv.keep k)) (λ k low high. c.if-is_kept.ensures refl k low high));
+      (λ k. Fits-lt-pow (c.type_inv.keep k)) (λ k low high. c.if-are_within.ensures refl k low high));
   room = c.loop-block.invariant.room;
 }
 
