@@ -6,3 +6,4 @@ pub mod Operations
 pub mod PutLines
 pub mod Ranges
 pub mod PlainLines
+pub mod Gathered

@@ -10,6 +10,7 @@
 
 pub mod dropping;
 pub mod fault;
+pub(crate) mod gathering;
 pub(crate) mod items;
 pub(crate) mod lists;
 pub(crate) mod pieces;

@@ -10,9 +10,10 @@ ghost use Rattle.log_theory.specs.Profiles.{words_in, told_in, read_in};
 ghost use Rattle.log_theory.specs.declared.profile.Profile.TheVariants.{Plain};
 ghost use Rattle.proof_log.specs.Writing.{op_text, spaced_ref, spaced_literal, spaced_one};
 
+use crate::gathering::put_gathered;
 use itoa::Buffer;
 use log_theory::{Name, Op, Profile, Ref, Step, profile_laws};
-use outer_io::{Failed, Sink, put_all};
+use outer_io::{Failed, Sink};
 use proof_theory::Literal;
 
 /// Puts a text and a name.
@@ -23,7 +24,7 @@ fn write_name<S: Sink>(front: &[u8], name: Name, sink: &mut S) -> Result<(), Fai
 {
     let mut owner = Buffer::new();
     let mut number = Buffer::new();
-    put_all(
+    put_gathered(
         &[
             front,
             owner.format(name.owner).as_bytes(),
@@ -42,9 +43,9 @@ fn write_ref<S: Sink>(front: &[u8], reference: Ref, sink: &mut S) -> Result<(), 
 {
     let mut digits = Buffer::new();
     match reference {
-        Ref::Line(number) => put_all(&[front, digits.format(number).as_bytes()], sink),
+        Ref::Line(number) => put_gathered(&[front, digits.format(number).as_bytes()], sink),
         Ref::Made(name) => write_name(front, name, sink),
-        Ref::Shared(row) => put_all(&[front, b"#", digits.format(row).as_bytes()], sink),
+        Ref::Shared(row) => put_gathered(&[front, b"#", digits.format(row).as_bytes()], sink),
     }
 }
 
@@ -57,9 +58,9 @@ fn write_literal<S: Sink>(literal: Literal, sink: &mut S) -> Result<(), Failed>
     let mut digits = Buffer::new();
     let number = digits.format(literal.variable).as_bytes();
     if literal.negated {
-        put_all(&[b" ~x", number], sink)
+        put_gathered(&[b" ~x", number], sink)
     } else {
-        put_all(&[b" x", number], sink)
+        put_gathered(&[b" x", number], sink)
     }
 }
 
@@ -70,7 +71,7 @@ fn write_one<S: Sink>(variable: u32, sink: &mut S) -> Result<(), Failed>
     ensures cause { HasBlame S.spot S.rest S.faults S.blamed sink.old sink.new result }
 {
     let mut digits = Buffer::new();
-    put_all(&[b" x", digits.format(variable).as_bytes()], sink)
+    put_gathered(&[b" x", digits.format(variable).as_bytes()], sink)
 }
 
 /// Puts an operation, a blank in front of each of its words.
@@ -84,8 +85,8 @@ fn write_op<S: Sink>(op: Op, sink: &mut S) -> Result<(), Failed>
         Op::Push(reference) => write_ref(b" ", reference, sink),
         Op::Axiom(literal) => write_literal(literal, sink),
         Op::Add => sink.put(b" +"),
-        Op::Times(number) => put_all(&[b" ", digits.format(number).as_bytes(), b" *"], sink),
-        Op::Divide(number) => put_all(&[b" ", digits.format(number).as_bytes(), b" d"], sink),
+        Op::Times(number) => put_gathered(&[b" ", digits.format(number).as_bytes(), b" *"], sink),
+        Op::Divide(number) => put_gathered(&[b" ", digits.format(number).as_bytes(), b" d"], sink),
         Op::Saturate => sink.put(b" s"),
     }
 }
@@ -233,7 +234,7 @@ fn write_n<S: Sink>(row: u32, name: Name, sink: &mut S) -> Result<(), Failed>
     let mut digits = Buffer::new();
     let mut owner = Buffer::new();
     let mut number = Buffer::new();
-    put_all(
+    put_gathered(
         &[
             b"n ",
             digits.format(row).as_bytes(),
@@ -284,7 +285,7 @@ fn write_model<S: Sink>(constraints: u64, sink: &mut S) -> Result<(), Failed>
     ensures cause { HasBlame S.spot S.rest S.faults S.blamed sink.old sink.new result }
 {
     let mut digits = Buffer::new();
-    put_all(&[b"m ", digits.format(constraints).as_bytes(), b"\n"], sink)
+    put_gathered(&[b"m ", digits.format(constraints).as_bytes(), b"\n"], sink)
 }
 
 /// Puts the line of a step in a log with hints.
