@@ -52,8 +52,9 @@ pub fn and_into(into: &mut [u64], from: &[u64])
     for block in 0..fours {
         and_four(into, from, LANES * block);
     }
-    for i in LANES * fours..into.len() {
-        into[i] &= from[i];
+    let start = LANES * fours;
+    for i in 0..into.len() % LANES {
+        into[start + i] &= from[start + i];
     }
 }
 
@@ -66,8 +67,9 @@ pub fn and_not_into(into: &mut [u64], from: &[u64])
     for block in 0..fours {
         and_not_four(into, from, LANES * block);
     }
-    for i in LANES * fours..into.len() {
-        into[i] &= !from[i];
+    let start = LANES * fours;
+    for i in 0..into.len() % LANES {
+        into[start + i] &= !from[start + i];
     }
 }
 
@@ -80,8 +82,9 @@ pub fn or_into(into: &mut [u64], from: &[u64])
     for block in 0..fours {
         or_four(into, from, LANES * block);
     }
-    for i in LANES * fours..into.len() {
-        into[i] |= from[i];
+    let start = LANES * fours;
+    for i in 0..into.len() % LANES {
+        into[start + i] |= from[start + i];
     }
 }
 

@@ -1,4 +1,4 @@
-use Rattle.std.proofs.Common.{◌*◌, bit_or}
+use Rattle.std.proofs.Common.{◌+◌, ◌*◌, bit_or}
 use Rattle.bit_rows.specs.BitRows.{AreChanged}
 use Rattle.bit_rows.proofs.kernels.or_into.Given as goal
 
@@ -6,4 +6,4 @@ abbrev pub invariant-loop-block : goal.invariant-loop-block
 invariant-loop-block l = AreChanged bit_or 0 (4 * l.block) l.fn.into l.from l.into
 
 abbrev pub invariant-loop-i : goal.invariant-loop-i
-invariant-loop-i l = AreChanged bit_or 0 l.i l.fn.into l.from l.into
+invariant-loop-i l = AreChanged bit_or 0 (l.start + l.i) l.fn.into l.from l.into
