@@ -1,11 +1,11 @@
 -- Counts of values, one more for each member of a row, and the values that are counted often enough.
 
-use Rattle.std.proofs.Common.{◌≡◌, ℕ, ◌*◌, ◌+◌, ◌/◌, ◌%◌, ◌^◌, ◌<◌, ◌≤◌, Bool, true, false, not, eqb, leb, nat_lt, ◌==◌, ◌&&◌, ◌||◌, List, length, get_or, refl, sym, ap, ◌∙◌, arith, inl, inr, ◌⊎◌, bit_and, bit_or, w64}
+use Rattle.std.proofs.Common.{◌≡◌, ℕ, ◌*◌, ◌+◌, ◌-◌, ◌/◌, ◌%◌, ◌^◌, ◌<◌, ◌≤◌, Bool, true, false, not, eqb, leb, nat_lt, ◌==◌, ◌&&◌, ◌||◌, List, length, take, drop, get_or, refl, sym, ap, ◌∙◌, arith, inl, inr, ◌⊎◌, bit_and, bit_or, w64}
 use Rattle.std.specs.Int.{from_bool, trailing_zeros}
 use Rattle.std.specs.Int.RustNames.{bit_xor}
 use Rattle.std.proofs.Math.ListN.{set}
 use Rattle.std.proofs.lemmas.Bool.{cases_eq, cases_lt, eq-eqb, ne_eqb, lt-ltb, le-ltb, le-leb, lt-leb, false≢true}
-use Rattle.std.proofs.lemmas.List.{get_or-set_same, get_or-set_other}
+use Rattle.std.proofs.lemmas.List.{get_or-set_same, get_or-set_other, get_or-take, get_or-drop}
 use Rattle.bit_rows.specs.BitRows.{is_set, has, word_values}
 use Rattle.bit_rows.proofs.WordBits.{is_set_and, is_set_or, is_set_pow, is_set-zero, low_bit, low_is_set, word_values-first, xor_same, xor_other, one_shifted}
 use Rattle.bit_rows.proofs.Rows.{has_past}
@@ -166,6 +166,18 @@ bit_more test word b n t b_in n_is t_is done todo = rw n_is (
         no true x = refl
         no false true = refl
         no false false = refl
+
+-- the bits of the part of the counts that belongs to a word
+pub part_counted : (counts part : List ℕ) (place to least v result : ℕ) → part ≡ take (to - 64 * place) (drop (64 * place) counts)
+    → ((b : ℕ) → b < length part → is_set result b ≡ enough part least b) → length part ≡ to - 64 * place
+    → v / 64 ≡ place → v < to → is_set result (v % 64) ≡ enough counts least v
+part_counted counts part place to least v result is bits long here v_in =
+    let place_is : 64 * place + v % 64 ≡ v = omega arith in
+    let within : v % 64 < to - 64 * place = omega arith in
+    let at : get_or part (v % 64) 0 ≡ get_or counts v 0 =
+    ap (λ (xs : List ℕ). get_or xs (v % 64) 0) is ∙ get_or-take (to - 64 * place) (drop (64 * place) counts) (v % 64) 0 within
+    ∙ get_or-drop (64 * place) counts (v % 64) 0 ∙ ap (λ (k : ℕ). get_or counts k 0) place_is in
+    bits (v % 64) (omega arith) ∙ ap (λ (n : ℕ). not (nat_lt n least)) at
 
 -- the values of a word that have been looked at stand in the other where they are counted often enough, and those that have not do not
 pub record CountedOf (test : ℕ → Bool) (place word rest kept : ℕ) : Type 0 where

@@ -52,8 +52,28 @@ pub fn keep_counted(row: &mut [u64], counts: &[u16], least: u16)
     }
 }
 
-/// Which values of one word of a row are counted at least so often. Cost: one step for each of them.
+/// From how many members on all counts of a word are looked at, which needs no step from member to member. (Sixteen members cost about as
+/// much as sixty-four counts one after another.)
+const MANY: u32 = 16;
+
+/// Which values of one word of a row are counted at least so often. Cost: one step for each of them, or for each count where they are many.
 fn word_counted(word: u64, place: usize, counts: &[u16], least: u16) -> u64
+    requires short { place < 1024 }
+    requires within { (v : ℕ) → v / 64 ≡ place → is_set word (v % 64) ≡ true
+        → v < length counts.now }
+    requires begins { 64 * place ≤ length counts.now }
+    ensures { (v : ℕ) → v / 64 ≡ place → is_set word (v % 64) ≡ true
+        → is_set result (v % 64) ≡ not (nat_lt (slice_index counts.now v) least) }
+{
+    if word.count_ones() < MANY {
+        members_counted(word, place, counts, least)
+    } else {
+        all_counted(place, counts, least)
+    }
+}
+
+/// Which values of one word of a row are counted at least so often, from member to member. Cost: one step for each of them.
+fn members_counted(word: u64, place: usize, counts: &[u16], least: u16) -> u64
     requires short { place < 1024 }
     requires within { (v : ℕ) → v / 64 ≡ place → is_set word (v % 64) ≡ true
         → v < length counts.now }
@@ -68,4 +88,29 @@ fn word_counted(word: u64, place: usize, counts: &[u16], least: u16) -> u64
         rest ^= 1 << bit;
     }
     kept
+}
+
+/// Which values of a word are counted at least so often, members or not. Cost: one step for each count.
+fn all_counted(place: usize, counts: &[u16], least: u16) -> u64
+    requires short { place < 1024 }
+    requires begins { 64 * place ≤ length counts.now }
+    ensures { (v : ℕ) → v / 64 ≡ place → v < length counts.now
+        → is_set result (v % 64) ≡ not (nat_lt (slice_index counts.now v) least) }
+{
+    let from = 64 * place;
+    let to = counts.len().min(from + 64);
+    bits_counted(&counts[from..to], least)
+}
+
+/// Bit b tells whether count b is at least so much. Cost: one step for each count.
+fn bits_counted(counts: &[u16], least: u16) -> u64
+    requires { length counts.now ≤ 64 }
+    ensures { (b : ℕ) → b < length counts.now
+        → is_set result b ≡ not (nat_lt (slice_index counts.now b) least) }
+{
+    let mut word = 0;
+    for b in 0..counts.len() {
+        word |= u64::from(counts[b] >= least) << b;
+    }
+    word
 }

@@ -1,7 +1,7 @@
 use Rattle.std.proofs.Common.{length}
 use Rattle.bit_rows.specs.BitRows.{word_values}
 use Rattle.bit_rows.proofs.Counting.{enough, CountedOf}
-use Rattle.bit_rows.proofs.counts.word_counted.Given as goal
+use Rattle.bit_rows.proofs.counts.members_counted.Given as goal
 
 abbrev pub invariant-loop-rest : goal.invariant-loop-rest
 invariant-loop-rest l = CountedOf (enough l.counts l.least) l.place l.word l.rest l.kept

@@ -2,7 +2,7 @@ use Rattle.std.proofs.Common.{leb, length, get_or, ◌+◌, ◌*◌, arith, w64}
 use Rattle.std.proofs.Math.Facts.{Fits-lt-pow}
 use Rattle.std.specs.Int.{trailing_zeros}
 use Rattle.bit_rows.proofs.Counting.{enough, enough_where, fewer, in_range, counted_none, counted_of, counted_last}
-use Rattle.bit_rows.proofs.counts.word_counted.Goals as goal
+use Rattle.bit_rows.proofs.counts.members_counted.Goals as goal
 
 pub loop-rest-init : goal.loop-rest-init
 loop-rest-init c = counted_none (enough c.args.counts.now c.args.least) c.args.place c.args.word
