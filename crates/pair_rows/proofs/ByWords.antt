@@ -7,9 +7,9 @@ use Rattle.graph_theory.specs.Embedding.{Problem, KeepsEdge, Matches}
 use Rattle.graph_theory.specs.Neighbours.{is_neighbour, common}
 use Rattle.graph_theory.specs.Reversed.{reversed, IsMutual, MutualShared}
 use Rattle.bit_rows.specs.BitRows.{has}
-use Rattle.graph_rows.specs.Labels.{HasZeroLabels}
+use Rattle.graph_rows.specs.Labels.{HasZeroLabels, agree}
 use Rattle.pair_rows.specs.declared.kinds.PairKind.{PairKind}
-use Rattle.pair_rows.specs.Kinds.{Joins, RowIs, Shares, MatchEdges, agree, IsTold, AreTold, Serve}
+use Rattle.pair_rows.specs.Kinds.{Joins, RowIs, Shares, MatchEdges, IsTold, AreTold, Serve}
 use Rattle.bit_rows.proofs.Filled.{FilledBelow}
 
 -- an edge of the pattern is kept

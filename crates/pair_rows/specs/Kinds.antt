@@ -1,6 +1,6 @@
 -- Kinds of pairs of pattern vertices, and the rows that belong to them.
 
-use Rattle.std.specs.Prelude.{◌≡◌, ℕ, ◌+◌, ◌*◌, ◌<◌, ◌≤◌, ◌↔◌, Bool, true, false, not, ◌⊎◌, List, Option, Some, None, length, take, slice_get, slice_index}
+use Rattle.std.specs.Prelude.{◌≡◌, ℕ, ◌+◌, ◌*◌, ◌<◌, ◌≤◌, ◌↔◌, Bool, true, false, ◌⊎◌, List, Option, Some, None, length, take, slice_get, slice_index}
 use Rattle.graph_theory.specs.Graph.{Graph, size, edge}
 use Rattle.graph_theory.specs.Embedding.{Problem, Matches}
 use Rattle.graph_theory.specs.Neighbours.{common}
@@ -35,12 +35,6 @@ pub record Shares (q : Problem) (k : PairKind) (t u : ℕ) : Type 0 where
 pub record MatchEdges (q : Problem) (k : PairKind) (t u : ℕ) : Type 0 where
   pub out : Matches q.induced k.out (edge q.target t u)
   pub back : Matches q.induced k.back (edge q.target u t)
-
--- An edge goes to an edge, and in the induced kind no edge to none; labels aside.
-abbrev pub agree : Bool → Bool → Bool → Bool
-agree induced true image = image
-agree true false image = not image
-agree false false image = true
 
 -- Where an edge stands it has label 0, as all edges of the target: so bits tell what matches it.
 abbrev pub IsTold : Graph → Option ℕ → Type 0

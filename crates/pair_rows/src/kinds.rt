@@ -6,7 +6,8 @@ ghost use Rattle.graph_theory.specs.Neighbours.{common, is_neighbour};
 ghost use Rattle.graph_theory.specs.Embedding.{Matches};
 ghost use Rattle.graph_theory.specs.Reversed.{reversed, IsMutual};
 ghost use Rattle.bit_rows.specs.BitRows.{has, words_for};
-ghost use Rattle.pair_rows.specs.Kinds.{kind_of, Joins, Shares, MatchEdges, agree, IsTold, AreTold, Serve, ServeAll, RowIs, HasRow, AreKinds, KindsStay, WordsStay};
+ghost use Rattle.graph_rows.specs.Labels.{agree};
+ghost use Rattle.pair_rows.specs.Kinds.{kind_of, Joins, Shares, MatchEdges, IsTold, AreTold, Serve, ServeAll, RowIs, HasRow, AreKinds, KindsStay, WordsStay};
 
 use bit_rows::{
     and_into, and_not_into, clear, fill_below, keep_counted, next_member, set_bit, unset_bit,

@@ -4,9 +4,9 @@ use Rattle.std.proofs.Common.{◌≡◌, ℕ, ◌<◌, ◌==◌, nat_lt, Bool, t
 use Rattle.std.proofs.lemmas.Bool.{or_parts, lt-ltb}
 use Rattle.graph_theory.specs.Graph.{size, edge}
 use Rattle.graph_theory.specs.Embedding.{Problem}
-use Rattle.graph_rows.specs.Labels.{HasZeroLabels}
+use Rattle.graph_rows.specs.Labels.{HasZeroLabels, agree}
 use Rattle.encoding_theory.specs.Pairs.{is_match, is_linked, is_compatible}
-use Rattle.pb_encoding.specs.Agreement.{agree, may_go}
+use Rattle.pb_encoding.specs.Agreement.{may_go}
 
 -- Edges that do not agree do not match.
 unmatched : (induced : Bool) (e f : Option ℕ) → agree induced (is_some e) (is_some f) ≡ false → is_match induced e f ≡ false

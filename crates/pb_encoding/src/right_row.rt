@@ -4,9 +4,9 @@
 ghost use Rattle.std.specs.Prelude.{◌≡◌, ◌<◌, ◌&&◌, ℕ, nat_lt, false, length};
 ghost use Rattle.graph_theory.specs.Graph.{size};
 ghost use Rattle.bit_rows.specs.BitRows.{has, words_for};
-ghost use Rattle.graph_rows.specs.Labels.{HasZeroLabels};
+ghost use Rattle.graph_rows.specs.Labels.{HasZeroLabels, agree};
 ghost use Rattle.encoding_theory.specs.Pairs.{is_compatible, is_linked};
-ghost use Rattle.pb_encoding.specs.Agreement.{agree, may_go};
+ghost use Rattle.pb_encoding.specs.Agreement.{may_go};
 
 use bit_rows::{and_into, and_not_into, fill_below, unset_bit};
 use graph_rows::Problem;
