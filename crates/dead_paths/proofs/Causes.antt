@@ -1,5 +1,5 @@
 -- What pushing the references of a change, or of an end, comes to.
-use Rattle.std.proofs.Common.{◌≡◌, ℕ, ◌<◌, List, [], ◌∷◌, ◌++◌, Option, Some, Result, Ok, Err, OnOk, inl, inr, refl, sym, ap, subst, ◌∙◌, append_assoc}
+use Rattle.std.proofs.Common.{◌≡◌, ℕ, ◌<◌, Bool, List, [], ◌∷◌, ◌++◌, Option, Some, Result, Ok, Err, OnOk, inl, inr, refl, sym, ap, subst, ◌∙◌, append_assoc}
 use Rattle.std.specs.List.{slice_range}
 use Rattle.std.specs.declared.alloc.AllocError.{AllocError}
 use Rattle.graph_theory.specs.Graph.{size}
@@ -17,13 +17,14 @@ use Rattle.propagation.specs.declared.change.Cause.TheVariants as cause
 use Rattle.propagation.specs.declared.change.What.{What}
 use Rattle.propagation.specs.declared.change.What.TheVariants.{One, Others}
 use Rattle.propagation.specs.declared.change.Place.{Place}
-use Rattle.propagation.specs.Recording.{Change, change_by}
-use Rattle.dead_theory.specs.Changes.{known_after, ExplainsChange, ExplainAll, set_forms}
+use Rattle.propagation.specs.Recording.{change_by}
+use Rattle.dead_theory.specs.Changes.{Chosen, known_after, ExplainsChange, ExplainAll, set_forms}
 use Rattle.kept_lines.specs.Frames.{Frame, IsFrameOf, IsNamed, AreNamed, Goes, Lasts}
 use Rattle.kept_lines.proofs.Going.{goes_stay, goes_as, goes_then, goes_beside}
 use Rattle.kept_lines.proofs.Naming.{named_later, are_named_later, named_behind, named_pushed}
 use Rattle.dead_paths.specs.Lines.{at_least_ref, at_most_ref, at_least_refs}
 use Rattle.dead_paths.specs.Making.{IsRowLine, GivesFirst, GivesRow, AreRowsNamed}
+use Rattle.dead_paths.specs.Choosing.{asked_of}
 use Rattle.dead_paths.specs.Explaining.{Explained, Knowing, Adds, AddsFor, AddsNogood, MayAdd, IsSetPushed, IsChangePushed, AreChangesPushed}
 use Rattle.dead_paths.proofs.LineRefs.{at_least_named, at_most_named, at_leasts_named}
 
@@ -61,75 +62,75 @@ nogood_named q rows owner w names known but forms k old new frame nogood named h
 
 -- ---- causes
 
-module _ (q : Problem) (rows : List Row) (known : List (ℕ × ℕ)) (w : Frame) (names : ℕ → Ref) (knows now : List Form → Type 0) (a b : Option (List Step)) (numbers : List ℕ) (what : What) (from : ℕ) where
+module _ (q : Problem) (rows : List Row) (known : List (ℕ × ℕ)) (w : Frame) (names : ℕ → Ref) (knows now : List Form → Type 0) (a b : Option (List Step)) (numbers : List ℕ) (what : What) (from : ℕ) (by_edges : Bool) where
   -- A first domain.
   pub first_goes : (r : ℕ) (why : Cause) (old new : List Ref) (line : Ref) → what ≡ One r why → why ≡ cause.First → new ≡ old ++ line ∷ [] → Goes w a b knows (GivesFirst q w r (Ok line) now)
-      → Goes w a b (Knowing knows (AreRowsNamed q rows w names)) (IsChangePushed q rows known (change_by numbers what from) w old new now (Ok tt))
+      → Goes w a b (Knowing knows (AreRowsNamed q rows w names)) (IsChangePushed q rows known (asked_of by_edges (change_by numbers what from)) w old new now (Ok tt))
   first_goes r why old new line is by_first pushed given =
       let at : what ≡ One r cause.First = is ∙ ap (λ (c : Cause). let x : What = One r c in x) by_first in
-      goes_as w a b knows (GivesFirst q w r (Ok line) now) (Knowing knows (AreRowsNamed q rows w names)) (IsChangePushed q rows known (change_by numbers what from) w old new now (Ok tt)) (λ forms h. h.0)
+      goes_as w a b knows (GivesFirst q w r (Ok line) now) (Knowing knows (AreRowsNamed q rows w names)) (IsChangePushed q rows known (asked_of by_edges (change_by numbers what from)) w old new now (Ok tt)) (λ forms h. h.0)
       (λ forms h. (
         h.0,
         record {
           own = h.1.line ∷ [];
-          explains = subst (λ (x : What). ExplainsChange q rows known (change_by numbers x from) (h.1.line ∷ [])) (sym at) (h.1.line, refl, h.1.forces);
+          explains = subst (λ (x : What). ExplainsChange q rows known (asked_of by_edges (change_by numbers x from)) (h.1.line ∷ [])) (sym at) (h.1.line, refl, h.1.forces);
           adds = adds_one w old new line h.1.line forms pushed h.1.named;
         },
       )) given
 
   -- A decided vertex.
   pub row_goes : (owner p t r : ℕ) (why : Cause) (old mid new : List Ref) (line : Ref) → IsFrameOf q owner w → p < size q.pattern → what ≡ One r why → why ≡ cause.Vertex p t
-      → MayAdd q known p t old mid → new ≡ mid ++ line ∷ [] → Goes w a b knows (GivesRow q w p t r (Ok line) now)
-      → Goes w a b (Knowing knows (AreRowsNamed q rows w names)) (IsChangePushed q rows known (change_by numbers what from) w old new now (Ok tt))
+      → MayAdd q known p t old mid → new ≡ mid ++ line ∷ [] → Goes w a b knows (GivesRow by_edges q w p t r (Ok line) now)
+      → Goes w a b (Knowing knows (AreRowsNamed q rows w names)) (IsChangePushed q rows known (asked_of by_edges (change_by numbers what from)) w old new now (Ok tt))
   row_goes owner p t r why old mid new line frame inside is by_vertex begun pushed given =
       let at : what ≡ One r (cause.Vertex p t) = is ∙ ap (λ (c : Cause). let x : What = One r c in x) by_vertex in
-      goes_as w a b knows (GivesRow q w p t r (Ok line) now) (Knowing knows (AreRowsNamed q rows w names)) (IsChangePushed q rows known (change_by numbers what from) w old new now (Ok tt)) (λ forms h. h.0)
+      goes_as w a b knows (GivesRow by_edges q w p t r (Ok line) now) (Knowing knows (AreRowsNamed q rows w names)) (IsChangePushed q rows known (asked_of by_edges (change_by numbers what from)) w old new now (Ok tt)) (λ forms h. h.0)
       (λ forms h. (h.0, by at forms h.1 begun)) given
     where
-      by : what ≡ One r (cause.Vertex p t) → (forms : List Form) → IsRowLine q w p t r line forms → MayAdd q known p t old mid → AddsFor q rows known (change_by numbers what from) w old new forms
+      by : what ≡ One r (cause.Vertex p t) → (forms : List Form) → IsRowLine by_edges q w p t r line forms → MayAdd q known p t old mid → AddsFor q rows known (asked_of by_edges (change_by numbers what from)) w old new forms
       by at forms h (inl held) = record {
         own = h.line ∷ [];
-        explains = subst (λ (x : What). ExplainsChange q rows known (change_by numbers x from) (h.line ∷ [])) (sym at) (h.line, inl (refl, held.1), h.forces);
+        explains = subst (λ (x : What). ExplainsChange q rows known (asked_of by_edges (change_by numbers x from)) (h.line ∷ [])) (sym at) (h.line, inl (refl, held.1), h.forces);
         adds = adds_one w old new line h.line forms (pushed ∙ ap (λ (xs : List Ref). xs ++ line ∷ []) held.0) h.named;
       }
       by at forms h (inr begun_) = record {
         own = at_least q p ∷ h.line ∷ [];
-        explains = subst (λ (x : What). ExplainsChange q rows known (change_by numbers x from) (at_least q p ∷ h.line ∷ [])) (sym at) (h.line, inr refl, h.forces);
+        explains = subst (λ (x : What). ExplainsChange q rows known (asked_of by_edges (change_by numbers x from)) (at_least q p ∷ h.line ∷ [])) (sym at) (h.line, inr refl, h.forces);
         adds = adds_two w old mid new (at_least_ref q p) line (at_least q p) h.line forms begun_ pushed (at_least_named q owner w forms p frame inside) h.named;
       }
 
   -- A set.
   pub set_goes_on : (k : Place) (old new : List Ref) (result : Result (Unit {0}) AllocError) → what ≡ Others k
       → Goes w a b knows (IsSetPushed q (slice_range numbers k.start k.middle) (slice_range numbers k.middle k.end) w old new now result)
-      → Goes w a b (Knowing knows (AreRowsNamed q rows w names)) (IsChangePushed q rows known (change_by numbers what from) w old new now result)
+      → Goes w a b (Knowing knows (AreRowsNamed q rows w names)) (IsChangePushed q rows known (asked_of by_edges (change_by numbers what from)) w old new now result)
   set_goes_on k old new result is goes =
       goes_as w a b knows (IsSetPushed q (slice_range numbers k.start k.middle) (slice_range numbers k.middle k.end) w old new now result) (Knowing knows (AreRowsNamed q rows w names))
-      (IsChangePushed q rows known (change_by numbers what from) w old new now result) (λ forms h. h.0) (λ forms h. by result forms h) goes
+      (IsChangePushed q rows known (asked_of by_edges (change_by numbers what from)) w old new now result) (λ forms h. h.0) (λ forms h. by result forms h) goes
     where
       by : (result : Result (Unit {0}) AllocError) (forms : List Form) → IsSetPushed q (slice_range numbers k.start k.middle) (slice_range numbers k.middle k.end) w old new now result forms
-          → IsChangePushed q rows known (change_by numbers what from) w old new now result forms
+          → IsChangePushed q rows known (asked_of by_edges (change_by numbers what from)) w old new now result forms
       by (Ok u) forms h = (
         h.0,
         record {
           own = set_forms q (slice_range numbers k.start k.middle) (slice_range numbers k.middle k.end);
-          explains = subst (λ (x : What). ExplainsChange q rows known (change_by numbers x from) (set_forms q (slice_range numbers k.start k.middle) (slice_range numbers k.middle k.end))) (sym is) refl;
+          explains = subst (λ (x : What). ExplainsChange q rows known (asked_of by_edges (change_by numbers x from)) (set_forms q (slice_range numbers k.start k.middle) (slice_range numbers k.middle k.end))) (sym is) refl;
           adds = h.1;
         },
       )
       by (Err e) forms h = tt
 
-module _ (q : Problem) (rows : List Row) (known : List (ℕ × ℕ)) (w : Frame) (names : ℕ → Ref) (knows : List Form → Type 0) (kept : Option (List Step)) (numbers : List ℕ) (what : What) (from : ℕ) where
+module _ (q : Problem) (rows : List Row) (known : List (ℕ × ℕ)) (w : Frame) (names : ℕ → Ref) (knows : List Form → Type 0) (kept : Option (List Step)) (numbers : List ℕ) (what : What) (from : ℕ) (by_edges : Bool) where
   -- A guess.
   pub guess_goes : (owner t r : ℕ) (why : Cause) (old new : List Ref) (ref : Ref) → IsFrameOf q owner w → r < size q.pattern → what ≡ One r why → why ≡ cause.Guess t → ref ≡ at_most_ref q r → new ≡ old ++ ref ∷ []
-      → Goes w kept kept (Knowing knows (AreRowsNamed q rows w names)) (IsChangePushed q rows known (change_by numbers what from) w old new knows (Ok tt))
+      → Goes w kept kept (Knowing knows (AreRowsNamed q rows w names)) (IsChangePushed q rows known (asked_of by_edges (change_by numbers what from)) w old new knows (Ok tt))
   guess_goes owner t r why old new ref frame inside is by_guess ref_is pushed =
       let at : what ≡ One r (cause.Guess t) = is ∙ ap (λ (c : Cause). let x : What = One r c in x) by_guess in
-      goes_stay w kept kept (Knowing knows (AreRowsNamed q rows w names)) (IsChangePushed q rows known (change_by numbers what from) w old new knows (Ok tt)) refl
+      goes_stay w kept kept (Knowing knows (AreRowsNamed q rows w names)) (IsChangePushed q rows known (asked_of by_edges (change_by numbers what from)) w old new knows (Ok tt)) refl
       (λ forms h. (
         h.0,
         record {
           own = at_most q r ∷ [];
-          explains = subst (λ (x : What). ExplainsChange q rows known (change_by numbers x from) (at_most q r ∷ [])) (sym at) refl;
+          explains = subst (λ (x : What). ExplainsChange q rows known (asked_of by_edges (change_by numbers x from)) (at_most q r ∷ [])) (sym at) refl;
           adds = adds_one w old new ref (at_most q r) forms pushed (subst (λ (x : Ref). IsNamed w forms x (at_most q r)) (sym ref_is) (at_most_named q owner w forms r frame inside));
         },
       ))
@@ -137,25 +138,25 @@ module _ (q : Problem) (rows : List Row) (known : List (ℕ × ℕ)) (w : Frame)
   -- A nogood.
   pub nogood_goes : (owner name r : ℕ) (why : Cause) (old new : List Ref) (result : Result (Unit {0}) AllocError) → IsFrameOf q owner w → IsNogoodRow rows name → what ≡ One r why
       → why ≡ cause.Nogood name → OnOk result (AddsNogood q rows names known (Some r) name old new)
-      → Goes w kept kept (Knowing knows (AreRowsNamed q rows w names)) (IsChangePushed q rows known (change_by numbers what from) w old new knows result)
+      → Goes w kept kept (Knowing knows (AreRowsNamed q rows w names)) (IsChangePushed q rows known (asked_of by_edges (change_by numbers what from)) w old new knows result)
   nogood_goes owner name r why old new result frame nogood is by_nogood pushed =
       let at : what ≡ One r (cause.Nogood name) = is ∙ ap (λ (c : Cause). let x : What = One r c in x) by_nogood in
-      goes_stay w kept kept (Knowing knows (AreRowsNamed q rows w names)) (IsChangePushed q rows known (change_by numbers what from) w old new knows result) refl (λ forms h. by at result pushed forms h)
+      goes_stay w kept kept (Knowing knows (AreRowsNamed q rows w names)) (IsChangePushed q rows known (asked_of by_edges (change_by numbers what from)) w old new knows result) refl (λ forms h. by at result pushed forms h)
     where
       by : what ≡ One r (cause.Nogood name) → (result : Result (Unit {0}) AllocError) → OnOk result (AddsNogood q rows names known (Some r) name old new) → (forms : List Form)
-          → Knowing knows (AreRowsNamed q rows w names) forms → IsChangePushed q rows known (change_by numbers what from) w old new knows result forms
+          → Knowing knows (AreRowsNamed q rows w names) forms → IsChangePushed q rows known (asked_of by_edges (change_by numbers what from)) w old new knows result forms
       by at (Ok u) adds forms h = (
         h.0,
         record {
           own = at_leasts q adds.vertices ++ pairs_clause q (path_at rows name) ∷ [];
-          explains = subst (λ (x : What). ExplainsChange q rows known (change_by numbers x from) (at_leasts q adds.vertices ++ pairs_clause q (path_at rows name) ∷ [])) (sym at) (adds.vertices, refl, adds.borne);
+          explains = subst (λ (x : What). ExplainsChange q rows known (asked_of by_edges (change_by numbers x from)) (at_leasts q adds.vertices ++ pairs_clause q (path_at rows name) ∷ [])) (sym at) (adds.vertices, refl, adds.borne);
           adds = nogood_named q rows owner w names known (Some r) forms name old new frame nogood h.1 adds;
         },
       )
       by at (Err e) adds forms h = tt
 
   -- After a refusal nothing is claimed.
-  pub none_goes : (c : Change) (old new : List Ref) (e : AllocError) → Goes w kept kept (Knowing knows (AreRowsNamed q rows w names)) (IsChangePushed q rows known c w old new knows (Err e))
+  pub none_goes : (c : Chosen) (old new : List Ref) (e : AllocError) → Goes w kept kept (Knowing knows (AreRowsNamed q rows w names)) (IsChangePushed q rows known c w old new knows (Err e))
   none_goes c old new e = goes_stay w kept kept (Knowing knows (AreRowsNamed q rows w names)) (IsChangePushed q rows known c w old new knows (Err e)) refl (λ forms h. tt)
 
 -- ---- changes one after the other
@@ -163,7 +164,7 @@ module _ (q : Problem) (rows : List Row) (known : List (ℕ × ℕ)) (w : Frame)
 pub rows_last : (q : Problem) (rows : List Row) (w : Frame) (names : ℕ → Ref) → Lasts (AreRowsNamed q rows w names)
 rows_last q rows w names = λ forms more named k nogood. named_later w forms more (names k) (pairs_clause q (path_at rows k)) (named k nogood)
 
-pub explained_last : (q : Problem) (rows : List Row) (path : List (ℕ × ℕ)) (w : Frame) (names : ℕ → Ref) (cs : List Change) (refs : List Ref) → Lasts (Explained q rows path w names cs refs)
+pub explained_last : (q : Problem) (rows : List Row) (path : List (ℕ × ℕ)) (w : Frame) (names : ℕ → Ref) (cs : List Chosen) (refs : List Ref) → Lasts (Explained q rows path w names cs refs)
 explained_last q rows path w names cs refs = λ forms more h. record {
   rows_named = rows_last q rows w names forms more h.rows_named;
   own = h.own;
@@ -172,7 +173,7 @@ explained_last q rows path w names cs refs = λ forms more h. record {
 }
 
 -- One more.
-explained_next : (q : Problem) (rows : List Row) (path : List (ℕ × ℕ)) (w : Frame) (names : ℕ → Ref) (cs : List Change) (c : Change) (old new : List Ref) (forms : List Form) → Explained q rows path w names cs old forms
+explained_next : (q : Problem) (rows : List Row) (path : List (ℕ × ℕ)) (w : Frame) (names : ℕ → Ref) (cs : List Chosen) (c : Chosen) (old new : List Ref) (forms : List Form) → Explained q rows path w names cs old forms
     → AddsFor q rows (known_after path cs) c w old new forms → Explained q rows path w names (c ∷ cs) new forms
 explained_next q rows path w names cs c old new forms h adds = record {
   rows_named = h.rows_named;
@@ -181,7 +182,7 @@ explained_next q rows path w names cs c old new forms h adds = record {
   named = subst (λ (rs : List Ref). AreNamed w forms rs (h.own ++ adds.own)) (sym adds.adds.front) (named_behind w forms old h.own adds.adds.more adds.own h.named adds.adds.named);
 }
 
-pub explained_goes : (q : Problem) (rows : List Row) (path : List (ℕ × ℕ)) (w : Frame) (names : ℕ → Ref) (knows mid now : List Form → Type 0) (a b c : Option (List Step)) (cs : List Change) (change : Change) (old new : List Ref)
+pub explained_goes : (q : Problem) (rows : List Row) (path : List (ℕ × ℕ)) (w : Frame) (names : ℕ → Ref) (knows mid now : List Form → Type 0) (a b c : Option (List Step)) (cs : List Chosen) (change : Chosen) (old new : List Ref)
     → Goes w a b (Knowing knows (AreRowsNamed q rows w names)) (Knowing mid (Explained q rows path w names cs old))
     → Goes w b c (Knowing mid (AreRowsNamed q rows w names)) (IsChangePushed q rows (known_after path cs) change w old new now (Ok tt))
     → Goes w a c (Knowing knows (AreRowsNamed q rows w names)) (Knowing now (Explained q rows path w names (change ∷ cs) new))
@@ -193,7 +194,7 @@ explained_goes q rows path w names knows mid now a b c cs change old new before 
     (goes_beside w b c (Knowing mid (AreRowsNamed q rows w names)) (IsChangePushed q rows (known_after path cs) change w old new now (Ok tt)) (Explained q rows path w names cs old) (explained_last q rows path w names cs old) one))
 
 -- None yet.
-pub explained_none : (q : Problem) (rows : List Row) (path : List (ℕ × ℕ)) (w : Frame) (names : ℕ → Ref) (knows : List Form → Type 0) (kept : Option (List Step)) (cs : List Change) (refs : List Ref) → cs ≡ [] → refs ≡ []
+pub explained_none : (q : Problem) (rows : List Row) (path : List (ℕ × ℕ)) (w : Frame) (names : ℕ → Ref) (knows : List Form → Type 0) (kept : Option (List Step)) (cs : List Chosen) (refs : List Ref) → cs ≡ [] → refs ≡ []
     → Goes w kept kept (Knowing knows (AreRowsNamed q rows w names)) (Knowing knows (Explained q rows path w names cs refs))
 explained_none q rows path w names knows kept cs refs none empty =
     goes_stay w kept kept (Knowing knows (AreRowsNamed q rows w names)) (Knowing knows (Explained q rows path w names cs refs)) refl (λ forms h. (
@@ -201,13 +202,13 @@ explained_none q rows path w names knows kept cs refs none empty =
       record {
         rows_named = h.1;
         own = [];
-        explained = subst (λ (xs : List Change). ExplainAll q rows path xs []) (sym none) refl;
+        explained = subst (λ (xs : List Chosen). ExplainAll q rows path xs []) (sym none) refl;
         named = subst (λ (rs : List Ref). AreNamed w forms rs []) (sym empty) tt;
       },
     ))
 
 -- After a refusal nothing is claimed of the changes.
-pub explained_refused : (q : Problem) (rows : List Row) (path : List (ℕ × ℕ)) (w : Frame) (names : ℕ → Ref) (knows mid now last : List Form → Type 0) (a b c : Option (List Step)) (cs all : List Change) (change : Change)
+pub explained_refused : (q : Problem) (rows : List Row) (path : List (ℕ × ℕ)) (w : Frame) (names : ℕ → Ref) (knows mid now last : List Form → Type 0) (a b c : Option (List Step)) (cs all : List Chosen) (change : Chosen)
     (old new refs : List Ref) (result : Result (Unit {0}) AllocError) (x : AllocError) → Goes w a b (Knowing knows (AreRowsNamed q rows w names)) (Knowing mid (Explained q rows path w names cs old))
     → Goes w b c (Knowing mid (AreRowsNamed q rows w names)) (IsChangePushed q rows (known_after path cs) change w old new now result)
     → Goes w a c (Knowing knows (AreRowsNamed q rows w names)) (AreChangesPushed q rows path w names all refs last (Err x))

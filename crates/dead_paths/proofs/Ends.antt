@@ -18,11 +18,10 @@ use Rattle.reason_theory.specs.Reasons.{not_there, pairs_clause, at_leasts, valu
 use Rattle.nogood_book.specs.declared.row.Row.{Row}
 use Rattle.nogood_book.specs.Rows.{AreInRange, path_at}
 use Rattle.nogood_book.specs.Places.{IsNogoodRow}
-use Rattle.propagation.specs.declared.change.Entry.{Entry}
 use Rattle.propagation.specs.declared.change.Failure.{Failure}
 use Rattle.propagation.specs.declared.change.Failure.TheVariants as failure
 use Rattle.propagation.specs.Recording.{Change, CountedSet, change_of}
-use Rattle.dead_theory.specs.Changes.{known_after, set_forms, AreGuessed, IsInProblem}
+use Rattle.dead_theory.specs.Changes.{Chosen, told_of, known_after, set_forms, AreGuessed, IsInProblem}
 use Rattle.dead_theory.specs.Ends as ends
 use Rattle.dead_theory.specs.Ends.{End, Empty, Whole, Short, Exhausted, end_of, EndsIn, EndNeeds}
 use Rattle.dead_theory.specs.Walks.{IsChoice, nothing, keeps, passes}
@@ -33,10 +32,11 @@ use Rattle.journals.specs.Keeping.{Keeps}
 use Rattle.kept_lines.specs.Frames.{Frame, IsFrameOf, AreNamed, MayFollow, Goes, Lasts, IsKept}
 use Rattle.kept_lines.proofs.Going.{goes_stay, goes_as, goes_then, goes_beside}
 use Rattle.kept_lines.proofs.Naming.{are_named_later, named_behind, all_found, named_rows}
+use Rattle.dead_paths.specs.declared.room.ChosenEntry.{ChosenEntry}
 use Rattle.dead_paths.specs.declared.dead_line.PathEnd.{PathEnd}
 use Rattle.dead_paths.specs.declared.dead_line.PathEnd.TheVariants as path_end
 use Rattle.dead_paths.specs.Making.{AreRowsNamed}
-use Rattle.dead_paths.specs.Choosing.{changes_in, IsOfRow, AreNameable}
+use Rattle.dead_paths.specs.Choosing.{chosen_of, chosen_in, IsOfRow, AreNameable}
 use Rattle.dead_paths.specs.Explaining.{IsLimited, Explained, Knowing, AreRefuted, end_by, IsEndIn, IsChosenFor, IsBegun, EndExplained, AddsNogood, AddsEnd, IsEndPushed, IsSetPushed, AreChangesPushed, AreGathered, IsDeadName, IsLastOf}
 use Rattle.dead_paths.proofs.LineRefs.{refs_behind}
 use Rattle.dead_paths.proofs.Causes.{nogood_named, explained_last}
@@ -48,17 +48,17 @@ frame_owner q a b w same frame = record { problem_is = frame.problem_is; owner_i
 
 -- ---- chosen changes by place
 
-pub nameable_at : (q : Problem) (rows : List Row) (numbers : List ℕ) (chosen : List Entry) (k : ℕ) (d : Entry) → k < length chosen → AreNameable q rows (changes_in numbers chosen)
-    → IsInProblem q (change_of numbers (get_or chosen k d)) × IsOfRow rows (change_of numbers (get_or chosen k d))
+pub nameable_at : (q : Problem) (rows : List Row) (numbers : List ℕ) (chosen : List ChosenEntry) (k : ℕ) (d : ChosenEntry) → k < length chosen → AreNameable q rows (chosen_in numbers chosen)
+    → IsInProblem q (change_of numbers (get_or chosen k d).entry) × IsOfRow rows (change_of numbers (get_or chosen k d).entry)
 nameable_at q rows numbers [] k d below h = absurd (omega (arith, below))
 nameable_at q rows numbers (e ∷ chosen) zero d below h = h.0
 nameable_at q rows numbers (e ∷ chosen) (suc k) d below h = nameable_at q rows numbers chosen k d (omega (arith, below)) h.1
 
-pub changes_drop : (numbers : List ℕ) (chosen : List Entry) (k left : ℕ) (d : Entry) → k < length chosen → left ≡ suc k
-    → changes_in numbers (drop k chosen) ≡ change_of numbers (get_or chosen k d) ∷ changes_in numbers (drop left chosen)
-changes_drop numbers chosen k left d below is = by chosen k below ∙ ap (λ (n : ℕ). change_of numbers (get_or chosen k d) ∷ changes_in numbers (drop n chosen)) (sym is)
+pub changes_drop : (numbers : List ℕ) (chosen : List ChosenEntry) (k left : ℕ) (d : ChosenEntry) → k < length chosen → left ≡ suc k
+    → chosen_in numbers (drop k chosen) ≡ chosen_of numbers (get_or chosen k d) ∷ chosen_in numbers (drop left chosen)
+changes_drop numbers chosen k left d below is = by chosen k below ∙ ap (λ (n : ℕ). chosen_of numbers (get_or chosen k d) ∷ chosen_in numbers (drop n chosen)) (sym is)
   where
-    by : (chosen : List Entry) (k : ℕ) → k < length chosen → changes_in numbers (drop k chosen) ≡ change_of numbers (get_or chosen k d) ∷ changes_in numbers (drop (suc k) chosen)
+    by : (chosen : List ChosenEntry) (k : ℕ) → k < length chosen → chosen_in numbers (drop k chosen) ≡ chosen_of numbers (get_or chosen k d) ∷ chosen_in numbers (drop (suc k) chosen)
     by [] k below = absurd (omega (arith, below))
     by (e ∷ chosen) zero below = refl
     by (e ∷ chosen) (suc k) below = by chosen k (omega (arith, below))
@@ -99,7 +99,7 @@ range_at q (x ∷ path) (suc i) d below range = range_at q path i d (omega (arit
 -- ---- guesses
 
 -- What is chosen of guesses of the path are guesses of the path.
-pub guessed_chosen : (q : Problem) (rows : List Row) (path : List (ℕ × ℕ)) (cs chosen : List Change) (needed : ℕ → ℕ → Bool) → IsChoice q rows path cs chosen needed → AreGuessed path cs → AreGuessed path chosen
+pub guessed_chosen : (q : Problem) (rows : List Row) (path : List (ℕ × ℕ)) (cs : List Change) (chosen : List Chosen) (needed : ℕ → ℕ → Bool) → IsChoice q rows path cs chosen needed → AreGuessed path cs → AreGuessed path (told_of chosen)
 guessed_chosen q rows path _ _ _ (nothing needed) g = tt
 guessed_chosen q rows path _ _ _ (keeps c cs chosen needed now rests rest) g = (g.0, guessed_chosen q rows path cs chosen now rest g.1)
 guessed_chosen q rows path _ _ _ (passes c cs chosen needed may rest) g = guessed_chosen q rows path cs chosen needed rest g.1
@@ -107,7 +107,7 @@ guessed_chosen q rows path _ _ _ (passes c cs chosen needed may rest) g = guesse
 -- ---- the line
 
 -- Both are pushed: the changes, then the end.
-gathered : (q : Problem) (rows : List Row) (w : Frame) (path : List (ℕ × ℕ)) (e : End) (refuted : List Ref) (now : List Form → Type 0) (names : ℕ → Ref) (cs : List Change) (old new : List Ref) (result : Result (Unit {0}) AllocError)
+gathered : (q : Problem) (rows : List Row) (w : Frame) (path : List (ℕ × ℕ)) (e : End) (refuted : List Ref) (now : List Form → Type 0) (names : ℕ → Ref) (cs : List Chosen) (old new : List Ref) (result : Result (Unit {0}) AllocError)
     (forms : List Form) → IsEndPushed q rows path (known_after path cs) e w old new now result forms → Explained q rows path w names cs old forms → AreGathered q rows w path cs e new now result forms
 gathered q rows w path e refuted now names cs old new (Ok u) forms pushed h = (
   pushed.0,
@@ -121,7 +121,7 @@ gathered q rows w path e refuted now names cs old new (Ok u) forms pushed h = (
 )
 gathered q rows w path e refuted now names cs old new (Err x) forms pushed h = tt
 
-pub gather_goes : (q : Problem) (rows : List Row) (w : Frame) (names : ℕ → Ref) (path : List (ℕ × ℕ)) (e : End) (refuted : List Ref) (knows mid now : List Form → Type 0) (a b c : Option (List Step)) (cs : List Change)
+pub gather_goes : (q : Problem) (rows : List Row) (w : Frame) (names : ℕ → Ref) (path : List (ℕ × ℕ)) (e : End) (refuted : List Ref) (knows mid now : List Form → Type 0) (a b c : Option (List Step)) (cs : List Chosen)
     (old new : List Ref) (result : Result (Unit {0}) AllocError) → Goes w a b (Knowing knows (AreRowsNamed q rows w names)) (AreChangesPushed q rows path w names cs old mid (Ok tt))
     → Goes w b c (Knowing mid (IsBegun q rows w names path e refuted)) (IsEndPushed q rows path (known_after path cs) e w old new now result)
     → Goes w a c (Knowing knows (IsBegun q rows w names path e refuted)) (AreGathered q rows w path cs e new now result)
@@ -140,8 +140,8 @@ gather_goes q rows w names path e refuted knows mid now a b c cs old new result 
     (explained_last q rows path w names cs old) ends))
 
 -- The path's clause may follow.
-pub dead_follows : (q : Problem) (rows : List Row) (owner : ℕ) (w : Frame) (path : List (ℕ × ℕ)) (changes chosen : List Change) (e : End) (refs : List Ref) (name : Name) (forms : List Form) → IsFrameOf q owner w
-    → Dies q rows path changes e → IsChosenFor q rows path changes chosen e → AreGuessed path chosen → EndExplained q rows w path chosen e refs forms
+pub dead_follows : (q : Problem) (rows : List Row) (owner : ℕ) (w : Frame) (path : List (ℕ × ℕ)) (changes : List Change) (chosen : List Chosen) (e : End) (refs : List Ref) (name : Name) (forms : List Form) → IsFrameOf q owner w
+    → Dies q rows path changes e → IsChosenFor q rows path changes chosen e → AreGuessed path (told_of chosen) → EndExplained q rows w path chosen e refs forms
     → MayFollow w forms (U name (map (not_there q) path) refs) (pairs_clause q path)
 dead_follows q rows owner w path changes chosen e refs name forms frame dies choice guessed ended = record {
   made = λ look finds own.
@@ -152,7 +152,7 @@ dead_follows q rows owner w path changes chosen e refs name forms frame dies cho
 }
 
 -- And is kept.
-pub dead_goes : (q : Problem) (rows : List Row) (w : Frame) (path : List (ℕ × ℕ)) (cs : List Change) (e : End) (refs : List Ref) (now : List Form → Type 0) (a b c : Option (List Step)) (Before : List Form → Type 0) (n : Name)
+pub dead_goes : (q : Problem) (rows : List Row) (w : Frame) (path : List (ℕ × ℕ)) (cs : List Chosen) (e : End) (refs : List Ref) (now : List Form → Type 0) (a b c : Option (List Step)) (Before : List Form → Type 0) (n : Name)
     → Lasts now → Goes w a b Before (AreGathered q rows w path cs e refs now (Ok tt)) → Goes w b c (EndExplained q rows w path cs e refs) (IsKept w (Ok n) (pairs_clause q path))
     → Goes w a c Before (IsDeadName q path w now (Ok (Some n)))
 dead_goes q rows w path cs e refs now a b c Before n lasts first kept =
@@ -175,7 +175,7 @@ dead_off q path w now None Before off = tt
 dead_off q path w now (Some steps) Before off = absurd cc
 
 -- What is chosen for the end, whatever is refuted.
-pub chosen_for : (q : Problem) (rows : List Row) (path : List (ℕ × ℕ)) (cs chosen : List Change) (e : PathEnd) (short : Option CountedSet) (values : List ℕ) → IsChosenFor q rows path cs chosen (end_by e short [])
+pub chosen_for : (q : Problem) (rows : List Row) (path : List (ℕ × ℕ)) (cs : List Change) (chosen : List Chosen) (e : PathEnd) (short : Option CountedSet) (values : List ℕ) → IsChosenFor q rows path cs chosen (end_by e short [])
     → IsChosenFor q rows path cs chosen (end_by e short values)
 chosen_for q rows path cs chosen e short values h = record { needed = h.needed; needs = by e h.needs; choice = h.choice }
   where
@@ -242,7 +242,7 @@ module _ (q : Problem) (rows : List Row) (w : Frame) (names : ℕ → Ref) (path
       goes_stay w kept kept (Knowing knows (IsBegun q rows w names path e refuted)) (IsEndPushed q rows path known e w old new knows (Err x)) refl (λ forms h. tt)
 
 -- A choice for needed values among which are those that the end needs.
-pub choice_is : (q : Problem) (rows : List Row) (path : List (ℕ × ℕ)) (cs chosen : List Change) (e : End) (needed : ℕ → ℕ → Bool) (result : Result (Unit {0}) AllocError) → EndNeeds rows path e needed
+pub choice_is : (q : Problem) (rows : List Row) (path : List (ℕ × ℕ)) (cs : List Change) (chosen : List Chosen) (e : End) (needed : ℕ → ℕ → Bool) (result : Result (Unit {0}) AllocError) → EndNeeds rows path e needed
     → OnOk result (IsChoice q rows path cs chosen needed) → OnOk result (IsChosenFor q rows path cs chosen e)
 choice_is q rows path cs chosen e needed (Ok u) needs choice = record { needed = needed; needs = needs; choice = choice }
 choice_is q rows path cs chosen e needed (Err x) needs choice = tt

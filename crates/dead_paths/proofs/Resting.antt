@@ -4,7 +4,7 @@ use Rattle.std.specs.Prelude.{IfOk}
 use Rattle.std.proofs.lemmas.Bool.{cases_eq, cases_lt, lt-ltb, ltb-true, true≢false}
 use Rattle.std.specs.declared.alloc.AllocError.{AllocError}
 use Rattle.graph_theory.specs.Graph.{size}
-use Rattle.graph_theory.specs.Embedding.{Problem}
+use Rattle.graph_theory.specs.Embedding.{Problem, Compatible}
 use Rattle.search_theory.specs.Consistency.{AreConsistent}
 use Rattle.log_theory.specs.Lookups.{is_among}
 use Rattle.bit_rows.specs.BitRows.{has, words_for}
@@ -15,12 +15,14 @@ use Rattle.propagation.specs.declared.change.Cause.{Cause}
 use Rattle.propagation.specs.declared.change.Cause.TheVariants as cause
 use Rattle.propagation.specs.declared.change.What.{What}
 use Rattle.propagation.specs.declared.change.What.TheVariants.{One}
-use Rattle.propagation.specs.Recording.{LeftOne, LeftOthers, change_by}
+use Rattle.propagation.specs.Recording.{Change, LeftOne, LeftOthers, change_by}
 use Rattle.needed_values.specs.Needed.{needs, AreRows, StaysNeeded, AreOthers}
-use Rattle.needed_values.specs.Consistent.{Leaves, AllConsistent}
-use Rattle.dead_theory.specs.Changes.{IsUpheld, AreUpheld}
-use Rattle.dead_theory.specs.Walks.{IsWithin}
-use Rattle.dead_paths.specs.Choosing.{values_of, IsStep, AreLeft, AreInside}
+use Rattle.needed_values.specs.Consistent.{Goes, Leaves, AllConsistent}
+use Rattle.dead_theory.specs.Changes.{GoTogether, IsUpheld, AreUpheld}
+use Rattle.dead_theory.specs.Walks.{RestsOn, IsWithin}
+use Rattle.dead_paths.specs.declared.takes.Choice.{Choice}
+use Rattle.dead_paths.specs.declared.takes.Choice.TheVariants as choice
+use Rattle.dead_paths.specs.Choosing.{values_of, asked_of, IsStep, IsMade, AreLeft, AreInside}
 use Rattle.dead_paths.proofs.Marking.{among_next}
 
 -- ---- needed values
@@ -156,12 +158,12 @@ module _ (q : Problem) (rows : List Row) (path : List (ℕ × ℕ)) where
       subst (λ (x : What). IsStep b q rows path (change_by numbers x from) (values_of n m d) (values_of n m d)) (sym at) (by b none)
     where
       by : (b : Bool) → (b ≡ false → (u : ℕ) → u < k → needs k m d r u ≡ false) → IsStep b q rows path (LeftOne r cause.First from) (values_of n m d) (values_of n m d)
-      by true none = (record { carried = λ v u h. inl h; needs = tt }, tt)
+      by true none = (record { suffices = λ v u u_in h same. tt; carried = λ v u h. inl h; needs = tt }, tt)
       by false none = pass_one n k m d r cause.First from n_is is (none refl)
 
   pub step_guess : (n k : ℕ) (m m' : List Bool) (d : List ℕ) (r t from : ℕ) → k ≡ n → AreOthers k r (needs k m d) (needs k m' d)
       → IsStep true q rows path (LeftOne r (cause.Guess t) from) (values_of n m d) (values_of n m' d)
-  step_guess n k m m' d r t from is others = (record { carried = carried; needs = tt }, tt)
+  step_guess n k m m' d r t from is others = (record { suffices = λ v u u_in h same. tt; carried = carried; needs = tt }, tt)
     where
       carried : (s u : ℕ) → values_of n m d s u ≡ true → (values_of n m' d s u ≡ true) ⊎ ((s ≡ r) × Unit {0})
       carried s u h = elim (cases_eq s r) [
@@ -179,12 +181,19 @@ module _ (q : Problem) (rows : List Row) (path : List (ℕ × ℕ)) where
     within_same (values_of n m d),
   )
 
-  pub step_vertex : (n k : ℕ) (m m1 m2 : List Bool) (d d1 d2 : List ℕ) (p t r from : ℕ) (other spare left : List ℕ) → k ≡ n → ((u : ℕ) → u < k → has other u ≡ needs k m d r u) → spare ≡ other → Leaves q p t r spare left
-      → ((u : ℕ) → u < k → needs k m1 d1 r u ≡ has left u) → AreOthers k r (needs k m d) (needs k m1 d1) → IsWithin (values_of n m1 d1) (values_of n m2 d2) → IsUpheld path None (values_of n m2 d2) (p, t)
-      → IsStep true q rows path (LeftOne r (cause.Vertex p t) from) (values_of n m d) (values_of n m2 d2)
-  step_vertex n k m m1 m2 d d1 d2 p t r from other spare left is bits same leaves put others more upheld = (record { carried = carried; needs = upheld }, tt)
+  -- Which values it takes, by what is asked of it.
+  pub step_vertex : (by_edges : Bool) (n k : ℕ) (m m1 m2 : List Bool) (d d1 d2 : List ℕ) (p t r from : ℕ) (other left : List ℕ) → k ≡ n → ((u : ℕ) → u < k → has other u ≡ needs k m d r u)
+      → ((u : ℕ) → u < size q.target → needs n m d r u ≡ true → GoTogether by_edges q p t r u → AreConsistent q p t r u) → ((u : ℕ) → has other u ≡ true → has left u ≡ false → GoTogether by_edges q p t r u → ⊥)
+      → ((u : ℕ) → u < k → needs k m1 d1 r u ≡ has left u) → AreOthers k r (needs k m d) (needs k m1 d1) → IsWithin (values_of n m1 d1) (values_of n m2 d2) → IsUpheld path None (values_of n m2 d2) (p, t) → n ≡ size q.target
+      → RestsOn q rows path (asked_of by_edges (LeftOne r (cause.Vertex p t) from)) (values_of n m d) (values_of n m2 d2) × Unit {0}
+  step_vertex by_edges n k m m1 m2 d d1 d2 p t r from other left is bits enough right put others more upheld n_is = (record { suffices = suffices; carried = carried; needs = upheld }, tt)
     where
-      carried : (s u : ℕ) → values_of n m d s u ≡ true → (values_of n m2 d2 s u ≡ true) ⊎ ((s ≡ r) × (AreConsistent q p t s u → ⊥))
+      suffices : (s u : ℕ) → u < size q.target → values_of n m d s u ≡ true → s ≡ r → GoTogether by_edges q p t s u → AreConsistent q p t s u
+      suffices s u u_in h same =
+          subst (λ (x : ℕ). GoTogether by_edges q p t x u → AreConsistent q p t x u) (sym same)
+          (enough u u_in (sym (ap (λ (x : ℕ). needs n m d x u) same) ∙ need_of n m d s u (subst (λ (w : ℕ). u < w) (sym n_is) u_in) h))
+
+      carried : (s u : ℕ) → values_of n m d s u ≡ true → (values_of n m2 d2 s u ≡ true) ⊎ ((s ≡ r) × (GoTogether by_edges q p t s u → ⊥))
       carried s u h = by (cases_lt u n) (cases_eq s r)
         where
           first : (w : ℕ) → u < w → k ≡ w → has other u ≡ needs w m d r u
@@ -193,24 +202,58 @@ module _ (q : Problem) (rows : List Row) (path : List (ℕ × ℕ)) where
           second : (w : ℕ) → u < w → k ≡ w → needs w m1 d1 r u ≡ has left u
           second w u_in k_is = subst (λ (x : ℕ). (v : ℕ) → v < x → needs x m1 d1 r v ≡ has left v) k_is put u u_in
 
-          by : (u < n) ⊎ (n ≤ u) → (s ≡ r) ⊎ (s ≡ r → ⊥) → (values_of n m2 d2 s u ≡ true) ⊎ ((s ≡ r) × (AreConsistent q p t s u → ⊥))
+          by : (u < n) ⊎ (n ≤ u) → (s ≡ r) ⊎ (s ≡ r → ⊥) → (values_of n m2 d2 s u ≡ true) ⊎ ((s ≡ r) × (GoTogether by_edges q p t s u → ⊥))
           by (inr past) e = inl (need_up n m2 d2 s u (λ u_in. absurd (omega (arith, past, u_in))))
           by (inl u_in) (inr apart) =
               inl (more s u (need_up n m1 d1 s u (λ v_in. subst (λ (w : ℕ). AreOthers w r (needs w m d) (needs w m1 d1)) is others s u apart u_in ∙ need_of n m d s u u_in h)))
           by (inl u_in) (inl e) = on (has left u) refl
             where
-              there : has spare u ≡ true
-              there = ap (λ (xs : List ℕ). has xs u) same ∙ first n u_in is ∙ sym (ap (λ (x : ℕ). needs n m d x u) e) ∙ need_of n m d s u u_in h
+              there : has other u ≡ true
+              there = first n u_in is ∙ sym (ap (λ (x : ℕ). needs n m d x u) e) ∙ need_of n m d s u u_in h
 
-              on : (b : Bool) → has left u ≡ b → (values_of n m2 d2 s u ≡ true) ⊎ ((s ≡ r) × (AreConsistent q p t s u → ⊥))
+              on : (b : Bool) → has left u ≡ b → (values_of n m2 d2 s u ≡ true) ⊎ ((s ≡ r) × (GoTogether by_edges q p t s u → ⊥))
               on true stays = inl (more s u (need_up n m1 d1 s u (λ v_in. ap (λ (x : ℕ). needs n m1 d1 x u) e ∙ second n u_in is ∙ stays)))
-              on false gone = inr (e, λ c. leaves.right u there gone (subst (λ (x : ℕ). AreConsistent q p t x u) e c))
+              on false gone = inr (e, λ c. right u there gone (subst (λ (x : ℕ). GoTogether by_edges q p t x u) e c))
+
+  -- All that is consistent is asked.
+  pub step_all : (n k : ℕ) (m m1 m2 : List Bool) (d d1 d2 : List ℕ) (p t r from : ℕ) (other spare near left : List ℕ) → k ≡ n → ((u : ℕ) → u < k → has other u ≡ needs k m d r u) → spare ≡ other → Goes q p t r spare near → Leaves q p t r near left
+      → ((u : ℕ) → u < k → needs k m1 d1 r u ≡ has left u) → AreOthers k r (needs k m d) (needs k m1 d1) → IsWithin (values_of n m1 d1) (values_of n m2 d2) → IsUpheld path None (values_of n m2 d2) (p, t) → n ≡ size q.target
+      → IsMade choice.AsTold q rows path (LeftOne r (cause.Vertex p t) from) (values_of n m d) (values_of n m2 d2)
+  step_all n k m m1 m2 d d1 d2 p t r from other spare near left is bits same goes leaves put others more upheld n_is =
+      step_vertex false n k m m1 m2 d d1 d2 p t r from other left is bits (λ u u_in h c. c) right put others more upheld n_is
+    where
+      right : (u : ℕ) → has other u ≡ true → has left u ≡ false → AreConsistent q p t r u → ⊥
+      right u was gone c = by (has near u) refl
+        where
+          by : (b : Bool) → has near u ≡ b → ⊥
+          by true there = leaves.right u there gone c
+          by false out = goes.right u (ap (λ (xs : List ℕ). has xs u) same ∙ was) out c.pair
+
+  -- What edges leave of the needed values is consistent, so they alone are asked.
+  pub step_edges : (n k : ℕ) (m m1 m2 : List Bool) (d d1 d2 : List ℕ) (p t r from : ℕ) (other spare near : List ℕ) → k ≡ n → ((u : ℕ) → u < k → has other u ≡ needs k m d r u) → spare ≡ other → Goes q p t r spare near
+      → AllConsistent true q p t r near → ((u : ℕ) → u < k → needs k m1 d1 r u ≡ has near u) → AreOthers k r (needs k m d) (needs k m1 d1) → IsWithin (values_of n m1 d1) (values_of n m2 d2) → IsUpheld path None (values_of n m2 d2) (p, t)
+      → n ≡ size q.target → IsMade choice.ByEdges q rows path (LeftOne r (cause.Vertex p t) from) (values_of n m d) (values_of n m2 d2)
+  step_edges n k m m1 m2 d d1 d2 p t r from other spare near is bits same goes all put others more upheld n_is =
+      step_vertex true n k m m1 m2 d d1 d2 p t r from other near is bits enough right put others more upheld n_is
+    where
+      right : (u : ℕ) → has other u ≡ true → has near u ≡ false → Compatible q p t r u → ⊥
+      right u was gone c = goes.right u (ap (λ (xs : List ℕ). has xs u) same ∙ was) gone c
+
+      enough : (u : ℕ) → u < size q.target → needs n m d r u ≡ true → Compatible q p t r u → AreConsistent q p t r u
+      enough u u_in h c = by (has near u) refl
+        where
+          was : has other u ≡ true
+          was = subst (λ (w : ℕ). (v : ℕ) → v < w → has other v ≡ needs w m d r v) is bits u (subst (λ (w : ℕ). u < w) (sym n_is) u_in) ∙ h
+
+          by : (b : Bool) → has near u ≡ b → AreConsistent q p t r u
+          by true there = all u there
+          by false gone = absurd (right u was gone c)
 
   pub pass_nogood : (f : ℕ → ℕ → Bool) (r name from : ℕ) → (IsNogoodRow rows name → ⊥) → IsStep false q rows path (LeftOne r (cause.Nogood name) from) f f
   pass_nogood f r name from none = ((λ v u u_in h takes. none takes.1.0), within_same f)
 
   pub step_nogood : (f g : ℕ → ℕ → Bool) (r name from : ℕ) → IsNogoodRow rows name → IsWithin f g → AreUpheld path (Some r) g (path_at rows name) → IsStep true q rows path (LeftOne r (cause.Nogood name) from) f g
-  step_nogood f g r name from is more upheld = (record { carried = λ v u h. inl (more v u h); needs = upheld }, is)
+  step_nogood f g r name from is more upheld = (record { suffices = λ v u u_in h same. tt; carried = λ v u h. inl (more v u h); needs = upheld }, is)
 
   -- A set whose values no other vertex needs.
   pub pass_set : (n : ℕ) (m m' : List Bool) (d d' : List ℕ) (vertices values set : List ℕ) (from : ℕ) → n ≡ size q.target → ((u : ℕ) → is_among u values ≡ true → has set u ≡ false)
@@ -225,6 +268,7 @@ module _ (q : Problem) (rows : List Row) (path : List (ℕ × ℕ)) where
       → IsStep true q rows path (LeftOthers vertices values from) (values_of n m d) (values_of n m2 d2)
   step_set n m m1 m2 d d1 d2 vertices values set from long rest left stays each = (
     record {
+      suffices = λ r u u_in h. tt;
       carried = λ r u h. carried r u h (cases_lt u n);
       needs = λ r u among off. need_up n m2 d2 r u (λ u_in. each r u among u_in (rest u u_in off));
     },
@@ -243,13 +287,22 @@ module _ (q : Problem) (rows : List Row) (path : List (ℕ × ℕ)) where
               on true is = inr (subst (λ (w : ℕ). r < w) long (marked_in n m d r u (need_of n m d r u u_in h)), out.0, is)
               on false is = absurd (true≢false (sym (rest u u_in is) ∙ out.1))
 
+-- What is chosen as it was told, if it is.
+pub told_made : (q : Problem) (rows : List Row) (path : List (ℕ × ℕ)) (c : Change) (f g : ℕ → ℕ → Bool) (b : Bool) (made : Choice) → (b ≡ true → made ≡ choice.AsTold) → (b ≡ false → made ≡ choice.Passed) → IsStep b q rows path c f g → IsMade made q rows path c f g
+told_made q rows path c f g b made chosen passed step = by b refl
+  where
+    by : (e : Bool) → b ≡ e → IsMade made q rows path c f g
+    by true is = subst (λ (m : Choice). IsMade m q rows path c f g) (sym (chosen is)) (subst (λ (x : Bool). IsStep x q rows path c f g) is step)
+    by false is = subst (λ (m : Choice). IsMade m q rows path c f g) (sym (passed is)) (subst (λ (x : Bool). IsStep x q rows path c f g) is step)
+
 -- The same for a change by its kind.
 module _ (q : Problem) (rows : List Row) (path : List (ℕ × ℕ)) (numbers : List ℕ) (what : What) (from : ℕ) (f g : ℕ → ℕ → Bool) where
   pub step_one : (b : Bool) (r : ℕ) (why last : Cause) → what ≡ One r why → why ≡ last → IsStep b q rows path (LeftOne r last from) f g → IsStep b q rows path (change_by numbers what from) f g
   step_one b r why last is by_last step =
       subst (λ (x : What). IsStep b q rows path (change_by numbers x from) f g) (sym (is ∙ ap (λ (c : Cause). let x : What = One r c in x) by_last)) step
 
-  pub step_one_ok : (result : Result Bool AllocError) (r : ℕ) (why last : Cause) → what ≡ One r why → why ≡ last → IfOk result (λ b. IsStep b q rows path (LeftOne r last from) f g)
-      → IfOk result (λ b. IsStep b q rows path (change_by numbers what from) f g)
-  step_one_ok (Ok b) r why last is by_last step = step_one b r why last is by_last step
-  step_one_ok (Err e) r why last is by_last step = tt
+  pub made_one_ok : (result : Result Choice AllocError) (r : ℕ) (why last : Cause) → what ≡ One r why → why ≡ last → IfOk result (λ b. IsMade b q rows path (LeftOne r last from) f g)
+      → IfOk result (λ b. IsMade b q rows path (change_by numbers what from) f g)
+  made_one_ok (Ok b) r why last is by_last step =
+      subst (λ (x : What). IsMade b q rows path (change_by numbers x from) f g) (sym (is ∙ ap (λ (c : Cause). let x : What = One r c in x) by_last)) step
+  made_one_ok (Err e) r why last is by_last step = tt

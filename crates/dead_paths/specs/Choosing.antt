@@ -8,10 +8,12 @@ use Rattle.needed_values.specs.Needed.{needs}
 use Rattle.nogood_book.specs.declared.row.Row.{Row}
 use Rattle.nogood_book.specs.Places.{IsNogoodRow}
 use Rattle.propagation.specs.declared.change.Cause.TheVariants as cause
-use Rattle.propagation.specs.declared.change.Entry.{Entry}
 use Rattle.propagation.specs.Recording.{Change, LeftOne, LeftOthers, change_of}
-use Rattle.dead_theory.specs.Changes.{IsOneOf, IsInProblem}
+use Rattle.dead_theory.specs.Changes.{Chosen, IsOneOf, IsInProblem}
 use Rattle.dead_theory.specs.Walks.{MayPass, RestsOn, IsWithin, Walked}
+use Rattle.dead_paths.specs.declared.room.ChosenEntry.{ChosenEntry}
+use Rattle.dead_paths.specs.declared.takes.Choice.{Choice}
+use Rattle.dead_paths.specs.declared.takes.Choice.TheVariants as choice
 
 -- ---- needed values
 
@@ -32,9 +34,16 @@ AreAt at pairs = (p t : ℕ) → p < length at → slice_index at p ≡ t → (t
 
 -- ---- changes of entries
 
--- The changes that entries are, in the order of these.
-abbrev pub changes_in : List ℕ → List Entry → List Change
-changes_in numbers entries = map (change_of numbers) entries
+-- A change with what is asked of it.
+abbrev pub asked_of : Bool → Change → Chosen
+asked_of by_edges c = record { change = c; by_edges = by_edges }
+
+-- That of a chosen entry; and so for all of them, in their order.
+abbrev pub chosen_of : List ℕ → ChosenEntry → Chosen
+chosen_of numbers c = asked_of c.by_edges (change_of numbers c.entry)
+
+abbrev pub chosen_in : List ℕ → List ChosenEntry → List Chosen
+chosen_in numbers entries = map (chosen_of numbers) entries
 
 -- A change by a nogood is by one that is a row.
 abbrev pub IsOfRow : List Row → Change → Type 0
@@ -45,16 +54,25 @@ IsOfRow rows (LeftOne r (cause.Vertex p t) from) = Unit {0}
 IsOfRow rows (LeftOthers vertices values from) = Unit {0}
 
 -- Lines can be named for these changes.
-abbrev pub AreNameable : Problem → List Row → List Change → Type 0
+abbrev pub AreNameable : Problem → List Row → List Chosen → Type 0
 AreNameable q rows [] = Unit {0}
-AreNameable q rows (c ∷ cs) = (IsInProblem q c × IsOfRow rows c) × AreNameable q rows cs
+AreNameable q rows (c ∷ cs) = (IsInProblem q c.change × IsOfRow rows c.change)
+    × AreNameable q rows cs
 
 -- One step back from a change. A true answer: it is chosen, and a line can be named for it. A false one: it may be passed, and all that was
 -- needed still is.
 abbrev pub IsStep : Bool → Problem → List Row → List (ℕ × ℕ) → Change → (ℕ → ℕ → Bool) → (ℕ → ℕ
     → Bool) → Type 0
-IsStep true q rows path c old now = RestsOn q rows path c old now × IsOfRow rows c
+IsStep true q rows path c old now = RestsOn q rows path (asked_of false c) old now × IsOfRow rows c
 IsStep false q rows path c old now = MayPass q rows c old × IsWithin old now
+
+-- So it is of what comes of a step.
+abbrev pub IsMade : Choice → Problem → List Row → List (ℕ × ℕ) → Change → (ℕ → ℕ → Bool) → (ℕ → ℕ
+    → Bool) → Type 0
+IsMade choice.Passed q rows path c old now = IsStep false q rows path c old now
+IsMade choice.AsTold q rows path c old now = IsStep true q rows path c old now
+IsMade choice.ByEdges q rows path c old now =
+    RestsOn q rows path (asked_of true c) old now × IsOfRow rows c
 
 -- Of what was needed the rest is what a set takes from a vertex that is none of these: a value that its row has not.
 abbrev pub AreLeft : ℕ → List ℕ → List ℕ → (ℕ → ℕ → Bool) → (ℕ → ℕ → Bool) → Type 0
@@ -69,6 +87,6 @@ AreInside n vertices set needed = (r u : ℕ) → is_among r vertices ≡ false 
 
 -- The walk has come so far, and lines can be named for what it chose.
 pub record HasCome (q : Problem) (rows : List Row) (path : List (ℕ
-    × ℕ)) (seen chosen : List Change) (needed now : ℕ → ℕ → Bool) : Type 0 where
+    × ℕ)) (seen : List Change) (chosen : List Chosen) (needed now : ℕ → ℕ → Bool) : Type 0 where
   pub walked : Walked q rows path seen chosen needed now
   pub nameable : AreNameable q rows chosen

@@ -15,7 +15,7 @@ use Rattle.nogood_book.specs.Rows.{path_at}
 use Rattle.nogood_book.specs.declared.row.Row.{Row}
 use Rattle.nogood_book.specs.Places.{IsNogoodRow}
 use Rattle.propagation.specs.Recording.{Change, CountedSet}
-use Rattle.dead_theory.specs.Changes.{IsOneOf, IsBorne, AreBorne, known_after, ExplainsChange, ExplainAll, set_forms}
+use Rattle.dead_theory.specs.Changes.{Chosen, IsOneOf, IsBorne, AreBorne, known_after, ExplainsChange, ExplainAll, set_forms}
 use Rattle.dead_theory.specs.Ends.{End, Empty, Whole, Short, Exhausted, end_of, EndsIn, EndNeeds}
 use Rattle.dead_theory.specs.Walks.{IsChoice}
 use Rattle.kept_lines.specs.Frames.{Frame, IsNamed, AreNamed}
@@ -35,7 +35,7 @@ pub record IsLimited (q : Problem) : Type 0 where
 
 -- The references name forms that explain the changes, and those of nogood rows their clauses.
 pub record Explained (q : Problem) (rows : List Row) (path : List (ℕ × ℕ)) (w : Frame) (names : ℕ
-    → Ref) (cs : List Change) (refs : List Ref) (forms : List Form) : Type 0 where
+    → Ref) (cs : List Chosen) (refs : List Ref) (forms : List Form) : Type 0 where
   pub rows_named : AreRowsNamed q rows w names forms
   pub own : List Form
   pub explained : ExplainAll q rows path cs own
@@ -66,7 +66,7 @@ IsEndIn q rows (Exhausted p values) = p < size q.pattern
 
 -- Of the changes these are chosen for some needed values, among them all that the end needs.
 pub record IsChosenFor (q : Problem) (rows : List Row) (path : List (ℕ
-    × ℕ)) (cs chosen : List Change) (e : End) : Type 0 where
+    × ℕ)) (cs : List Change) (chosen : List Chosen) (e : End) : Type 0 where
   pub needed : ℕ → ℕ → Bool
   pub needs : EndNeeds rows path e needed
   pub choice : IsChoice q rows path cs chosen needed
@@ -81,7 +81,7 @@ AreRefuted q path (Short vertices values) w refs forms = Unit {0}
 
 -- The references name forms that explain the changes, and then those that the end comes to.
 pub record EndExplained (q : Problem) (rows : List Row) (w : Frame) (path : List (ℕ
-    × ℕ)) (cs : List Change) (e : End) (refs : List Ref) (forms : List Form) : Type 0 where
+    × ℕ)) (cs : List Chosen) (e : End) (refs : List Ref) (forms : List Form) : Type 0 where
   pub own : List Form
   pub ends : List Form
   pub explained : ExplainAll q rows path cs own
@@ -146,18 +146,18 @@ IsSetPushed q vertices values w old new knows result forms = OnOk result (knows 
 
 -- To forms that explain a change.
 pub record AddsFor (q : Problem) (rows : List Row) (known : List (ℕ
-    × ℕ)) (c : Change) (w : Frame) (old new : List Ref) (forms : List Form) : Type 0 where
+    × ℕ)) (c : Chosen) (w : Frame) (old new : List Ref) (forms : List Form) : Type 0 where
   pub own : List Form
   pub explains : ExplainsChange q rows known c own
   pub adds : Adds w old new own forms
 
-abbrev pub IsChangePushed : Problem → List Row → List (ℕ × ℕ) → Change → Frame → List Ref
+abbrev pub IsChangePushed : Problem → List Row → List (ℕ × ℕ) → Chosen → Frame → List Ref
     → List Ref → (List Form → Type 0) → Result (Unit {0}) AllocError → List Form → Type 0
 IsChangePushed q rows known c w old new knows result forms = OnOk result (knows forms
     × AddsFor q rows known c w old new forms)
 
 -- To forms that explain changes.
-abbrev pub AreChangesPushed : Problem → List Row → List (ℕ × ℕ) → Frame → (ℕ → Ref) → List Change
+abbrev pub AreChangesPushed : Problem → List Row → List (ℕ × ℕ) → Frame → (ℕ → Ref) → List Chosen
     → List Ref → (List Form → Type 0) → Result (Unit {0}) AllocError → List Form → Type 0
 AreChangesPushed q rows path w names cs refs knows result forms = OnOk result (knows forms
     × Explained q rows path w names cs refs forms)
@@ -175,7 +175,7 @@ IsEndPushed q rows path known e w old new knows result forms = OnOk result (know
     × AddsEnd q rows path known e w old new forms)
 
 -- To the forms that explain changes, and then to those that the end comes to.
-abbrev pub AreGathered : Problem → List Row → Frame → List (ℕ × ℕ) → List Change → End → List Ref
+abbrev pub AreGathered : Problem → List Row → Frame → List (ℕ × ℕ) → List Chosen → End → List Ref
     → (List Form → Type 0) → Result (Unit {0}) AllocError → List Form → Type 0
 AreGathered q rows w path cs e refs knows result forms = OnOk result (knows forms
     × EndExplained q rows w path cs e refs forms)

@@ -1,15 +1,16 @@
 -- Lines for first domains, for pairs of vertices and for sets, as those who make them answer.
 
-use Rattle.std.specs.Prelude.{ℕ, List, Result, Ok, Err}
+use Rattle.std.specs.Prelude.{ℕ, Bool, List, Result, Ok, Err}
 use Rattle.std.specs.declared.alloc.AllocError.{AllocError}
 use Rattle.graph_theory.specs.Embedding.{Problem}
 use Rattle.proof_theory.specs.Forms.{Form}
 use Rattle.log_theory.specs.declared.step.Name.{Name}
 use Rattle.log_theory.specs.declared.step.Ref.{Ref}
-use Rattle.reason_theory.specs.Reasons.{pairs_clause, ForcesFirst, ForcesBeside}
+use Rattle.reason_theory.specs.Reasons.{pairs_clause, ForcesFirst}
 use Rattle.nogood_book.specs.declared.row.Row.{Row}
 use Rattle.nogood_book.specs.Rows.{path_at}
 use Rattle.nogood_book.specs.Places.{IsNogoodRow}
+use Rattle.dead_theory.specs.Changes.{Forces}
 use Rattle.kept_lines.specs.Frames.{Frame, IsNamed}
 use Rattle.dead_paths.specs.Lines.{IsSetKept}
 
@@ -20,11 +21,12 @@ pub record IsFirstLine (q : Problem) (w : Frame) (p : ℕ) (r : Ref)
   pub forces : ForcesFirst q line p
   pub named : IsNamed w forms r line
 
--- The reference names a form that, where p is at t, takes from r whatever is not consistent with this.
-pub record IsRowLine (q : Problem) (w : Frame) (p t r : ℕ) (ref : Ref)
+-- The reference names a form that, where p is at t, takes from r whatever is not consistent with this; or, where edges alone are asked, what they
+-- refuse.
+pub record IsRowLine (by_edges : Bool) (q : Problem) (w : Frame) (p t r : ℕ) (ref : Ref)
     (forms : List Form) : Type 0 where
   pub line : Form
-  pub forces : ForcesBeside q line p t r
+  pub forces : Forces by_edges q line p t r
   pub named : IsNamed w forms ref line
 
 -- The answer is such a reference, and the maker knows what it is to know of the forms.
@@ -33,10 +35,11 @@ abbrev pub GivesFirst : Problem → Frame → ℕ → Result Ref AllocError → 
 GivesFirst q w p (Ok ref) knows forms = knows forms × IsFirstLine q w p ref forms
 GivesFirst q w p (Err e) knows forms = Unit {0}
 
-abbrev pub GivesRow : Problem → Frame → ℕ → ℕ → ℕ → Result Ref AllocError → (List Form → Type 0)
-    → List Form → Type 0
-GivesRow q w p t r (Ok ref) knows forms = knows forms × IsRowLine q w p t r ref forms
-GivesRow q w p t r (Err e) knows forms = Unit {0}
+abbrev pub GivesRow : Bool → Problem → Frame → ℕ → ℕ → ℕ → Result Ref AllocError → (List Form
+    → Type 0) → List Form → Type 0
+GivesRow by_edges q w p t r (Ok ref) knows forms = knows forms
+    × IsRowLine by_edges q w p t r ref forms
+GivesRow by_edges q w p t r (Err e) knows forms = Unit {0}
 
 -- The answer is the name of the set's form, and the maker knows what it is to know of the forms.
 abbrev pub GivesSet : Problem → Frame → List ℕ → List ℕ → Result Name AllocError → (List Form

@@ -1,6 +1,6 @@
 //! The line of a dead path.
 
-ghost use Rattle.std.specs.Prelude.{◌≡◌, ℕ, ◌^◌, ◌≤◌, ◌<◌, ◌++◌, [], List, length, map, OnOk, IfOk, IfSome};
+ghost use Rattle.std.specs.Prelude.{◌≡◌, ℕ, ◌^◌, ◌≤◌, ◌<◌, [], List, length, map, OnOk, IfOk, IfSome};
 ghost use Rattle.graph_theory.specs.Graph.{size};
 ghost use Rattle.log_theory.specs.LogText.{IsName, AreRefs, AreLiterals};
 ghost use Rattle.reason_theory.specs.Reasons.{not_there};
@@ -12,8 +12,8 @@ ghost use Rattle.dead_theory.specs.Ends.{EndNeeds};
 ghost use Rattle.dead_theory.specs.Laws.{Dies};
 ghost use Rattle.kept_lines.specs.Frames.{Frame, IsFrameOf, Goes};
 ghost use Rattle.dead_paths.specs.Making.{AreRowsNamed};
-ghost use Rattle.dead_paths.specs.Choosing.{values_of, AreAt, changes_in, AreNameable};
-ghost use Rattle.dead_paths.specs.Explaining.{IsLimited, Knowing, AreChangesPushed, IsEndPushed, AreRefuted, end_by, IsEndIn, IsChosenFor, IsBegun, AreGathered, IsDeadName, IsLastOf};
+ghost use Rattle.dead_paths.specs.Choosing.{values_of, AreAt, chosen_in, AreNameable};
+ghost use Rattle.dead_paths.specs.Explaining.{IsLimited, Knowing, AreChangesPushed, IsEndPushed, end_by, IsEndIn, IsChosenFor, IsBegun, AreGathered, IsDeadName, IsLastOf};
 
 use crate::known::fill_at;
 use crate::lines::push_at_least;
@@ -21,7 +21,7 @@ use crate::lookups::part;
 use crate::maker::{Basis, LineMaker, RowNames};
 use crate::needs::{Walk, count_values, need_out, uphold_row};
 use crate::pushes::{push_change, push_nogood, push_set};
-use crate::room::{Room, Scratch, fit_rows};
+use crate::room::{ChosenEntry, Room, Scratch, fit_rows};
 use crate::walk::choose;
 use graph_rows::Problem;
 use journals::Keeper;
@@ -122,7 +122,7 @@ fn mark_end(
 /// Puts references to forms that explain the chosen changes, the last one first, after lines were kept that they need.
 fn push_chosen<M: LineMaker, N: RowNames, K: Keeper>(
     basis: &Basis<'_, N>,
-    chosen: &[Entry],
+    chosen: &[ChosenEntry],
     at: &mut [u16],
     maker: &mut M,
     keeper: &mut K,
@@ -133,7 +133,7 @@ fn push_chosen<M: LineMaker, N: RowNames, K: Keeper>(
     requires sound { Sound basis.now.lines.now basis.now.rows.now }
     requires few { length basis.now.rows.now ≤ 2 ^ 22 }
     requires nameable { AreNameable basis.now.lines.now basis.now.rows.now
-        (changes_in basis.now.numbers.now chosen.now) }
+        (chosen_in basis.now.numbers.now chosen.now) }
     requires long { size basis.now.lines.now.pattern ≤ length at.old }
     requires none { refs.old.items ≡ [] }
     ensures goes { (w : Frame) (path : List (ℕ × ℕ)) → AreAt at.old path
@@ -142,10 +142,10 @@ fn push_chosen<M: LineMaker, N: RowNames, K: Keeper>(
         (Knowing (M.knows maker.old basis.now.lines.now w)
         (AreRowsNamed basis.now.lines.now basis.now.rows.now w (N.names basis.now.names.now)))
         (AreChangesPushed basis.now.lines.now basis.now.rows.now path w
-        (N.names basis.now.names.now) (changes_in basis.now.numbers.now chosen.now)
+        (N.names basis.now.names.now) (chosen_in basis.now.numbers.now chosen.now)
         refs.new.items (M.knows maker.new basis.now.lines.now w) result) }
     ensures known { (path : List (ℕ × ℕ)) → AreAt at.old path → OnOk result
-        (AreAt at.new (known_after path (changes_in basis.now.numbers.now chosen.now))) }
+        (AreAt at.new (known_after path (chosen_in basis.now.numbers.now chosen.now))) }
     ensures fits { OnOk result (AreRefs refs.new.items) }
     ensures owner { K.owner keeper.new ≡ K.owner keeper.old }
     ensures notes { K.notes keeper.new ≡ K.notes keeper.old }
@@ -251,7 +251,7 @@ fn choose_in(
     marked: &mut [bool],
     needed: &mut [u64],
     room: &mut Room,
-    chosen: &mut Vec<Entry>,
+    chosen: &mut Vec<ChosenEntry>,
 ) -> Result<(), AllocError>
     requires sound { Sound walk.now.q.now walk.now.rows.now }
     requires in_problem { AreInProblem walk.now.q.now (changes_of walk.now.numbers.now
@@ -262,12 +262,12 @@ fn choose_in(
     requires size { length marked.old ≡ size walk.now.q.now.pattern }
     ensures choice { (path : List (ℕ × ℕ)) → AreAt walk.now.at.now path
         → OnOk result (IsChosenFor walk.now.q.now walk.now.rows.now path
-        (changes_of walk.now.numbers.now entries.now) (changes_in walk.now.numbers.now
+        (changes_of walk.now.numbers.now entries.now) (chosen_in walk.now.numbers.now
         chosen.new.items)
         (end_by end.0 (set_at walk.now.numbers.now end.1) [])) }
     ensures nameable { (path : List (ℕ × ℕ)) → AreAt walk.now.at.now path
         → OnOk result (AreNameable walk.now.q.now walk.now.rows.now
-        (changes_in walk.now.numbers.now chosen.new.items)) }
+        (chosen_in walk.now.numbers.now chosen.new.items)) }
 {
     unmark_all(marked);
     mark_end(walk, end.1, end.0, marked, needed, room)?;
@@ -282,7 +282,7 @@ fn choose_for(
     marked: &mut Vec<bool>,
     needed: &mut Vec<u64>,
     room: &mut Room,
-    chosen: &mut Vec<Entry>,
+    chosen: &mut Vec<ChosenEntry>,
 ) -> Result<(), AllocError>
     requires sound { Sound walk.now.q.now walk.now.rows.now }
     requires in_problem { AreInProblem walk.now.q.now (changes_of walk.now.numbers.now
@@ -291,12 +291,12 @@ fn choose_for(
         (end_by end.0 (set_at walk.now.numbers.now end.1) []) }
     ensures choice { (path : List (ℕ × ℕ)) → AreAt walk.now.at.now path
         → OnOk result (IsChosenFor walk.now.q.now walk.now.rows.now path
-        (changes_of walk.now.numbers.now entries.now) (changes_in walk.now.numbers.now
+        (changes_of walk.now.numbers.now entries.now) (chosen_in walk.now.numbers.now
         chosen.new.items)
         (end_by end.0 (set_at walk.now.numbers.now end.1) [])) }
     ensures nameable { (path : List (ℕ × ℕ)) → AreAt walk.now.at.now path
         → OnOk result (AreNameable walk.now.q.now walk.now.rows.now
-        (changes_in walk.now.numbers.now chosen.new.items)) }
+        (chosen_in walk.now.numbers.now chosen.new.items)) }
 {
     let size = size_of(walk.q);
     fit_rows(marked, needed, size, count_values(walk.q))?;
@@ -319,7 +319,7 @@ fn gather<M: LineMaker, N: RowNames, K: Keeper>(
     requires long { size basis.now.lines.now.pattern ≤ length scratch.old.at.items }
     requires known { AreAt scratch.old.at.items dead.now.path.now }
     requires nameable { AreNameable basis.now.lines.now basis.now.rows.now
-        (changes_in basis.now.numbers.now scratch.old.chosen.items) }
+        (chosen_in basis.now.numbers.now scratch.old.chosen.items) }
     requires end { IsEndIn basis.now.lines.now basis.now.rows.now
         (end_by dead.now.end (set_at basis.now.numbers.now dead.now.short) []) }
     requires refuted { AreRefs dead.now.refuted.now }
@@ -333,7 +333,7 @@ fn gather<M: LineMaker, N: RowNames, K: Keeper>(
         (end_by dead.now.end (set_at basis.now.numbers.now dead.now.short) values)
         dead.now.refuted.now))
         (AreGathered basis.now.lines.now basis.now.rows.now w dead.now.path.now
-        (changes_in basis.now.numbers.now scratch.old.chosen.items)
+        (chosen_in basis.now.numbers.now scratch.old.chosen.items)
         (end_by dead.now.end (set_at basis.now.numbers.now dead.now.short) values)
         refs.new.items (M.knows maker.new basis.now.lines.now w) result) }
     ensures fits { OnOk result (AreRefs refs.new.items) }

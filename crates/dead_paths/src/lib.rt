@@ -8,6 +8,7 @@
 //! search those of Gocht, McCreesh and Nordström 2020.)
 #![tactic(auto)]
 
+mod beside;
 mod dead_line;
 mod known;
 mod lines;

@@ -1,26 +1,28 @@
 //! References to the forms that explain a change, and to those that an end comes to.
 
-ghost use Rattle.std.specs.Prelude.{◌≡◌, ℕ, ◌^◌, ◌≤◌, ◌<◌, List, Some, length, OnOk};
+ghost use Rattle.std.specs.Prelude.{◌≡◌, ℕ, ◌^◌, ◌≤◌, ◌<◌, List, Some, length, OnOk, IfOk};
 ghost use Rattle.graph_theory.specs.Graph.{size};
-ghost use Rattle.log_theory.specs.LogText.{AreRefs};
+ghost use Rattle.log_theory.specs.LogText.{IsRef, AreRefs};
 ghost use Rattle.nogood_book.specs.Rows.{Sound};
 ghost use Rattle.nogood_book.specs.Places.{IsNogoodRow};
 ghost use Rattle.propagation.specs.Recording.{change_of};
 ghost use Rattle.dead_theory.specs.Changes.{shown_of, IsInProblem};
 ghost use Rattle.kept_lines.specs.Frames.{Frame, IsFrameOf, Goes};
 ghost use Rattle.dead_paths.specs.Lines.{AreVertices, AreValues};
-ghost use Rattle.dead_paths.specs.Making.{AreRowsNamed};
-ghost use Rattle.dead_paths.specs.Choosing.{AreAt, IsOfRow};
+ghost use Rattle.dead_paths.specs.Making.{AreRowsNamed, GivesRow};
+ghost use Rattle.dead_paths.specs.Choosing.{AreAt, IsOfRow, chosen_of};
 ghost use Rattle.dead_paths.specs.Explaining.{IsLimited, Knowing, AddsNogood, IsSetPushed, IsChangePushed};
 
+use crate::beside::Beside;
 use crate::known::{push_bearing_all, push_decided};
 use crate::lookups::part;
 use crate::maker::{Basis, LineMaker, RowNames};
+use crate::room::ChosenEntry;
 use journals::Keeper;
 use log_theory::Ref;
 use nogood_book::push_path;
 use pb_encoding::Encoding;
-use propagation::{Cause, Entry, What};
+use propagation::{Cause, What};
 use std::alloc::{AllocError, Global};
 
 /// Puts references to the lines that a nogood row needs: those by which its vertices go somewhere, but where a pair is known to hold or the
@@ -81,10 +83,51 @@ pub(crate) fn push_set<M: LineMaker, K: Keeper>(
     Ok(())
 }
 
+/// The line for a vertex at its value and another one: of all that is not consistent, or of what edges refuse alone.
+fn line_beside<M: LineMaker, N: RowNames, K: Keeper>(
+    basis: &Basis<'_, N>,
+    maker: &mut M,
+    keeper: &mut K,
+    by_edges: bool,
+    beside: Beside,
+) -> Result<Ref, AllocError>
+    requires p_in { beside.p < size basis.now.lines.now.pattern }
+    requires t_in { beside.t < size basis.now.lines.now.target }
+    requires r_in { beside.r < size basis.now.lines.now.pattern }
+    requires apart { beside.p ≡ beside.r → ⊥ }
+    ensures goes { (w : Frame) → IsFrameOf basis.now.lines.now (K.owner keeper.old) w
+        → Goes w (K.kept keeper.old) (K.kept keeper.new) (M.knows maker.old basis.now.lines.now w)
+        (GivesRow by_edges basis.now.lines.now w beside.p beside.t beside.r result
+        (M.knows maker.new basis.now.lines.now w)) }
+    ensures fits { IfOk result IsRef }
+    ensures owner { K.owner keeper.new ≡ K.owner keeper.old }
+    ensures notes { K.notes keeper.new ≡ K.notes keeper.old }
+    ensures spare { K.spare keeper.new ≡ K.spare keeper.old }
+{
+    if by_edges {
+        return maker.edge_row(
+            basis.alloc,
+            basis.lines,
+            keeper,
+            beside.p,
+            beside.t,
+            beside.r,
+        );
+    }
+    maker.row(
+        basis.alloc,
+        basis.lines,
+        keeper,
+        beside.p,
+        beside.t,
+        beside.r,
+    )
+}
+
 /// Puts references to forms that explain a change, after lines were kept that it needs.
 pub(crate) fn push_change<M: LineMaker, N: RowNames, K: Keeper>(
     basis: &Basis<'_, N>,
-    entry: &Entry,
+    chosen: &ChosenEntry,
     at: &mut [u16],
     maker: &mut M,
     keeper: &mut K,
@@ -95,8 +138,9 @@ pub(crate) fn push_change<M: LineMaker, N: RowNames, K: Keeper>(
     requires sound { Sound basis.now.lines.now basis.now.rows.now }
     requires few { length basis.now.rows.now ≤ 2 ^ 22 }
     requires in_problem { IsInProblem basis.now.lines.now
-        (change_of basis.now.numbers.now entry.now) }
-    requires of_row { IsOfRow basis.now.rows.now (change_of basis.now.numbers.now entry.now) }
+        (change_of basis.now.numbers.now chosen.now.entry) }
+    requires of_row { IsOfRow basis.now.rows.now
+        (change_of basis.now.numbers.now chosen.now.entry) }
     requires long { size basis.now.lines.now.pattern ≤ length at.old }
     requires fits { AreRefs refs.old.items }
     ensures goes { (w : Frame) (known : List (ℕ × ℕ)) → AreAt at.old known
@@ -105,16 +149,16 @@ pub(crate) fn push_change<M: LineMaker, N: RowNames, K: Keeper>(
         (Knowing (M.knows maker.old basis.now.lines.now w)
         (AreRowsNamed basis.now.lines.now basis.now.rows.now w (N.names basis.now.names.now)))
         (IsChangePushed basis.now.lines.now basis.now.rows.now known
-        (change_of basis.now.numbers.now entry.now) w refs.old.items refs.new.items
+        (chosen_of basis.now.numbers.now chosen.now) w refs.old.items refs.new.items
         (M.knows maker.new basis.now.lines.now w) result) }
     ensures shown { (known : List (ℕ × ℕ)) → AreAt at.old known → OnOk result
-        (AreAt at.new (shown_of (change_of basis.now.numbers.now entry.now) known)) }
+        (AreAt at.new (shown_of (change_of basis.now.numbers.now chosen.now.entry) known)) }
     ensures fits { OnOk result (AreRefs refs.new.items) }
     ensures owner { K.owner keeper.new ≡ K.owner keeper.old }
     ensures notes { K.notes keeper.new ≡ K.notes keeper.old }
     ensures spare { K.spare keeper.new ≡ K.spare keeper.old }
 {
-    match entry.what {
+    match chosen.entry.what {
         What::One(r, cause) => match cause {
             Cause::First => {
                 let line = maker.first(basis.alloc, basis.lines, keeper, r)?;
@@ -127,7 +171,7 @@ pub(crate) fn push_change<M: LineMaker, N: RowNames, K: Keeper>(
             }
             Cause::Vertex(p, t) => {
                 push_decided(basis.lines, at, p, t, refs)?;
-                let line = maker.row(basis.alloc, basis.lines, keeper, p, t, r)?;
+                let line = line_beside(basis, maker, keeper, chosen.by_edges, Beside { p, t, r })?;
                 refs.push(line)?;
                 Ok(())
             }

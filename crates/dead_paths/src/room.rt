@@ -68,13 +68,22 @@ impl Room {
     }
 }
 
+/// A change that is chosen.
+#[derive(Clone, Copy)]
+pub(crate) struct ChosenEntry {
+    /// The change.
+    pub(crate) entry: Entry,
+    /// Whether of what a vertex at its value takes only that is asked which edges refuse.
+    pub(crate) by_edges: bool,
+}
+
 /// Memory that one dead path needs and the next can use again: a byte and a row of values for each pattern vertex, and a few rows.
 #[derive(Drop)]
 pub struct Scratch {
     pub(crate) marked: Vec<bool>,
     pub(crate) needed: Vec<u64>,
     pub(crate) at: Vec<u16>,
-    pub(crate) chosen: Vec<Entry>,
+    pub(crate) chosen: Vec<ChosenEntry>,
     pub(crate) room: Room,
 }
 

@@ -1,24 +1,29 @@
 //! One step back from a change: whether it may have taken a needed value, which ones, and what it rests on.
 
-ghost use Rattle.std.specs.Prelude.{◌≡◌, ℕ, ◌<◌, ◌⊎◌, ◌||◌, Bool, true, false, List, length, OnOk, IfOk};
+ghost use Rattle.std.specs.Prelude.{◌≡◌, ℕ, ◌<◌, ◌⊎◌, ◌||◌, true, false, List, length, OnOk, IfOk};
 ghost use Rattle.graph_theory.specs.Graph.{size};
 ghost use Rattle.log_theory.specs.Lookups.{is_among};
 ghost use Rattle.bit_rows.specs.BitRows.{has, words_for};
 ghost use Rattle.nogood_book.specs.declared.row.Row.{Row as TheRow};
 ghost use Rattle.nogood_book.specs.Rows.{Sound};
-ghost use Rattle.nogood_book.specs.Places.{IsNogoodRow};
 ghost use Rattle.propagation.specs.declared.change.Cause.TheVariants as cause;
 ghost use Rattle.propagation.specs.Recording.{LeftOne, LeftOthers, change_of};
 ghost use Rattle.needed_values.specs.Needed.{needs, AreRows, StaysNeeded};
+ghost use Rattle.needed_values.specs.Consistent.{Goes, AllConsistent};
 ghost use Rattle.dead_theory.specs.Changes.{IsInProblem};
-ghost use Rattle.dead_paths.specs.Choosing.{values_of, AreAt, IsStep, AreLeft, AreInside};
+ghost use Rattle.dead_paths.specs.Choosing.{values_of, AreAt, IsStep, IsMade, AreLeft, AreInside};
+ghost use Rattle.dead_paths.specs.declared.takes.Choice.TheVariants.{Passed, AsTold, ByEdges};
 
+use crate::beside::Beside;
 use crate::lookups::{holds, is_nogood_row, part};
 use crate::needs::{Walk, count_values, fill_without, need_each, uphold, uphold_row};
 use crate::room::Room;
 use bit_rows::and_into;
 use graph_rows::Problem;
-use needed_values::{copy_needed, is_any_needed, keep_consistent, put_needed, unmark};
+use needed_values::{
+    are_all_consistent, copy_needed, is_any_needed, keep_compatible, keep_consistent, put_needed,
+    unmark,
+};
 use propagation::{Cause, Entry, What};
 use std::alloc::AllocError;
 
@@ -27,6 +32,29 @@ fn is_same(row: &[u64], other: &[u64]) -> bool
     ensures { result ≡ true → row.now ≡ other.now }
 {
     row == other
+}
+
+/// What comes of a step back from a change.
+#[derive(Clone, Copy, PartialEq, Eq)]
+pub(crate) enum Choice {
+    /// It took no needed value.
+    Passed,
+    /// It is chosen as it was told.
+    AsTold,
+    /// It is chosen, and of what a vertex at its value takes only what edges refuse is asked.
+    ByEdges,
+}
+
+/// As it was told, if it is chosen.
+fn told_if(chosen: bool) -> Choice
+    ensures yes { chosen ≡ true → result ≡ AsTold }
+    ensures no { chosen ≡ false → result ≡ Passed }
+{
+    if chosen {
+        Choice::AsTold
+    } else {
+        Choice::Passed
+    }
 }
 
 /// A guess that took a needed value takes all of them.
@@ -46,15 +74,77 @@ fn by_guess(q: &Problem, r: u16, t: u16, marked: &mut [bool], needed: &[u64]) ->
     true
 }
 
-/// Two vertices, the first of them at a value.
-#[derive(Clone, Copy)]
-struct Beside {
-    p: u16,
-    t: u16,
-    r: u16,
+/// Of the needed values edges leave only such as are consistent: what they refuse is needed no more, and that the first vertex is at its value
+/// is. The one row has the needed values of the other vertex, the other those of them that edges leave.
+fn take_by_edges(
+    walk: &Walk<'_>,
+    beside: Beside,
+    marked: &mut [bool],
+    needed: &mut [u64],
+    left: &[u64],
+    other: &mut [u64],
+)
+    requires held { AreRows (size walk.now.q.now.target) marked.old needed.old }
+    requires size { length marked.old ≡ size walk.now.q.now.pattern }
+    requires p_in { beside.p < size walk.now.q.now.pattern }
+    requires t_in { beside.t < size walk.now.q.now.target }
+    requires r_in { beside.r < size walk.now.q.now.pattern }
+    requires apart { beside.p ≡ beside.r → ⊥ }
+    requires left { length left.now ≡ words_for (size walk.now.q.now.target) }
+    requires other { length other.old ≡ words_for (size walk.now.q.now.target) }
+    requires bits { (u : ℕ) → u < size walk.now.q.now.target → has other.old u
+        ≡ needs (size walk.now.q.now.target) marked.old needed.old beside.r u }
+    requires goes { Goes walk.now.q.now beside.p beside.t beside.r other.old left.now }
+    requires all { AllConsistent true walk.now.q.now beside.p beside.t beside.r left.now }
+    ensures { (path : List (ℕ × ℕ)) (from : ℕ) → AreAt walk.now.at.now path
+        → IsMade ByEdges walk.now.q.now walk.now.rows.now path
+        (LeftOne beside.r (cause.Vertex beside.p beside.t) from)
+        (values_of (size walk.now.q.now.target) marked.old needed.old)
+        (values_of (size walk.now.q.now.target) marked.new needed.new) }
+{
+    put_needed(marked, needed, count_values(walk.q), beside.r, left);
+    uphold(walk, None, (beside.p, beside.t), marked, needed, other);
 }
 
-/// A vertex at its value takes from another what is not consistent with this.
+/// The same where more than edges is asked: what is not consistent is needed no more, as far as that is quickly told.
+fn take_all(
+    walk: &Walk<'_>,
+    beside: Beside,
+    marked: &mut [bool],
+    needed: &mut [u64],
+    left: &mut [u64],
+    other: &mut [u64],
+    counts: &mut [u16],
+) -> Result<(), AllocError>
+    requires held { AreRows (size walk.now.q.now.target) marked.old needed.old }
+    requires size { length marked.old ≡ size walk.now.q.now.pattern }
+    requires p_in { beside.p < size walk.now.q.now.pattern }
+    requires t_in { beside.t < size walk.now.q.now.target }
+    requires r_in { beside.r < size walk.now.q.now.pattern }
+    requires apart { beside.p ≡ beside.r → ⊥ }
+    requires left { length left.old ≡ words_for (size walk.now.q.now.target) }
+    requires within { (u : ℕ) → has left.old u ≡ true → u < size walk.now.q.now.target }
+    requires other { length other.old ≡ words_for (size walk.now.q.now.target) }
+    requires counts { length counts.old ≡ size walk.now.q.now.target }
+    requires bits { (u : ℕ) → u < size walk.now.q.now.target → has other.old u
+        ≡ needs (size walk.now.q.now.target) marked.old needed.old beside.r u }
+    requires goes { Goes walk.now.q.now beside.p beside.t beside.r other.old left.old }
+    ensures { (path : List (ℕ × ℕ)) (from : ℕ) → AreAt walk.now.at.now path
+        → OnOk result (IsMade AsTold walk.now.q.now walk.now.rows.now path
+        (LeftOne beside.r (cause.Vertex beside.p beside.t) from)
+        (values_of (size walk.now.q.now.target) marked.old needed.old)
+        (values_of (size walk.now.q.now.target) marked.new needed.new)) }
+{
+    let _all = keep_consistent(
+        walk.alloc, walk.q, beside.p, beside.t, beside.r, left, counts,
+    )?;
+    put_needed(marked, needed, count_values(walk.q), beside.r, left);
+    uphold(walk, None, (beside.p, beside.t), marked, needed, other);
+    Ok(())
+}
+
+/// A vertex at its value takes from another what is not consistent with this. Where each needed value that edges do not refuse is consistent,
+/// edges alone are asked.
 fn by_vertex(
     walk: &Walk<'_>,
     beside: Beside,
@@ -63,7 +153,7 @@ fn by_vertex(
     spare: &mut [u64],
     other: &mut [u64],
     counts: &mut [u16],
-) -> Result<bool, AllocError>
+) -> Result<Choice, AllocError>
     requires held { AreRows (size walk.now.q.now.target) marked.old needed.old }
     requires size { length marked.old ≡ size walk.now.q.now.pattern }
     requires p_in { beside.p < size walk.now.q.now.pattern }
@@ -74,26 +164,28 @@ fn by_vertex(
     requires other { length other.old ≡ words_for (size walk.now.q.now.target) }
     requires counts { length counts.old ≡ size walk.now.q.now.target }
     ensures { (path : List (ℕ × ℕ)) (from : ℕ) → AreAt walk.now.at.now path
-        → IfOk result (λ b. IsStep b walk.now.q.now walk.now.rows.now path
+        → IfOk result (λ b. IsMade b walk.now.q.now walk.now.rows.now path
         (LeftOne beside.r (cause.Vertex beside.p beside.t) from)
         (values_of (size walk.now.q.now.target) marked.old needed.old)
         (values_of (size walk.now.q.now.target) marked.new needed.new)) }
 {
     let values = count_values(walk.q);
     if !is_any_needed(marked, needed, values, beside.r) {
-        return Ok(false);
+        return Ok(Choice::Passed);
     }
     copy_needed(marked, needed, values, beside.r, other);
     spare.copy_from_slice(other);
-    let all = keep_consistent(
-        walk.alloc, walk.q, beside.p, beside.t, beside.r, spare, counts,
-    )?;
+    keep_compatible(walk.q, beside.p, beside.t, beside.r, spare);
+    let all = are_all_consistent(walk.alloc, walk.q, beside.p, beside.t, beside.r, spare)?;
     if all && is_same(other, spare) {
-        return Ok(false);
+        return Ok(Choice::Passed);
     }
-    put_needed(marked, needed, values, beside.r, spare);
-    uphold(walk, None, (beside.p, beside.t), marked, needed, other);
-    Ok(true)
+    if all {
+        take_by_edges(walk, beside, marked, needed, spare, other);
+        return Ok(Choice::ByEdges);
+    }
+    take_all(walk, beside, marked, needed, spare, other, counts)?;
+    Ok(Choice::AsTold)
 }
 
 /// A nogood takes the value of its pair.
@@ -273,21 +365,21 @@ fn by_set(
 }
 
 /// One step back from a change. It is chosen where it may have taken a needed value; then what it takes by itself is needed no more, and what
-/// it rests on is. Cost: for a change of one vertex a few steps for each word of a row, and what `keep_consistent` costs; for a set the words of
-/// each marked vertex's row, with a look for the vertex among the set's.
+/// it rests on is. Cost: for a change of one vertex a few steps for each word of a row, and what `are_all_consistent` and `keep_consistent`
+/// cost; for a set the words of each marked vertex's row, with a look for the vertex among the set's.
 pub(crate) fn go_back(
     walk: &Walk<'_>,
     entry: &Entry,
     marked: &mut [bool],
     needed: &mut [u64],
     room: &mut Room,
-) -> Result<bool, AllocError>
+) -> Result<Choice, AllocError>
     requires sound { Sound walk.now.q.now walk.now.rows.now }
     requires in_problem { IsInProblem walk.now.q.now (change_of walk.now.numbers.now entry.now) }
     requires held { AreRows (size walk.now.q.now.target) marked.old needed.old }
     requires size { length marked.old ≡ size walk.now.q.now.pattern }
     ensures { (path : List (ℕ × ℕ)) → AreAt walk.now.at.now path
-        → IfOk result (λ b. IsStep b walk.now.q.now walk.now.rows.now path
+        → IfOk result (λ b. IsMade b walk.now.q.now walk.now.rows.now path
         (change_of walk.now.numbers.now entry.now)
         (values_of (size walk.now.q.now.target) marked.old needed.old)
         (values_of (size walk.now.q.now.target) marked.new needed.new)) }
@@ -296,8 +388,8 @@ pub(crate) fn go_back(
     room.fit(values)?;
     match entry.what {
         What::One(r, cause) => match cause {
-            Cause::First => Ok(is_any_needed(marked, needed, values, r)),
-            Cause::Guess(t) => Ok(by_guess(walk.q, r, t, marked, needed)),
+            Cause::First => Ok(told_if(is_any_needed(marked, needed, values, r))),
+            Cause::Guess(t) => Ok(told_if(by_guess(walk.q, r, t, marked, needed))),
             Cause::Vertex(p, t) => by_vertex(
                 walk,
                 Beside { p, t, r },
@@ -307,17 +399,20 @@ pub(crate) fn go_back(
                 &mut room.other,
                 &mut room.counts,
             ),
-            Cause::Nogood(name) => by_nogood(
-                walk,
-                name,
-                r,
-                marked,
-                needed,
-                &mut room.spare,
-                &mut room.pairs,
-            ),
+            Cause::Nogood(name) => {
+                let chosen = by_nogood(
+                    walk,
+                    name,
+                    r,
+                    marked,
+                    needed,
+                    &mut room.spare,
+                    &mut room.pairs,
+                )?;
+                Ok(told_if(chosen))
+            }
         },
-        What::Others(place) => Ok(by_set(
+        What::Others(place) => Ok(told_if(by_set(
             walk.q,
             (
                 part(walk.numbers, place.start, place.middle),
@@ -328,6 +423,6 @@ pub(crate) fn go_back(
             &mut room.set,
             &mut room.spare,
             &mut room.other,
-        )),
+        ))),
     }
 }

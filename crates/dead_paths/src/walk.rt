@@ -7,13 +7,22 @@ ghost use Rattle.propagation.specs.Recording.{Change, change_of, changes_of};
 ghost use Rattle.needed_values.specs.Needed.{AreRows};
 ghost use Rattle.dead_theory.specs.Changes.{IsInProblem, AreInProblem};
 ghost use Rattle.dead_theory.specs.Walks.{IsChoice};
-ghost use Rattle.dead_paths.specs.Choosing.{values_of, AreAt, changes_in, AreNameable, HasCome};
+ghost use Rattle.dead_paths.specs.Choosing.{values_of, AreAt, chosen_in, AreNameable, HasCome};
 
 use crate::needs::Walk;
-use crate::room::Room;
-use crate::takes::go_back;
+use crate::room::{ChosenEntry, Room};
+use crate::takes::{Choice, go_back};
 use propagation::Entry;
 use std::alloc::AllocError;
+
+/// Puts a chosen change behind the others.
+fn put_chosen(chosen: &mut Vec<ChosenEntry>, entry: Entry, by_edges: bool) -> Result<(), AllocError>
+    ensures { OnOk result (chosen.new.items ≡ chosen.old.items
+        ++ (record { entry = entry; by_edges = by_edges }) ∷ []) }
+{
+    chosen.push(ChosenEntry { entry, by_edges })?;
+    Ok(())
+}
 
 /// One step back: the change is chosen if it may have taken a needed value.
 fn step_back(
@@ -22,7 +31,7 @@ fn step_back(
     marked: &mut [bool],
     needed: &mut [u64],
     room: &mut Room,
-    chosen: &mut Vec<Entry>,
+    chosen: &mut Vec<ChosenEntry>,
 ) -> Result<(), AllocError>
     requires sound { Sound walk.now.q.now walk.now.rows.now }
     requires in_problem { IsInProblem walk.now.q.now (change_of walk.now.numbers.now entry.now) }
@@ -30,20 +39,20 @@ fn step_back(
     requires size { length marked.old ≡ size walk.now.q.now.pattern }
     ensures { (path : List (ℕ × ℕ)) (seen : List Change) (first : ℕ → ℕ → Bool)
         → AreAt walk.now.at.now path
-        → HasCome walk.now.q.now walk.now.rows.now path seen (changes_in walk.now.numbers.now
+        → HasCome walk.now.q.now walk.now.rows.now path seen (chosen_in walk.now.numbers.now
         chosen.old.items)
         first (values_of (size walk.now.q.now.target) marked.old needed.old)
         → OnOk result (HasCome walk.now.q.now walk.now.rows.now path
         (seen ++ change_of walk.now.numbers.now entry.now ∷ [])
-        (changes_in walk.now.numbers.now chosen.new.items) first
+        (chosen_in walk.now.numbers.now chosen.new.items) first
         (values_of (size walk.now.q.now.target) marked.new needed.new)) }
 {
-    let chooses = go_back(walk, entry, marked, needed, room)?;
-    if !chooses {
-        return Ok(());
+    let choice = go_back(walk, entry, marked, needed, room)?;
+    match choice {
+        Choice::Passed => Ok(()),
+        Choice::AsTold => put_chosen(chosen, *entry, false),
+        Choice::ByEdges => put_chosen(chosen, *entry, true),
     }
-    chosen.push(*entry)?;
-    Ok(())
 }
 
 /// Chooses of the changes those that the needed values rest on, the last one first. Cost: a step back from each change.
@@ -53,7 +62,7 @@ pub(crate) fn choose(
     marked: &mut [bool],
     needed: &mut [u64],
     room: &mut Room,
-    chosen: &mut Vec<Entry>,
+    chosen: &mut Vec<ChosenEntry>,
 ) -> Result<(), AllocError>
     requires sound { Sound walk.now.q.now walk.now.rows.now }
     requires in_problem { AreInProblem walk.now.q.now (changes_of walk.now.numbers.now
@@ -62,12 +71,12 @@ pub(crate) fn choose(
     requires size { length marked.old ≡ size walk.now.q.now.pattern }
     ensures choice { (path : List (ℕ × ℕ)) → AreAt walk.now.at.now path
         → OnOk result (IsChoice walk.now.q.now walk.now.rows.now path
-        (changes_of walk.now.numbers.now entries.now) (changes_in walk.now.numbers.now
+        (changes_of walk.now.numbers.now entries.now) (chosen_in walk.now.numbers.now
         chosen.new.items)
         (values_of (size walk.now.q.now.target) marked.old needed.old)) }
     ensures nameable { (path : List (ℕ × ℕ)) → AreAt walk.now.at.now path
         → OnOk result (AreNameable walk.now.q.now walk.now.rows.now
-        (changes_in walk.now.numbers.now chosen.new.items)) }
+        (chosen_in walk.now.numbers.now chosen.new.items)) }
 {
     chosen.clear();
     let mut left = entries.len();

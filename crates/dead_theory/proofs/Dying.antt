@@ -27,7 +27,7 @@ use Rattle.propagation.specs.declared.change.Cause.TheVariants as cause
 use Rattle.propagation.specs.Recording.{Change, LeftOne, LeftOthers}
 use Rattle.propagation.specs.Telling as telling
 use Rattle.propagation.specs.Telling.{Stands, Leaves, Changed, Told}
-use Rattle.dead_theory.specs.Changes.{NamesRows, IsOneOf, Covers, shown_of, known_after, ExplainsChange, ExplainAll, Needs, IsGuessed, AreGuessed, IsInProblem, AreInProblem}
+use Rattle.dead_theory.specs.Changes.{Chosen, told_of, NamesRows, IsOneOf, Covers, Suffices, shown_of, known_after, ExplainsTold, ExplainsChange, ExplainAll, Needs, IsGuessed, AreGuessed, IsInProblem, AreInProblem}
 use Rattle.dead_theory.specs.Ends.{End, EndsIn, EndNeeds}
 use Rattle.dead_theory.specs.Walks.{MayPass, RestsOn, IsChoice, nothing, keeps, passes}
 use Rattle.dead_theory.specs.Laws.{Dies, DeadLaws, ToldLaws}
@@ -79,58 +79,58 @@ module _ (q : Problem) (rows : List Row) (sound : Sound q rows) (s : Option watc
       by r u u_in is gone false was = was
 
   -- What it shows holds after its forms.
-  shown_gives : (c : Change) (d old : State) (now : ℕ → ℕ → Bool) (known : List (ℕ × ℕ)) (at : Setting) (own : List Form) → old.values ≡ size q.target → Leaves q s old d c → NeededOut q at old now → AreOn q at path
-      → AreOn q at known → Needs rows path c now → ExplainsChange q rows known c own → (x : ℕ × ℕ) → IsOneOf (shown_of c known) x → Gives at own (variable q x.0 x.1) true
-  shown_gives (LeftOne r (cause.Vertex p t) from) d old now known at own values_is l out on_p on needs h x (inl is) =
+  shown_gives : (by_edges : Bool) (c : Change) (d old : State) (now : ℕ → ℕ → Bool) (known : List (ℕ × ℕ)) (at : Setting) (own : List Form) → old.values ≡ size q.target → Leaves q s old d c → NeededOut q at old now → AreOn q at path
+      → AreOn q at known → Needs rows path c now → ExplainsTold by_edges q rows known c own → (x : ℕ × ℕ) → IsOneOf (shown_of c known) x → Gives at own (variable q x.0 x.1) true
+  shown_gives by_edges (LeftOne r (cause.Vertex p t) from) d old now known at own values_is l out on_p on needs h x (inl is) =
       subst (λ (z : ℕ × ℕ). Gives at own (variable q z.0 z.1) true) is (vertex_shown q rows sound s names path known at old values_is now out on_p on p t r h.0 own l.stands.decided needs h.1)
-  shown_gives (LeftOne r (cause.Vertex p t) from) d old now known at own values_is l out on_p on needs h x (inr later) = inr (run_keeps at own (variable q x.0 x.1) true (on x later))
-  shown_gives (LeftOne r cause.First from) d old now known at own values_is l out on_p on needs h x here = inr (run_keeps at own (variable q x.0 x.1) true (on x here))
-  shown_gives (LeftOne r (cause.Guess t) from) d old now known at own values_is l out on_p on needs h x here = inr (run_keeps at own (variable q x.0 x.1) true (on x here))
-  shown_gives (LeftOne r (cause.Nogood name) from) d old now known at own values_is l out on_p on needs h x here = inr (run_keeps at own (variable q x.0 x.1) true (on x here))
-  shown_gives (LeftOthers vertices values from) d old now known at own values_is l out on_p on needs h x here = inr (run_keeps at own (variable q x.0 x.1) true (on x here))
+  shown_gives by_edges (LeftOne r (cause.Vertex p t) from) d old now known at own values_is l out on_p on needs h x (inr later) = inr (run_keeps at own (variable q x.0 x.1) true (on x later))
+  shown_gives by_edges (LeftOne r cause.First from) d old now known at own values_is l out on_p on needs h x here = inr (run_keeps at own (variable q x.0 x.1) true (on x here))
+  shown_gives by_edges (LeftOne r (cause.Guess t) from) d old now known at own values_is l out on_p on needs h x here = inr (run_keeps at own (variable q x.0 x.1) true (on x here))
+  shown_gives by_edges (LeftOne r (cause.Nogood name) from) d old now known at own values_is l out on_p on needs h x here = inr (run_keeps at own (variable q x.0 x.1) true (on x here))
+  shown_gives by_edges (LeftOthers vertices values from) d old now known at own values_is l out on_p on needs h x here = inr (run_keeps at own (variable q x.0 x.1) true (on x here))
 
   quiet : (at : Setting) (own : List Form) (v : ℕ) (b : Bool) → refutes at own ≡ false → Gives at own v b → run at own v ≡ Some b
   quiet at own v b calm (inl refuted) = absurd (true≢false (sym refuted ∙ calm))
   quiet at own v b calm (inr is) = is
 
-  kept : (d old : State) (c : Change) (needed now : ℕ → ℕ → Bool) (known : List (ℕ × ℕ)) (before own : List Form) → old.values ≡ size q.target → Leaves q s old d c → IsGuessed path c
-      → RestsOn q rows path c needed now → ExplainsChange q rows known c own → Reaches q base old now known before → Reaches q base d needed (shown_of c known) (before ++ own)
+  kept : (d old : State) (c : Chosen) (needed now : ℕ → ℕ → Bool) (known : List (ℕ × ℕ)) (before own : List Form) → old.values ≡ size q.target → Leaves q s old d c.change → IsGuessed path c.change
+      → RestsOn q rows path c needed now → ExplainsChange q rows known c own → Reaches q base old now known before → Reaches q base d needed (shown_of c.change known) (before ++ own)
   kept d old c needed now known before own values_is l guessed rests h (inl refuted) = inl (refutes_more base before own refuted)
   kept d old c needed now known before own values_is l guessed rests h (inr reached) = by (refutes (run base before) own) refl
     where
       at : Setting
       at = run base before
 
-      guess_on : (r t from : ℕ) → c ≡ LeftOne r (cause.Guess t) from → at (variable q r t) ≡ Some true
+      guess_on : (r t from : ℕ) → c.change ≡ LeftOne r (cause.Guess t) from → at (variable q r t) ≡ Some true
       guess_on r t from is = run_keeps base before (variable q r t) true (true_at q base path r t are_true (subst (IsGuessed path) is guessed))
 
-      gives : (r u : ℕ) → u < size q.target → (in_domain old r u ≡ true) × (in_domain d r u ≡ false) ⊎ ((in_domain old r u ≡ false) × Covers q c r u) → Gives at own (variable q r u) false
-      gives r u u_in which = change_gives q rows sound s names path known at old values_is now reached.0 (path_on before) reached.1 c d own l guess_on rests.needs h r u u_in which
+      gives : (r u : ℕ) → u < size q.target → (in_domain old r u ≡ true) × (in_domain d r u ≡ false) × Suffices q c r u ⊎ ((in_domain old r u ≡ false) × Covers q c r u) → Gives at own (variable q r u) false
+      gives r u u_in which = change_gives q rows sound s names path known at old values_is now reached.0 (path_on before) reached.1 c.by_edges c.change d own l guess_on rests.needs h r u u_in which
 
-      by : (b : Bool) → refutes at own ≡ b → Reaches q base d needed (shown_of c known) (before ++ own)
+      by : (b : Bool) → refutes at own ≡ b → Reaches q base d needed (shown_of c.change known) (before ++ own)
       by true is = inl (refutes_behind base before own is)
       by false calm = inr (
-        (λ r u u_in is gone. run_on base before own (variable q r u) ∙ out r u u_in gone (in_domain old r u) refl (rests.carried r u is)),
+        (λ r u u_in is gone. run_on base before own (variable q r u) ∙ out r u u_in is gone (in_domain old r u) refl (rests.carried r u is)),
         (λ x here. run_on base before own (variable q x.0 x.1)
-            ∙ quiet at own (variable q x.0 x.1) true calm (shown_gives c d old now known at own values_is l reached.0 (path_on before) reached.1 rests.needs h x here)),
+            ∙ quiet at own (variable q x.0 x.1) true calm (shown_gives c.by_edges c.change d old now known at own values_is l reached.0 (path_on before) reached.1 rests.needs h x here)),
       )
         where
-          out : (r u : ℕ) → u < size q.target → in_domain d r u ≡ false → (e : Bool) → in_domain old r u ≡ e → (now r u ≡ true) ⊎ Covers q c r u → run at own (variable q r u) ≡ Some false
-          out r u u_in gone true was which = quiet at own (variable q r u) false calm (gives r u u_in (inl (was, gone)))
-          out r u u_in gone false was (inl is) = run_keeps at own (variable q r u) false (reached.0 r u u_in is was)
-          out r u u_in gone false was (inr covers) = quiet at own (variable q r u) false calm (gives r u u_in (inr (was, covers)))
+          out : (r u : ℕ) → u < size q.target → needed r u ≡ true → in_domain d r u ≡ false → (e : Bool) → in_domain old r u ≡ e → (now r u ≡ true) ⊎ Covers q c r u → run at own (variable q r u) ≡ Some false
+          out r u u_in is gone true was which = quiet at own (variable q r u) false calm (gives r u u_in (inl (was, gone, rests.suffices r u u_in is)))
+          out r u u_in is gone false was (inl needs) = run_keeps at own (variable q r u) false (reached.0 r u u_in needs was)
+          out r u u_in is gone false was (inr covers) = quiet at own (variable q r u) false calm (gives r u u_in (inr (was, covers)))
 
   before_values : (d old : State) (c : Change) → Changed q s old d c → d.values ≡ size q.target → old.values ≡ size q.target
   before_values d old c changed is = sym changed.leaves.values_same ∙ is
 
-  reached : (d : State) (cs chosen : List Change) (needed : ℕ → ℕ → Bool) (forms : List Form) → IsChoice q rows path cs chosen needed → Told q s d cs → d.values ≡ size q.target → AreGuessed path chosen
+  reached : (d : State) (cs : List Change) (chosen : List Chosen) (needed : ℕ → ℕ → Bool) (forms : List Form) → IsChoice q rows path cs chosen needed → Told q s d cs → d.values ≡ size q.target → AreGuessed path (told_of chosen)
       → ExplainAll q rows path chosen forms → Reaches q base d needed (known_after path chosen) forms
   reached d _ _ _ forms (nothing needed) told values_is guessed are =
       inr ((λ r u u_in is gone. absurd (true≢false (sym (all_there q s (size q.target) d told values_is r u u_in) ∙ gone))), path_on forms)
   reached d _ _ _ forms (keeps c cs chosen needed now rests rest) told values_is guessed are =
-      let b = before_of q s d c cs told in
-      let was = before_values d b.old c b.changed values_is in
-      subst (λ (fs : List Form). Reaches q base d needed (shown_of c (known_after path chosen)) fs) (sym are.2)
+      let b = before_of q s d c.change cs told in
+      let was = before_values d b.old c.change b.changed values_is in
+      subst (λ (fs : List Form). Reaches q base d needed (shown_of c.change (known_after path chosen)) fs) (sym are.2)
       (kept d b.old c needed now (known_after path chosen) are.0 are.1 was b.changed.leaves guessed.0 rests are.4 (reached b.old cs chosen now are.0 rest b.told was guessed.1 are.3))
   reached d _ _ _ forms (passes c cs chosen needed may rest) told values_is guessed are =
       let b = before_of q s d c cs told in
@@ -140,8 +140,8 @@ module _ (q : Problem) (rows : List Row) (sound : Sound q rows) (s : Option watc
 -- ---- the path
 
 pub dead_refuted : (q : Problem) (rows : List Row) (path : List (ℕ × ℕ)) (changes : List Change) (e : End) → Dies q rows path changes e
-    → (chosen : List Change) (needed : ℕ → ℕ → Bool) (forms ends : List Form) → EndNeeds rows path e needed → IsChoice q rows path changes chosen needed
-    → ExplainAll q rows path chosen forms → AreGuessed path chosen → EndsIn q rows path (known_after path chosen) e ends
+    → (chosen : List Chosen) (needed : ℕ → ℕ → Bool) (forms ends : List Form) → EndNeeds rows path e needed → IsChoice q rows path changes chosen needed
+    → ExplainAll q rows path chosen forms → AreGuessed path (told_of chosen) → EndsIn q rows path (known_after path chosen) e ends
     → refutes (negations (map (not_there q) path)) (forms ++ ends) ≡ true
 dead_refuted q rows path changes e dies chosen needed forms ends needs choice are guessed in_end =
     by (reached q rows dies.sound dies.nogoods dies.names base path (path_true q path) dies.domains changes chosen needed forms choice dies.told dies.values_is guessed are)
@@ -156,8 +156,8 @@ dead_refuted q rows path changes e dies chosen needed forms ends needs choice ar
         (path_on q rows dies.sound dies.nogoods dies.names base path (path_true q path) forms) h.1 e ends dies.ends needs in_end)
 
 pub dead_line : (q : Problem) (rows : List Row) (path : List (ℕ × ℕ)) (changes : List Change) (e : End) → Dies q rows path changes e
-    → (chosen : List Change) (needed : ℕ → ℕ → Bool) (forms ends : List Form) → EndNeeds rows path e needed → IsChoice q rows path changes chosen needed
-    → ExplainAll q rows path chosen forms → AreGuessed path chosen → EndsIn q rows path (known_after path chosen) e ends
+    → (chosen : List Chosen) (needed : ℕ → ℕ → Bool) (forms ends : List Form) → EndNeeds rows path e needed → IsChoice q rows path changes chosen needed
+    → ExplainAll q rows path chosen forms → AreGuessed path (told_of chosen) → EndsIn q rows path (known_after path chosen) e ends
     → (look : Lookup) (name : Name) (refs : List Ref) → find_all look refs ≡ Ok (forms ++ ends)
     → makes look (U name (map (not_there q) path) refs) ≡ Ok (pairs_clause q path)
 dead_line q rows path changes e dies chosen needed forms ends needs choice are guessed in_end look name refs found =

@@ -12,7 +12,7 @@ use Rattle.encoding_theory.specs.Encoding.{at_least, at_most}
 use Rattle.forcing_theory.specs.Chains.{run, Domains, AreOut}
 use Rattle.forcing_theory.proofs.Chaining.{after_keeps, run_keeps}
 use Rattle.reason_theory.specs.Reasons as reasons
-use Rattle.reason_theory.specs.Reasons.{IsPair, ForcesFirst, ForcesBeside, at_leasts, pairs_clause, set_form}
+use Rattle.reason_theory.specs.Reasons.{IsPair, ForcesFirst, at_leasts, pairs_clause, set_form}
 use Rattle.reason_theory.proofs.Giving.{Leads, Gives, one_gives, then_gives, leads_on}
 use Rattle.reason_theory.proofs.Forcing.{at_least_forces, at_most_forces, AreSet, clause_forces}
 use Rattle.reason_theory.proofs.Explaining as explaining
@@ -27,7 +27,7 @@ use Rattle.nogood_book.specs.Rows.{path_at, Sound}
 use Rattle.propagation.specs.declared.change.Cause.TheVariants as cause
 use Rattle.propagation.specs.Recording.{Change, LeftOne, LeftOthers}
 use Rattle.propagation.specs.Telling.{HasAtMost, IsForbidden, AreDistinct, HaveOnly, Leaves}
-use Rattle.dead_theory.specs.Changes.{NamesRows, IsOneOf, IsLeftOut, IsBorne, AreBorne, NogoodForms, set_forms, ExplainsChange, MayTake, Covers, IsUpheld, AreUpheld, AreKeptIn, Needs}
+use Rattle.dead_theory.specs.Changes.{NamesRows, IsOneOf, IsLeftOut, IsBorne, AreBorne, NogoodForms, set_forms, Forces, ExplainsTold, MayTake, GoTogether, CoversTold, SufficesTold, IsUpheld, AreUpheld, AreKeptIn, Needs}
 
 -- ---- lists of vertices
 
@@ -208,14 +208,19 @@ module _ (q : Problem) (rows : List Row) (sound : Sound q rows) (s : Option watc
     decided_gives p t most (inr (inl here)) = inr (after_keeps at (at_least q p) (variable q p t) true (on_path (p, t) here))
     decided_gives p t most (inr (inr upheld)) = one_gives at (at_least q p) (variable q p t) true (at_least_forces q at p t (upheld_out q at old needed p t out most upheld))
 
-    vertex_gives : (p t r u : ℕ) (line : Form) (own : List Form) → HasAtMost old p t → IsUpheld path None needed (p, t) → ForcesBeside q line p t r
-        → ((own ≡ line ∷ []) × IsOneOf known (p, t)) ⊎ (own ≡ at_least q p ∷ line ∷ []) → u < size q.target → (AreConsistent q p t r u → ⊥) → Gives at own (variable q r u) false
-    vertex_gives p t r u line own most upheld forces (inl h) u_in refused =
-        subst (λ (fs : List Form). Gives at fs (variable q r u) false) (sym h.0) (one_gives at line (variable q r u) false (forces at (on (p, t) h.1) u u_in refused))
-    vertex_gives p t r u line own most upheld forces (inr is) u_in refused =
+    forced : (by_edges : Bool) (p t r u : ℕ) (line : Form) → Forces by_edges q line p t r → (z : Setting) → z (variable q p t) ≡ Some true → u < size q.target → (GoTogether by_edges q p t r u → ⊥)
+        → (conflict z line ≡ true) ⊎ (after z line (variable q r u) ≡ Some false)
+    forced false p t r u line forces z here u_in refused = forces z here u u_in refused
+    forced true p t r u line forces z here u_in refused = forces z here u u_in refused
+
+    vertex_gives : (by_edges : Bool) (p t r u : ℕ) (line : Form) (own : List Form) → HasAtMost old p t → IsUpheld path None needed (p, t) → Forces by_edges q line p t r
+        → ((own ≡ line ∷ []) × IsOneOf known (p, t)) ⊎ (own ≡ at_least q p ∷ line ∷ []) → u < size q.target → (GoTogether by_edges q p t r u → ⊥) → Gives at own (variable q r u) false
+    vertex_gives by_edges p t r u line own most upheld forces (inl h) u_in refused =
+        subst (λ (fs : List Form). Gives at fs (variable q r u) false) (sym h.0) (one_gives at line (variable q r u) false (forced by_edges p t r u line forces at (on (p, t) h.1) u_in refused))
+    vertex_gives by_edges p t r u line own most upheld forces (inr is) u_in refused =
         subst (λ (fs : List Form). Gives at fs (variable q r u) false) (sym is)
         (leads_on at (at_least q p ∷ []) (line ∷ []) (λ z. z (variable q p t) ≡ Some true) (variable q r u) false (decided_gives p t most upheld)
-        (λ set. one_gives (after at (at_least q p)) line (variable q r u) false (forces (after at (at_least q p)) set u u_in refused)))
+        (λ set. one_gives (after at (at_least q p)) line (variable q r u) false (forced by_edges p t r u line forces (after at (at_least q p)) set u_in refused)))
 
     -- What is shown of the decided vertex holds after its forms.
     pub vertex_shown : (p t r : ℕ) (line : Form) (own : List Form) → HasAtMost old p t → IsUpheld path None needed (p, t)
@@ -278,14 +283,14 @@ module _ (q : Problem) (rows : List Row) (sound : Sound q rows) (s : Option watc
             (ap (λ (b : Bool). cond b (is_among u values) (not (ltb r (size q.pattern) && is_among u values))) outside ∙ ap (λ (b : Bool). not (b && is_among u values)) (lt-ltb r (size q.pattern) r_in) ∙ ap not among))
 
     -- The forms of a change take what it took, and what it covers.
-    pub change_gives : (c : Change) (new : State) (own : List Form) → Leaves q s old new c → ((r t from : ℕ) → c ≡ LeftOne r (cause.Guess t) from → at (variable q r t) ≡ Some true) → Needs rows path c needed
-        → ExplainsChange q rows known c own → (r u : ℕ) → u < size q.target → (in_domain old r u ≡ true) × (in_domain new r u ≡ false) ⊎ ((in_domain old r u ≡ false) × Covers q c r u)
+    pub change_gives : (by_edges : Bool) (c : Change) (new : State) (own : List Form) → Leaves q s old new c → ((r t from : ℕ) → c ≡ LeftOne r (cause.Guess t) from → at (variable q r t) ≡ Some true) → Needs rows path c needed
+        → ExplainsTold by_edges q rows known c own → (r u : ℕ) → u < size q.target → (in_domain old r u ≡ true) × (in_domain new r u ≡ false) × SufficesTold by_edges q c r u ⊎ ((in_domain old r u ≡ false) × CoversTold by_edges q c r u)
         → Gives at own (variable q r u) false
-    change_gives (LeftOne p cause.First from) new own l guessed needs h r u u_in (inl gone) =
+    change_gives by_edges (LeftOne p cause.First from) new own l guessed needs h r u u_in (inl gone) =
         let refused = l.refused r u gone.0 gone.1 in
         subst (λ (fs : List Form). Gives at fs (variable q r u) false) (sym h.1) (subst (λ (v : ℕ). Gives at (h.0 ∷ []) (variable q v u) false) (sym refused.0) (first_gives p u h.0 h.2 u_in refused.1))
-    change_gives (LeftOne p cause.First from) new own l guessed needs h r u u_in (inr covers) = absurd covers.1.1
-    change_gives (LeftOne p (cause.Guess t) from) new own l guessed needs h r u u_in which = by (cases_eq u t) which
+    change_gives by_edges (LeftOne p cause.First from) new own l guessed needs h r u u_in (inr covers) = absurd covers.1.1
+    change_gives by_edges (LeftOne p (cause.Guess t) from) new own l guessed needs h r u u_in which = by (cases_eq u t) which
       where
         t_in : t < size q.target
         t_in = subst (λ (n : ℕ). t < n) values_is (in_below old p t l.stands.1)
@@ -295,25 +300,27 @@ module _ (q : Problem) (rows : List Row) (sound : Sound q rows) (s : Option watc
             subst (λ (fs : List Form). Gives at fs (variable q r u) false) (sym h)
             (subst (λ (v : ℕ). Gives at (at_most q p ∷ []) (variable q v u) false) (sym same) (guess_gives p t u t_in u_in other (guessed p t from refl)))
 
-        by : (u ≡ t) ⊎ (u ≡ t → ⊥) → (in_domain old r u ≡ true) × (in_domain new r u ≡ false) ⊎ ((in_domain old r u ≡ false) × Covers q (LeftOne p (cause.Guess t) from) r u) → Gives at own (variable q r u) false
+        by : (u ≡ t) ⊎ (u ≡ t → ⊥) → (in_domain old r u ≡ true) × (in_domain new r u ≡ false) × SufficesTold by_edges q (LeftOne p (cause.Guess t) from) r u ⊎ ((in_domain old r u ≡ false) × CoversTold by_edges q (LeftOne p (cause.Guess t) from) r u) → Gives at own (variable q r u) false
         by same (inl gone) = let refused = l.refused r u gone.0 gone.1 in take refused.0 refused.1
         by (inr other) (inr covers) = take covers.1.0 other
         by (inl same) (inr covers) =
             absurd (true≢false (sym l.stands.1 ∙ sym (ap (λ (v : ℕ). in_domain old v t) covers.1.0) ∙ ap (λ (v : ℕ). in_domain old r v) (sym same) ∙ covers.0))
-    change_gives (LeftOne p (cause.Vertex v t) from) new own l guessed needs h r u u_in which = by which
+    change_gives by_edges (LeftOne p (cause.Vertex v t) from) new own l guessed needs h r u u_in which = by which
       where
-        take : r ≡ p → (AreConsistent q v t p u → ⊥) → Gives at own (variable q r u) false
-        take same refused = subst (λ (w : ℕ). Gives at own (variable q w u) false) (sym same) (vertex_gives v t p u h.0 own l.stands.decided needs h.2 h.1 u_in refused)
+        take : r ≡ p → (GoTogether by_edges q v t p u → ⊥) → Gives at own (variable q r u) false
+        take same refused = subst (λ (w : ℕ). Gives at own (variable q w u) false) (sym same) (vertex_gives by_edges v t p u h.0 own l.stands.decided needs h.2 h.1 u_in refused)
 
-        by : (in_domain old r u ≡ true) × (in_domain new r u ≡ false) ⊎ ((in_domain old r u ≡ false) × Covers q (LeftOne p (cause.Vertex v t) from) r u) → Gives at own (variable q r u) false
-        by (inl gone) = let refused = l.refused r u gone.0 gone.1 in take refused.0 refused.1
-        by (inr covers) = take covers.1.0 (subst (λ (w : ℕ). AreConsistent q v t w u → ⊥) covers.1.0 covers.1.1)
-    change_gives (LeftOne p (cause.Nogood name) from) new own l guessed needs h r u u_in (inl gone) =
+        by : (in_domain old r u ≡ true) × (in_domain new r u ≡ false) × SufficesTold by_edges q (LeftOne p (cause.Vertex v t) from) r u ⊎ ((in_domain old r u ≡ false) × CoversTold by_edges q (LeftOne p (cause.Vertex v t) from) r u) → Gives at own (variable q r u) false
+        by (inl gone) =
+            let refused = l.refused r u gone.0 gone.1 in
+            take refused.0 (λ goes. refused.1 (subst (λ (w : ℕ). AreConsistent q v t w u) refused.0 (gone.2 refused.0 (subst (λ (w : ℕ). GoTogether by_edges q v t w u) (sym refused.0) goes))))
+        by (inr covers) = take covers.1.0 (subst (λ (w : ℕ). GoTogether by_edges q v t w u → ⊥) covers.1.0 covers.1.1)
+    change_gives by_edges (LeftOne p (cause.Nogood name) from) new own l guessed needs h r u u_in (inl gone) =
         let refused = l.refused r u gone.0 gone.1 in
         subst (λ (w : ℕ). Gives at own (variable q w u) false) (sym refused.0) (nogood_gives name p u own refused.1 (subst (λ (w : ℕ). in_domain old w u ≡ true) refused.0 gone.0) needs h)
-    change_gives (LeftOne p (cause.Nogood name) from) new own l guessed needs h r u u_in (inr covers) = absurd covers.1.1
-    change_gives (LeftOthers vertices values from) new own l guessed needs h r u u_in (inl gone) =
+    change_gives by_edges (LeftOne p (cause.Nogood name) from) new own l guessed needs h r u u_in (inr covers) = absurd covers.1.1
+    change_gives by_edges (LeftOthers vertices values from) new own l guessed needs h r u u_in (inl gone) =
         let refused = l.refused r u gone.0 gone.1 in
         set_gives vertices values r u own l.stands.0 l.stands.1 needs h refused.0 (sym (same_among vertices r) ∙ refused.1) (sym (same_among values u) ∙ refused.2) u_in
-    change_gives (LeftOthers vertices values from) new own l guessed needs h r u u_in (inr covers) =
+    change_gives by_edges (LeftOthers vertices values from) new own l guessed needs h r u u_in (inr covers) =
         set_gives vertices values r u own l.stands.0 l.stands.1 needs h covers.1.0 covers.1.1 covers.1.2 u_in

@@ -11,7 +11,7 @@ use Rattle.encoding_theory.specs.Encoding.{at_least, pair_form}
 use Rattle.reason_theory.specs.Reasons.{not_there}
 use Rattle.propagation.specs.declared.change.Cause.TheVariants as cause
 use Rattle.propagation.specs.Recording.{Change, LeftOne}
-use Rattle.dead_theory.specs.Changes.{MayTake, set_forms}
+use Rattle.dead_theory.specs.Changes.{Chosen, MayTake, set_forms}
 use Rattle.dead_theory.specs.Walks.{IsChoice, nothing, keeps, passes}
 
 -- A vertex that lists these neighbours.
@@ -51,9 +51,13 @@ taken_apart r u u_in is takes = one_not_two (sym (eqb-true r 1 is) ∙ takes.0)
 taken_at_all : (r u : ℕ) → u < size example.target → of_one r u ≡ true → MayTake example [] guessed r u → ⊥
 taken_at_all r u u_in is takes = one_not_none (sym (eqb-true r 1 is) ∙ takes.0)
 
+-- What 0 at 2 takes from 1, with all that is asked.
+abbrev asked : Chosen
+asked = record { change = taken_from_one; by_edges = false }
+
 -- Vertex 1 is needed. Before its change no more is, since the path has 0 at 2; so what left 2 is passed, and the guess too.
-chosen : IsChoice example [] ((0, 2) ∷ []) (taken_from_one ∷ taken_from_two ∷ guessed ∷ []) (taken_from_one ∷ []) of_one
-chosen = keeps taken_from_one (taken_from_two ∷ guessed ∷ []) [] of_one of_one (record { carried = λ r u is. inl is; needs = inr (inl (inl refl)) })
+chosen : IsChoice example [] ((0, 2) ∷ []) (taken_from_one ∷ taken_from_two ∷ guessed ∷ []) (asked ∷ []) of_one
+chosen = keeps asked (taken_from_two ∷ guessed ∷ []) [] of_one of_one (record { suffices = λ r u u_in is same together. together; carried = λ r u is. inl is; needs = inr (inl (inl refl)) })
     (passes taken_from_two (guessed ∷ []) [] of_one taken_apart (passes guessed [] [] of_one taken_at_all (nothing of_one)))
 
 -- The forms of the change that is chosen, and the end's, lead to a conflict with the path's negation,

@@ -1,12 +1,12 @@
 -- What explains a change that was told, which values it is about, and which its reason rests on.
 
-use Rattle.std.specs.Prelude.{◌≡◌, ℕ, ◌<◌, Bool, true, false, ◌⊎◌, List, [], ◌∷◌, ◌++◌, length, Contains, Option, Some, None}
+use Rattle.std.specs.Prelude.{◌≡◌, ℕ, ◌<◌, Bool, true, false, ◌⊎◌, List, [], ◌∷◌, ◌++◌, length, map, Contains, Option, Some, None}
 use Rattle.graph_theory.specs.Graph.{size}
-use Rattle.graph_theory.specs.Embedding.{Problem}
+use Rattle.graph_theory.specs.Embedding.{Problem, Compatible}
 use Rattle.proof_theory.specs.Forms.{Form}
 use Rattle.log_theory.specs.Lookups.{is_among}
 use Rattle.encoding_theory.specs.Encoding.{at_least, at_most}
-use Rattle.reason_theory.specs.Reasons.{pairs_clause, at_leasts, set_form, ForcesFirst, ForcesBeside}
+use Rattle.reason_theory.specs.Reasons.{pairs_clause, at_leasts, set_form, ForcesFirst, ForcesBeside, ForcesByEdges}
 use Rattle.search_theory.specs.Consistency.{IsFirstValue, AreConsistent}
 use Rattle.nogood_watch.specs.Nogoods as watched
 use Rattle.nogood_watch.specs.Nogoods.{literal}
@@ -24,6 +24,17 @@ use Rattle.propagation.specs.Telling.{IsNamed}
 abbrev pub NamesRows : List Row → Option watched.State → Type 0
 NamesRows rows s = (name : ℕ) (pairs : List (ℕ × ℕ)) → IsNamed s name pairs
     → IsNogoodRow rows name × (path_at rows name ≡ pairs)
+
+-- ---- changes that are chosen
+
+-- A change that is chosen. Of what a decided vertex takes either all is asked, or only what edges refuse.
+pub record Chosen : Type 0 where
+  pub change : Change
+  pub by_edges : Bool
+
+-- As they were told.
+abbrev pub told_of : List Chosen → List Change
+told_of chosen = map (λ c. c.change) chosen
 
 -- ---- pairs that hold
 
@@ -44,9 +55,9 @@ shown_of (LeftOne r why from) known = shown_by why known
 shown_of (LeftOthers vertices values from) known = known
 
 -- The pairs that hold once these changes, the last one first, are explained: those of the path, and what the changes show.
-abbrev pub known_after : List (ℕ × ℕ) → List Change → List (ℕ × ℕ)
+abbrev pub known_after : List (ℕ × ℕ) → List Chosen → List (ℕ × ℕ)
 known_after path [] = path
-known_after path (c ∷ cs) = shown_of c (known_after path cs)
+known_after path (c ∷ cs) = shown_of c.change (known_after path cs)
 
 -- ---- forms that explain a change
 
@@ -69,16 +80,21 @@ NogoodForms q known but pairs forms = (vertices : List ℕ)
     × (forms ≡ at_leasts q vertices ++ pairs_clause q pairs ∷ [])
     × AreBorne known vertices but pairs
 
+-- Whether edges alone are asked or not, the line takes from r what does not go with p at t.
+abbrev pub Forces : Bool → Problem → Form → ℕ → ℕ → ℕ → Type 0
+Forces false q line p t r = ForcesBeside q line p t r
+Forces true q line p t r = ForcesByEdges q line p t r
+
 -- The forms explain what the cause takes from r, where the known pairs hold: a line for its first domain; that it goes to one place; that p
 -- goes somewhere, unless it is known to be at t, and then a line for p beside r; or what a nogood row needs.
-abbrev pub ExplainsBy : Cause → Problem → List Row → List (ℕ × ℕ) → ℕ → List Form → Type 0
-ExplainsBy cause.First q rows known r forms = (line : Form) × (forms ≡ line ∷ [])
+abbrev pub ExplainsBy : Bool → Cause → Problem → List Row → List (ℕ × ℕ) → ℕ → List Form → Type 0
+ExplainsBy by_edges cause.First q rows known r forms = (line : Form) × (forms ≡ line ∷ [])
     × ForcesFirst q line r
-ExplainsBy (cause.Guess t) q rows known r forms = forms ≡ at_most q r ∷ []
-ExplainsBy (cause.Vertex p t) q rows known r forms =
+ExplainsBy by_edges (cause.Guess t) q rows known r forms = forms ≡ at_most q r ∷ []
+ExplainsBy by_edges (cause.Vertex p t) q rows known r forms =
     (line : Form) × (((forms ≡ line ∷ [])
-    × IsOneOf known (p, t)) ⊎ (forms ≡ at_least q p ∷ line ∷ [])) × ForcesBeside q line p t r
-ExplainsBy (cause.Nogood name) q rows known r forms = NogoodForms q known (Some r)
+    × IsOneOf known (p, t)) ⊎ (forms ≡ at_least q p ∷ line ∷ [])) × Forces by_edges q line p t r
+ExplainsBy by_edges (cause.Nogood name) q rows known r forms = NogoodForms q known (Some r)
     (path_at rows name) forms
 
 -- One line for a set; a set of no vertices takes nothing.
@@ -86,14 +102,18 @@ abbrev pub set_forms : Problem → List ℕ → List ℕ → List Form
 set_forms q [] values = []
 set_forms q (p ∷ rest) values = set_form q p rest values ∷ []
 
--- So it is of a change.
-abbrev pub ExplainsChange : Problem → List Row → List (ℕ × ℕ) → Change → List Form → Type 0
-ExplainsChange q rows known (LeftOne r why from) forms = ExplainsBy why q rows known r forms
-ExplainsChange q rows known (LeftOthers vertices values from) forms = forms ≡ set_forms q vertices
-    values
+-- So it is of a change, and of one that is chosen.
+abbrev pub ExplainsTold : Bool → Problem → List Row → List (ℕ × ℕ) → Change → List Form → Type 0
+ExplainsTold by_edges q rows known (LeftOne r why from) forms = ExplainsBy by_edges why q rows known
+    r forms
+ExplainsTold by_edges q rows known (LeftOthers vertices values from) forms = forms ≡ set_forms q
+    vertices values
+
+abbrev pub ExplainsChange : Problem → List Row → List (ℕ × ℕ) → Chosen → List Form → Type 0
+ExplainsChange q rows known c forms = ExplainsTold c.by_edges q rows known c.change forms
 
 -- The forms explain these changes, the last one first, under a path; those of the earlier changes stand first.
-abbrev pub ExplainAll : Problem → List Row → List (ℕ × ℕ) → List Change → List Form → Type 0
+abbrev pub ExplainAll : Problem → List Row → List (ℕ × ℕ) → List Chosen → List Form → Type 0
 ExplainAll q rows path [] forms = forms ≡ []
 ExplainAll q rows path (c ∷ cs) forms =
     (before own : List Form) × (forms ≡ before ++ own) × ExplainAll q rows path cs before
@@ -115,17 +135,40 @@ MayTake q rows (LeftOne p why from) r u = (r ≡ p) × MayTakeBy why q rows r u
 MayTake q rows (LeftOthers vertices values from) r u = (is_among r vertices ≡ false)
     × (is_among u values ≡ true)
 
--- Its forms take u from r whether or not it did: they do so of what the cause refuses. A guessed value was there, so it need not be out.
-abbrev pub CoversBy : Cause → Problem → ℕ → ℕ → Type 0
-CoversBy cause.First q r u = ⊥
-CoversBy (cause.Guess t) q r u = Unit {0}
-CoversBy (cause.Vertex p t) q r u = AreConsistent q p t r u → ⊥
-CoversBy (cause.Nogood name) q r u = ⊥
+-- The two go together, as all is asked, or as edges say alone.
+abbrev pub GoTogether : Bool → Problem → ℕ → ℕ → ℕ → ℕ → Type 0
+GoTogether false q p t r u = AreConsistent q p t r u
+GoTogether true q p t r u = Compatible q p t r u
 
-abbrev pub Covers : Problem → Change → ℕ → ℕ → Type 0
-Covers q (LeftOne p why from) r u = (r ≡ p) × CoversBy why q r u
-Covers q (LeftOthers vertices values from) r u = (r < size q.pattern)
+-- Its forms take u from r whether or not it did: they do so of what the cause refuses. A guessed value was there, so it need not be out.
+abbrev pub CoversBy : Bool → Cause → Problem → ℕ → ℕ → Type 0
+CoversBy by_edges cause.First q r u = ⊥
+CoversBy by_edges (cause.Guess t) q r u = Unit {0}
+CoversBy by_edges (cause.Vertex p t) q r u = GoTogether by_edges q p t r u → ⊥
+CoversBy by_edges (cause.Nogood name) q r u = ⊥
+
+abbrev pub CoversTold : Bool → Problem → Change → ℕ → ℕ → Type 0
+CoversTold by_edges q (LeftOne p why from) r u = (r ≡ p) × CoversBy by_edges why q r u
+CoversTold by_edges q (LeftOthers vertices values from) r u = (r < size q.pattern)
     × (is_among r vertices ≡ false) × (is_among u values ≡ true)
+
+abbrev pub Covers : Problem → Chosen → ℕ → ℕ → Type 0
+Covers q c r u = CoversTold c.by_edges q c.change r u
+
+-- If it took u from r its forms do: what goes together by what is asked is consistent.
+abbrev pub SufficesBy : Bool → Cause → Problem → ℕ → ℕ → Type 0
+SufficesBy by_edges cause.First q r u = Unit {0}
+SufficesBy by_edges (cause.Guess t) q r u = Unit {0}
+SufficesBy by_edges (cause.Vertex p t) q r u = GoTogether by_edges q p t r u
+    → AreConsistent q p t r u
+SufficesBy by_edges (cause.Nogood name) q r u = Unit {0}
+
+abbrev pub SufficesTold : Bool → Problem → Change → ℕ → ℕ → Type 0
+SufficesTold by_edges q (LeftOne p why from) r u = r ≡ p → SufficesBy by_edges why q r u
+SufficesTold by_edges q (LeftOthers vertices values from) r u = Unit {0}
+
+abbrev pub Suffices : Problem → Chosen → ℕ → ℕ → Type 0
+Suffices q c r u = SufficesTold c.by_edges q c.change r u
 
 -- ---- which values have to be out before a change
 

@@ -24,7 +24,7 @@ use Rattle.propagation.specs.declared.change.Failure.{Failure}
 use Rattle.propagation.specs.Holding.{HoldsRows}
 use Rattle.propagation.specs.Recording.{Change, CountedSet}
 use Rattle.propagation.specs.Telling.{KeepsNames, Told, Fails}
-use Rattle.dead_theory.specs.Changes.{NamesRows, known_after, ExplainAll, AreGuessed, AreInProblem}
+use Rattle.dead_theory.specs.Changes.{Chosen, told_of, NamesRows, known_after, ExplainAll, AreGuessed, AreInProblem}
 use Rattle.dead_theory.specs.Ends.{End, Exhausted, end_of, EndsBy, IsEndIn, EndsIn, EndNeeds}
 use Rattle.dead_theory.specs.Walks.{MayPass, RestsOn, IsChoice, Walked, IsWithin}
 
@@ -48,16 +48,16 @@ pub record Dies (q : Problem) (rows : List Row) (path : List (ℕ
 pub record DeadLaws : Type 0 where
   pub refuted : (q : Problem) (rows : List Row) (path : List (ℕ
       × ℕ)) (changes : List Change) (e : End) → Dies q rows path changes e
-      → (chosen : List Change) (needed : ℕ → ℕ → Bool) (forms ends : List Form)
+      → (chosen : List Chosen) (needed : ℕ → ℕ → Bool) (forms ends : List Form)
       → EndNeeds rows path e needed → IsChoice q rows path changes chosen needed
-      → ExplainAll q rows path chosen forms → AreGuessed path chosen
+      → ExplainAll q rows path chosen forms → AreGuessed path (told_of chosen)
       → EndsIn q rows path (known_after path chosen) e ends
       → refutes (negations (map (not_there q) path)) (forms ++ ends) ≡ true
   pub line : (q : Problem) (rows : List Row) (path : List (ℕ
       × ℕ)) (changes : List Change) (e : End) → Dies q rows path changes e
-      → (chosen : List Change) (needed : ℕ → ℕ → Bool) (forms ends : List Form)
+      → (chosen : List Chosen) (needed : ℕ → ℕ → Bool) (forms ends : List Form)
       → EndNeeds rows path e needed → IsChoice q rows path changes chosen needed
-      → ExplainAll q rows path chosen forms → AreGuessed path chosen
+      → ExplainAll q rows path chosen forms → AreGuessed path (told_of chosen)
       → EndsIn q rows path (known_after path chosen) e ends
       → (look : Lookup) (name : Name) (refs : List Ref) → find_all look refs ≡ Ok (forms ++ ends)
       → makes look (U name (map (not_there q) path) refs) ≡ Ok (pairs_clause q path)
@@ -70,22 +70,22 @@ pub record WalkLaws : Type 0 where
   pub begins : (q : Problem) (rows : List Row) (path : List (ℕ × ℕ)) (needed : ℕ → ℕ → Bool)
       → Walked q rows path [] [] needed needed
   pub keeps : (q : Problem) (rows : List Row) (path : List (ℕ
-      × ℕ)) (seen chosen : List Change) (needed now next : ℕ → ℕ → Bool) (c : Change)
-      → Walked q rows path seen chosen needed now → RestsOn q rows path c now next
-      → Walked q rows path (seen ++ c ∷ []) (chosen ++ c ∷ []) needed next
+      × ℕ)) (seen : List Change) (chosen : List Chosen) (needed now next : ℕ → ℕ → Bool)
+      (c : Chosen) → Walked q rows path seen chosen needed now → RestsOn q rows path c now next
+      → Walked q rows path (seen ++ c.change ∷ []) (chosen ++ c ∷ []) needed next
   pub passes : (q : Problem) (rows : List Row) (path : List (ℕ
-      × ℕ)) (seen chosen : List Change) (needed now : ℕ → ℕ → Bool) (c : Change)
+      × ℕ)) (seen : List Change) (chosen : List Chosen) (needed now : ℕ → ℕ → Bool) (c : Change)
       → Walked q rows path seen chosen needed now → MayPass q rows c now
       → Walked q rows path (seen ++ c ∷ []) chosen needed now
   pub ends : (q : Problem) (rows : List Row) (path : List (ℕ
-      × ℕ)) (seen chosen : List Change) (needed now : ℕ → ℕ → Bool)
+      × ℕ)) (seen : List Change) (chosen : List Chosen) (needed now : ℕ → ℕ → Bool)
       → Walked q rows path seen chosen needed now → IsChoice q rows path seen chosen needed
   pub fewer : (q : Problem) (rows : List Row) (path : List (ℕ
-      × ℕ)) (changes chosen : List Change) (more fewer : ℕ → ℕ → Bool)
+      × ℕ)) (changes : List Change) (chosen : List Chosen) (more fewer : ℕ → ℕ → Bool)
       → IsWithin fewer more → IsChoice q rows path changes chosen more
       → IsChoice q rows path changes chosen fewer
   pub stops : (q : Problem) (rows : List Row) (path : List (ℕ
-      × ℕ)) (seen rest chosen : List Change) (needed now : ℕ → ℕ → Bool)
+      × ℕ)) (seen rest : List Change) (chosen : List Chosen) (needed now : ℕ → ℕ → Bool)
       → Walked q rows path seen chosen needed now → ((r u : ℕ) → now r u ≡ false)
       → IsChoice q rows path (seen ++ rest) chosen needed
 

@@ -17,8 +17,8 @@ use pb_encoding::Encoding;
 use row_lines::{PlacedPair, RowLines};
 use std::alloc::{AllocError, Global};
 
-/// The names of the lines that were made so far for a problem. Cost of a line that is there: logarithmic in how many there are, and for a
-/// set a sort of its vertices and one step for each vertex and value.
+/// The names of the lines that were made so far for a problem. Cost of a line that is there: one step for one of two vertices, which is found
+/// by hash, and for a set a sort of its vertices, one step for each vertex and value, and the logarithm of how many sets there are.
 #[derive(Drop)]
 pub struct MadeLines<'a> {
     problem: &'a Problem,
@@ -91,6 +91,20 @@ impl<'a> LineMaker for MadeLines<'a> {
         let q = lines.problem();
         self.rows
             .row(alloc, q, lines, keeper, PlacedPair { p, t, r })
+    }
+
+    fn edge_row<K: Keeper>(
+        &mut self,
+        alloc: Global,
+        lines: &Encoding<'_>,
+        keeper: &mut K,
+        p: u16,
+        t: u16,
+        r: u16,
+    ) -> Result<Ref, AllocError> {
+        let q = lines.problem();
+        self.rows
+            .edge_row(alloc, q, lines, keeper, PlacedPair { p, t, r })
     }
 
     fn set<K: Keeper>(

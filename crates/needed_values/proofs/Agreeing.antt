@@ -1,5 +1,7 @@
 -- Edges that agree, and values that are consistent.
-use Rattle.std.proofs.Common.{◌≡◌, ℕ, ◌<◌, ◌≤◌, ◌==◌, nat_lt, ◌&&◌, not, Bool, true, false, is_some, List, Option, Some, None, slice_index, ◌+◌, refl, sym, ap, subst, ◌∙◌, arith, inl, inr, ◌⊎◌}
+use Rattle.std.proofs.Common.{◌≡◌, ℕ, ◌<◌, ◌≤◌, ◌==◌, nat_lt, ◌&&◌, not, Bool, true, false, is_some, List, Option, Some, None, Result, Ok, Err, slice_index, ◌+◌, refl, sym, ap, subst, ◌∙◌, arith, inl, inr, ◌⊎◌}
+use Rattle.std.specs.Prelude.{IfOk}
+use Rattle.std.specs.declared.alloc.AllocError.{AllocError}
 use Rattle.std.proofs.lemmas.Bool.{true≢false, eq-eqb, ne_eqb, eqb-true, eqb-false, cases_eq, cases_lt, ltb-true, ltb-false, or_parts}
 use Rattle.graph_theory.specs.Graph.{Graph, size, edge}
 use Rattle.graph_theory.specs.Embedding.{Problem, Matches, Compatible}
@@ -231,3 +233,32 @@ module _ (g : Graph) (t shared values : ℕ) (counts old new : List ℕ)
           let few : slice_index counts u < shared = ltb-true (slice_index counts u) shared lt in
           let is = count_of u was in
           omega (arith, enough, few, is)
+
+-- ---- values that are counted one by one
+
+-- Those below n share as many with t.
+pub record AllBelow (g : Graph) (t shared n : ℕ) (row : List ℕ) : Type 0 where
+  pub enough : (u : ℕ) → u < n → has row u ≡ true → shared ≤ common g t u
+
+pub below_none : (g : Graph) (t shared m : ℕ) (row : List ℕ) → ((v : ℕ) → 0 ≤ v → v < m → has row v ≡ false) → AllBelow g t shared m row
+below_none g t shared m row none = record { enough = λ u low h. absurd (true≢false (sym h ∙ none u (omega arith) low)) }
+
+-- And so does the next one.
+pub below_next : (g : Graph) (t shared n m : ℕ) (row : List ℕ) → AllBelow g t shared n row → shared ≤ common g t n → ((v : ℕ) → n + 1 ≤ v → v < m → has row v ≡ false) → AllBelow g t shared m row
+below_next g t shared n m row before good none = record { enough = λ u low h. at u low h (cases_lt u n) (cases_eq u n) }
+  where
+    at : (u : ℕ) → u < m → has row u ≡ true → (u < n) ⊎ (n ≤ u) → (u ≡ n) ⊎ (u ≡ n → ⊥) → shared ≤ common g t u
+    at u low h (inl less) e = before.enough u less h
+    at u low h (inr more) (inl same) = subst (λ (v : ℕ). shared ≤ common g t v) (sym same) good
+    at u low h (inr more) (inr other) = absurd (true≢false (sym h ∙ none u (omega (arith, more, other)) low))
+
+pub shares_itself : (g : Graph) (t n : ℕ) (row : List ℕ) → Shares g t n row row
+shares_itself g t n row = record { kept = λ u h. h; right = λ u was gone enough. true≢false (sym was ∙ gone) }
+
+-- Values that share enough along edges are consistent where all share enough against them.
+pub back_all : (q : Problem) (p t r : ℕ) (p_in : p < size q.pattern) (r_in : r < size q.pattern) (t_in : t < size q.target) (row : List ℕ) (within : (u : ℕ) → has row u ≡ true → u < size q.target) → AllGo q p t r row
+    → AllShare true q.target t (common q.pattern p r) row → (result : Result Bool AllocError) → IfOk result (λ b. AllShare b (reversed q.target) t (common (reversed q.pattern) p r) row)
+    → IfOk result (λ b. AllConsistent b q p t r row)
+back_all q p t r p_in r_in t_in row within all along (Err e) back = tt
+back_all q p t r p_in r_in t_in row within all along (Ok b) back =
+    both_all q p t r p_in r_in t_in row row row within all (shares_itself q.target t (common q.pattern p r) row) (shares_itself (reversed q.target) t (common (reversed q.pattern) p r) row) true b along back

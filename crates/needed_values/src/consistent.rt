@@ -1,6 +1,6 @@
 //! What a vertex at its place leaves to another.
 
-ghost use Rattle.std.specs.Prelude.{◌≡◌, ℕ, ◌<◌, ◌&&◌, not, ◌==◌, ◌⊎◌, true, false, length, IfOk, OnOk};
+ghost use Rattle.std.specs.Prelude.{◌≡◌, ℕ, ◌<◌, ◌&&◌, ◌==◌, ◌⊎◌, true, false, length, IfOk, OnOk};
 ghost use Rattle.graph_theory.specs.Graph.{size};
 ghost use Rattle.graph_theory.specs.Neighbours.{common};
 ghost use Rattle.graph_theory.specs.Reversed.{turned, turned_problem};
@@ -74,7 +74,7 @@ fn asks_labels(q: &Problem, p: u16, r: u16) -> bool
 
 /// Keeps of a row of values of `r` those that go together with `p` at `t`. Cost: two steps for each word, and where a graph keeps labels of
 /// edges and one joins `p` and `r` four words for each value that these leave.
-fn keep_compatible(q: &Problem, p: u16, t: u16, r: u16, row: &mut [u64])
+pub fn keep_compatible(q: &Problem, p: u16, t: u16, r: u16, row: &mut [u64])
     requires p_in { p < size q.now.pattern }
     requires t_in { t < size q.now.target }
     requires r_in { r < size q.now.pattern }
@@ -196,4 +196,67 @@ pub fn keep_consistent(
 {
     keep_compatible(q, p, t, r, row);
     keep_sharing_both(alloc, q, p, t, r, row, counts)
+}
+
+/// Whether each value of a row shares so many neighbours with `t` in a direction. Cost: where none need be shared one step, else one for each
+/// word of a row, for each value up to the first that does not.
+fn all_share(
+    alloc: Global,
+    target: &Graph,
+    direction: Direction,
+    t: u16,
+    shared: u16,
+    row: &[u64],
+) -> Result<bool, AllocError>
+    requires t_in { t < size target.now }
+    requires long { length row.now ≡ words_for (size target.now) }
+    requires within { (u : ℕ) → has row.now u ≡ true → u < size target.now }
+    requires other { has row.now t ≡ false }
+    ensures { IfOk result (λ b. AllShare b (turned direction target.now) t shared row.now) }
+{
+    let _size = target.size();
+    if shared == 0 {
+        return Ok(true);
+    }
+    let counts = Counts::new(alloc, target, direction)?;
+    let mut u = next_member(row, 0);
+    while u < 64 * row.len() {
+        if counts.count(t, u as u16) < shared {
+            return Ok(false);
+        }
+        u = next_member(row, u + 1);
+    }
+    Ok(true)
+}
+
+/// Whether each value of a row of `r`, all of which go together with `p` at `t`, is consistent with it. Where edges are known to stand both ways
+/// one direction is enough. Cost: that of counting what `p` and `r` share, and of `all_share`, once or twice.
+pub fn are_all_consistent(
+    alloc: Global,
+    q: &Problem,
+    p: u16,
+    t: u16,
+    r: u16,
+    row: &[u64],
+) -> Result<bool, AllocError>
+    requires p_in { p < size q.now.pattern }
+    requires t_in { t < size q.now.target }
+    requires r_in { r < size q.now.pattern }
+    requires apart { p ≡ r → ⊥ }
+    requires long { length row.now ≡ words_for (size q.now.target) }
+    requires within { (u : ℕ) → has row.now u ≡ true → u < size q.now.target }
+    requires go { AllGo q.now p t r row.now }
+    ensures { IfOk result (λ b. AllConsistent b q.now p t r row.now) }
+{
+    let (pattern, target) = (q.pattern(), q.target());
+    let out = shared_by(alloc, pattern, Direction::Out, p, r)?;
+    let along = all_share(alloc, target, Direction::Out, t, out, row)?;
+    if q.is_mutual() {
+        return Ok(along);
+    }
+    if !along {
+        return Ok(false);
+    }
+    let back = shared_by(alloc, pattern, Direction::In, p, r)?;
+    all_share(alloc, target, Direction::In, t, back, row)
 }

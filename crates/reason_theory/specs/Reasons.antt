@@ -2,7 +2,7 @@
 
 use Rattle.std.specs.Prelude.{◌≡◌, ℕ, ◌<◌, ◌==◌, ◌⊎◌, Bool, true, false, not, List, [], ◌∷◌, ◌++◌, map, Some}
 use Rattle.graph_theory.specs.Graph.{size}
-use Rattle.graph_theory.specs.Embedding.{Problem}
+use Rattle.graph_theory.specs.Embedding.{Problem, Compatible}
 use Rattle.search_theory.specs.Consistency.{IsFirstValue, AreConsistent}
 use Rattle.proof_theory.specs.declared.literal.Literal.{Literal}
 use Rattle.proof_theory.specs.Forms.{Form}
@@ -59,6 +59,13 @@ abbrev pub ForcesBeside : Problem → Form → ℕ → ℕ → ℕ → Type 0
 ForcesBeside q line p t r =
     (s : Setting) → s (variable q p t) ≡ Some true → (u : ℕ) → u < size q.target
     → (AreConsistent q p t r u → ⊥)
+    → (conflict s line ≡ true) ⊎ (after s line (variable q r u) ≡ Some false)
+
+-- Where p is at t it does so for each value of r that edges, and their labels, do not let go together with this.
+abbrev pub ForcesByEdges : Problem → Form → ℕ → ℕ → ℕ → Type 0
+ForcesByEdges q line p t r =
+    (s : Setting) → s (variable q p t) ≡ Some true → (u : ℕ) → u < size q.target
+    → (Compatible q p t r u → ⊥)
     → (conflict s line ≡ true) ⊎ (after s line (variable q r u) ≡ Some false)
 
 -- ---- domains

@@ -22,7 +22,8 @@ use Rattle.encoding_theory.specs.Encoding.{at_most_target, pair_form}
 use Rattle.row_theory.specs.Operations.{FindsEncoding}
 use Rattle.encoding_theory.specs.Places.{at_most_target_place}
 use Rattle.encoding_theory.proofs.PlaceProofs.{place_laws}
-use Rattle.row_theory.specs.Rows.{is_paired, target_line, edge_line, non_edge_line, spread_form}
+use Rattle.reason_theory.specs.Reasons.{ForcesBeside, ForcesByEdges}
+use Rattle.row_theory.specs.Rows.{is_paired, target_line, edge_line, non_edge_line, spread_form, beside_form, beside_ops}
 use Rattle.row_theory.specs.Laws.{InLimits, IsPlace, FindsSpread, RowMakes}
 use Rattle.row_theory.proofs.Making.{row_laws}
 use Rattle.kept_lines.specs.Frames.{Frame, IsFrameOf, MayFollow, IsKept, Goes, AnyForms}
@@ -37,20 +38,20 @@ use Rattle.row_lines.specs.declared.sharing.Sharing.{Sharing}
 use Rattle.row_lines.specs.declared.sharing.Sharing.TheVariants.{Nothing, One, Many}
 use Rattle.row_lines.specs.Choices.{IsSharing, own_line, entry_at, pair_key, pair_name, name_or_none, spread_ref, row_ops, row_form}
 use Rattle.row_lines.specs.declared.turned_names.Spreads.{Spreads}
-use Rattle.row_lines.specs.Claims.{HasEncoding, AreSpreads, AreTurned, HasAround, IsSharedLine, IsSharedRow, IsRowLine, IsRow, IsRowNamed, AreRows, Knows, IsKnownRow, IsThere}
+use Rattle.row_lines.specs.Claims.{HasEncoding, AreSpreads, AreTurned, HasAround, IsSharedLine, IsSharedRow, IsRowLine, IsRow, IsLineOf, IsRowNamed, IsEdgeRowNamed, AreRows, Knows, IsKnownRow, IsKnownEdgeRow, IsThere}
 use Rattle.row_lines.proofs.Spreading.{finds_encoding, good_follows, spreads_last, spreads_wider}
 use Rattle.row_lines.proofs.Turning.{frame_of, serve_out, turned_last}
-use Rattle.row_lines.proofs.Good.{good_ops, good_row_ops}
+use Rattle.row_lines.proofs.Good.{good_ops, good_row_ops, good_beside}
 
 -- ---- the line of a pair
 
 module _ (q : Problem) (plain : InLimits q) (p t r : ℕ) (place : IsPlace q p t r) where
   -- Where the pair has a line of its own it is found, and where it has none the pair is none of those that have.
-  abbrev OwnFound : Lookup → Option Ref → Type 0
+  abbrev pub OwnFound : Lookup → Option Ref → Type 0
   OwnFound look None = Unit {0}
   OwnFound look (Some own) = look own ≡ Some (pair_form q p r t)
 
-  own_found : (look : Lookup) → FindsEncoding q look → OwnFound look (own_line q p r t)
+  pub own_found : (look : Lookup) → FindsEncoding q look → OwnFound look (own_line q p r t)
   own_found look finds = by (is_edge_pair q p r) refl (is_non_edge_pair q p r) refl
     where
       by : (b : Bool) → is_edge_pair q p r ≡ b → (c : Bool) → is_non_edge_pair q p r ≡ c → OwnFound look (cond b (Some (edge_line q p r t)) (cond c (Some (non_edge_line q p r t)) None))
@@ -58,11 +59,11 @@ module _ (q : Problem) (plain : InLimits q) (p t r : ℕ) (place : IsPlace q p t
       by false unjoined true is = ((row_laws q plain).makes look finds).non_edge p t r place is
       by false unjoined false none = tt
 
-  abbrev OwnSays : Option Ref → Type 0
+  abbrev pub OwnSays : Option Ref → Type 0
   OwnSays None = is_paired q p r ≡ false
   OwnSays (Some own) = Unit {0}
 
-  own_says : OwnSays (own_line q p r t)
+  pub own_says : OwnSays (own_line q p r t)
   own_says = by (is_edge_pair q p r) refl (is_non_edge_pair q p r) refl
     where
       by : (b : Bool) → is_edge_pair q p r ≡ b → (c : Bool) → is_non_edge_pair q p r ≡ c → OwnSays (cond b (Some (edge_line q p r t)) (cond c (Some (non_edge_line q p r t)) None))
@@ -155,15 +156,15 @@ row_alone w q p t r a b old new result none goes =
 
 -- ---- all lines that were made
 
-pub rows_last : (w : Frame) (q : Problem) (names : List (ℕ × Name)) (forms more : List Form) → AreRows w q names forms → AreRows w q names (forms ++ more)
-rows_last w q names forms more h = record { named = λ p t r n p_in t_in r_in is. let k = h.named p t r n p_in t_in r_in is in (k.0, named_later w forms more (Made n) k.0 k.1, k.2) }
+pub rows_last : (w : Frame) (q : Problem) (force : Form → ℕ → ℕ → ℕ → Type 0) (names : List (ℕ × Name)) (forms more : List Form) → AreRows w q force names forms → AreRows w q force names (forms ++ more)
+rows_last w q force names forms more h = record { named = λ p t r n p_in t_in r_in is. let k = h.named p t r n p_in t_in r_in is in (k.0, named_later w forms more (Made n) k.0 k.1, k.2) }
 
-rows_added : (w : Frame) (q : Problem) → InLimits q → (old new : List (ℕ × Name)) (forms : List Form) (p t r : ℕ) (n : Name) → p < size q.pattern → t < size q.target → r < size q.pattern
-    → ((k : ℕ) → entry_at new k ≡ cond (k == pair_key p r t) (Some n) (entry_at old k)) → IsRowNamed w q p t r (Made n) forms → AreRows w q old forms → AreRows w q new forms
-rows_added w q plain old new forms p t r n p_in t_in r_in added named h = record { named = λ a u b m a_in u_in b_in is. by a u b m a_in u_in b_in is (cases_eq (pair_key a b u) (pair_key p r t)) }
+rows_added : (w : Frame) (q : Problem) (force : Form → ℕ → ℕ → ℕ → Type 0) → InLimits q → (old new : List (ℕ × Name)) (forms : List Form) (p t r : ℕ) (n : Name) → p < size q.pattern → t < size q.target → r < size q.pattern
+    → ((k : ℕ) → entry_at new k ≡ cond (k == pair_key p r t) (Some n) (entry_at old k)) → IsLineOf w force p t r (Made n) forms → AreRows w q force old forms → AreRows w q force new forms
+rows_added w q force plain old new forms p t r n p_in t_in r_in added named h = record { named = λ a u b m a_in u_in b_in is. by a u b m a_in u_in b_in is (cases_eq (pair_key a b u) (pair_key p r t)) }
   where
     by : (a u b : ℕ) (m : Name) → a < size q.pattern → u < size q.target → b < size q.pattern → pair_name new a b u ≡ Some m
-        → (pair_key a b u ≡ pair_key p r t) ⊎ (pair_key a b u ≡ pair_key p r t → ⊥) → IsRowNamed w q a u b (Made m) forms
+        → (pair_key a b u ≡ pair_key p r t) ⊎ (pair_key a b u ≡ pair_key p r t → ⊥) → IsLineOf w force a u b (Made m) forms
     by a u b m a_in u_in b_in is (inl same) =
         let few = plain.vertices_few in
         let less = plain.targets_few in
@@ -172,29 +173,48 @@ rows_added w q plain old new forms p t r n p_in t_in r_in added named h = record
         let u_is : t ≡ u = omega (arith, same, few, less, a_in, b_in, u_in, p_in, r_in, t_in) in
         let read : Some n ≡ Some m = sym (added (pair_key a b u) ∙ ap (λ (x : Bool). cond x (Some n) (entry_at old (pair_key a b u))) (eq-eqb (pair_key a b u) (pair_key p r t) same)) ∙ is in
         let n_is : n ≡ m = cc in
-        subst (λ (x : Name). IsRowNamed w q a u b (Made x) forms) n_is
-        (subst (λ (x : ℕ). IsRowNamed w q x u b (Made n) forms) a_is (subst (λ (x : ℕ). IsRowNamed w q p x b (Made n) forms) u_is (subst (λ (x : ℕ). IsRowNamed w q p t x (Made n) forms) b_is named)))
+        subst (λ (x : Name). IsLineOf w force a u b (Made x) forms) n_is
+        (subst (λ (x : ℕ). IsLineOf w force x u b (Made n) forms) a_is (subst (λ (x : ℕ). IsLineOf w force p x b (Made n) forms) u_is (subst (λ (x : ℕ). IsLineOf w force p t x (Made n) forms) b_is named)))
     by a u b m a_in u_in b_in is (inr other) =
         h.named a u b m a_in u_in b_in (sym (added (pair_key a b u) ∙ ap (λ (x : Bool). cond x (Some n) (entry_at old (pair_key a b u))) (ne_eqb (pair_key a b u) (pair_key p r t) other)) ∙ is)
 
+-- The names of all rows.
+abbrev RowsOf : Frame → Problem → List (ℕ × Name) → List (ℕ × Name) → List Form → Type 0
+RowsOf w q rows edge_rows forms = AreRows w q (ForcesBeside q) rows forms × AreRows w q (ForcesByEdges q) edge_rows forms
+
+rows_of_last : (w : Frame) (q : Problem) (rows edge_rows : List (ℕ × Name)) (forms more : List Form) → RowsOf w q rows edge_rows forms → RowsOf w q rows edge_rows (forms ++ more)
+rows_of_last w q rows edge_rows forms more h = (rows_last w q (ForcesBeside q) rows forms more h.0, rows_last w q (ForcesByEdges q) edge_rows forms more h.1)
+
 -- A line that was made beside the names of other rows.
-rows_kept : (w : Frame) (q : Problem) (p t r : ℕ) (a b : Option (List Step)) (spreads new : Spreads) (rows : List (ℕ × Name)) (result : Result Name AllocError) → Goes w a b (AreTurned w q spreads) (IsRow w q p t r new result)
-    → Goes w a b (λ forms. AreTurned w q spreads forms × AreRows w q rows forms) (λ forms. IsRow w q p t r new result forms × AreRows w q rows forms)
-rows_kept w q p t r a b spreads new rows result goes = goes_beside w a b (AreTurned w q spreads) (IsRow w q p t r new result) (AreRows w q rows) (λ forms more h. rows_last w q rows forms more h) goes
+rows_kept : (w : Frame) (q : Problem) (p t r : ℕ) (a b : Option (List Step)) (spreads new : Spreads) (rows edge_rows : List (ℕ × Name)) (result : Result Name AllocError) → Goes w a b (AreTurned w q spreads) (IsRow w q p t r new result)
+    → Goes w a b (λ forms. AreTurned w q spreads forms × RowsOf w q rows edge_rows forms) (λ forms. IsRow w q p t r new result forms × RowsOf w q rows edge_rows forms)
+rows_kept w q p t r a b spreads new rows edge_rows result goes =
+    goes_beside w a b (AreTurned w q spreads) (IsRow w q p t r new result) (RowsOf w q rows edge_rows) (λ forms more h. rows_of_last w q rows edge_rows forms more h) goes
 
 -- No line was made, though others may be.
-pub row_refused : (w : Frame) (q : Problem) (p t r : ℕ) (a b : Option (List Step)) (old new : RowLines) (result : Result Name AllocError) → new.rows ≡ old.rows → Goes w a b (AreTurned w q old.spreads) (IsRow w q p t r new.spreads result)
-    → Goes w a b (Knows w q old) (Knows w q new)
-row_refused w q p t r a b old new result same goes =
-    goes_as w a b (λ forms. AreTurned w q old.spreads forms × AreRows w q old.rows forms) (λ forms. IsRow w q p t r new.spreads result forms × AreRows w q old.rows forms) (Knows w q old) (Knows w q new) (λ forms h. h)
-    (λ forms k. (k.0.0, subst (λ (xs : List (ℕ × Name)). AreRows w q xs forms) (sym same) k.1)) (rows_kept w q p t r a b old.spreads new.spreads old.rows result goes)
+pub row_refused : (w : Frame) (q : Problem) (p t r : ℕ) (a b : Option (List Step)) (old new : RowLines) (result : Result Name AllocError) → new.rows ≡ old.rows → new.edge_rows ≡ old.edge_rows
+    → Goes w a b (AreTurned w q old.spreads) (IsRow w q p t r new.spreads result) → Goes w a b (Knows w q old) (Knows w q new)
+row_refused w q p t r a b old new result same same_edges goes =
+    goes_as w a b (λ forms. AreTurned w q old.spreads forms × RowsOf w q old.rows old.edge_rows forms) (λ forms. IsRow w q p t r new.spreads result forms × RowsOf w q old.rows old.edge_rows forms) (Knows w q old) (Knows w q new)
+    (λ forms h. (h.0, (h.1, h.2)))
+    (λ forms k. (k.0.0, subst (λ (xs : List (ℕ × Name)). AreRows w q (ForcesBeside q) xs forms) (sym same) k.1.0, subst (λ (xs : List (ℕ × Name)). AreRows w q (ForcesByEdges q) xs forms) (sym same_edges) k.1.1))
+    (rows_kept w q p t r a b old.spreads new.spreads old.rows old.edge_rows result goes)
 
 -- The line was made, and its name was added.
 pub row_added : (w : Frame) (q : Problem) → InLimits q → (p t r : ℕ) (a b : Option (List Step)) (old new : RowLines) (n : Name) → p < size q.pattern → t < size q.target → r < size q.pattern
-    → ((k : ℕ) → entry_at new.rows k ≡ cond (k == pair_key p r t) (Some n) (entry_at old.rows k)) → Goes w a b (AreTurned w q old.spreads) (IsRow w q p t r new.spreads (Ok n)) → Goes w a b (Knows w q old) (IsKnownRow w q p t r new (Ok (Made n)))
-row_added w q plain p t r a b old new n p_in t_in r_in added goes =
-    goes_as w a b (λ forms. AreTurned w q old.spreads forms × AreRows w q old.rows forms) (λ forms. IsRow w q p t r new.spreads (Ok n) forms × AreRows w q old.rows forms) (Knows w q old) (IsKnownRow w q p t r new (Ok (Made n))) (λ forms h. h)
-    (λ forms k. ((k.0.0, rows_added w q plain old.rows new.rows forms p t r n p_in t_in r_in added k.0.1 k.1), k.0.1)) (rows_kept w q p t r a b old.spreads new.spreads old.rows (Ok n) goes)
+    → ((k : ℕ) → entry_at new.rows k ≡ cond (k == pair_key p r t) (Some n) (entry_at old.rows k)) → new.edge_rows ≡ old.edge_rows → Goes w a b (AreTurned w q old.spreads) (IsRow w q p t r new.spreads (Ok n))
+    → Goes w a b (Knows w q old) (IsKnownRow w q p t r new (Ok (Made n)))
+row_added w q plain p t r a b old new n p_in t_in r_in added same goes =
+    goes_as w a b (λ forms. AreTurned w q old.spreads forms × RowsOf w q old.rows old.edge_rows forms) (λ forms. IsRow w q p t r new.spreads (Ok n) forms × RowsOf w q old.rows old.edge_rows forms) (Knows w q old) (IsKnownRow w q p t r new (Ok (Made n)))
+    (λ forms h. (h.0, (h.1, h.2)))
+    (λ forms k. (
+      (
+        k.0.0,
+        rows_added w q (ForcesBeside q) plain old.rows new.rows forms p t r n p_in t_in r_in added k.0.1 k.1.0,
+        subst (λ (xs : List (ℕ × Name)). AreRows w q (ForcesByEdges q) xs forms) (sym same) k.1.1,
+      ),
+      k.0.1,
+    )) (rows_kept w q p t r a b old.spreads new.spreads old.rows old.edge_rows (Ok n) goes)
 
 -- A line of the encoding that serves.
 pub row_there : (q : Problem) → InLimits q → (owner : ℕ) (w : Frame) (p t r : ℕ) (ref : Ref) (forms : List Form) → IsFrameOf q owner w → IsPlace q p t r → IsThere q p t r (Some ref) → IsRowNamed w q p t r ref forms
@@ -215,16 +235,98 @@ row_there_of q k same plain owner w p t r ref forms frame place there =
     row_there q (subst (λ (x : Problem). InLimits x) same plain) owner w p t r ref forms frame place (subst (λ (x : Problem). IsThere x p t r (Some ref)) same there)
 
 -- The names of tables that have none are right.
-pub nothing_known : (w : Frame) (q : Problem) (lines : RowLines) (forms : List Form) → AreTurned w q lines.spreads forms → lines.rows ≡ [] → Knows w q lines forms
-nothing_known w q lines forms no_spread no_row =
-    (no_spread, subst (λ (xs : List (ℕ × Name)). AreRows w q xs forms) (sym no_row) (record { named = λ p t r n p_in t_in r_in is. absurd cc }))
+pub nothing_known : (w : Frame) (q : Problem) (lines : RowLines) (forms : List Form) → AreTurned w q lines.spreads forms → lines.rows ≡ [] → lines.edge_rows ≡ [] → Knows w q lines forms
+nothing_known w q lines forms no_spread no_row no_edge_row = (
+  no_spread,
+  subst (λ (xs : List (ℕ × Name)). AreRows w q (ForcesBeside q) xs forms) (sym no_row) (record { named = λ p t r n p_in t_in r_in is. absurd cc }),
+  subst (λ (xs : List (ℕ × Name)). AreRows w q (ForcesByEdges q) xs forms) (sym no_edge_row) (record { named = λ p t r n p_in t_in r_in is. absurd cc }),
+)
 
 -- And names stay right as forms are added, and beside more lines.
 pub knows_last : (w : Frame) (q : Problem) (lines : RowLines) (forms more : List Form) → Knows w q lines forms → Knows w q lines (forms ++ more)
-knows_last w q lines forms more h = (turned_last w q lines.spreads forms more h.0, rows_last w q lines.rows forms more h.1)
+knows_last w q lines forms more h = (
+  turned_last w q lines.spreads forms more h.0,
+  rows_last w q (ForcesBeside q) lines.rows forms more h.1,
+  rows_last w q (ForcesByEdges q) lines.edge_rows forms more h.2,
+)
+
+rows_wider : (w v : Frame) (q : Problem) (force : Form → ℕ → ℕ → ℕ → Type 0) (names : List (ℕ × Name)) (forms : List Form) → Widens w v → AreRows w q force names forms → AreRows v q force names forms
+rows_wider w v q force names forms wider h = record { named = λ p t r n a b c e. let x = h.named p t r n a b c e in (x.0, named_wider w v forms (Made n) x.0 wider x.1, x.2) }
 
 pub knows_wider : (w v : Frame) (q : Problem) (lines : RowLines) (forms : List Form) → Widens w v → Knows w q lines forms → Knows v q lines forms
 knows_wider w v q lines forms wider h = (
   (spreads_wider w v q lines.spreads.out forms wider h.0.0, spreads_wider w v (reversed_problem q) lines.spreads.back forms wider h.0.1),
-  record { named = λ p t r n a b c e. let x = h.1.named p t r n a b c e in (x.0, named_wider w v forms (Made n) x.0 wider x.1, x.2) },
+  rows_wider w v q (ForcesBeside q) lines.rows forms wider h.1,
+  rows_wider w v q (ForcesByEdges q) lines.edge_rows forms wider h.2,
 )
+
+-- ---- lines by edges alone
+
+module _ (q : Problem) (plain : InLimits q) (p t r : ℕ) (place : IsPlace q p t r) where
+  -- The line of the two at the place, with that of the other one.
+  pub edge_ops : (own : Ref) (ops : List Op) → own_line q p r t ≡ Some own → ops ≡ beside_ops q own r → AreOps ops
+  edge_ops own ops mine is = subst AreOps (sym is) (good_ops (variables q) (beside_ops q own r) (good_beside q plain own p r t place.first place.second place.place mine))
+
+  pub edge_follows : (owner : ℕ) (w : Frame) (forms : List Form) (name : Name) (own : Ref) (ops : List Op) → HasEncoding q owner w → own_line q p r t ≡ Some own → ops ≡ beside_ops q own r
+      → MayFollow w forms (P name ops) (beside_form q p t r)
+  edge_follows owner w forms name own ops frame mine is =
+      subst (λ (os : List Op). MayFollow w forms (P name os) (beside_form q p t r)) (sym is)
+      (good_follows q owner w forms name (beside_ops q own r) (beside_form q p t r) frame (good_beside q plain own p r t place.first place.second place.place mine)
+      (λ look finds own_. ((row_laws q plain).makes look (finds_encoding q owner w look frame finds)).beside name own p t r place
+      (subst (λ (o : Option Ref). OwnFound q plain p t r place look o) mine (own_found q plain p t r place look (finds_encoding q owner w look frame finds)))))
+
+-- One that is found.
+pub edge_found : (w : Frame) (q : Problem) (lines : RowLines) (p t r : ℕ) (n : Name) (forms : List Form) → IsPlace q p t r → pair_name lines.edge_rows p r t ≡ Some n → Knows w q lines forms
+    → IsKnownEdgeRow w q p t r lines (Ok (Made n)) forms
+edge_found w q lines p t r n forms place is k = (k, k.2.named p t r n place.first place.place place.second is)
+
+-- The place's own, where the two have none.
+pub edge_there : (q k : Problem) → k ≡ q → InLimits k → (owner : ℕ) (w : Frame) (p t r : ℕ) (ref : Ref) (forms : List Form) → IsFrameOf q owner w → IsPlace q p t r → own_line k p r t ≡ None → ref ≡ target_line k t
+    → IsEdgeRowNamed w q p t r ref forms
+edge_there q k same plain owner w p t r ref forms frame place none is =
+    here (subst (λ (x : Problem). InLimits x) same plain) (subst (λ (x : Problem). own_line x p r t ≡ None) same none) (subst (λ (x : Problem). ref ≡ target_line x t) same is)
+  where
+    not_shared : (j : ℕ) → target_line q t ≡ Shared j → ⊥
+    not_shared j e = cc
+
+    here : InLimits q → own_line q p r t ≡ None → ref ≡ target_line q t → IsEdgeRowNamed w q p t r ref forms
+    here few free at = (
+      at_most_target q t,
+      record {
+        found = λ look finds own. ap look at ∙ (finds_encoding q owner w look (frame_of q owner w frame) finds).line (at_most_target_place q t) (at_most_target q t) ((place_laws q).at_most_target t place.place);
+        foreign = λ j named. absurd (not_shared j (sym at ∙ named));
+      },
+      (row_laws q few).edges.alone p t r place (subst (λ (o : Option Ref). OwnSays q few p t r place o) free (own_says q few p t r place)),
+    )
+
+-- The line was made.
+pub edge_kept : (w : Frame) (q k : Problem) → k ≡ q → InLimits k → (p t r : ℕ) (a b : Option (List Step)) (old new : RowLines) (n : Name) → IsPlace q p t r → new.spreads ≡ old.spreads → new.rows ≡ old.rows
+    → ((j : ℕ) → entry_at new.edge_rows j ≡ cond (j == pair_key p r t) (Some n) (entry_at old.edge_rows j)) → Goes w a b AnyForms (IsKept w (Ok n) (beside_form k p t r)) → Goes w a b (Knows w q old) (IsKnownEdgeRow w q p t r new (Ok (Made n)))
+edge_kept w q k same plain p t r a b old new n place spreads rows added goes =
+    goes_as w a b (λ forms. AnyForms forms × Knows w q old forms) (λ forms. IsKept w (Ok n) (beside_form k p t r) forms × Knows w q old forms) (Knows w q old) (IsKnownEdgeRow w q p t r new (Ok (Made n)))
+    (λ forms h. (tt, h))
+    (λ forms h. (
+      (
+        subst (λ (s : Spreads). AreTurned w q s forms) (sym spreads) h.1.0,
+        subst (λ (xs : List (ℕ × Name)). AreRows w q (ForcesBeside q) xs forms) (sym rows) h.1.1,
+        rows_added w q (ForcesByEdges q) (subst (λ (x : Problem). InLimits x) same plain) old.edge_rows new.edge_rows forms p t r n place.first place.place place.second added (line forms h.0) h.1.2,
+      ),
+      line forms h.0,
+    ))
+    (goes_beside w a b AnyForms (IsKept w (Ok n) (beside_form k p t r)) (Knows w q old) (λ forms more h. knows_last w q old forms more h) goes)
+  where
+    line : (forms : List Form) → IsKept w (Ok n) (beside_form k p t r) forms → IsEdgeRowNamed w q p t r (Made n) forms
+    line forms kept =
+        (beside_form q p t r, subst (λ (x : Problem). IsKept w (Ok n) (beside_form x p t r) forms) same kept, (row_laws q (subst (λ (x : Problem). InLimits x) same plain)).edges.beside p t r place)
+
+-- No line was made, or its name was not added.
+pub edge_refused : (w : Frame) (q k : Problem) (p t r : ℕ) (a b : Option (List Step)) (old new : RowLines) (result : Result Name AllocError) → new.spreads ≡ old.spreads → new.rows ≡ old.rows → new.edge_rows ≡ old.edge_rows
+    → Goes w a b AnyForms (IsKept w result (beside_form k p t r)) → Goes w a b (Knows w q old) (Knows w q new)
+edge_refused w q k p t r a b old new result spreads rows edges goes =
+    goes_as w a b (λ forms. AnyForms forms × Knows w q old forms) (λ forms. IsKept w result (beside_form k p t r) forms × Knows w q old forms) (Knows w q old) (Knows w q new) (λ forms h. (tt, h))
+    (λ forms h. (
+      subst (λ (s : Spreads). AreTurned w q s forms) (sym spreads) h.1.0,
+      subst (λ (xs : List (ℕ × Name)). AreRows w q (ForcesBeside q) xs forms) (sym rows) h.1.1,
+      subst (λ (xs : List (ℕ × Name)). AreRows w q (ForcesByEdges q) xs forms) (sym edges) h.1.2,
+    ))
+    (goes_beside w a b AnyForms (IsKept w result (beside_form k p t r)) (Knows w q old) (λ forms more h. knows_last w q old forms more h) goes)

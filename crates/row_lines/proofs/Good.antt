@@ -1,5 +1,5 @@
 -- Operations whose numbers are in their ranges, and that name no row.
-use Rattle.std.proofs.Common.{◌≡◌, ℕ, zero, suc, ◌+◌, ◌*◌, ◌^◌, ◌≤◌, ◌<◌, nat_lt, nat_le, Bool, true, false, not, ◌&&◌, cond, List, [], ◌∷◌, ◌++◌, length, refl, arith, Option, Some, None, length-append}
+use Rattle.std.proofs.Common.{◌≡◌, ℕ, zero, suc, ◌+◌, ◌*◌, ◌^◌, ◌≤◌, ◌<◌, nat_lt, nat_le, Bool, true, false, not, ◌&&◌, cond, List, [], ◌∷◌, ◌++◌, length, refl, arith, Option, Some, None, length-append, subst}
 use Rattle.std.specs.Prelude.{slice_get}
 use Rattle.std.proofs.lemmas.Bool.{lt-ltb, le-leb}
 use native.Mathlib.Nat.{suc-mul, mul-le-mul_right}
@@ -22,7 +22,7 @@ use Rattle.encoding_theory.specs.Encoding.{vertex_forms, vertex_group, target_fo
 use Rattle.encoding_theory.specs.Places.{at_least_place, at_most_place, at_most_target_place, edge_place, non_edge_place}
 use Rattle.encoding_theory.proofs.PlaceProofs.{place_laws}
 use Rattle.row_theory.specs.Operations.{adds_where}
-use Rattle.row_theory.specs.Rows.{at_least_line, at_most_line, target_line, edge_line, non_edge_line, is_shared, there, spread_ops, not_both, two_ops, around_ops, weight}
+use Rattle.row_theory.specs.Rows.{at_least_line, at_most_line, target_line, edge_line, non_edge_line, is_shared, there, spread_ops, not_both, two_ops, around_ops, weight, beside_ops}
 use Rattle.row_theory.specs.Laws.{InLimits}
 use Rattle.row_lines.specs.declared.sharing.Sharing.{Sharing}
 use Rattle.row_lines.specs.declared.sharing.Sharing.TheVariants.{Nothing, One, Many}
@@ -262,6 +262,10 @@ module _ (q : Problem) (plain : InLimits q) where
   good_plain : (own : Option Ref) (t r : ℕ) → IsGoodOwn own → t < size q.target → r < size q.pattern → AreGood (variables q) (plain_ops q own t r)
   good_plain (Some own) t r good t_in r_in = (good, (good_most r r_in, (tt, tt)))
   good_plain None t r good t_in r_in = (good_target t t_in, tt)
+
+  -- The pair's own line, with that of r.
+  pub good_beside : (own : Ref) (p r t : ℕ) → p < size q.pattern → r < size q.pattern → t < size q.target → own_line q p r t ≡ Some own → AreGood (variables q) (beside_ops q own r)
+  good_beside own p r t p_in r_in t_in mine = good_plain (Some own) t r (subst (λ (o : Option Ref). IsGoodOwn o) mine (good_own p r t p_in r_in t_in)) t_in r_in
 
   pub good_row_ops : (names : List (ℕ × Name)) → ((k : ℕ) (n : Name) → entry_at names k ≡ Some n → IsName n) → (sharing : Sharing) (p t r : ℕ) → IsSharing q p r sharing → p < size q.pattern → t < size q.target → r < size q.pattern
       → AreGood (variables q) (row_ops q names sharing (own_line q p r t) p t r)

@@ -12,7 +12,7 @@ use Rattle.log_theory.specs.declared.step.Ref.{Ref}
 use Rattle.log_theory.specs.declared.step.Ref.TheVariants.{Made}
 use Rattle.log_theory.specs.declared.step.Op.{Op}
 use Rattle.log_theory.specs.declared.step.Step.TheVariants.{P}
-use Rattle.reason_theory.specs.Reasons.{ForcesBeside}
+use Rattle.reason_theory.specs.Reasons.{ForcesBeside, ForcesByEdges}
 use Rattle.row_theory.specs.Rows.{target_line, is_paired, spread_form, not_both_form}
 use Rattle.row_theory.specs.Laws.{ForcesShared}
 use Rattle.encoding_theory.specs.Variables.{variables}
@@ -105,24 +105,45 @@ IsRow w q p t r spreads result forms = AreTurned w q spreads forms
 
 -- ---- all lines that were made
 
+-- What a line for p at t and r is to force.
+abbrev pub Force : Type 1
+Force = Form → ℕ → ℕ → ℕ → Type 0
+
+-- The reference names a line that forces this.
+abbrev pub IsLineOf : Frame → Force → ℕ → ℕ → ℕ → Ref → List Form → Type 0
+IsLineOf w force p t r ref forms = (f : Form) × IsNamed w forms ref f × force f p t r
+
 -- The reference names a line which takes from r what is not consistent with p at t.
 abbrev pub IsRowNamed : Frame → Problem → ℕ → ℕ → ℕ → Ref → List Form → Type 0
-IsRowNamed w q p t r ref forms = (f : Form) × IsNamed w forms ref f × ForcesBeside q f p t r
+IsRowNamed w q p t r ref forms = IsLineOf w (ForcesBeside q) p t r ref forms
 
--- Each name of the table is that of such a line.
-pub record AreRows (w : Frame) (q : Problem) (names : Names) (forms : List Form) : Type 0 where
+-- Or what edges, and their labels, do not let go together with p at t.
+abbrev pub IsEdgeRowNamed : Frame → Problem → ℕ → ℕ → ℕ → Ref → List Form → Type 0
+IsEdgeRowNamed w q p t r ref forms = IsLineOf w (ForcesByEdges q) p t r ref forms
+
+-- Each name of the table is that of a line that forces this.
+pub record AreRows (w : Frame) (q : Problem) (force : Form → ℕ → ℕ → ℕ → Type 0) (names : Names)
+    (forms : List Form) : Type 0 where
   pub named : (p t r : ℕ) (n : Name) → p < size q.pattern → t < size q.target
-      → r < size q.pattern → pair_name names p r t ≡ Some n → IsRowNamed w q p t r (Made n) forms
+      → r < size q.pattern → pair_name names p r t ≡ Some n → IsLineOf w force p t r (Made n) forms
 
 -- The names of all tables are right.
 abbrev pub Knows : Frame → Problem → RowLines → List Form → Type 0
-Knows w q lines forms = AreTurned w q lines.spreads forms × AreRows w q lines.rows forms
+Knows w q lines forms = AreTurned w q lines.spreads forms
+    × AreRows w q (ForcesBeside q) lines.rows forms
+    × AreRows w q (ForcesByEdges q) lines.edge_rows forms
 
 -- So they are, and the reference that is answered names a line for p at t and r.
 abbrev pub IsKnownRow : Frame → Problem → ℕ → ℕ → ℕ → RowLines → Result Ref AllocError
     → List Form → Type 0
 IsKnownRow w q p t r lines (Ok ref) forms = Knows w q lines forms × IsRowNamed w q p t r ref forms
 IsKnownRow w q p t r lines (Err e) forms = Knows w q lines forms
+
+abbrev pub IsKnownEdgeRow : Frame → Problem → ℕ → ℕ → ℕ → RowLines → Result Ref AllocError
+    → List Form → Type 0
+IsKnownEdgeRow w q p t r lines (Ok ref) forms = Knows w q lines forms
+    × IsEdgeRowNamed w q p t r ref forms
+IsKnownEdgeRow w q p t r lines (Err e) forms = Knows w q lines forms
 
 -- A line of the encoding serves: nothing but the place itself is refused.
 abbrev pub IsThere : Problem → ℕ → ℕ → ℕ → Option Ref → Type 0

@@ -9,7 +9,7 @@ ghost use Rattle.encoding_theory.specs.Variables.{when};
 ghost use Rattle.encoding_theory.specs.Pairs.{is_edge_pair};
 ghost use Rattle.row_theory.specs.Laws.{IsPlace};
 ghost use Rattle.row_theory.specs.Operations.{adds_where};
-ghost use Rattle.row_theory.specs.Rows.{edge_line, is_shared as is_shared_by, there as there_at, spread_ops as spread_ops_of, two_ops as two_ops_of, not_both as not_both_of, target_line};
+ghost use Rattle.row_theory.specs.Rows.{edge_line, is_shared as is_shared_by, there as there_at, spread_ops as spread_ops_of, two_ops as two_ops_of, not_both as not_both_of, target_line, beside_ops as beside_ops_of};
 ghost use Rattle.row_lines.specs.Choices.{IsSharing, begin_of, own_line as own_line_of, spread_ref as spread_ref_of, plain_ops as plain_ops_of, counted_ops as counted_ops_of, row_ops as row_ops_of};
 
 use crate::known::Known;
@@ -241,7 +241,7 @@ fn add_spreads(
 }
 
 /// The pair's own line at `t`, if there is one.
-fn own_line(known: &Known, p: u16, r: u16, t: u16) -> Option<Ref>
+pub(crate) fn own_line(known: &Known, p: u16, r: u16, t: u16) -> Option<Ref>
     requires p_in { p < size known.now.pattern }
     requires r_in { r < size known.now.pattern }
     requires t_in { t < size known.now.target }
@@ -254,6 +254,18 @@ fn own_line(known: &Known, p: u16, r: u16, t: u16) -> Option<Ref>
     } else {
         None
     }
+}
+
+/// The operations of the pair's own line and that of `r`.
+pub(crate) fn beside_ops(alloc: Global, known: &Known, own: Ref, r: u16) -> Result<Ops, AllocError>
+    requires { r < size known.now.pattern }
+    ensures { IfOk result (λ ops. ops ≡ beside_ops_of known.now own r) }
+{
+    let mut ops = Vec::with_capacity(alloc, 3)?;
+    ops.push(Op::Push(own))?;
+    ops.push(Op::Push(known.at_most(r)))?;
+    ops.push(Op::Add)?;
+    Ok(Ops::new(ops))
 }
 
 /// The operations where no shared neighbour is asked for: one or two lines.

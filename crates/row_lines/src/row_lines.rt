@@ -1,24 +1,27 @@
 //! All lines for pairs of vertices that were made, so that each is made once.
 
-ghost use Rattle.std.specs.Prelude.{◌≡◌, ◌<◌, [], List, IfOk, IfSome};
+ghost use Rattle.std.specs.Prelude.{◌≡◌, ◌<◌, [], List, Some, IfOk, IfSome};
 ghost use Rattle.graph_theory.specs.Embedding.{Problem as TheProblem};
 ghost use Rattle.proof_theory.specs.Forms.{Form};
-ghost use Rattle.log_theory.specs.LogText.{IsRef};
+ghost use Rattle.log_theory.specs.LogText.{IsName, IsRef};
 ghost use Rattle.row_theory.specs.Laws.{IsPlace};
-ghost use Rattle.kept_lines.specs.Frames.{Frame, IsFrameOf, Goes};
-ghost use Rattle.row_lines.specs.Choices.{IsAsked};
-ghost use Rattle.row_lines.specs.Claims.{Knows, IsKnownRow, IsThere};
+ghost use Rattle.row_theory.specs.Rows.{beside_form};
+ghost use Rattle.kept_lines.specs.Frames.{Frame, IsFrameOf, IsKept, Goes, AnyForms};
+ghost use Rattle.row_lines.specs.Choices.{IsAsked, own_line as own_line_of};
+ghost use Rattle.row_lines.specs.Claims.{HasEncoding, Knows, IsKnownRow, IsKnownEdgeRow, IsThere};
 
 use crate::known::Known;
+use crate::ops::{beside_ops, own_line};
 use crate::pair_names::PairNames;
 use crate::placed_pair::PlacedPair;
 use crate::row::row_line_with;
 use crate::sharing::{Asked, Sharing, asked_of};
+use crate::spreads::NO_NAME;
 use crate::turned_names::Spreads;
 use graph_rows::Problem;
 use graph_theory::direction::Direction;
 use journals::Keeper;
-use log_theory::Ref;
+use log_theory::{Name, Ref, Step};
 use pb_encoding::Encoding;
 use std::alloc::{AllocError, Global};
 
@@ -26,6 +29,7 @@ use std::alloc::{AllocError, Global};
 #[derive(Drop)]
 pub struct RowLines {
     rows: PairNames,
+    edge_rows: PairNames,
     spreads: Spreads,
 }
 
@@ -54,6 +58,29 @@ fn line_there(known: &Known, asked: Asked, pair: PlacedPair) -> Option<Ref>
     }
 }
 
+/// Keeps the line of the two vertices at the place, with that of the other one.
+fn keep_edge_row<K: Keeper>(
+    alloc: Global,
+    known: &Known,
+    keeper: &mut K,
+    own: Ref,
+    pair: PlacedPair,
+) -> Result<Name, AllocError>
+    requires placed { IsPlace known.now pair.p pair.t pair.r }
+    requires own { own_line_of known.now pair.p pair.r pair.t ≡ Some own }
+    ensures goes { (w : Frame) → HasEncoding known.now (K.owner keeper.old) w
+        → Goes w (K.kept keeper.old) (K.kept keeper.new) AnyForms
+        (IsKept w result (beside_form known.now pair.p pair.t pair.r)) }
+    ensures name { IfOk result IsName }
+    ensures owner { K.owner keeper.new ≡ K.owner keeper.old }
+    ensures notes { K.notes keeper.new ≡ K.notes keeper.old }
+    ensures spare { K.spare keeper.new ≡ K.spare keeper.old }
+{
+    known.in_limits();
+    let ops = beside_ops(alloc, known, own, pair.r)?;
+    keeper.keep(Step::P { name: NO_NAME, ops })
+}
+
 impl RowLines {
     /// No line yet. It takes no memory.
     pub fn new(alloc: Global) -> RowLines
@@ -61,6 +88,7 @@ impl RowLines {
     {
         RowLines {
             rows: PairNames::new(alloc),
+            edge_rows: PairNames::new(alloc),
             spreads: Spreads::new(alloc),
         }
     }
@@ -97,6 +125,41 @@ impl RowLines {
         }
         let name = row_line_with(alloc, q, lines, &mut self.spreads, keeper, pair)?;
         self.rows.add(pair.p, pair.r, pair.t, name)?;
+        Ok(Ref::Made(name))
+    }
+
+    /// A reference to a line that takes from `pair.r` each value that edges, and their labels, do not let go together with `pair.p` at `pair.t`:
+    /// that of the encoding for the two at the place and that of `pair.r` summed, or the place's own. It is made when it is first asked for.
+    /// Cost: where it was made, that of finding its name.
+    pub fn edge_row<K: Keeper>(
+        &mut self,
+        alloc: Global,
+        q: &Problem,
+        lines: &Encoding<'_>,
+        keeper: &mut K,
+        pair: PlacedPair,
+    ) -> Result<Ref, AllocError>
+        requires encoding { lines.now ≡ q.now }
+        requires placed { IsPlace q.now pair.p pair.t pair.r }
+        ensures goes { (w : Frame) → IsFrameOf q.now (K.owner keeper.old) w
+            → Goes w (K.kept keeper.old) (K.kept keeper.new) (Knows w q.now self.old)
+            (IsKnownEdgeRow w q.now pair.p pair.t pair.r self.new result) }
+        ensures fits { IfOk result IsRef }
+        ensures owner { K.owner keeper.new ≡ K.owner keeper.old }
+        ensures notes { K.notes keeper.new ≡ K.notes keeper.old }
+        ensures spare { K.spare keeper.new ≡ K.spare keeper.old }
+    {
+        if let Some(name) = self.edge_rows.find(pair.p, pair.r, pair.t) {
+            return Ok(Ref::Made(name));
+        }
+        let known = Known::new(q, lines, Direction::Out);
+        known.in_limits();
+        let own = match own_line(&known, pair.p, pair.r, pair.t) {
+            None => return Ok(known.target(pair.t)),
+            Some(own) => own,
+        };
+        let name = keep_edge_row(alloc, &known, keeper, own, pair)?;
+        self.edge_rows.add(pair.p, pair.r, pair.t, name)?;
         Ok(Ref::Made(name))
     }
 }

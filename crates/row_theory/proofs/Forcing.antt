@@ -5,7 +5,7 @@ use Rattle.std.proofs.lemmas.Bool.{cases_lt, eqb-true, not_from_false, ne_eqb, a
 use native.Mathlib.Nat.{add-mul, mul-add, mul-le-mul_right}
 use Rattle.std.proofs.Math.Nat.{mul_comm}
 use Rattle.graph_theory.specs.Graph.{size, edge}
-use Rattle.graph_theory.specs.Embedding.{Problem}
+use Rattle.graph_theory.specs.Embedding.{Problem, Compatible}
 use Rattle.graph_theory.specs.Neighbours.{is_neighbour, degree, common}
 use Rattle.proof_theory.specs.Forms.{Form, Holds, Rises}
 use Rattle.proof_theory.specs.Rules.{sum_of, times_of}
@@ -19,8 +19,9 @@ use Rattle.encoding_theory.proofs.PairTests.{compatible_from}
 use Rattle.encoding_theory.proofs.Counting.{count_some, count_one}
 use Rattle.forcing_theory.specs.Units.{Follows}
 use Rattle.forcing_theory.proofs.Uniting.{unit}
+use Rattle.reason_theory.specs.Reasons.{ForcesByEdges}
 use Rattle.row_theory.specs.Rows.{is_paired, is_shared, beside_form, spread_form, weight, joined_form, apart_form}
-use Rattle.row_theory.specs.Laws.{IsPlace, Shares, ForcesShared, RowForces}
+use Rattle.row_theory.specs.Laws.{IsPlace, Shares, ForcesShared, RowForces, EdgeForces}
 use Rattle.row_theory.proofs.Totals.{one_if, count_both_le, count_but_one}
 use Rattle.row_theory.proofs.Values.{IsWorth, worth_sum, worth_times, scaled, rises_where, worth_at_most, worth_target, worth_pair, values_of, values_where, held_at}
 use Rattle.row_theory.proofs.Around.{times_around, around_says, around_at_most, around_few}
@@ -34,6 +35,14 @@ refused_by q p t r u refused = by (is_compatible q p t r u) refl (cases_lt (comm
     by false e shared = inl e
     by true e (inl few) = inr few
     by true e (inr enough) = absurd (refused (record { pair = compatible_from q p t r u e; shared = enough }))
+
+-- What does not go together does not pass the test.
+incompatible : (q : Problem) (p t r u : ℕ) → (Compatible q p t r u → ⊥) → is_compatible q p t r u ≡ false
+incompatible q p t r u refused = by (is_compatible q p t r u) refl
+  where
+    by : (b : Bool) → is_compatible q p t r u ≡ b → is_compatible q p t r u ≡ false
+    by true e = absurd (refused (compatible_from q p t r u e))
+    by false e = e
 
 -- A form that holds only where the value is not taken forces this.
 pub forces_out : (s : Setting) (f : Form) (v : ℕ) → Rises 0 f.terms → ((a : ℕ → Bool) → Follows s a → Holds f a → a v ≡ true → ⊥) → (conflict s f ≡ true) ⊎ (after s f v ≡ Some false)
@@ -54,13 +63,12 @@ beside_never q a p t r u u_in refused here holds is =
     let reached = holds.reached in
     omega (arith, ints)
 
+edges_beside : (q : Problem) (p t r : ℕ) → IsPlace q p t r → ForcesByEdges q (beside_form q p t r) p t r
+edges_beside q p t r place s here u u_in refused = forces_out s (beside_form q p t r) (variable q r u) (Rises-sorted _)
+    (λ a follows holds is. beside_never q a p t r u u_in (incompatible q p t r u refused) (follows.same (variable q p t) true here) holds is)
+
 forces_beside : (q : Problem) (p t r : ℕ) → IsPlace q p t r → common q.pattern p r ≡ 0 → ForcesShared q (beside_form q p t r) p t r
-forces_beside q p t r place none s here u u_in refused = forces_out s (beside_form q p t r) (variable q r u) (Rises-sorted _)
-    (λ a follows holds is. beside_never q a p t r u u_in (by (refused_by q p t r u refused)) (follows.same (variable q p t) true here) holds is)
-  where
-    by : (is_compatible q p t r u ≡ false) ⊎ (common q.target t u < common q.pattern p r) → is_compatible q p t r u ≡ false
-    by (inl e) = e
-    by (inr few) = absurd (omega (arith, few, none))
+forces_beside q p t r place none s here u u_in refused = edges_beside q p t r place s here u u_in (λ pair. refused (record { pair = pair; shared = omega (arith, none) }))
 
 -- Vertices without lines of their own refuse nothing but the place itself.
 no_edge : (e : Option ℕ) → is_some e ≡ false → e ≡ None
@@ -103,13 +111,12 @@ target_never q a p t r place here holds is =
     let reached = holds.reached in
     place.others (count_one (λ v. every v && a (variable q v t)) (size q.pattern) p r (omega (arith, ints)) place.first place.second here is)
 
+edges_alone : (q : Problem) (p t r : ℕ) → IsPlace q p t r → is_paired q p r ≡ false → ForcesByEdges q (at_most_target q t) p t r
+edges_alone q p t r place unpaired s here u u_in refused = forces_out s (at_most_target q t) (variable q r u) (Rises-sorted _)
+    (λ a follows holds is. target_never q a p t r place (follows.same (variable q p t) true here) holds (ap (λ (w : ℕ). a (variable q r w)) (sym (same_place q p t r u place.others unpaired (incompatible q p t r u refused))) ∙ is))
+
 forces_alone : (q : Problem) (p t r : ℕ) → IsPlace q p t r → common q.pattern p r ≡ 0 → is_paired q p r ≡ false → ForcesShared q (at_most_target q t) p t r
-forces_alone q p t r place none unpaired s here u u_in refused = forces_out s (at_most_target q t) (variable q r u) (Rises-sorted _)
-    (λ a follows holds is. target_never q a p t r place (follows.same (variable q p t) true here) holds (ap (λ (w : ℕ). a (variable q r w)) (sym (by (refused_by q p t r u refused))) ∙ is))
-  where
-    by : (is_compatible q p t r u ≡ false) ⊎ (common q.target t u < common q.pattern p r) → u ≡ t
-    by (inl e) = same_place q p t r u place.others unpaired e
-    by (inr few) = absurd (omega (arith, few, none))
+forces_alone q p t r place none unpaired s here u u_in refused = edges_alone q p t r place unpaired s here u u_in (λ pair. refused (record { pair = pair; shared = omega (arith, none) }))
 
 -- ---- shared neighbours asked for
 
@@ -219,4 +226,10 @@ row_forces q = record {
   alone = λ p t r place none unpaired. forces_alone q p t r place none unpaired;
   joined = λ p t r place some. forces_joined q p t r place some;
   apart = λ p t r place some unpaired. forces_apart q p t r place some unpaired;
+}
+
+pub edge_forces : (q : Problem) → EdgeForces q
+edge_forces q = record {
+  beside = λ p t r place. edges_beside q p t r place;
+  alone = λ p t r place unpaired. edges_alone q p t r place unpaired;
 }

@@ -33,7 +33,7 @@ use Rattle.row_theory.proofs.Totals.{one_if}
 use Rattle.row_theory.proofs.Spreading.{few_form, backs_form, spread_exact, one_alone}
 use Rattle.row_theory.proofs.BothWays.{row_serves, clause_terms, clause_bound, clause_made}
 use Rattle.row_theory.proofs.Pairing.{not_both_made, few_two, two_exact}
-use Rattle.row_theory.proofs.Forcing.{row_forces}
+use Rattle.row_theory.proofs.Forcing.{row_forces, edge_forces}
 
 -- ---- sizes
 
@@ -367,4 +367,4 @@ module _ (q : Problem) (plain : InLimits q) where
     }
 
   pub row_laws : RowLaws q
-  row_laws = record { forces = row_forces q; serves = row_serves q; makes = row_makes; sizes = row_sizes }
+  row_laws = record { forces = row_forces q; edges = edge_forces q; serves = row_serves q; makes = row_makes; sizes = row_sizes }

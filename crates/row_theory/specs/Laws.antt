@@ -15,7 +15,7 @@ use Rattle.log_theory.specs.Lookups.{Lookup, makes}
 use Rattle.encoding_theory.specs.Pairs.{is_edge_pair, is_non_edge_pair}
 use Rattle.encoding_theory.specs.Encoding.{at_most_target, pair_form}
 use Rattle.forcing_theory.specs.Sums.{IsSmall}
-use Rattle.reason_theory.specs.Reasons.{ForcesBeside}
+use Rattle.reason_theory.specs.Reasons.{ForcesBeside, ForcesByEdges}
 use Rattle.row_theory.specs.Operations.{FindsEncoding}
 use Rattle.row_theory.specs.Rows.{at_least_line, target_line, edge_line, non_edge_line, is_paired, is_shared, beside_form, beside_ops, alone_ops, spread_form, spread_ops, not_both, not_both_form, two_ops, joined_form, joined_ops, apart_form, apart_ops, consistent_places, consistent_clause, consistent_form}
 
@@ -66,6 +66,12 @@ pub record RowForces (q : Problem) : Type 0 where
       → ForcesShared q (joined_form q p t r) p t r
   pub apart : (p t r : ℕ) → IsPlace q p t r → 0 < common q.pattern p r → is_paired q p r ≡ false
       → ForcesShared q (apart_form q p t r) p t r
+
+-- What the line of two vertices at a place forces with that of the other one, or the place's own where they have none, whatever they share.
+pub record EdgeForces (q : Problem) : Type 0 where
+  pub beside : (p t r : ℕ) → IsPlace q p t r → ForcesByEdges q (beside_form q p t r) p t r
+  pub alone : (p t r : ℕ) → IsPlace q p t r → is_paired q p r ≡ false
+      → ForcesByEdges q (at_most_target q t) p t r
 
 -- Where edges stand both ways one direction is enough; else the line of one direction where the other asks for no shared neighbour, and a
 -- line of both.
@@ -125,6 +131,7 @@ pub record RowSizes (q : Problem) : Type 0 where
 -- The lines for a pair of vertices: what they force, what makes them, and that they are small.
 pub record RowLaws (q : Problem) : Type 0 where
   pub forces : RowForces q
+  pub edges : EdgeForces q
   pub serves : RowServes q
   pub makes : (look : Lookup) → FindsEncoding q look → RowMakes q look
   pub sizes : RowSizes q

@@ -1,7 +1,7 @@
 use Rattle.std.proofs.Common.{[], arith}
 use Rattle.graph_theory.specs.Graph.{size}
 use Rattle.propagation.specs.Recording.{changes_of, set_at}
-use Rattle.dead_paths.specs.Choosing.{values_of, changes_in}
+use Rattle.dead_paths.specs.Choosing.{values_of, chosen_in}
 use Rattle.dead_paths.specs.Explaining.{end_by}
 use Rattle.dead_paths.proofs.Ends.{choice_is}
 use Rattle.dead_paths.proofs.Resting.{rows_again}
@@ -16,5 +16,5 @@ choose-requires-clause-held c =
 
 pub returns-clause-choice : goal.returns-clause-choice
 returns-clause-choice c = λ path here.
-    choice_is c.args.walk.now.q.now c.args.walk.now.rows.now path (changes_of c.args.walk.now.numbers.now c.args.entries.now) (changes_in c.args.walk.now.numbers.now c.choose.new.chosen.items) (end_by c.args.end.0 (set_at c.args.walk.now.numbers.now c.args.end.1) [])
+    choice_is c.args.walk.now.q.now c.args.walk.now.rows.now path (changes_of c.args.walk.now.numbers.now c.args.entries.now) (chosen_in c.args.walk.now.numbers.now c.choose.new.chosen.items) (end_by c.args.end.0 (set_at c.args.walk.now.numbers.now c.args.end.1) [])
     (values_of (size c.args.walk.now.q.now.target) c.mark_end.new.marked c.mark_end.new.needed) c.choose.result (c.in_ok-mark_end.ensures path here) (c.choose.ensures.choice path here)

@@ -3,7 +3,7 @@ use Rattle.log_theory.specs.LogText.{AreRefs}
 use Rattle.kept_lines.specs.Frames.{Frame, IsFrameOf, Goes}
 use Rattle.dead_paths.specs.Making.{AreRowsNamed}
 use Rattle.dead_theory.specs.Changes.{known_after}
-use Rattle.dead_paths.specs.Choosing.{AreAt, changes_in}
+use Rattle.dead_paths.specs.Choosing.{AreAt, chosen_in}
 use Rattle.dead_paths.specs.Explaining.{Explained, Knowing}
 use Rattle.dead_paths.proofs.dead_line.push_chosen.Given as goal
 
@@ -17,8 +17,8 @@ invariant-loop-left g l = record {
   owner : g.K.Keeper.owner l.keeper ≡ g.K.Keeper.owner l.initial.keeper;
   notes : g.K.Keeper.notes l.keeper ≡ g.K.Keeper.notes l.initial.keeper;
   spare : g.K.Keeper.spare l.keeper ≡ g.K.Keeper.spare l.initial.keeper;
-  known : (path : List (ℕ × ℕ)) → AreAt l.initial.at path → AreAt l.at (known_after path (changes_in l.basis.numbers.now (drop l.left l.chosen)));
+  known : (path : List (ℕ × ℕ)) → AreAt l.initial.at path → AreAt l.at (known_after path (chosen_in l.basis.numbers.now (drop l.left l.chosen)));
   goes : (w : Frame) (path : List (ℕ × ℕ)) → AreAt l.initial.at path → IsFrameOf l.basis.lines.now (g.K.Keeper.owner l.initial.keeper) w → Goes w (g.K.Keeper.kept l.initial.keeper) (g.K.Keeper.kept l.keeper)
       (Knowing (g.M.LineMaker.knows l.initial.maker l.basis.lines.now w) (AreRowsNamed l.basis.lines.now l.basis.rows.now w (g.N.RowNames.names l.basis.names.now)))
-      (Knowing (g.M.LineMaker.knows l.maker l.basis.lines.now w) (Explained l.basis.lines.now l.basis.rows.now path w (g.N.RowNames.names l.basis.names.now) (changes_in l.basis.numbers.now (drop l.left l.chosen)) l.refs.items));
+      (Knowing (g.M.LineMaker.knows l.maker l.basis.lines.now w) (Explained l.basis.lines.now l.basis.rows.now path w (g.N.RowNames.names l.basis.names.now) (chosen_in l.basis.numbers.now (drop l.left l.chosen)) l.refs.items));
 }

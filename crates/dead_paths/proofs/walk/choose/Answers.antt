@@ -1,7 +1,7 @@
 use Rattle.std.proofs.Common.{◌≡◌, ◌<◌, ◌-◌, suc, length, refl, arith}
 use Rattle.graph_theory.specs.Graph.{size}
 use Rattle.propagation.specs.Recording.{changes_of}
-use Rattle.dead_paths.specs.Choosing.{values_of, changes_in}
+use Rattle.dead_paths.specs.Choosing.{values_of, chosen_in}
 use Rattle.dead_paths.proofs.Walking.{gone_none, in_problem_here, stepped, walked_all, nameable_all}
 use Rattle.dead_paths.proofs.Resting.{rows_again}
 use Rattle.dead_paths.proofs.walk.choose.Goals as goal
@@ -16,7 +16,7 @@ step_back-requires-clause-in_problem c =
     let below : c.loop-left.left - 1 < length c.args.entries.now = omega (arith, within, some) in
     let is : c.loop-left.left ≡ suc (c.loop-left.left - 1) = omega (arith, some) in
     in_problem_here c.args.walk.now.q.now c.args.walk.now.rows.now c.args.walk.now.numbers.now c.args.walk.now.at.now (changes_of c.args.walk.now.numbers.now c.args.entries.now) c.args.entries.now (c.loop-left.left - 1) c.loop-left.left c.index-entries-left.result
-    (changes_in c.args.walk.now.numbers.now c.loop-left.chosen.items) (values_of (size c.args.walk.now.q.now.target) c.args.marked.now c.args.needed.now) (values_of (size c.args.walk.now.q.now.target) c.loop-left.marked c.loop-left.needed) below is c.index-entries-left.is c.loop-left.invariant
+    (chosen_in c.args.walk.now.numbers.now c.loop-left.chosen.items) (values_of (size c.args.walk.now.q.now.target) c.args.marked.now c.args.needed.now) (values_of (size c.args.walk.now.q.now.target) c.loop-left.marked c.loop-left.needed) below is c.index-entries-left.is c.loop-left.invariant
 
 pub loop-left-preserved : goal.loop-left-preserved
 loop-left-preserved c =
@@ -26,18 +26,18 @@ loop-left-preserved c =
     let below : c.loop-left.left - 1 < length c.args.entries.now = omega (arith, within, some) in
     let is : c.loop-left.left ≡ suc (c.loop-left.left - 1) = omega (arith, some) in
     stepped c.args.walk.now.q.now c.args.walk.now.rows.now c.args.walk.now.numbers.now c.args.walk.now.at.now (changes_of c.args.walk.now.numbers.now c.args.entries.now) c.args.entries.now (c.loop-left.left - 1) c.loop-left.left c.index-entries-left.result
-    (changes_in c.args.walk.now.numbers.now c.loop-left.chosen.items) (changes_in c.args.walk.now.numbers.now c.step_back.new.chosen.items) (values_of (size c.args.walk.now.q.now.target) c.args.marked.now c.args.needed.now) (values_of (size c.args.walk.now.q.now.target) c.loop-left.marked c.loop-left.needed) (values_of (size c.args.walk.now.q.now.target) c.step_back.new.marked c.step_back.new.needed) below is
+    (chosen_in c.args.walk.now.numbers.now c.loop-left.chosen.items) (chosen_in c.args.walk.now.numbers.now c.step_back.new.chosen.items) (values_of (size c.args.walk.now.q.now.target) c.args.marked.now c.args.needed.now) (values_of (size c.args.walk.now.q.now.target) c.loop-left.marked c.loop-left.needed) (values_of (size c.args.walk.now.q.now.target) c.step_back.new.marked c.step_back.new.needed) below is
     c.index-entries-left.is i (λ path here. c.in_ok-step_back.ensures path i.seen (values_of (size c.args.walk.now.q.now.target) c.args.marked.now c.args.needed.now) here (i.come path here))
 
 pub returns-clause-choice : goal.returns-clause-choice
 returns-clause-choice c = λ path here.
     let none : c.loop-left.left ≡ 0 = omega (arith, c.loop-left-test.false) in
-    walked_all c.args.walk.now.q.now c.args.walk.now.rows.now c.args.walk.now.numbers.now c.args.walk.now.at.now (changes_of c.args.walk.now.numbers.now c.args.entries.now) c.args.entries.now c.loop-left.left (changes_in c.args.walk.now.numbers.now c.loop-left.chosen.items)
+    walked_all c.args.walk.now.q.now c.args.walk.now.rows.now c.args.walk.now.numbers.now c.args.walk.now.at.now (changes_of c.args.walk.now.numbers.now c.args.entries.now) c.args.entries.now c.loop-left.left (chosen_in c.args.walk.now.numbers.now c.loop-left.chosen.items)
     (values_of (size c.args.walk.now.q.now.target) c.args.marked.now c.args.needed.now) (values_of (size c.args.walk.now.q.now.target) c.loop-left.marked c.loop-left.needed) none c.loop-left.invariant path here
 
 pub returns-clause-nameable : goal.returns-clause-nameable
 returns-clause-nameable c = λ path here.
-    nameable_all c.args.walk.now.q.now c.args.walk.now.rows.now c.args.walk.now.numbers.now c.args.walk.now.at.now (changes_of c.args.walk.now.numbers.now c.args.entries.now) c.args.entries.now c.loop-left.left (changes_in c.args.walk.now.numbers.now c.loop-left.chosen.items)
+    nameable_all c.args.walk.now.q.now c.args.walk.now.rows.now c.args.walk.now.numbers.now c.args.walk.now.at.now (changes_of c.args.walk.now.numbers.now c.args.entries.now) c.args.entries.now c.loop-left.left (chosen_in c.args.walk.now.numbers.now c.loop-left.chosen.items)
     (values_of (size c.args.walk.now.q.now.target) c.args.marked.now c.args.needed.now) (values_of (size c.args.walk.now.q.now.target) c.loop-left.marked c.loop-left.needed) c.loop-left.invariant path here
 
 pub step_back-requires-clause-held : goal.step_back-requires-clause-held

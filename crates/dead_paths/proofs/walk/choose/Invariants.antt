@@ -1,6 +1,6 @@
 use Rattle.graph_theory.specs.Graph.{size}
 use Rattle.propagation.specs.Recording.{changes_of}
-use Rattle.dead_paths.specs.Choosing.{values_of, changes_in}
+use Rattle.dead_paths.specs.Choosing.{values_of, chosen_in}
 use Rattle.dead_paths.proofs.Walking.{Gone}
 use Rattle.dead_paths.proofs.walk.choose.Given as goal
 
@@ -9,5 +9,5 @@ decreases-loop-left l = l.left
 
 abbrev pub invariant-loop-left : goal.invariant-loop-left
 invariant-loop-left l =
-    Gone l.walk.q.now l.walk.rows.now l.walk.numbers.now l.walk.at.now (changes_of l.walk.numbers.now l.entries) l.entries l.left (changes_in l.walk.numbers.now l.chosen.items) (values_of (size l.walk.q.now.target) l.initial.marked l.initial.needed)
+    Gone l.walk.q.now l.walk.rows.now l.walk.numbers.now l.walk.at.now (changes_of l.walk.numbers.now l.entries) l.entries l.left (chosen_in l.walk.numbers.now l.chosen.items) (values_of (size l.walk.q.now.target) l.initial.marked l.initial.needed)
     (values_of (size l.walk.q.now.target) l.marked l.needed)

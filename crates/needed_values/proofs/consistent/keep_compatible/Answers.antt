@@ -1,4 +1,4 @@
-use Rattle.std.proofs.Common.{◌∙◌, ◌&&◌, ◌==◌, not, ap, sym, ℕ}
+use Rattle.std.proofs.Common.{◌∙◌, ◌&&◌, ◌==◌, not, ap, ℕ}
 use Rattle.bit_rows.specs.BitRows.{has}
 use Rattle.needed_values.proofs.Agreeing.{words_go, words_all, goes_on}
 use Rattle.needed_values.proofs.consistent.keep_compatible.Goals as goal

@@ -1,4 +1,4 @@
-use Rattle.std.proofs.Common.{◌<◌, sym, subst}
+use Rattle.std.proofs.Common.{◌<◌, sym, subst, false}
 use Rattle.graph_theory.specs.Graph.{size}
 use Rattle.graph_theory.specs.Embedding.{Problem}
 use Rattle.kept_lines.specs.Frames.{Frame, IsFrameOf, Goes}
@@ -23,6 +23,6 @@ returns-clause-goes g c = λ w frame.
     let goes : (v : Frame) → IsFrameOf q (g.K.Keeper.owner c.args.keeper.now) v → Goes v (g.K.Keeper.kept c.args.keeper.now) (g.K.Keeper.kept c.row.new.keeper) (Knows v q j.rows) (IsKnownRow v q c.args.p c.args.t c.args.r c.row.new.self c.row.result) =
     subst (λ (x : Problem). (v : Frame) → IsFrameOf x (g.K.Keeper.owner c.args.keeper.now) v → Goes v (g.K.Keeper.kept c.args.keeper.now) (g.K.Keeper.kept c.row.new.keeper) (Knows v x j.rows) (IsKnownRow v x c.args.p c.args.t c.args.r c.row.new.self c.row.result)) c.problem-q.ensures c.row.ensures.goes in
     goes_more w (g.K.Keeper.kept c.args.keeper.now) (g.K.Keeper.kept c.row.new.keeper) (Knows w q j.rows) (IsKnownRow w q c.args.p c.args.t c.args.r c.row.new.self c.row.result)
-    (IsMade q j.problem.now w j.units j.firsts j.rows j.sets) (GivesRow q w c.args.p c.args.t c.args.r c.row.result (IsMade q j.problem.now w j.units j.firsts c.row.new.self j.sets))
+    (IsMade q j.problem.now w j.units j.firsts j.rows j.sets) (GivesRow false q w c.args.p c.args.t c.args.r c.row.result (IsMade q j.problem.now w j.units j.firsts c.row.new.self j.sets))
     (goes w frame) (λ forms h. h.rows_are)
     (λ forms more h known. row_given q j.problem.now w j.units j.firsts j.rows c.row.new.self j.sets c.args.p c.args.t c.args.r c.row.result forms more h known)

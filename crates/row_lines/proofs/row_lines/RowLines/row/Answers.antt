@@ -30,16 +30,16 @@ returns-in-Some-line_there-clause-goes g c = λ w frame.
 pub returns-in_err-name-clause-goes : goal.returns-in_err-name-clause-goes
 returns-in_err-name-clause-goes g c = λ w frame.
     rw (err_from_is_err_and c.from_residual-in_err-name.result c.from_residual-in_err-name.ensures.1).1
-    (row_refused w c.args.q.now c.args.pair.p c.args.pair.t c.args.pair.r (g.K.Keeper.kept c.args.keeper.now) (g.K.Keeper.kept c.row_line_with.new.keeper) c.args.self.now (record { rows = c.args.self.now.rows; spreads = c.row_line_with.new.spreads })
-    c.row_line_with.result refl (c.row_line_with.ensures.goes w frame))
+    (row_refused w c.args.q.now c.args.pair.p c.args.pair.t c.args.pair.r (g.K.Keeper.kept c.args.keeper.now) (g.K.Keeper.kept c.row_line_with.new.keeper) c.args.self.now (record { rows = c.args.self.now.rows; edge_rows = c.args.self.now.edge_rows; spreads = c.row_line_with.new.spreads })
+    c.row_line_with.result refl refl (c.row_line_with.ensures.goes w frame))
 
 pub returns-in_err-add-clause-goes : goal.returns-in_err-add-clause-goes
 returns-in_err-add-clause-goes g c = λ w frame.
     rw (err_from_is_err_and c.from_residual-in_err-add.result c.from_residual-in_err-add.ensures.1).1
-    (row_refused w c.args.q.now c.args.pair.p c.args.pair.t c.args.pair.r (g.K.Keeper.kept c.args.keeper.now) (g.K.Keeper.kept c.row_line_with.new.keeper) c.args.self.now (record { rows = c.add.new.self; spreads = c.row_line_with.new.spreads })
-    c.row_line_with.result c.in_err-add.ensures.refused (c.row_line_with.ensures.goes w frame))
+    (row_refused w c.args.q.now c.args.pair.p c.args.pair.t c.args.pair.r (g.K.Keeper.kept c.args.keeper.now) (g.K.Keeper.kept c.row_line_with.new.keeper) c.args.self.now (record { rows = c.add.new.self; edge_rows = c.args.self.now.edge_rows; spreads = c.row_line_with.new.spreads })
+    c.row_line_with.result c.in_err-add.ensures.refused refl (c.row_line_with.ensures.goes w frame))
 
 pub returns-clause-goes : goal.returns-clause-goes
 returns-clause-goes g c = λ w frame.
     row_added w c.args.q.now (subst (λ (x : Problem). InLimits x) c.new-known.ensures c.in_limits.ensures) c.args.pair.p c.args.pair.t c.args.pair.r (g.K.Keeper.kept c.args.keeper.now) (g.K.Keeper.kept c.row_line_with.new.keeper) c.args.self.now
-    (record { rows = c.add.new.self; spreads = c.row_line_with.new.spreads }) c.in_ok-name.name c.requires.placed.first c.requires.placed.place c.requires.placed.second c.in_ok-add.ensures.added (c.in_ok-name.ensures.goes w frame)
+    (record { rows = c.add.new.self; edge_rows = c.args.self.now.edge_rows; spreads = c.row_line_with.new.spreads }) c.in_ok-name.name c.requires.placed.first c.requires.placed.place c.requires.placed.second c.in_ok-add.ensures.added refl (c.in_ok-name.ensures.goes w frame)

@@ -1,0 +1,28 @@
+use Rattle.std.proofs.Common.{◌<◌, sym, subst, true}
+use Rattle.graph_theory.specs.Graph.{size}
+use Rattle.graph_theory.specs.Embedding.{Problem}
+use Rattle.kept_lines.specs.Frames.{Frame, IsFrameOf, Goes}
+use Rattle.dead_paths.specs.Making.{GivesRow}
+use Rattle.row_lines.specs.Claims.{Knows, IsKnownEdgeRow}
+use Rattle.made_lines.specs.Made.{IsMade}
+use Rattle.made_lines.proofs.Giving.{goes_more, edge_row_given}
+use Rattle.made_lines.proofs.maker.MadeLinesLineMaker.edge_row.Goals as goal
+
+pub edge_row-requires-clause-placed : goal.edge_row-requires-clause-placed
+edge_row-requires-clause-placed g c = record {
+  first = subst (λ (x : Problem). c.args.p < size x.pattern) (sym c.problem-q.ensures) c.requires.p_in;
+  place = subst (λ (x : Problem). c.args.t < size x.target) (sym c.problem-q.ensures) c.requires.t_in;
+  second = subst (λ (x : Problem). c.args.r < size x.pattern) (sym c.problem-q.ensures) c.requires.r_in;
+  others = c.requires.apart;
+}
+
+pub returns-clause-goes : goal.returns-clause-goes
+returns-clause-goes g c = λ w frame.
+    let j = c.args.self.now in
+    let q = c.args.lines.now in
+    let goes : (v : Frame) → IsFrameOf q (g.K.Keeper.owner c.args.keeper.now) v → Goes v (g.K.Keeper.kept c.args.keeper.now) (g.K.Keeper.kept c.edge_row.new.keeper) (Knows v q j.rows) (IsKnownEdgeRow v q c.args.p c.args.t c.args.r c.edge_row.new.self c.edge_row.result) =
+    subst (λ (x : Problem). (v : Frame) → IsFrameOf x (g.K.Keeper.owner c.args.keeper.now) v → Goes v (g.K.Keeper.kept c.args.keeper.now) (g.K.Keeper.kept c.edge_row.new.keeper) (Knows v x j.rows) (IsKnownEdgeRow v x c.args.p c.args.t c.args.r c.edge_row.new.self c.edge_row.result)) c.problem-q.ensures c.edge_row.ensures.goes in
+    goes_more w (g.K.Keeper.kept c.args.keeper.now) (g.K.Keeper.kept c.edge_row.new.keeper) (Knows w q j.rows) (IsKnownEdgeRow w q c.args.p c.args.t c.args.r c.edge_row.new.self c.edge_row.result)
+    (IsMade q j.problem.now w j.units j.firsts j.rows j.sets) (GivesRow true q w c.args.p c.args.t c.args.r c.edge_row.result (IsMade q j.problem.now w j.units j.firsts c.edge_row.new.self j.sets))
+    (goes w frame) (λ forms h. h.rows_are)
+    (λ forms more h known. edge_row_given q j.problem.now w j.units j.firsts j.rows c.edge_row.new.self j.sets c.args.p c.args.t c.args.r c.edge_row.result forms more h known)
