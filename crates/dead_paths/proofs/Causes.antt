@@ -4,10 +4,11 @@ use Rattle.std.specs.List.{slice_range}
 use Rattle.std.specs.declared.alloc.AllocError.{AllocError}
 use Rattle.graph_theory.specs.Graph.{size}
 use Rattle.graph_theory.specs.Embedding.{Problem}
+use Rattle.graph_theory.specs.declared.direction.Direction.{Direction}
 use Rattle.proof_theory.specs.Forms.{Form}
 use Rattle.log_theory.specs.declared.step.Ref.{Ref}
 use Rattle.log_theory.specs.declared.step.Step.{Step}
-use Rattle.encoding_theory.specs.Encoding.{at_least, at_most}
+use Rattle.encoding_theory.specs.Encoding.{at_least, at_most, pair_form}
 use Rattle.reason_theory.specs.Reasons.{pairs_clause, at_leasts}
 use Rattle.nogood_book.specs.declared.row.Row.{Row}
 use Rattle.nogood_book.specs.Rows.{path_at}
@@ -18,15 +19,16 @@ use Rattle.propagation.specs.declared.change.What.{What}
 use Rattle.propagation.specs.declared.change.What.TheVariants.{One, Others}
 use Rattle.propagation.specs.declared.change.Place.{Place}
 use Rattle.propagation.specs.Recording.{change_by}
+use Rattle.propagation.specs.Telling.{Joins}
 use Rattle.dead_theory.specs.Changes.{Chosen, known_after, ExplainsChange, ExplainAll, set_forms}
 use Rattle.kept_lines.specs.Frames.{Frame, IsFrameOf, IsNamed, AreNamed, Goes, Lasts}
 use Rattle.kept_lines.proofs.Going.{goes_stay, goes_as, goes_then, goes_beside}
 use Rattle.kept_lines.proofs.Naming.{named_later, are_named_later, named_behind, named_pushed}
-use Rattle.dead_paths.specs.Lines.{at_least_ref, at_most_ref, at_least_refs}
+use Rattle.dead_paths.specs.Lines.{at_least_ref, at_most_ref, edge_ref, at_least_refs}
 use Rattle.dead_paths.specs.Making.{IsRowLine, GivesFirst, GivesRow, AreRowsNamed}
 use Rattle.dead_paths.specs.Choosing.{asked_of}
 use Rattle.dead_paths.specs.Explaining.{Explained, Knowing, Adds, AddsFor, AddsNogood, MayAdd, IsSetPushed, IsChangePushed, AreChangesPushed}
-use Rattle.dead_paths.proofs.LineRefs.{at_least_named, at_most_named, at_leasts_named}
+use Rattle.dead_paths.proofs.LineRefs.{at_least_named, at_most_named, joins_pair, edge_named, at_leasts_named}
 
 -- ---- pushing
 
@@ -132,6 +134,23 @@ module _ (q : Problem) (rows : List Row) (known : List (ℕ × ℕ)) (w : Frame)
           own = at_most q r ∷ [];
           explains = subst (λ (x : What). ExplainsChange q rows known (asked_of by_edges (change_by numbers x from)) (at_most q r ∷ [])) (sym at) refl;
           adds = adds_one w old new ref (at_most q r) forms pushed (subst (λ (x : Ref). IsNamed w forms x (at_most q r)) (sym ref_is) (at_most_named q owner w forms r frame inside));
+        },
+      ))
+
+  -- An edge.
+  pub edge_goes : (owner p u r : ℕ) (direction : Direction) (why : Cause) (old new : List Ref) (ref : Ref) → IsFrameOf q owner w → Joins q direction p r → u < size q.target → what ≡ One r why → why ≡ cause.Edge p u direction
+      → ref ≡ edge_ref q r p u → new ≡ old ++ ref ∷ []
+      → Goes w kept kept (Knowing knows (AreRowsNamed q rows w names)) (IsChangePushed q rows known (asked_of by_edges (change_by numbers what from)) w old new knows (Ok tt))
+  edge_goes owner p u r direction why old new ref frame joins u_in is by_edge ref_is pushed =
+      let at : what ≡ One r (cause.Edge p u direction) = is ∙ ap (λ (c : Cause). let x : What = One r c in x) by_edge in
+      goes_stay w kept kept (Knowing knows (AreRowsNamed q rows w names)) (IsChangePushed q rows known (asked_of by_edges (change_by numbers what from)) w old new knows (Ok tt)) refl
+      (λ forms h. (
+        h.0,
+        record {
+          own = pair_form q r p u ∷ [];
+          explains = subst (λ (x : What). ExplainsChange q rows known (asked_of by_edges (change_by numbers x from)) (pair_form q r p u ∷ [])) (sym at) refl;
+          adds = adds_one w old new ref (pair_form q r p u) forms pushed
+              (subst (λ (x : Ref). IsNamed w forms x (pair_form q r p u)) (sym ref_is) (edge_named q owner w forms r p u frame joins.other_in joins.vertex_in u_in (joins_pair q direction p r joins)));
         },
       ))
 

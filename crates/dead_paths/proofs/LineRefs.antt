@@ -1,9 +1,13 @@
 -- References to lines of the encoding: they are in range, name their forms, and a set's forms can be added up.
-use Rattle.std.proofs.Common.{◌≡◌, ℕ, suc, ◌+◌, ◌-◌, ◌^◌, ◌<◌, ◌≤◌, ◌==◌, Bool, true, false, ◌||◌, List, [], ◌∷◌, ◌++◌, length, slice_index, refl, sym, ap, subst, ◌∙◌, length-append, arith, Option, Some, Result, Ok, Err, append-nil, ℤ, pos, negsuc, unsigned_abs}
+use Rattle.std.proofs.Common.{◌≡◌, ℕ, suc, ◌+◌, ◌-◌, ◌^◌, ◌<◌, ◌≤◌, ◌==◌, Bool, true, false, ◌||◌, not, ◌&&◌, is_some, List, [], ◌∷◌, ◌++◌, length, slice_index, refl, sym, ap, subst, ◌∙◌, length-append, arith, Option, Some, Result, Ok, Err, append-nil, ℤ, pos, negsuc, unsigned_abs}
 use Rattle.std.specs.Prelude.{map, slice_get}
-use Rattle.std.proofs.lemmas.Bool.{eq-eqb}
+use Rattle.std.proofs.lemmas.Bool.{eq-eqb, ne_eqb}
+use Rattle.std.proofs.lemmas.Option.{slice_get_within}
 use Rattle.std.specs.declared.alloc.AllocError.{AllocError}
-use Rattle.graph_theory.specs.Graph.{size}
+use Rattle.graph_theory.specs.Graph.{size, edge}
+use Rattle.graph_theory.specs.declared.direction.Direction.{Direction}
+use Rattle.graph_theory.specs.declared.direction.Direction.TheVariants.{Out, In}
+use Rattle.graph_theory.proofs.ReversedGraphs.{edge-reversed}
 use Rattle.graph_theory.specs.Embedding.{Problem}
 use Rattle.proof_theory.specs.Forms.{Form, form_of}
 use Rattle.log_theory.specs.declared.step.Name.{Name}
@@ -13,18 +17,22 @@ use Rattle.log_theory.specs.declared.step.Ref.TheVariants.{Line, Made}
 use Rattle.log_theory.specs.LogText.{IsRef, AreRefs}
 use Rattle.log_theory.specs.Lookups.{is_among}
 use Rattle.encoding_theory.specs.Variables.{variable}
-use Rattle.encoding_theory.specs.Encoding.{encoding, every, terms_where, at_least, at_most, at_most_target}
-use Rattle.encoding_theory.specs.Places.{at_least_place, at_most_place, at_most_target_place}
+use Rattle.encoding_theory.specs.Encoding.{encoding, every, terms_where, at_least, at_most, at_most_target, pair_form}
+use Rattle.encoding_theory.specs.Pairs.{is_linked, is_edge_pair}
+use Rattle.encoding_theory.specs.Places.{at_least_place, at_most_place, at_most_target_place, edge_place}
 use Rattle.encoding_theory.proofs.PlaceProofs.{place_laws}
 use Rattle.pb_terms.proofs.Ruled.{size-sorted}
 use Rattle.pb_encoding.proofs.TermLists.{size-terms}
+use Rattle.pb_encoding.proofs.Counts.{starts}
+use Rattle.pb_encoding.proofs.Bounds.{few}
 use Rattle.pb_encoding.proofs.LineNumbers.{at_least_line, at_most_line, at_most_target_line}
+use Rattle.propagation.specs.Telling.{Joins}
 use Rattle.forcing_theory.specs.Sums.{sum_from, IsSmall, AreSmall}
 use Rattle.reason_theory.specs.Reasons.{at_leasts, set_form}
 use Rattle.kept_lines.specs.Frames.{Frame, IsFrameOf, IsNamed, AreNamed, IsAddable, Goes, Lasts, Named, AnyForms, IsKept}
 use Rattle.kept_lines.proofs.Going.{goes_as, goes_beside}
 use Rattle.kept_lines.proofs.Naming.{line_named, named_behind}
-use Rattle.dead_paths.specs.Lines.{at_least_ref, at_most_ref, at_most_target_ref, at_least_refs, set_refs, AreVertices, AreValues, IsSetKept}
+use Rattle.dead_paths.specs.Lines.{at_least_ref, at_most_ref, at_most_target_ref, edge_ref, at_least_refs, set_refs, AreVertices, AreValues, IsSetKept}
 use Rattle.dead_paths.specs.Making.{GivesSet}
 use Rattle.dead_theory.specs.Changes.{set_forms}
 use Rattle.dead_paths.specs.Explaining.{IsLimited, Adds}
@@ -56,6 +64,30 @@ at_most_fits q p few inside = let e = at_most_line q p in let l = few.pattern in
 pub at_most_target_fits : (q : Problem) (t : ℕ) → IsLimited q → t < size q.target → IsRef (at_most_target_ref q t)
 at_most_target_fits q t few inside = let e = at_most_target_line q (size q.pattern) t refl in let l = few.pattern in let m = few.target in omega (arith, e, l, m, inside)
 
+-- Two vertices that an edge joins, in whichever direction, have a line.
+pub joins_pair : (q : Problem) (direction : Direction) (p r : ℕ) → Joins q direction p r → is_edge_pair q r p ≡ true
+joins_pair q direction p r joins = ap (λ (b : Bool). not b && is_linked q.pattern r p) (ne_eqb r p (λ e. joins.apart (sym e))) ∙ linked direction joins
+  where
+    linked : (way : Direction) → Joins q way p r → is_linked q.pattern r p ≡ true
+    linked Out j = by (is_some (edge q.pattern r p))
+      where
+        by : (b : Bool) → (b || is_some (edge q.pattern p r)) ≡ true
+        by true = refl
+        by false = j.joined
+    linked In j = ap (λ (b : Bool). b || is_some (edge q.pattern p r)) (ap is_some (sym (edge-reversed q.pattern p r j.vertex_in j.other_in)) ∙ j.joined)
+
+pub edge_fits : (q : Problem) (p r t : ℕ) → IsLimited q → p < size q.pattern → r < size q.pattern → t < size q.target → is_edge_pair q p r ≡ true → IsRef (edge_ref q p r t)
+edge_fits q p r t limited p_in r_in t_in is =
+    let below = slice_get_within (encoding q) (edge_place q p r t) (pair_form q p r t) ((place_laws q).edge p r t p_in r_in t_in is) in
+    let all = (starts q).all in
+    let most = few q limited.pattern limited.target in
+    let refused = most.refused in
+    let edges = most.edge_forms in
+    let non_edges = most.non_edge_forms in
+    let vertices = limited.pattern in
+    let targets = limited.target in
+    omega (arith, below, all, refused, edges, non_edges, vertices, targets)
+
 at_place : (q : Problem) (owner : ℕ) (w : Frame) (forms : List Form) (place : ℕ) (f : Form) → IsFrameOf q owner w → slice_get (encoding q) place ≡ Some f → IsNamed w forms (Line (place + 1)) f
 at_place q owner w forms place f frame at =
     let e : place + 1 - 1 ≡ place = omega arith in line_named q owner w forms (place + 1) f frame (omega arith) (ap (slice_get (encoding q)) e ∙ at)
@@ -68,6 +100,10 @@ at_most_named q owner w forms p frame inside = at_place q owner w forms (at_most
 
 at_most_target_named : (q : Problem) (owner : ℕ) (w : Frame) (forms : List Form) (t : ℕ) → IsFrameOf q owner w → t < size q.target → IsNamed w forms (at_most_target_ref q t) (at_most_target q t)
 at_most_target_named q owner w forms t frame inside = at_place q owner w forms (at_most_target_place q t) (at_most_target q t) frame ((place_laws q).at_most_target t inside)
+
+pub edge_named : (q : Problem) (owner : ℕ) (w : Frame) (forms : List Form) (p r t : ℕ) → IsFrameOf q owner w → p < size q.pattern → r < size q.pattern → t < size q.target → is_edge_pair q p r ≡ true
+    → IsNamed w forms (edge_ref q p r t) (pair_form q p r t)
+edge_named q owner w forms p r t frame p_in r_in t_in is = at_place q owner w forms (edge_place q p r t) (pair_form q p r t) frame ((place_laws q).edge p r t p_in r_in t_in is)
 
 -- ---- several
 

@@ -1,9 +1,11 @@
 -- Needed values, and what one step back from a change leaves of them.
-use Rattle.std.proofs.Common.{◌≡◌, ℕ, zero, suc, ◌+◌, ◌*◌, ◌<◌, ◌≤◌, ◌||◌, ◌&&◌, not, nat_lt, Bool, true, false, List, [], ◌∷◌, length, take, drop, get_or, slice_index, Some, None, Result, Ok, Err, refl, sym, ap, subst, ◌∙◌, arith, inl, inr, ◌⊎◌}
+use Rattle.std.proofs.Common.{◌≡◌, ℕ, zero, suc, ◌+◌, ◌*◌, ◌<◌, ◌≤◌, ◌||◌, ◌&&◌, not, nat_lt, is_some, ◌==◌, Bool, true, false, List, [], ◌∷◌, length, take, drop, get_or, slice_index, Some, None, Result, Ok, Err, refl, sym, ap, subst, ◌∙◌, arith, inl, inr, ◌⊎◌}
 use Rattle.std.specs.Prelude.{IfOk}
-use Rattle.std.proofs.lemmas.Bool.{cases_eq, cases_lt, lt-ltb, ltb-true, true≢false}
+use Rattle.std.proofs.lemmas.Bool.{cases_eq, ne_eqb, cases_lt, lt-ltb, ltb-true, true≢false}
 use Rattle.std.specs.declared.alloc.AllocError.{AllocError}
-use Rattle.graph_theory.specs.Graph.{size}
+use Rattle.graph_theory.specs.Graph.{size, edge}
+use Rattle.graph_theory.specs.Reversed.{turned}
+use Rattle.graph_theory.specs.declared.direction.Direction.{Direction}
 use Rattle.graph_theory.specs.Embedding.{Problem, Compatible}
 use Rattle.search_theory.specs.Consistency.{AreConsistent}
 use Rattle.log_theory.specs.Lookups.{is_among}
@@ -248,6 +250,45 @@ module _ (q : Problem) (rows : List Row) (path : List (ℕ × ℕ)) where
           by : (b : Bool) → has near u ≡ b → AreConsistent q p t r u
           by true there = all u there
           by false gone = absurd (right u was gone c)
+
+  -- An edge whose value is not needed, and one whose value is.
+  pub pass_edge : (n k : ℕ) (m : List Bool) (d : List ℕ) (p u r from : ℕ) (direction : Direction) → n ≡ size q.target → k ≡ n → needs k m d r u ≡ false
+      → IsStep false q rows path (LeftOne r (cause.Edge p u direction) from) (values_of n m d) (values_of n m d)
+  pass_edge n k m d p u r from direction n_is is off = (
+    (λ v t t_in h takes. let t_n = subst (λ (w : ℕ). t < w) (sym n_is) t_in in
+        let here : needs n m d r t ≡ true = sym (ap (λ (x : ℕ). needs n m d x t) takes.0) ∙ need_of n m d v t t_n h in
+        true≢false (sym here ∙ ap (λ (x : ℕ). needs n m d r x) takes.1 ∙ subst (λ (w : ℕ). needs w m d r u ≡ false) is off)),
+    within_same (values_of n m d),
+  )
+
+  pub step_edge : (n k : ℕ) (m m1 m2 : List Bool) (d d1 d2 : List ℕ) (p u r from : ℕ) (direction : Direction) (other left set : List ℕ) → n ≡ size q.target → k ≡ n
+      → ((v : ℕ) → v < k → has other v ≡ needs k m d r v) → ((v : ℕ) → has left v ≡ (has other v && not (u == v))) → ((v : ℕ) → v < k → needs k m1 d1 r v ≡ has left v)
+      → AreOthers k r (needs k m d) (needs k m1 d1) → StaysNeeded k (needs k m1 d1) (needs k m2 d2) → ((w : ℕ) → has set w ≡ is_some (edge (turned direction q.target) w u))
+      → ((w : ℕ) → w < k → has set w ≡ true → needs k m2 d2 p w ≡ true) → IsStep true q rows path (LeftOne r (cause.Edge p u direction) from) (values_of n m d) (values_of n m2 d2)
+  step_edge n k m m1 m2 d d1 d2 p u r from direction other left set n_is is bits cut put others stays leads support =
+      (record { suffices = λ v t t_in h same. tt; carried = carried; needs = all }, tt)
+    where
+      all : (w : ℕ) → w < size q.target → is_some (edge (turned direction q.target) w u) ≡ true → values_of n m2 d2 p w ≡ true
+      all w w_in there = need_up n m2 d2 p w (λ w_n. subst (λ (x : ℕ). (v : ℕ) → v < x → has set v ≡ true → needs x m2 d2 p v ≡ true) is support w w_n (leads w ∙ there))
+
+      more : (s v : ℕ) → v < n → needs n m1 d1 s v ≡ true → values_of n m2 d2 s v ≡ true
+      more s v v_in h = need_up n m2 d2 s v (λ v_n. subst (λ (x : ℕ). StaysNeeded x (needs x m1 d1) (needs x m2 d2)) is stays s v v_in h)
+
+      carried : (s v : ℕ) → values_of n m d s v ≡ true → (values_of n m2 d2 s v ≡ true) ⊎ ((s ≡ r) × (v ≡ u))
+      carried s v h = by (cases_lt v n) (cases_eq s r) (cases_eq v u)
+        where
+          by : (v < n) ⊎ (n ≤ v) → (s ≡ r) ⊎ (s ≡ r → ⊥) → (v ≡ u) ⊎ (v ≡ u → ⊥) → (values_of n m2 d2 s v ≡ true) ⊎ ((s ≡ r) × (v ≡ u))
+          by (inr past) e f = inl (need_up n m2 d2 s v (λ v_in. absurd (omega (arith, past, v_in))))
+          by (inl v_in) (inr apart) f = inl (more s v v_in (subst (λ (w : ℕ). AreOthers w r (needs w m d) (needs w m1 d1)) is others s v apart v_in ∙ need_of n m d s v v_in h))
+          by (inl v_in) (inl e) (inl f) = inr (e, f)
+          by (inl v_in) (inl e) (inr f) =
+              inl (more s v v_in (ap (λ (x : ℕ). needs n m1 d1 x v) e ∙ (subst (λ (w : ℕ). (x : ℕ) → x < w → needs w m1 d1 r x ≡ has left x) is put v v_in ∙ kept)))
+            where
+              there : has other v ≡ true
+              there = subst (λ (w : ℕ). (x : ℕ) → x < w → has other x ≡ needs w m d r x) is bits v v_in ∙ (sym (ap (λ (x : ℕ). needs n m d x v) e) ∙ need_of n m d s v v_in h)
+
+              kept : has left v ≡ true
+              kept = cut v ∙ (ap (λ (b : Bool). b && not (u == v)) there ∙ ap not (ne_eqb u v (λ same. f (sym same))))
 
   pub pass_nogood : (f : ℕ → ℕ → Bool) (r name from : ℕ) → (IsNogoodRow rows name → ⊥) → IsStep false q rows path (LeftOne r (cause.Nogood name) from) f f
   pass_nogood f r name from none = ((λ v u u_in h takes. none takes.1.0), within_same f)

@@ -51,6 +51,7 @@ IsOfRow rows (LeftOne r (cause.Nogood name) from) = IsNogoodRow rows name
 IsOfRow rows (LeftOne r cause.First from) = Unit {0}
 IsOfRow rows (LeftOne r (cause.Guess t) from) = Unit {0}
 IsOfRow rows (LeftOne r (cause.Vertex p t) from) = Unit {0}
+IsOfRow rows (LeftOne r (cause.Edge p u direction) from) = Unit {0}
 IsOfRow rows (LeftOthers vertices values from) = Unit {0}
 
 -- Lines can be named for these changes.

@@ -9,11 +9,11 @@ use Rattle.log_theory.specs.declared.step.Name.{Name}
 use Rattle.log_theory.specs.declared.step.Ref.{Ref}
 use Rattle.log_theory.specs.declared.step.Ref.TheVariants.{Line}
 use Rattle.log_theory.specs.Lookups.{is_among}
-use Rattle.encoding_theory.specs.Places.{at_least_place, at_most_place, at_most_target_place}
+use Rattle.encoding_theory.specs.Places.{at_least_place, at_most_place, at_most_target_place, edge_place}
 use Rattle.reason_theory.specs.Reasons.{set_form}
 use Rattle.kept_lines.specs.Frames.{Frame, IsKept}
 
--- That p goes somewhere; that it goes to one place; that one vertex goes to t.
+-- That p goes somewhere; that it goes to one place; that one vertex goes to t; that with p at t r goes where the edge between them leads.
 abbrev pub at_least_ref : Problem → ℕ → Ref
 at_least_ref q p = Line (at_least_place q p + 1)
 
@@ -22,6 +22,9 @@ at_most_ref q p = Line (at_most_place q p + 1)
 
 abbrev pub at_most_target_ref : Problem → ℕ → Ref
 at_most_target_ref q t = Line (at_most_target_place q t + 1)
+
+abbrev pub edge_ref : Problem → ℕ → ℕ → ℕ → Ref
+edge_ref q p r t = Line (edge_place q p r t + 1)
 
 abbrev pub at_least_refs : Problem → List ℕ → List Ref
 at_least_refs q vertices = map (at_least_ref q) vertices

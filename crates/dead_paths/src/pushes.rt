@@ -176,6 +176,10 @@ pub(crate) fn push_change<M: LineMaker, N: RowNames, K: Keeper>(
                 Ok(())
             }
             Cause::Nogood(name) => push_nogood(basis, name, Some(r), at, pairs, refs),
+            Cause::Edge(p, u, _) => {
+                refs.push(Ref::Line(basis.lines.edge(r, p, u)))?;
+                Ok(())
+            }
         },
         What::Others(place) => push_set(
             basis.alloc,

@@ -8,6 +8,7 @@ ghost use Rattle.nogood_book.specs.declared.row.Row.{Row as TheRow};
 ghost use Rattle.nogood_book.specs.Rows.{Sound};
 ghost use Rattle.propagation.specs.declared.change.Cause.TheVariants as cause;
 ghost use Rattle.propagation.specs.Recording.{LeftOne, LeftOthers, change_of};
+ghost use Rattle.propagation.specs.Telling.{Joins};
 ghost use Rattle.needed_values.specs.Needed.{needs, AreRows, StaysNeeded};
 ghost use Rattle.needed_values.specs.Consistent.{Goes, AllConsistent};
 ghost use Rattle.dead_theory.specs.Changes.{IsInProblem};
@@ -18,11 +19,12 @@ use crate::beside::Beside;
 use crate::lookups::{holds, is_nogood_row, part};
 use crate::needs::{Walk, count_values, fill_without, need_each, uphold, uphold_row};
 use crate::room::Room;
-use bit_rows::and_into;
+use bit_rows::{and_into, unset_bit};
 use graph_rows::Problem;
+use graph_theory::direction::Direction;
 use needed_values::{
-    are_all_consistent, copy_needed, is_any_needed, keep_compatible, keep_consistent, put_needed,
-    unmark,
+    are_all_consistent, copy_needed, is_any_needed, is_needed, keep_compatible, keep_consistent,
+    need_set, put_needed, unmark,
 };
 use propagation::{Cause, Entry, What};
 use std::alloc::AllocError;
@@ -220,6 +222,48 @@ fn by_nogood(
     Ok(true)
 }
 
+/// A value of `r` to which no value of `p` has an edge, in the direction in which one leads from `p` to `r`.
+#[derive(Clone, Copy)]
+struct Lost {
+    p: u16,
+    r: u16,
+    u: u16,
+    direction: Direction,
+}
+
+/// An edge takes one value, since all from which an edge leads to it are gone: these are needed where it is.
+fn by_edge(
+    q: &Problem,
+    lost: Lost,
+    marked: &mut [bool],
+    needed: &mut [u64],
+    spare: &mut [u64],
+    other: &mut [u64],
+) -> bool
+    requires held { AreRows (size q.now.target) marked.old needed.old }
+    requires size { length marked.old ≡ size q.now.pattern }
+    requires joins { Joins q.now lost.direction lost.p lost.r }
+    requires u_in { lost.u < size q.now.target }
+    requires spare { length spare.old ≡ words_for (size q.now.target) }
+    requires other { length other.old ≡ words_for (size q.now.target) }
+    ensures { (rows : List TheRow) (path : List (ℕ × ℕ)) (from : ℕ)
+        → IsStep result q.now rows path
+        (LeftOne lost.r (cause.Edge lost.p lost.u lost.direction) from)
+        (values_of (size q.now.target) marked.old needed.old)
+        (values_of (size q.now.target) marked.new needed.new) }
+{
+    let values = count_values(q);
+    if !is_needed(marked, needed, values, lost.r, lost.u) {
+        return false;
+    }
+    copy_needed(marked, needed, values, lost.r, other);
+    unset_bit(other, usize::from(lost.u));
+    put_needed(marked, needed, values, lost.r, other);
+    let support = q.target().in_row_by(lost.direction, lost.u);
+    need_set(marked, needed, values, lost.p, support, spare);
+    true
+}
+
 /// Keeps of the needed values of a vertex those that the row has, and tells whether it had others.
 fn take_row(
     q: &Problem,
@@ -366,7 +410,8 @@ fn by_set(
 
 /// One step back from a change. It is chosen where it may have taken a needed value; then what it takes by itself is needed no more, and what
 /// it rests on is. Cost: for a change of one vertex a few steps for each word of a row, and what `are_all_consistent` and `keep_consistent`
-/// cost; for a set the words of each marked vertex's row, with a look for the vertex among the set's.
+/// cost; for a value taken by an edge one step where it is not needed; for a set the words of each marked vertex's row, with a look for the
+/// vertex among the set's.
 pub(crate) fn go_back(
     walk: &Walk<'_>,
     entry: &Entry,
@@ -411,6 +456,14 @@ pub(crate) fn go_back(
                 )?;
                 Ok(told_if(chosen))
             }
+            Cause::Edge(p, u, direction) => Ok(told_if(by_edge(
+                walk.q,
+                Lost { p, r, u, direction },
+                marked,
+                needed,
+                &mut room.spare,
+                &mut room.other,
+            ))),
         },
         What::Others(place) => Ok(told_if(by_set(
             walk.q,

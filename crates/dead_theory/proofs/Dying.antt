@@ -80,13 +80,14 @@ module _ (q : Problem) (rows : List Row) (sound : Sound q rows) (s : Option watc
 
   -- What it shows holds after its forms.
   shown_gives : (by_edges : Bool) (c : Change) (d old : State) (now : ℕ → ℕ → Bool) (known : List (ℕ × ℕ)) (at : Setting) (own : List Form) → old.values ≡ size q.target → Leaves q s old d c → NeededOut q at old now → AreOn q at path
-      → AreOn q at known → Needs rows path c now → ExplainsTold by_edges q rows known c own → (x : ℕ × ℕ) → IsOneOf (shown_of c known) x → Gives at own (variable q x.0 x.1) true
+      → AreOn q at known → Needs q rows path c now → ExplainsTold by_edges q rows known c own → (x : ℕ × ℕ) → IsOneOf (shown_of c known) x → Gives at own (variable q x.0 x.1) true
   shown_gives by_edges (LeftOne r (cause.Vertex p t) from) d old now known at own values_is l out on_p on needs h x (inl is) =
       subst (λ (z : ℕ × ℕ). Gives at own (variable q z.0 z.1) true) is (vertex_shown q rows sound s names path known at old values_is now out on_p on p t r h.0 own l.stands.decided needs h.1)
   shown_gives by_edges (LeftOne r (cause.Vertex p t) from) d old now known at own values_is l out on_p on needs h x (inr later) = inr (run_keeps at own (variable q x.0 x.1) true (on x later))
   shown_gives by_edges (LeftOne r cause.First from) d old now known at own values_is l out on_p on needs h x here = inr (run_keeps at own (variable q x.0 x.1) true (on x here))
   shown_gives by_edges (LeftOne r (cause.Guess t) from) d old now known at own values_is l out on_p on needs h x here = inr (run_keeps at own (variable q x.0 x.1) true (on x here))
   shown_gives by_edges (LeftOne r (cause.Nogood name) from) d old now known at own values_is l out on_p on needs h x here = inr (run_keeps at own (variable q x.0 x.1) true (on x here))
+  shown_gives by_edges (LeftOne r (cause.Edge v u direction) from) d old now known at own values_is l out on_p on needs h x here = inr (run_keeps at own (variable q x.0 x.1) true (on x here))
   shown_gives by_edges (LeftOthers vertices values from) d old now known at own values_is l out on_p on needs h x here = inr (run_keeps at own (variable q x.0 x.1) true (on x here))
 
   quiet : (at : Setting) (own : List Form) (v : ℕ) (b : Bool) → refutes at own ≡ false → Gives at own v b → run at own v ≡ Some b
@@ -176,6 +177,7 @@ change_in q s old new (LeftOne r cause.First from) is l = l.stands
 change_in q s old new (LeftOne r (cause.Guess t) from) is l = (l.stands.0, subst (λ (n : ℕ). t < n) is (in_below old r t l.stands.1))
 change_in q s old new (LeftOne r (cause.Vertex p t) from) is l = (l.stands.vertex_in, l.stands.value_in, l.stands.other_in, l.stands.apart)
 change_in q s old new (LeftOne r (cause.Nogood name) from) is l = l.stands
+change_in q s old new (LeftOne r (cause.Edge p u direction) from) is l = (l.stands.joins, l.stands.value_in)
 change_in q s old new (LeftOthers vertices values from) is l =
     (λ p h. l.stands.0.vertices_in p (same_among vertices p ∙ h), λ u h. l.stands.0.values_in u (same_among values u ∙ h))
 

@@ -1,20 +1,25 @@
 -- Each change that was told is explained by its forms.
-use Rattle.std.proofs.Common.{◌≡◌, ℕ, zero, suc, ◌+◌, ◌<◌, ◌≤◌, ◌==◌, eqb, ltb, Bool, true, false, not, ◌&&◌, ◌||◌, cond, List, [], ◌∷◌, ◌++◌, length, Option, Some, None, refl, sym, ap, subst, ◌∙◌, arith, inl, inr, ◌⊎◌}
+use Rattle.std.proofs.Common.{◌≡◌, ℕ, zero, suc, ◌+◌, ◌<◌, ◌≤◌, ◌==◌, eqb, ltb, Bool, true, false, not, ◌&&◌, ◌||◌, cond, List, [], ◌∷◌, ◌++◌, length, is_some, Option, Some, None, refl, sym, ap, subst, ◌∙◌, arith, inl, inr, ◌⊎◌}
 use Rattle.std.proofs.lemmas.Bool.{and_parts, cases_eq, eqb-true, eq-eqb, lt-ltb, ltb-true, true≢false}
-use Rattle.graph_theory.specs.Graph.{size}
+use Rattle.graph_theory.specs.Graph.{size, edge}
+use Rattle.graph_theory.specs.Reversed.{turned}
+use Rattle.graph_theory.specs.declared.direction.Direction.{Direction}
+use Rattle.graph_theory.specs.declared.direction.Direction.TheVariants.{Out, In}
+use Rattle.graph_theory.proofs.ReversedGraphs.{edge-reversed}
 use Rattle.graph_theory.specs.Embedding.{Problem}
 use Rattle.search_theory.specs.Consistency.{IsFirstValue, AreConsistent}
 use Rattle.proof_theory.specs.Forms.{Form}
 use Rattle.proof_theory.specs.Slack.{Setting, conflict, after, refutes}
 use Rattle.log_theory.specs.Lookups.{is_among, are_distinct}
 use Rattle.encoding_theory.specs.Variables.{variable}
-use Rattle.encoding_theory.specs.Encoding.{at_least, at_most}
+use Rattle.encoding_theory.specs.Encoding.{at_least, at_most, pair_form}
+use Rattle.encoding_theory.specs.Pairs.{is_match, is_compatible}
 use Rattle.forcing_theory.specs.Chains.{run, Domains, AreOut}
 use Rattle.forcing_theory.proofs.Chaining.{after_keeps, run_keeps}
 use Rattle.reason_theory.specs.Reasons as reasons
 use Rattle.reason_theory.specs.Reasons.{IsPair, ForcesFirst, at_leasts, pairs_clause, set_form}
 use Rattle.reason_theory.proofs.Giving.{Leads, Gives, one_gives, then_gives, leads_on}
-use Rattle.reason_theory.proofs.Forcing.{at_least_forces, at_most_forces, AreSet, clause_forces}
+use Rattle.reason_theory.proofs.Forcing.{pair_takes, at_least_forces, at_most_forces, AreSet, clause_forces}
 use Rattle.reason_theory.proofs.Explaining as explaining
 use Rattle.domain_bits.specs.Removals.{State, in_domain, times}
 use Rattle.domain_bits.proofs.Removed.{times-append}
@@ -26,8 +31,8 @@ use Rattle.nogood_book.specs.declared.row.Row.{Row}
 use Rattle.nogood_book.specs.Rows.{path_at, Sound}
 use Rattle.propagation.specs.declared.change.Cause.TheVariants as cause
 use Rattle.propagation.specs.Recording.{Change, LeftOne, LeftOthers}
-use Rattle.propagation.specs.Telling.{HasAtMost, IsForbidden, AreDistinct, HaveOnly, Leaves}
-use Rattle.dead_theory.specs.Changes.{NamesRows, IsOneOf, IsLeftOut, IsBorne, AreBorne, NogoodForms, set_forms, Forces, ExplainsTold, MayTake, GoTogether, CoversTold, SufficesTold, IsUpheld, AreUpheld, AreKeptIn, Needs}
+use Rattle.propagation.specs.Telling.{HasAtMost, IsForbidden, IsUnsupported, Joins, AreDistinct, HaveOnly, Leaves}
+use Rattle.dead_theory.specs.Changes.{NamesRows, IsOneOf, IsLeftOut, IsBorne, AreBorne, NogoodForms, set_forms, Forces, ExplainsTold, MayTake, GoTogether, CoversTold, SufficesTold, IsUpheld, AreUpheld, AreKeptIn, AllSupport, Needs}
 
 -- ---- lists of vertices
 
@@ -167,6 +172,29 @@ these_out q s d needed vertices values only out kept r among u u_in gone =
     by false is off = is
     by true is off = absurd (true≢false (sym (sym (same_among values u) ∙ only.within r u (same_among vertices r ∙ among) is) ∙ off))
 
+-- ---- edges
+
+-- Where two places are compatible, an edge leads between them as one does between the vertices.
+matched_some : (induced : Bool) (e f : Option ℕ) → is_match induced e f ≡ true → is_some e ≡ true → is_some f ≡ true
+matched_some false None f m some = absurd cc
+matched_some false (Some l) None m some = absurd cc
+matched_some false (Some l) (Some k) m some = refl
+matched_some true None f m some = absurd cc
+matched_some true (Some l) None m some = absurd cc
+matched_some true (Some l) (Some k) m some = refl
+
+compatible_leads : (q : Problem) (direction : Direction) (p r u w : ℕ) → Joins q direction p r → u < size q.target → w < size q.target → is_compatible q r u p w ≡ true
+    → is_some (edge (turned direction q.target) w u) ≡ true
+compatible_leads q Out p r u w joins u_in w_in fits =
+    let parts = and_parts (not (u == w)) (is_match q.induced (edge q.pattern r p) (edge q.target u w) && is_match q.induced (edge q.pattern p r) (edge q.target w u)) fits in
+    let both = and_parts (is_match q.induced (edge q.pattern r p) (edge q.target u w)) (is_match q.induced (edge q.pattern p r) (edge q.target w u)) parts.1 in
+    matched_some q.induced (edge q.pattern p r) (edge q.target w u) both.1 joins.joined
+compatible_leads q In p r u w joins u_in w_in fits =
+    let parts = and_parts (not (u == w)) (is_match q.induced (edge q.pattern r p) (edge q.target u w) && is_match q.induced (edge q.pattern p r) (edge q.target w u)) fits in
+    let both = and_parts (is_match q.induced (edge q.pattern r p) (edge q.target u w)) (is_match q.induced (edge q.pattern p r) (edge q.target w u)) parts.1 in
+    ap is_some (edge-reversed q.target w u w_in u_in)
+    ∙ matched_some q.induced (edge q.pattern r p) (edge q.target u w) both.0 (ap is_some (sym (edge-reversed q.pattern p r joins.vertex_in joins.other_in)) ∙ joins.joined)
+
 -- ---- one change
 
 module _ (q : Problem) (rows : List Row) (sound : Sound q rows) (s : Option watched.State) (names : NamesRows rows s) where
@@ -190,6 +218,7 @@ module _ (q : Problem) (rows : List Row) (sound : Sound q rows) (s : Option watc
       one_at [] k x k_in is = absurd (omega (arith, k_in))
       one_at (y ∷ ys) zero x k_in is = inl is
       one_at (y ∷ ys) (suc k) x k_in is = inr (one_at ys k x (omega (arith, k_in)) is)
+  refused_may (LeftOne p (cause.Edge v t direction) from) old new l r u there gone = l.refused r u there gone
   refused_may (LeftOthers vertices values from) old new l r u there gone =
       let h = l.refused r u there gone in (sym (same_among vertices r) ∙ h.1, sym (same_among values u) ∙ h.2)
 
@@ -252,6 +281,17 @@ module _ (q : Problem) (rows : List Row) (sound : Sound q rows) (s : Option watc
             apart (inl same) = inl (same, sym (most u (subst (λ (v : ℕ). in_domain old v u ≡ true) (sym same) there)))
             apart (inr other) = inr (other, most)
 
+    -- The encoding's constraint on an edge, where no place that is left for p has one.
+    edge_gives : (p r u : ℕ) (direction : Direction) → IsUnsupported q old direction p r u → AllSupport q direction p u needed → Gives at (pair_form q r p u ∷ []) (variable q r u) false
+    edge_gives p r u direction is support =
+        one_gives at (pair_form q r p u) (variable q r u) false
+        (pair_takes q at p r u
+        (λ w w_in fits. let leads = compatible_leads q direction p r u w is.joins is.value_in w_in fits in out p w w_in (support w w_in leads) (gone w leads (in_domain old p w) refl)))
+      where
+        gone : (w : ℕ) → is_some (edge (turned direction q.target) w u) ≡ true → (b : Bool) → in_domain old p w ≡ b → b ≡ false
+        gone w leads true here = absurd (true≢false (sym leads ∙ is.none w here))
+        gone w leads false here = refl
+
     set_gives : (vertices values : List ℕ) (r u : ℕ) (own : List Form) → HaveOnly q old vertices values → length values ≤ length vertices → AreKeptIn vertices values needed → own ≡ set_forms q vertices values
         → r < size q.pattern → is_among r vertices ≡ false → is_among u values ≡ true → u < size q.target → Gives at own (variable q r u) false
     set_gives [] values r u own only few kept is r_in outside among u_in = absurd (none values few u among)
@@ -283,7 +323,7 @@ module _ (q : Problem) (rows : List Row) (sound : Sound q rows) (s : Option watc
             (ap (λ (b : Bool). cond b (is_among u values) (not (ltb r (size q.pattern) && is_among u values))) outside ∙ ap (λ (b : Bool). not (b && is_among u values)) (lt-ltb r (size q.pattern) r_in) ∙ ap not among))
 
     -- The forms of a change take what it took, and what it covers.
-    pub change_gives : (by_edges : Bool) (c : Change) (new : State) (own : List Form) → Leaves q s old new c → ((r t from : ℕ) → c ≡ LeftOne r (cause.Guess t) from → at (variable q r t) ≡ Some true) → Needs rows path c needed
+    pub change_gives : (by_edges : Bool) (c : Change) (new : State) (own : List Form) → Leaves q s old new c → ((r t from : ℕ) → c ≡ LeftOne r (cause.Guess t) from → at (variable q r t) ≡ Some true) → Needs q rows path c needed
         → ExplainsTold by_edges q rows known c own → (r u : ℕ) → u < size q.target → (in_domain old r u ≡ true) × (in_domain new r u ≡ false) × SufficesTold by_edges q c r u ⊎ ((in_domain old r u ≡ false) × CoversTold by_edges q c r u)
         → Gives at own (variable q r u) false
     change_gives by_edges (LeftOne p cause.First from) new own l guessed needs h r u u_in (inl gone) =
@@ -319,6 +359,17 @@ module _ (q : Problem) (rows : List Row) (sound : Sound q rows) (s : Option watc
         let refused = l.refused r u gone.0 gone.1 in
         subst (λ (w : ℕ). Gives at own (variable q w u) false) (sym refused.0) (nogood_gives name p u own refused.1 (subst (λ (w : ℕ). in_domain old w u ≡ true) refused.0 gone.0) needs h)
     change_gives by_edges (LeftOne p (cause.Nogood name) from) new own l guessed needs h r u u_in (inr covers) = absurd covers.1.1
+    change_gives by_edges (LeftOne p (cause.Edge v t direction) from) new own l guessed needs h r u u_in which = by which
+      where
+        take : r ≡ p → u ≡ t → Gives at own (variable q r u) false
+        take same is =
+            subst (λ (fs : List Form). Gives at fs (variable q r u) false) (sym h)
+            (subst (λ (w : ℕ). Gives at (pair_form q p v t ∷ []) (variable q w u) false) (sym same)
+            (subst (λ (w : ℕ). Gives at (pair_form q p v t ∷ []) (variable q p w) false) (sym is) (edge_gives v p t direction l.stands needs)))
+
+        by : (in_domain old r u ≡ true) × (in_domain new r u ≡ false) × SufficesTold by_edges q (LeftOne p (cause.Edge v t direction) from) r u ⊎ ((in_domain old r u ≡ false) × CoversTold by_edges q (LeftOne p (cause.Edge v t direction) from) r u) → Gives at own (variable q r u) false
+        by (inl gone) = let refused = l.refused r u gone.0 gone.1 in take refused.0 refused.1
+        by (inr covers) = take covers.1.0 covers.1.1
     change_gives by_edges (LeftOthers vertices values from) new own l guessed needs h r u u_in (inl gone) =
         let refused = l.refused r u gone.0 gone.1 in
         set_gives vertices values r u own l.stands.0 l.stands.1 needs h refused.0 (sym (same_among vertices r) ∙ refused.1) (sym (same_among values u) ∙ refused.2) u_in

@@ -70,6 +70,11 @@ not_without : refutes (negations (map (not_there example) ((0, 2) ∷ []))) (at_
 unfolding sorted put
 not_without = refl
 
+-- No edge leads to 2, so it leaves the domain of 1, which has an edge with 0: the encoding's line for the two refutes it by itself.
+edge_refuted : refutes (negations (map (not_there example) ((1, 2) ∷ []))) (pair_form example 1 0 2 ∷ []) ≡ true
+unfolding sorted put
+edge_refuted = refl
+
 -- Three vertices with two values together, under no guess at all: with both values' constraints one line is a conflict by itself.
 set_refuted : refutes (negations []) (set_forms (record example { target = graph_of (to [] ∷ to [] ∷ []) }) (0 ∷ 1 ∷ 2 ∷ []) (0 ∷ 1 ∷ [])) ≡ true
 unfolding sorted put

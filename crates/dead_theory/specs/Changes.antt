@@ -1,11 +1,13 @@
 -- What explains a change that was told, which values it is about, and which its reason rests on.
 
-use Rattle.std.specs.Prelude.{◌≡◌, ℕ, ◌<◌, Bool, true, false, ◌⊎◌, List, [], ◌∷◌, ◌++◌, length, map, Contains, Option, Some, None}
-use Rattle.graph_theory.specs.Graph.{size}
+use Rattle.std.specs.Prelude.{◌≡◌, ℕ, ◌<◌, Bool, true, false, ◌⊎◌, List, [], ◌∷◌, ◌++◌, length, map, is_some, Contains, Option, Some, None}
+use Rattle.graph_theory.specs.Graph.{size, edge}
+use Rattle.graph_theory.specs.Reversed.{turned}
 use Rattle.graph_theory.specs.Embedding.{Problem, Compatible}
+use Rattle.graph_theory.specs.declared.direction.Direction.{Direction}
 use Rattle.proof_theory.specs.Forms.{Form}
 use Rattle.log_theory.specs.Lookups.{is_among}
-use Rattle.encoding_theory.specs.Encoding.{at_least, at_most}
+use Rattle.encoding_theory.specs.Encoding.{at_least, at_most, pair_form}
 use Rattle.reason_theory.specs.Reasons.{pairs_clause, at_leasts, set_form, ForcesFirst, ForcesBeside, ForcesByEdges}
 use Rattle.search_theory.specs.Consistency.{IsFirstValue, AreConsistent}
 use Rattle.nogood_watch.specs.Nogoods as watched
@@ -16,7 +18,7 @@ use Rattle.nogood_book.specs.Places.{IsNogoodRow}
 use Rattle.propagation.specs.declared.change.Cause.{Cause}
 use Rattle.propagation.specs.declared.change.Cause.TheVariants as cause
 use Rattle.propagation.specs.Recording.{Change, LeftOne, LeftOthers}
-use Rattle.propagation.specs.Telling.{IsNamed}
+use Rattle.propagation.specs.Telling.{IsNamed, Joins}
 
 -- ---- names
 
@@ -49,6 +51,7 @@ shown_by cause.First known = known
 shown_by (cause.Guess t) known = known
 shown_by (cause.Vertex p t) known = (p, t) ∷ known
 shown_by (cause.Nogood name) known = known
+shown_by (cause.Edge p u direction) known = known
 
 abbrev pub shown_of : Change → List (ℕ × ℕ) → List (ℕ × ℕ)
 shown_of (LeftOne r why from) known = shown_by why known
@@ -86,7 +89,8 @@ Forces false q line p t r = ForcesBeside q line p t r
 Forces true q line p t r = ForcesByEdges q line p t r
 
 -- The forms explain what the cause takes from r, where the known pairs hold: a line for its first domain; that it goes to one place; that p
--- goes somewhere, unless it is known to be at t, and then a line for p beside r; or what a nogood row needs.
+-- goes somewhere, unless it is known to be at t, and then a line for p beside r; what a nogood row needs; or the encoding's line for an edge
+-- between r and p: that with r at u it leads on to a place of p.
 abbrev pub ExplainsBy : Bool → Cause → Problem → List Row → List (ℕ × ℕ) → ℕ → List Form → Type 0
 ExplainsBy by_edges cause.First q rows known r forms = (line : Form) × (forms ≡ line ∷ [])
     × ForcesFirst q line r
@@ -96,6 +100,8 @@ ExplainsBy by_edges (cause.Vertex p t) q rows known r forms =
     × IsOneOf known (p, t)) ⊎ (forms ≡ at_least q p ∷ line ∷ [])) × Forces by_edges q line p t r
 ExplainsBy by_edges (cause.Nogood name) q rows known r forms = NogoodForms q known (Some r)
     (path_at rows name) forms
+ExplainsBy by_edges (cause.Edge p u direction) q rows known r forms =
+    forms ≡ pair_form q r p u ∷ []
 
 -- One line for a set; a set of no vertices takes nothing.
 abbrev pub set_forms : Problem → List ℕ → List ℕ → List Form
@@ -122,13 +128,14 @@ ExplainAll q rows path (c ∷ cs) forms =
 -- ---- which values a change is about
 
 -- It may take u from r: a value that is not in the first domain, any other than the guessed one, one that is not consistent with the decided
--- vertex, one of the nogood; or from a vertex that is not of the set a value of it.
+-- vertex, one of the nogood, the one that the cause names; or from a vertex that is not of the set a value of it.
 abbrev pub MayTakeBy : Cause → Problem → List Row → ℕ → ℕ → Type 0
 MayTakeBy cause.First q rows r u = IsFirstValue q r u → ⊥
 MayTakeBy (cause.Guess t) q rows r u = u ≡ t → ⊥
 MayTakeBy (cause.Vertex p t) q rows r u = AreConsistent q p t r u → ⊥
 MayTakeBy (cause.Nogood name) q rows r u = IsNogoodRow rows name
     × IsOneOf (path_at rows name) (r, u)
+MayTakeBy (cause.Edge p v direction) q rows r u = u ≡ v
 
 abbrev pub MayTake : Problem → List Row → Change → ℕ → ℕ → Type 0
 MayTake q rows (LeftOne p why from) r u = (r ≡ p) × MayTakeBy why q rows r u
@@ -146,6 +153,7 @@ CoversBy by_edges cause.First q r u = ⊥
 CoversBy by_edges (cause.Guess t) q r u = Unit {0}
 CoversBy by_edges (cause.Vertex p t) q r u = GoTogether by_edges q p t r u → ⊥
 CoversBy by_edges (cause.Nogood name) q r u = ⊥
+CoversBy by_edges (cause.Edge p v direction) q r u = u ≡ v
 
 abbrev pub CoversTold : Bool → Problem → Change → ℕ → ℕ → Type 0
 CoversTold by_edges q (LeftOne p why from) r u = (r ≡ p) × CoversBy by_edges why q r u
@@ -162,6 +170,7 @@ SufficesBy by_edges (cause.Guess t) q r u = Unit {0}
 SufficesBy by_edges (cause.Vertex p t) q r u = GoTogether by_edges q p t r u
     → AreConsistent q p t r u
 SufficesBy by_edges (cause.Nogood name) q r u = Unit {0}
+SufficesBy by_edges (cause.Edge p v direction) q r u = Unit {0}
 
 abbrev pub SufficesTold : Bool → Problem → Change → ℕ → ℕ → Type 0
 SufficesTold by_edges q (LeftOne p why from) r u = r ≡ p → SufficesBy by_edges why q r u
@@ -186,16 +195,23 @@ abbrev pub AreKeptIn : List ℕ → List ℕ → (ℕ → ℕ → Bool) → Type
 AreKeptIn vertices values needed = (r u : ℕ) → is_among r vertices ≡ true
     → is_among u values ≡ false → needed r u ≡ true
 
--- What the reason of a change rests on is needed.
-abbrev pub NeedsBy : Cause → List Row → List (ℕ × ℕ) → ℕ → (ℕ → ℕ → Bool) → Type 0
-NeedsBy cause.First rows path r needed = Unit {0}
-NeedsBy (cause.Guess t) rows path r needed = Unit {0}
-NeedsBy (cause.Vertex p t) rows path r needed = IsUpheld path None needed (p, t)
-NeedsBy (cause.Nogood name) rows path r needed = AreUpheld path (Some r) needed (path_at rows name)
+-- All values of p from which an edge leads to u, in the direction.
+abbrev pub AllSupport : Problem → Direction → ℕ → ℕ → (ℕ → ℕ → Bool) → Type 0
+AllSupport q direction p u needed = (w : ℕ) → w < size q.target
+    → is_some (edge (turned direction q.target) w u) ≡ true → needed p w ≡ true
 
-abbrev pub Needs : List Row → List (ℕ × ℕ) → Change → (ℕ → ℕ → Bool) → Type 0
-Needs rows path (LeftOne r why from) needed = NeedsBy why rows path r needed
-Needs rows path (LeftOthers vertices values from) needed = AreKeptIn vertices values needed
+-- What the reason of a change rests on is needed.
+abbrev pub NeedsBy : Cause → Problem → List Row → List (ℕ × ℕ) → ℕ → (ℕ → ℕ → Bool) → Type 0
+NeedsBy cause.First q rows path r needed = Unit {0}
+NeedsBy (cause.Guess t) q rows path r needed = Unit {0}
+NeedsBy (cause.Vertex p t) q rows path r needed = IsUpheld path None needed (p, t)
+NeedsBy (cause.Nogood name) q rows path r needed = AreUpheld path (Some r) needed
+    (path_at rows name)
+NeedsBy (cause.Edge p u direction) q rows path r needed = AllSupport q direction p u needed
+
+abbrev pub Needs : Problem → List Row → List (ℕ × ℕ) → Change → (ℕ → ℕ → Bool) → Type 0
+Needs q rows path (LeftOne r why from) needed = NeedsBy why q rows path r needed
+Needs q rows path (LeftOthers vertices values from) needed = AreKeptIn vertices values needed
 
 -- ---- guesses
 
@@ -205,6 +221,7 @@ IsGuessed path (LeftOne r (cause.Guess t) from) = Contains path (r, t)
 IsGuessed path (LeftOne r cause.First from) = Unit {0}
 IsGuessed path (LeftOne r (cause.Vertex p t) from) = Unit {0}
 IsGuessed path (LeftOne r (cause.Nogood name) from) = Unit {0}
+IsGuessed path (LeftOne r (cause.Edge p u direction) from) = Unit {0}
 IsGuessed path (LeftOthers vertices values from) = Unit {0}
 
 abbrev pub AreGuessed : List (ℕ × ℕ) → List Change → Type 0
@@ -220,6 +237,7 @@ IsInBy (cause.Guess t) q r = (r < size q.pattern) × (t < size q.target)
 IsInBy (cause.Vertex p t) q r = (p < size q.pattern) × (t < size q.target) × (r < size q.pattern)
     × (p ≡ r → ⊥)
 IsInBy (cause.Nogood name) q r = r < size q.pattern
+IsInBy (cause.Edge p u direction) q r = Joins q direction p r × (u < size q.target)
 
 abbrev pub IsInProblem : Problem → Change → Type 0
 IsInProblem q (LeftOne r why from) = IsInBy why q r

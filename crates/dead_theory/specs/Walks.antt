@@ -18,7 +18,7 @@ pub record RestsOn (q : Problem) (rows : List Row) (path : List (ℕ
     × ℕ)) (c : Chosen) (needed now : ℕ → ℕ → Bool) : Type 0 where
   pub suffices : (r u : ℕ) → u < size q.target → needed r u ≡ true → Suffices q c r u
   pub carried : (r u : ℕ) → needed r u ≡ true → (now r u ≡ true) ⊎ Covers q c r u
-  pub needs : Needs rows path c.change now
+  pub needs : Needs q rows path c.change now
 
 -- Of these changes, the last one first, some are chosen for the needed values of a path: one that is chosen has others needed before it, and one
 -- that is not may be passed.

@@ -1,7 +1,8 @@
 //! Dead paths as tables have them, and the line of one, once its numbers are seen to be in the range of the problem.
 
-ghost use Rattle.std.specs.Prelude.{◌≡◌, ℕ, ◌^◌, ◌<◌, ◌≤◌, [], true, length, IfOk};
-ghost use Rattle.graph_theory.specs.Graph.{size};
+ghost use Rattle.std.specs.Prelude.{◌≡◌, ℕ, ◌^◌, ◌<◌, ◌≤◌, [], true, length, is_some, IfOk};
+ghost use Rattle.graph_theory.specs.Graph.{size, edge};
+ghost use Rattle.graph_theory.specs.Reversed.{turned};
 ghost use Rattle.log_theory.specs.LogText.{AreRefs};
 ghost use Rattle.log_theory.specs.Lookups.{is_among};
 ghost use Rattle.nogood_book.specs.Rows.{Sound, AreInRange};
@@ -10,9 +11,11 @@ ghost use Rattle.propagation.specs.Recording.{change_by, changes_of, set_at};
 ghost use Rattle.dead_theory.specs.Changes.{IsInBy, IsInProblem, AreInProblem};
 ghost use Rattle.dead_paths.specs.Explaining.{end_by, IsEndIn};
 
+use bit_rows::has_bit;
 use dead_paths::{Basis, DeadPath, LineMaker, PathEnd, RowNames, Scratch, explain};
 use domain_bits::{Domains, Mark};
 use graph_rows::Problem;
+use graph_theory::direction::Direction;
 use journals::Journal;
 use log_theory::{Name, Ref};
 use nogood_book::{Row, RowKind};
@@ -81,6 +84,15 @@ fn is_set(q: &Problem, numbers: &[u16], place: Place) -> bool
         && are_below(&numbers[place.middle..place.end], q.target().size())
 }
 
+/// Whether an edge of the pattern leads from one vertex to the other in this direction.
+fn leads(q: &Problem, direction: Direction, p: u16, r: u16) -> bool
+    requires p_in { p < size q.now.pattern }
+    requires r_in { r < size q.now.pattern }
+    ensures { result ≡ is_some (edge (turned direction q.now.pattern) p r) }
+{
+    has_bit(q.pattern().row_by(direction, p), usize::from(r))
+}
+
 /// Whether the numbers of a cause, and the vertex whose values it took, are in range.
 fn is_cause(q: &Problem, cause: Cause, r: u16) -> bool
     ensures { result ≡ true → IsInBy cause q.now r }
@@ -93,6 +105,9 @@ fn is_cause(q: &Problem, cause: Cause, r: u16) -> bool
         Cause::Guess(t) => t < q.target().size(),
         Cause::Vertex(p, t) => p < q.pattern().size() && t < q.target().size() && p != r,
         Cause::Nogood(_) => true,
+        Cause::Edge(p, u, direction) => {
+            p < q.pattern().size() && u < q.target().size() && p != r && leads(q, direction, p, r)
+        }
     }
 }
 

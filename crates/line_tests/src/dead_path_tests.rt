@@ -4,6 +4,7 @@ use crate::checked::{Dead, Ended, explain_in};
 use crate::logs::{Log, Sample, is_log};
 use dead_paths::{Basis, LineMaker, RowNames};
 use graph_rows::Problem;
+use graph_theory::direction::Direction;
 use journals::Journal;
 use lad_reader::LadKind;
 use log_theory::Ref;
@@ -75,7 +76,7 @@ impl<R> Example<R> for Deaths {
     }
 }
 
-static DEATHS: [Deaths; 10] = [
+static DEATHS: [Deaths; 12] = [
     // The end rests on two changes of three, and the one between, whose vertex the path has, is not named.
     Deaths {
         sample: Sample(b"3 0 0 0", APART, LadKind::Lad, false),
@@ -349,6 +350,48 @@ u 1.9 ; 1.2 1.4 1.6 1.8 1 ;
             head: b"embedding proof 1\nm 10\n",
             lines: b"p 1.1 7 4 + ;\nu 1.2 ~x1 ; 1.1 3 ;\n",
             end: b"q\n",
+        },
+    },
+    // What a neighbour has left has no edge to either value of the last vertex, whose places beside the first one are needed of that neighbour then.
+    // What the neighbour lost meanwhile for want of an edge is not named.
+    Deaths {
+        sample: Sample(TRIANGLE, FOUR_CYCLE, LadKind::Lad, false),
+        numbers: &[],
+        paths: &[Dead(
+            &[(0, 0)],
+            &[
+                What::One(0, Cause::Guess(0)),
+                What::One(1, Cause::Vertex(0, 0)),
+                What::One(2, Cause::Vertex(0, 0)),
+                What::One(2, Cause::Edge(1, 1, Direction::Out)),
+                What::One(1, Cause::Edge(2, 3, Direction::Out)),
+                What::One(2, Cause::Edge(1, 3, Direction::In)),
+            ],
+            Ended::Empty(2),
+        )],
+        log: Log {
+            head: b"embedding proof 1\nm 34\n",
+            lines: b"p 1.1 11 4 + ;\np 1.2 15 6 + ;\nu 1.3 ~x1 ; 1.1 1.2 32 34 5 ;\n",
+            end: b"q\n",
+        },
+    },
+    // A path of two edges one after the other into two that meet: the middle goes where an edge comes from, and one leads on.
+    Deaths {
+        sample: Sample(b"3 1 1 1 2 0", b"3 1 1 0 1 1", LadKind::DirectedLad, false),
+        numbers: &[],
+        paths: &[Dead(
+            &[],
+            &[
+                What::One(1, Cause::Edge(0, 0, Direction::Out)),
+                What::One(1, Cause::Edge(0, 2, Direction::Out)),
+                What::One(1, Cause::Edge(2, 1, Direction::In)),
+            ],
+            Ended::Empty(1),
+        )],
+        log: Log {
+            head: b"embedding proof 1\nm 21\n",
+            lines: b"u 1.1 ; 13 15 17 3 ;\n",
+            end: b"e 1.1\n",
         },
     },
 ];

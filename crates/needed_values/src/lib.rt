@@ -12,5 +12,6 @@ mod needed;
 
 pub use consistent::{are_all_consistent, keep_compatible, keep_consistent};
 pub use needed::{
-    copy_needed, is_any_needed, need_all, need_but, need_set, put_needed, unmark, unmark_all,
+    copy_needed, is_any_needed, is_needed, need_all, need_but, need_set, put_needed, unmark,
+    unmark_all,
 };

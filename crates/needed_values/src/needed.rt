@@ -123,8 +123,8 @@ fn fill_but(row: &mut [u64], values: usize, leaves: bool, t: u16)
     }
 }
 
-/// Whether a value of a vertex is needed.
-fn is_needed(marked: &[bool], rows: &[u64], values: usize, r: u16, t: u16) -> bool
+/// Whether a value of a vertex is needed. Cost: one step.
+pub fn is_needed(marked: &[bool], rows: &[u64], values: usize, r: u16, t: u16) -> bool
     requires held { AreRows values marked.now rows.now }
     requires r_in { r < length marked.now }
     requires t_in { t < values }

@@ -187,6 +187,7 @@ told_guessed xs (c ∷ cs) h = (one c (λ p t from e. h p t from (inl e)), told_
     one (LeftOne r cause.First from) f = tt
     one (LeftOne r (cause.Vertex p t) from) f = tt
     one (LeftOne r (cause.Nogood n) from) f = tt
+    one (LeftOne r (cause.Edge p u direction) from) f = tt
     one (LeftOthers vertices values from) f = tt
 
 -- The same with what is kept.

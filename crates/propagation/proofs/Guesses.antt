@@ -10,6 +10,7 @@ IsGuess (LeftOne p cause.First from) = ⊥
 IsGuess (LeftOne p (cause.Guess t) from) = Unit {0}
 IsGuess (LeftOne p (cause.Vertex r t) from) = ⊥
 IsGuess (LeftOne p (cause.Nogood name) from) = ⊥
+IsGuess (LeftOne p (cause.Edge r u direction) from) = ⊥
 IsGuess (LeftOthers vertices values from) = ⊥
 
 -- where nothing is told, no guess is new

@@ -14,3 +14,4 @@ pub mod Telling
 pub mod Reasons
 pub mod Entries
 pub mod Guesses
+pub mod Supporting

@@ -5,6 +5,7 @@ use Rattle.std.proofs.lemmas.Bool.{cases_eq, cases_lt, eq-eqb, eqb-true, ne_eqb,
 use Rattle.std.proofs.lemmas.List.{append-nil}
 use Rattle.graph_theory.specs.Graph.{size}
 use Rattle.graph_theory.specs.Embedding.{Problem}
+use Rattle.graph_theory.specs.declared.direction.Direction.{Direction}
 use Rattle.search_theory.specs.Claims.{Single}
 use Rattle.bit_rows.specs.BitRows.{has}
 use Rattle.graph_theory.specs.Neighbours.{count, members}
@@ -28,7 +29,7 @@ use Rattle.nogood_watch.proofs.Visits.{partner_half, partner_in}
 use Rattle.propagation.specs.declared.change.Cause.TheVariants as cause
 use Rattle.propagation.specs.Propagation.{IsOf, Sweeps}
 use Rattle.propagation.specs.Recording.{Change, LeftOne, LeftOthers, CountedSet, members_of, KeepsShort}
-use Rattle.propagation.specs.Telling.{HasFirst, HasAtMost, NamesUnit, IsForbidden, AreForbidden, AreDistinct, HaveOnly, Leaves, IsDecided, IsShown}
+use Rattle.propagation.specs.Telling.{HasFirst, HasAtMost, NamesUnit, IsForbidden, AreForbidden, IsUnsupported, AreDistinct, HaveOnly, Leaves, IsDecided, IsShown}
 use Rattle.propagation.proofs.Visits.{gone_kept}
 use Rattle.propagation.proofs.Forcing.{half_in}
 
@@ -68,6 +69,21 @@ leaves_forced q s old new r u name from r_in k forbidden is = record {
   refused = λ x v here gone.
       let left = gone_kept old new r (λ w. not (w == u)) k x v here gone in
       (left.0, subst (λ (w : ℕ). IsForbidden s old name r w) (sym (only_taken u v left.1)) forbidden);
+}
+
+-- what is taken where an edge has no support
+pub leaves_unsupported : (q : Problem) (s : Option watched.State) (old new : State) (p r u from : ℕ) (direction : Direction) → changes.Keeps old new r (λ v. not (v == u))
+    → IsUnsupported q old direction p r u → from ≡ length old.removed → Leaves q s old new (LeftOne r (cause.Edge p u direction) from)
+leaves_unsupported q s old new p r u from direction k unsupported is = record {
+  vertices_same = k.shrinks.vertices_same;
+  values_same = k.shrinks.values_same;
+  rest = k.shrinks.rest;
+  front = k.shrinks.front;
+  from_is = is;
+  stands = unsupported;
+  refused = λ x v here gone.
+      let left = gone_kept old new r (λ w. not (w == u)) k x v here gone in
+      (left.0, only_taken u v left.1);
 }
 
 -- what is not in the first domain

@@ -9,6 +9,7 @@ use Rattle.domain_bits.specs.Removals.{State, in_domain, size_of}
 use Rattle.nogood_watch.specs.Nogoods as watched
 use Rattle.nogood_watch.specs.Watching.{forced_at}
 use Rattle.all_different.specs.Memory.{Memory}
+use Rattle.propagation.specs.Edges.{RoomSize, IsRoomFor}
 use Rattle.propagation.specs.Propagation.{IsFor, Narrows, Shrinks, waits_at}
 
 -- These pairs are a nogood: no vertex has two of them, and no embedding has all of them.
@@ -32,9 +33,11 @@ AreKept q (Some s) = AreNogoods q s
 
 -- ---- what propagation makes of it
 
--- What propagation works with is of the problem: the memory for counting is made for it, and what is kept are nogoods.
-pub record Works (q : Problem) (memory : Memory) (nogoods : Option watched.State) : Type 0 where
+-- What propagation works with is of the problem: the memory for counting and that for edges are made for it, and what is kept are nogoods.
+pub record Works (q : Problem) (memory : Memory) (edges : RoomSize) (nogoods : Option
+    watched.State) : Type 0 where
   pub is_for : IsFor q memory
+  pub room : IsRoomFor q edges
   pub kept : AreKept q nogoods
 
 -- What propagation works with, as its callers see it: the problem, and the nogoods, once some are kept.

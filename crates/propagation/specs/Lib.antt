@@ -4,3 +4,4 @@ pub mod Acting
 pub mod Holding
 pub mod Recording
 pub mod Telling
+pub mod Edges

@@ -1,8 +1,10 @@
 -- What is told of the values that leave, and that it is true.
 
-use Rattle.std.specs.Prelude.{◌≡◌, ℕ, ◌<◌, ◌≤◌, true, false, ◌⊎◌, List, [], ◌∷◌, ◌++◌, length, Option, Some, None}
-use Rattle.graph_theory.specs.Graph.{size}
+use Rattle.std.specs.Prelude.{◌≡◌, ℕ, ◌<◌, ◌≤◌, true, false, ◌⊎◌, List, [], ◌∷◌, ◌++◌, length, is_some, Option, Some, None}
+use Rattle.graph_theory.specs.Graph.{size, edge}
 use Rattle.graph_theory.specs.Embedding.{Problem}
+use Rattle.graph_theory.specs.Reversed.{turned}
+use Rattle.graph_theory.specs.declared.direction.Direction.{Direction}
 use Rattle.search_theory.specs.Consistency.{IsFirstValue, AreConsistent}
 use Rattle.bit_rows.specs.BitRows.{has}
 use Rattle.domain_bits.specs.Removals.{State, in_domain, full, undone}
@@ -62,6 +64,20 @@ pub record Faces (q : Problem) (d : State) (p t r : ℕ) : Type 0 where
   pub apart : p ≡ r → ⊥
   pub decided : HasAtMost d p t
 
+-- In this direction an edge leads from p to another vertex r.
+pub record Joins (q : Problem) (direction : Direction) (p r : ℕ) : Type 0 where
+  pub vertex_in : p < size q.pattern
+  pub other_in : r < size q.pattern
+  pub apart : p ≡ r → ⊥
+  pub joined : is_some (edge (turned direction q.pattern) p r) ≡ true
+
+-- An edge leads from p to r, but from no value that is left for p to u: so r, which goes where p's edge leads, does not go to u.
+pub record IsUnsupported (q : Problem) (d : State) (direction : Direction) (p r u : ℕ) : Type 0 where
+  pub joins : Joins q direction p r
+  pub value_in : u < size q.target
+  pub none : (w : ℕ) → in_domain d p w ≡ true
+      → is_some (edge (turned direction q.target) w u) ≡ false
+
 -- A nogood of this name has the pair of r and u, and of each other pair the value is all that is left.
 pub record IsForbidden (s : Option watched.State) (d : State) (name r u : ℕ) : Type 0 where
   pub pairs : List (ℕ × ℕ)
@@ -95,6 +111,7 @@ StandsBy cause.First q d r = r < size q.pattern
 StandsBy (cause.Guess t) q d r = (r < size q.pattern) × (in_domain d r t ≡ true)
 StandsBy (cause.Vertex p t) q d r = Faces q d p t r
 StandsBy (cause.Nogood name) q d r = r < size q.pattern
+StandsBy (cause.Edge p u direction) q d r = IsUnsupported q d direction p r u
 
 abbrev pub Stands : Change → Problem → State → Type 0
 Stands (LeftOne r why from) q d = StandsBy why q d r
@@ -107,6 +124,7 @@ RefusesBy cause.First q s d r u = IsFirstValue q r u → ⊥
 RefusesBy (cause.Guess t) q s d r u = u ≡ t → ⊥
 RefusesBy (cause.Vertex p t) q s d r u = AreConsistent q p t r u → ⊥
 RefusesBy (cause.Nogood name) q s d r u = IsForbidden s d name r u
+RefusesBy (cause.Edge p v direction) q s d r u = u ≡ v
 
 -- So does a change: of its vertex by its cause, or of all vertices but those of a set the values of these.
 abbrev pub Refuses : Change → Problem → Option watched.State → State → ℕ → ℕ → Type 0

@@ -1,6 +1,7 @@
 //! A change of the domains, as it is told.
 
 use domain_bits::Mark;
+use graph_theory::direction::Direction;
 
 /// Why values left the domain of one vertex.
 #[derive(Clone, Copy)]
@@ -13,6 +14,9 @@ pub enum Cause {
     Vertex(u16, u16),
     /// The nogood of this name has the value, and its other pairs are decided.
     Nogood(u32),
+    /// It is this value, the second: in this direction of the pattern's edge from the vertex, the first, no value left for that has an edge
+    /// to it.
+    Edge(u16, u16, Direction),
 }
 
 /// Where a set of domains that were counted together stands in a list of numbers: its vertices, and its values behind them.

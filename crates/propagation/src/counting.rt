@@ -5,6 +5,7 @@ ghost use Rattle.std.specs.Result.{is_ok};
 ghost use Rattle.graph_theory.specs.Graph.{size};
 ghost use Rattle.graph_theory.specs.Embedding.{Problem};
 ghost use Rattle.nogood_watch.specs.Nogoods as watched;
+ghost use Rattle.propagation.specs.Edges.{IsRoomFor};
 ghost use Rattle.propagation.specs.Recording.{NoNewGuess};
 ghost use Rattle.propagation.specs.Telling.{IsEmptied, Fails, TellsOn};
 ghost use Rattle.domain_bits.specs.Removals.{in_domain, size_of};
@@ -14,6 +15,8 @@ ghost use Rattle.sparse_set.specs.Removals.{has as is_member};
 ghost use Rattle.propagation.specs.Propagation.{IsOf, IsFor, LeavesPast, UndecidedWait, NotesDecided, Notes, PrunesFor};
 
 use crate::change::Failure;
+use crate::edge_room::EdgeRoom;
+use crate::edges::support_edges;
 use crate::recorder::Recorder;
 use crate::removal::prune;
 use all_different::Scratch;
@@ -119,4 +122,37 @@ pub(crate) fn prune_noting<T: Trail, R: Recorder>(
     }
     note_all_decided(d, waiting)?;
     Ok(true)
+}
+
+/// Counts the values of the first domains together, and where none leave so, takes those that edges leave without support; says whether any
+/// have left. Where values do, the vertices that this decides wait. Cost: that of `prune_noting`, and of `support_edges`.
+pub(crate) fn filter_more<T: Trail, R: Recorder>(
+    d: &mut Domains<T>,
+    waiting: &mut [bool],
+    undecided: &SparseSet,
+    scratch: &mut Scratch,
+    room: &mut EdgeRoom,
+    told: &mut R,
+    problem: &Problem,
+) -> Result<bool, Failure>
+    requires is_of { IsOf problem.now d.old }
+    requires left { LeavesPast problem.now d.old undecided.now }
+    requires is_for { IsFor problem.now scratch.old }
+    requires room { IsRoomFor problem.now room.old }
+    requires quiet { Quiet problem.now (in_domain d.old) }
+    requires long { length waiting.old ≡ size problem.now.pattern }
+    ensures pruned { PrunesFor result problem.now d.old d.new waiting.new }
+    ensures fails { (s : Option watched.State)
+        → IfErr result (Fails problem.now s d.new (R.changes told.new) (R.short told.new)) }
+    ensures told { TellsOn problem.now d.old (R.changes told.old) d.new (R.changes told.new) }
+    ensures guesses { NoNewGuess (R.changes told.old) (R.changes told.new) }
+    ensures is_for { IsFor problem.now scratch.new }
+    ensures room { IsRoomFor problem.now room.new }
+    ensures bounded { length d.new.removed ≤ d.new.vertices * d.new.values }
+{
+    let have_left = prune_noting(d, waiting, undecided, scratch, told, problem)?;
+    if have_left {
+        return Ok(true);
+    }
+    support_edges(d, waiting, undecided, room, told, problem)
 }

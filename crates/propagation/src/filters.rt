@@ -1,4 +1,4 @@
-//! What propagation works with: rows of consistent values, memory for counting, and nogoods.
+//! What propagation works with: rows of consistent values, memory for counting and for edges, and nogoods.
 
 ghost use Rattle.std.specs.Prelude.{◌≡◌, ◌*◌, ◌^◌, ◌<◌, ◌≤◌, length, take, IfOk, IfErr, OnOk};
 ghost use Rattle.std.specs.Result.{is_ok};
@@ -12,9 +12,11 @@ ghost use Rattle.propagation.specs.Recording.{NoNewGuess};
 ghost use Rattle.propagation.specs.Telling.{IsEmptied, Tells};
 
 use crate::change::Failure;
+use crate::edge_room::EdgeRoom;
 use crate::nogoods::Nogoods;
 use crate::recorder::Recorder;
 use all_different::Scratch;
+use bit_rows::words_for;
 use domain_bits::{Domains, Trail};
 use graph_rows::Problem;
 use nogood_book::Row;
@@ -28,6 +30,7 @@ use std::marker::Model;
 pub struct Filters<'a> {
     pub(crate) rows: PairRows<'a>,
     pub(crate) scratch: Scratch,
+    pub(crate) edges: EdgeRoom,
     pub(crate) nogoods: Option<Nogoods>,
 }
 
@@ -38,12 +41,12 @@ impl<'a> Model for Filters<'a> {
 
     ghost view = { λ f. record { problem = f.rows.problem; nogoods = f.nogoods } };
 
-    ghost invariant = { λ f. Works f.rows.problem f.scratch f.nogoods };
+    ghost invariant = { λ f. Works f.rows.problem f.scratch f.edges f.nogoods };
 }
 
 impl<'a> Filters<'a> {
     /// No rows and no nogoods yet, with memory for counting and for at most so many words of rows, which the kinds of the problem's
-    /// pairs are shared for. Cost: that of `PairRows::new`.
+    /// pairs are shared for. Cost: that of `PairRows::new`, and two steps for each two pattern vertices.
     pub fn new(
         alloc: Global,
         q: &Problem,
@@ -55,9 +58,11 @@ impl<'a> Filters<'a> {
     {
         let rows = PairRows::new(alloc, kinds, most)?;
         let scratch = Scratch::new(alloc, q.pattern().size(), q.target().size())?;
+        let edges = EdgeRoom::new(alloc, q, pair_cost(q, kinds))?;
         Ok(Filters {
             rows,
             scratch,
+            edges,
             nogoods: None,
         })
     }
@@ -86,6 +91,31 @@ impl<'a> Filters<'a> {
         take_into(alloc, q, rows, from, &mut self.nogoods)
     }
 
+    /// A run begins at the root: from the second on, edges are looked at. Cost: one step for each pattern vertex.
+    pub(crate) fn begin_run(&mut self)
+        ensures { self.new ≡ self.old }
+    {
+        self.edges.begin_run();
+    }
+
+    /// So many guesses stand, the last of them new. Cost: one step for the first guess for each pattern vertex, and else one.
+    pub(crate) fn enter(&mut self, depth: usize)
+        ensures { self.new ≡ self.old }
+    {
+        self.edges.enter(depth);
+    }
+
+    /// After the last guess so many vertices became past, and so many are not, and domains stay or, where it was refuted, none do: this is counted.
+    /// Cost: a few steps.
+    pub(crate) fn count(&mut self, past: usize, left: usize, refuted: bool)
+        ensures { self.new ≡ self.old }
+    {
+        self.edges.count(past, left);
+        if refuted {
+            self.edges.gain();
+        }
+    }
+
     /// Takes the nogoods of one pair out of the domains; fails where a domain becomes empty. Cost: one step for each.
     pub(crate) fn take_units<T: Trail, R: Recorder>(
         &self,
@@ -110,6 +140,41 @@ impl<'a> Filters<'a> {
             Some(nogoods) => nogoods.take_units(&self.rows, d, waiting, told),
         }
     }
+}
+
+/// What a pair of pattern vertices costs a visit of one of them, in sixteenths of a step, the mean of all pairs and of a vertex with itself, which
+/// costs nothing. Cost: two steps for each two pattern vertices.
+fn pair_cost(q: &Problem, kinds: &PairKinds<'_>) -> u64
+    requires { kinds.now.problem ≡ q.now }
+{
+    let row = words_for(usize::from(q.target().size())) as u64 + 4;
+    let vertices = q.pattern().size();
+    let mut sum: u64 = 0;
+    for p in 0..vertices {
+        sum = sum.saturating_add(visit_cost(q, kinds, p, row));
+    }
+    let pairs = u64::from(vertices) * u64::from(vertices);
+    if pairs == 0 {
+        return 16;
+    }
+    (sum.saturating_mul(16) / pairs).saturating_add(1)
+}
+
+/// What all other vertices cost a visit of `p`: one step where they are asked nothing but distinct images, and else so many as a row takes. Cost:
+/// two steps for each pattern vertex.
+fn visit_cost(q: &Problem, kinds: &PairKinds<'_>, p: u16, row: u64) -> u64
+    requires problem { kinds.now.problem ≡ q.now }
+    requires p_in { p < size q.now.pattern }
+{
+    let mut sum: u64 = 0;
+    for r in 0..q.pattern().size() {
+        if r == p {
+            continue;
+        }
+        let cost = if kinds.is_free(p, r) { 1 } else { row };
+        sum = sum.saturating_add(cost);
+    }
+    sum
 }
 
 /// Keeps the nogoods among the rows from a place on, in a table that is made where none is there.

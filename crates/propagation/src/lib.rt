@@ -9,6 +9,8 @@
 mod causes;
 mod change;
 mod counting;
+mod edge_room;
+mod edges;
 mod filters;
 mod nogoods;
 mod propagation;
@@ -20,7 +22,7 @@ mod shared;
 // What follows from domains.
 pub use filters::Filters;
 pub use nogoods::Nogoods;
-pub use propagation::{propagate, propagate_again};
+pub use propagation::{propagate, propagate_again, propagate_guess};
 
 // Single steps of the layer above.
 pub use counting::lower;

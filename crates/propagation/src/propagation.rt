@@ -22,7 +22,7 @@ ghost use Rattle.propagation.specs.Telling.{Fails, IsEmptied, Tells, TellsOn};
 ghost use Rattle.propagation.specs.Propagation.{IsOf, waits_at, HaveValues, LeavesPast, Fewer, Ready, ReadyBut, Sweeps, Settles, Visited, TakenUp, Propagates};
 
 use crate::change::Failure;
-use crate::counting::{prune_noting, raise_decided};
+use crate::counting::{filter_more, raise_decided};
 use crate::filters::Filters;
 use crate::nogoods::Nogoods;
 use crate::recorder::Recorder;
@@ -268,8 +268,8 @@ fn take_up<T: Trail, R: Recorder>(
 }
 
 /// Takes all consequences, or finds why no embedding is within the domains; each vertex that is decided on the way is past
-/// then. Cost: for each of these one row for each vertex that is not past, and the values that leave; once for each set of
-/// domains found to take its values from the others, the cost of `prune_undecided`.
+/// then. Cost: for each of these one row for each vertex that is not past, and the values that leave; once for each time that values leave by
+/// counting or by edges, the cost of `filter_more`.
 pub fn propagate<T: Trail, R: Recorder>(
     q: &Problem,
     filters: &mut Filters,
@@ -305,16 +305,91 @@ pub fn propagate<T: Trail, R: Recorder>(
             undecided,
             told,
         )?;
-        let have_left = prune_noting(d, waiting, undecided, &mut filters.scratch, told, q)?;
+        let have_left = filter_more(
+            d,
+            waiting,
+            undecided,
+            &mut filters.scratch,
+            &mut filters.edges,
+            told,
+            q,
+        )?;
         if !have_left {
             return Ok(());
         }
     }
 }
 
+/// Takes all consequences of a guess, the last of so many, as `propagate` does. What it costs is counted, and how it ends, by which edges are looked at
+/// or not. Cost: that of `propagate`, and after the first guess one step for each pattern vertex.
+pub fn propagate_guess<T: Trail, R: Recorder>(
+    q: &Problem,
+    filters: &mut Filters,
+    d: &mut Domains<T>,
+    waiting: &mut [bool],
+    undecided: &mut SparseSet,
+    told: &mut R,
+    depth: usize,
+) -> Result<(), Failure>
+    requires problem { filters.old.problem ≡ q.now }
+    requires is_of { IsOf q.now d.old }
+    requires ready { Ready q.now d.old waiting.old }
+    requires left { LeavesPast q.now d.old undecided.old }
+    requires first { First q.now (in_domain d.old) }
+    requires wait { IfSome filters.old.nogoods (WatchesWait d.old waiting.old) }
+    ensures problem { filters.new.problem ≡ q.now }
+    ensures propagated { Propagates (is_ok result) q.now d.old d.new }
+    ensures fails { IfErr result (Fails q.now filters.new.nogoods d.new (R.changes told.new)
+        (R.short told.new)) }
+    ensures in_force { InForceAfter (is_ok result) d.new filters.new.nogoods }
+    ensures moved { HaveMoved d.old filters.old.nogoods filters.new.nogoods }
+    ensures told { Tells q.now filters.old.nogoods d.old (R.changes told.old)
+        → Tells q.now filters.new.nogoods d.new (R.changes told.new) }
+    ensures guesses { NoNewGuess (R.changes told.old) (R.changes told.new) }
+    ensures left { LeavesPast q.now d.new undecided.new }
+    ensures fewer { Fewer undecided.old undecided.new }
+{
+    filters.enter(depth);
+    let before = undecided.members().len();
+    let answer = propagate(q, filters, d, waiting, undecided, told);
+    let left = undecided.members().len();
+    filters.count(before.saturating_sub(left), left, answer.is_err());
+    answer
+}
+
 /// Takes the nogoods of one pair out of domains at rest, and all consequences of them and of the other nogoods, for which each vertex
-/// that is decided is looked at again; or finds why no embedding is within the domains. Cost: that of `propagate`.
+/// that is decided is looked at again; or finds why no embedding is within the domains. A run begins with it. Cost: that of `propagate`.
 pub fn propagate_again<T: Trail, R: Recorder>(
+    q: &Problem,
+    filters: &mut Filters,
+    d: &mut Domains<T>,
+    waiting: &mut [bool],
+    undecided: &mut SparseSet,
+    told: &mut R,
+) -> Result<(), Failure>
+    requires problem { filters.old.problem ≡ q.now }
+    requires is_of { IsOf q.now d.old }
+    requires left { LeavesPast q.now d.old undecided.old }
+    requires long { length waiting.old ≡ size q.now.pattern }
+    requires quiet { Quiet q.now (in_domain d.old) }
+    ensures problem { filters.new.problem ≡ q.now }
+    ensures propagated { Propagates (is_ok result) q.now d.old d.new }
+    ensures fails { IfErr result (Fails q.now filters.new.nogoods d.new (R.changes told.new)
+        (R.short told.new)) }
+    ensures acted { ActedAfter (is_ok result) d.new filters.new.nogoods }
+    ensures moved { HaveMoved d.old filters.old.nogoods filters.new.nogoods }
+    ensures told { Tells q.now filters.old.nogoods d.old (R.changes told.old)
+        → Tells q.now filters.new.nogoods d.new (R.changes told.new) }
+    ensures guesses { NoNewGuess (R.changes told.old) (R.changes told.new) }
+    ensures left { LeavesPast q.now d.new undecided.new }
+    ensures fewer { Fewer undecided.old undecided.new }
+{
+    filters.begin_run();
+    take_all_again(q, filters, d, waiting, undecided, told)
+}
+
+/// The same without a word to who counts what a run costs.
+fn take_all_again<T: Trail, R: Recorder>(
     q: &Problem,
     filters: &mut Filters,
     d: &mut Domains<T>,

@@ -19,13 +19,14 @@ ghost use Rattle.nogood_watch.specs.Nogoods as watched;
 ghost use Rattle.propagation.specs.Propagation.{IsOf, IsFor, waits_at, NotesSize, NotesTaken, Sweeps, pruned_of};
 ghost use Rattle.propagation.specs.declared.change.Cause.TheVariants as cause;
 ghost use Rattle.propagation.specs.Recording.{LeftOne, MayTake, NoNewGuess};
-ghost use Rattle.propagation.specs.Telling.{HasFirst, Leaves, Tells, TellsOn, IsForbidden, Fails};
+ghost use Rattle.propagation.specs.Telling.{HasFirst, Leaves, Tells, TellsOn, IsForbidden, IsUnsupported, Fails};
 
 use crate::change::{Cause, Failure};
 use crate::recorder::Recorder;
 use all_different::{Pruned, Scratch, prune_undecided};
 use domain_bits::{Domains, Mark, Trail};
 use graph_rows::Problem;
+use graph_theory::direction::Direction;
 use pair_rows::PairRows;
 
 /// Tells that values have left by the cause since the mark, if any have. Cost: one step, and that of `took`.
@@ -242,6 +243,35 @@ pub(crate) fn take_forced<T: Trail, R: Recorder>(
     let from = d.mark();
     let some = take_value(d, waiting, r, u);
     tell(d, told, r, Cause::Nogood(name), from);
+    some
+}
+
+/// Takes `u` from the domain of `r`, to which no value left for `p` has an edge as `p` has to `r` in this direction, and tells it. Where one
+/// value is left, `r` waits; where none is, the answer is false. Cost: one step.
+pub(crate) fn take_unsupported<T: Trail, R: Recorder>(
+    d: &mut Domains<T>,
+    waiting: &mut [bool],
+    told: &mut R,
+    p: u16,
+    r: u16,
+    u: u16,
+    direction: Direction,
+) -> bool
+    requires r_in { r < d.old.vertices }
+    requires u_in { u < d.old.values }
+    requires flags { r < length waiting.old }
+    requires bounded { length d.old.removed ≤ d.old.vertices * d.old.values }
+    ensures keeps { Keeps d.old d.new r (λ v. not (v == u)) }
+    ensures taken { NotesTaken result d.old waiting.old d.new waiting.new r u }
+    ensures bounded { length d.new.removed ≤ d.new.vertices * d.new.values }
+    ensures told { (q : Problem) (s : Option watched.State)
+        → IsUnsupported q d.old direction p r u
+        → Tells q s d.old (R.changes told.old) → Tells q s d.new (R.changes told.new) }
+    ensures guesses { NoNewGuess (R.changes told.old) (R.changes told.new) }
+{
+    let from = d.mark();
+    let some = take_value(d, waiting, r, u);
+    tell(d, told, r, Cause::Edge(p, u, direction), from);
     some
 }
 

@@ -8,7 +8,8 @@ use Rattle.proof_theory.specs.Slack.{Setting, conflict, after, refutes}
 use Rattle.proof_theory.proofs.Sorting.{Rises-sorted}
 use Rattle.log_theory.specs.Lookups.{is_among, are_distinct}
 use Rattle.encoding_theory.specs.Variables.{variable}
-use Rattle.encoding_theory.specs.Encoding.{every, terms_where, at_least, at_most, at_most_target}
+use Rattle.encoding_theory.specs.Encoding.{every, terms_where, at_least, at_most, at_most_target, pair_form}
+use Rattle.encoding_theory.specs.Pairs.{is_compatible}
 use Rattle.forcing_theory.specs.Units.{Follows, Implies}
 use Rattle.forcing_theory.specs.Chains.{run, Within, Domains, AreOut, Explains, EndsAt}
 use Rattle.forcing_theory.proofs.Uniting.{unit}
@@ -16,7 +17,7 @@ use Rattle.forcing_theory.proofs.Chaining.{after_keeps, run_keeps}
 use Rattle.reason_theory.specs.Reasons.{pairs_clause, at_leasts, vertices_of, set_form, TakesFirst, TakesBeside, HasAtMost, AreDecided, IsPair, IsNoPair, HaveOnly, OnlyOf, LeftRefused, reason_for, no_vertex, AreTrue, value_clauses}
 use Rattle.reason_theory.specs.Laws.{ChangeLaws, EndLaws}
 use Rattle.reason_theory.proofs.Giving.{Leads, Gives, one_gives, then_gives, leads_on, leads_to_end, no_solution, explains_each, explains_one}
-use Rattle.reason_theory.proofs.Forcing.{not_both, at_least_forces, at_least_fails, at_most_forces, others_false, out_within, clause_forces, clause_fails, AreSet, set_within, decided_lead}
+use Rattle.reason_theory.proofs.Forcing.{not_both, pair_takes, at_least_forces, at_least_fails, at_most_forces, others_false, out_within, clause_forces, clause_fails, AreSet, set_within, decided_lead}
 use Rattle.reason_theory.proofs.SetCounting.{sum_rises, enough_values, none_outside}
 
 pub conflict_refutes : (s : Setting) (f : Form) → conflict s f ≡ true → refutes s (f ∷ []) ≡ true
@@ -55,6 +56,14 @@ module _ (q : Problem) where
       leads_on s (at_leasts q (vertices_of pairs)) (pairs_clause q pairs ∷ []) (λ t. AreSet q t (IsPair r u) pairs) (variable q r u) false
       (decided_lead q s d (IsPair r u) pairs (decided u there gone) out)
       (λ are. one_gives (run s (at_leasts q (vertices_of pairs))) (pairs_clause q pairs) (variable q r u) false (clause_forces q (run s (at_leasts q (vertices_of pairs))) r u pairs are)))
+
+  edge : (base : Setting) (d e : Domains) (p r u : ℕ) → ((w : ℕ) → w < size q.target → is_compatible q r u p w ≡ true → d p w ≡ false) → OnlyOf d e r → LeftRefused d e r (λ v. v == u)
+      → Explains (variable q) (size q.target) base d e (reason_for (pair_form q r p u ∷ []) r (λ v. v == p))
+  edge base d e p r u none only left =
+      explains_one (variable q) (size q.target) base d e (pair_form q r p u ∷ []) r (λ v. v == p) only
+      (λ s above out v v_in there gone.
+      subst (λ (t : ℕ). Gives s (pair_form q r p u ∷ []) (variable q r t) false) (sym (eqb-true v u (left v there gone)))
+      (one_gives s (pair_form q r p u) (variable q r u) false (pair_takes q s p r u (λ w w_in fits. out p (eq-eqb p p refl) w w_in (none w w_in fits)))))
 
   -- Values of the set that are true are among those that it has.
   true_within : (s : Setting) (d : Domains) (a : ℕ → Bool) (p : ℕ) (vertices values : List ℕ) → HaveOnly q d (p ∷ vertices) values
@@ -164,7 +173,7 @@ module _ (q : Problem) where
       by gone u u_in false was = run_keeps s (value_clauses q path p values) (variable q p u) false (out p (eq-eqb p p refl) u u_in was)
 
   pub change_laws : ChangeLaws q
-  change_laws = record { first = first; guess = guess; vertex = vertex; nogood = nogood; counted = counted }
+  change_laws = record { first = first; guess = guess; vertex = vertex; nogood = nogood; edge = edge; counted = counted }
 
   pub end_laws : EndLaws q
   end_laws = record { empty = empty; whole = whole; short = short; refuted = refuted }

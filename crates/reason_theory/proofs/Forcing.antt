@@ -1,7 +1,7 @@
 -- What the constraints of an encoding force: at least one value, at most one, and not all of some pairs.
 use Rattle.std.proofs.Common.{◌≡◌, ℕ, zero, suc, ◌+◌, ◌<◌, ◌≤◌, ◌==◌, Bool, true, false, not, ◌&&◌, ◌||◌, cond, List, [], ◌∷◌, ◌++◌, map, ℤ, pos, negsuc, ◌+ℤ◌, ◌≤ℤ◌, refl, sym, ap, subst, ◌∙◌, arith, Option, Some, None, inl, inr, ◌⊎◌}
 use Rattle.std.proofs.lemmas.Int.{ints}
-use Rattle.std.proofs.lemmas.Bool.{cases_eq, or_cases, eqb-true, eq-eqb}
+use Rattle.std.proofs.lemmas.Bool.{cases_eq, or_cases, and_parts, eqb-true, eq-eqb}
 use Rattle.graph_theory.specs.Graph.{size}
 use Rattle.graph_theory.specs.Embedding.{Problem}
 use Rattle.graph_theory.specs.Neighbours.{count}
@@ -12,8 +12,9 @@ use Rattle.proof_theory.proofs.Sorting.{value-sorted, Rises-sorted}
 use Rattle.proof_theory.proofs.Refutation.{true_count, value-clause}
 use Rattle.log_theory.specs.Lookups.{is_among}
 use Rattle.encoding_theory.specs.Variables.{variable}
-use Rattle.encoding_theory.specs.Encoding.{every, terms_where, at_least, at_most}
-use Rattle.encoding_theory.proofs.FormMeanings.{some_true, one_true}
+use Rattle.encoding_theory.specs.Encoding.{every, terms_where, at_least, at_most, pair_form}
+use Rattle.encoding_theory.specs.Pairs.{is_compatible}
+use Rattle.encoding_theory.proofs.FormMeanings.{some_true, one_true, follows as some_follows}
 use Rattle.encoding_theory.proofs.Counting.{Passes, some_passes, count_one}
 use Rattle.forcing_theory.specs.Units.{Follows, Implies}
 use Rattle.forcing_theory.specs.Chains.{Domains, Within, AreOut, run}
@@ -61,6 +62,24 @@ at_most_forces q s p t u t_in u_in other is = unit s (at_most q p) (variable q p
     by a follows holds true h =
         absurd (other (count_one (λ i. every i && a (variable q p i)) (size q.target) u t (one_true a every (variable q p) (size q.target) holds) u_in t_in h (follows.same (variable q p t) true is)))
     by a follows holds false h = h
+
+-- ---- edges
+
+-- Where each place of p that is compatible with r at u is false, the form of the pair takes u from r.
+pub pair_takes : (q : Problem) (s : Setting) (p r u : ℕ) → ((w : ℕ) → w < size q.target → is_compatible q r u p w ≡ true → s (variable q p w) ≡ Some false)
+    → (conflict s (pair_form q r p u) ≡ true) ⊎ (after s (pair_form q r p u) (variable q r u) ≡ Some false)
+pair_takes q s p r u none = unit s (pair_form q r p u) (variable q r u) false (record {
+  rises = Rises-sorted ((variable q r u, negsuc 0) ∷ terms_where (pos 1) (is_compatible q r u p) (variable q p) (size q.target));
+  there = λ a follows holds. by a follows holds (a (variable q r u)) refl;
+})
+  where
+    by : (a : ℕ → Bool) → Follows s a → Holds (pair_form q r p u) a → (b : Bool) → a (variable q r u) ≡ b → a (variable q r u) ≡ false
+    by a follows holds true is =
+        let w = some_passes (λ i. is_compatible q r u p i && a (variable q p i)) (size q.target)
+        (some_follows a (variable q r u) (is_compatible q r u p) (variable q p) (size q.target) holds is) in
+        let parts = and_parts (is_compatible q r u p w.number) (a (variable q p w.number)) w.passes in
+        absurd (not_both (a (variable q p w.number)) parts.1 (follows.same (variable q p w.number) false (none w.number w.below parts.0)))
+    by a follows holds false is = is
 
 -- ---- domains of one value
 

@@ -7,7 +7,8 @@ use Rattle.proof_theory.specs.Forms.{Form}
 use Rattle.proof_theory.specs.Slack.{Setting}
 use Rattle.log_theory.specs.Lookups.{is_among}
 use Rattle.encoding_theory.specs.Variables.{variable}
-use Rattle.encoding_theory.specs.Encoding.{at_least, at_most}
+use Rattle.encoding_theory.specs.Encoding.{at_least, at_most, pair_form}
+use Rattle.encoding_theory.specs.Pairs.{is_compatible}
 use Rattle.forcing_theory.specs.Chains.{Domains, Explains, EndsAt}
 use Rattle.reason_theory.specs.Reasons.{pairs_clause, at_leasts, vertices_of, set_form, TakesFirst, TakesBeside, HasAtMost, AreDecided, IsPair, IsNoPair, HaveOnly, OnlyOf, LeftRefused, reason_for, no_vertex, AreTrue, value_clauses}
 
@@ -27,6 +28,10 @@ pub record ChangeLaws (q : Problem) : Type 0 where
       → d r u ≡ true → e r u ≡ false → AreDecided q d (IsPair r u) pairs) → OnlyOf d e r
       → Explains (variable q) (size q.target) base d e (reason_for (at_leasts q
       (vertices_of pairs) ++ pairs_clause q pairs ∷ []) r (λ v. is_among v (vertices_of pairs)))
+  pub edge : (base : Setting) (d e : Domains) (p r u : ℕ) → ((w : ℕ) → w < size q.target
+      → is_compatible q r u p w ≡ true → d p w ≡ false) → OnlyOf d e r
+      → LeftRefused d e r (λ v. v == u) → Explains (variable q) (size q.target) base d e
+      (reason_for (pair_form q r p u ∷ []) r (λ v. v == p))
   pub counted : (base : Setting) (d e : Domains) (p : ℕ) (vertices values : List ℕ)
       → HaveOnly q d (p ∷ vertices) values → length values ≤ length (p ∷ vertices)
       → ((r u : ℕ) → is_among r (p ∷ vertices) ≡ true → e r u ≡ d r u) → ((r u : ℕ)

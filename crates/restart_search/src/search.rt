@@ -26,7 +26,7 @@ use domain_bits::{Domains, Trail};
 use graph_rows::Problem;
 use nogood_book::{Book, Row, RowSeat};
 use proof_logger::{DeadEnd, ProofLogger};
-use propagation::{Recorder, give, lower, propagate};
+use propagation::{Recorder, give, lower, propagate_guess};
 use std::alloc::{AllocError, Global};
 use worker_gate::{AnswerCell, Gate, Note, Point};
 
@@ -103,13 +103,14 @@ fn guess<T: Trail, L: ProofLogger>(
     position.marks.push_reserved(moment);
     give(&mut position.domains, &mut position.told, p, t);
     propagator.waiting[usize::from(p)] = true;
-    match propagate(
+    match propagate_guess(
         q,
         &mut propagator.filters,
         &mut position.domains,
         &mut propagator.waiting,
         &mut position.undecided,
         &mut position.told,
+        position.account.path().len(),
     ) {
         Ok(()) => Ok(()),
         Err(failure) => {

@@ -11,9 +11,9 @@ use Rattle.propagation.specs.declared.change.What.TheVariants.{One}
 use Rattle.propagation.specs.Recording.{change_by}
 use Rattle.dead_theory.specs.Changes.{shown_of, IsInProblem}
 use Rattle.dead_paths.specs.Choosing.{AreAt, IsOfRow, chosen_of}
-use Rattle.dead_paths.specs.Lines.{at_most_ref}
-use Rattle.dead_paths.proofs.LineRefs.{refs_behind, at_most_fits}
-use Rattle.dead_paths.proofs.Causes.{first_goes, row_goes, guess_goes, nogood_goes, none_goes}
+use Rattle.dead_paths.specs.Lines.{at_most_ref, edge_ref}
+use Rattle.dead_paths.proofs.LineRefs.{refs_behind, at_most_fits, joins_pair, edge_fits}
+use Rattle.dead_paths.proofs.Causes.{first_goes, row_goes, guess_goes, edge_goes, nogood_goes, none_goes}
 use Rattle.dead_paths.proofs.HeldPairs.{ok_still}
 use Rattle.dead_paths.proofs.pushes.push_change.Goals as goal
 
@@ -105,3 +105,53 @@ returns-in-Nogood-clause-goes g c = λ w known here frame.
     let nogood : IsNogoodRow c.args.basis.now.rows.now c.in-Nogood.name = subst (λ (x : What). IsOfRow c.args.basis.now.rows.now (change_by c.args.basis.now.numbers.now x c.args.chosen.now.entry.from)) at c.requires.of_row in
     nogood_goes c.args.basis.now.lines.now c.args.basis.now.rows.now known w (g.N.RowNames.names c.args.basis.now.names.now) (g.M.LineMaker.knows c.args.maker.now c.args.basis.now.lines.now w) (g.K.Keeper.kept c.args.keeper.now) c.args.basis.now.numbers.now c.args.chosen.now.entry.what c.args.chosen.now.entry.from c.args.chosen.now.by_edges (g.K.Keeper.owner c.args.keeper.now) c.in-Nogood.name c.in-One.r c.in-One.cause c.args.refs.now.items c.push_nogood.new.refs.items c.push_nogood.result frame nogood
     c.in-One.is c.in-Nogood.is (c.push_nogood.ensures.pushed known here)
+
+pub edge-requires-clause-p_in : goal.edge-requires-clause-p_in
+edge-requires-clause-p_in g c =
+    let at : c.args.chosen.now.entry.what ≡ One c.in-One.r (cause.Edge c.in-Edge.p c.in-Edge.u c.in-Edge.field-2) = c.in-One.is ∙ ap (λ (y : Cause). let x : What = One c.in-One.r y in x) c.in-Edge.is in
+    let inside = subst (λ (x : What). IsInProblem c.args.basis.now.lines.now (change_by c.args.basis.now.numbers.now x c.args.chosen.now.entry.from)) at c.requires.in_problem in
+    inside.0.other_in
+
+pub edge-requires-clause-r_in : goal.edge-requires-clause-r_in
+edge-requires-clause-r_in g c =
+    let at : c.args.chosen.now.entry.what ≡ One c.in-One.r (cause.Edge c.in-Edge.p c.in-Edge.u c.in-Edge.field-2) = c.in-One.is ∙ ap (λ (y : Cause). let x : What = One c.in-One.r y in x) c.in-Edge.is in
+    let inside = subst (λ (x : What). IsInProblem c.args.basis.now.lines.now (change_by c.args.basis.now.numbers.now x c.args.chosen.now.entry.from)) at c.requires.in_problem in
+    inside.0.vertex_in
+
+pub edge-requires-clause-t_in : goal.edge-requires-clause-t_in
+edge-requires-clause-t_in g c =
+    let at : c.args.chosen.now.entry.what ≡ One c.in-One.r (cause.Edge c.in-Edge.p c.in-Edge.u c.in-Edge.field-2) = c.in-One.is ∙ ap (λ (y : Cause). let x : What = One c.in-One.r y in x) c.in-Edge.is in
+    let inside = subst (λ (x : What). IsInProblem c.args.basis.now.lines.now (change_by c.args.basis.now.numbers.now x c.args.chosen.now.entry.from)) at c.requires.in_problem in
+    inside.1
+
+pub edge-requires-clause-exists : goal.edge-requires-clause-exists
+edge-requires-clause-exists g c =
+    let at : c.args.chosen.now.entry.what ≡ One c.in-One.r (cause.Edge c.in-Edge.p c.in-Edge.u c.in-Edge.field-2) = c.in-One.is ∙ ap (λ (y : Cause). let x : What = One c.in-One.r y in x) c.in-Edge.is in
+    let inside = subst (λ (x : What). IsInProblem c.args.basis.now.lines.now (change_by c.args.basis.now.numbers.now x c.args.chosen.now.entry.from)) at c.requires.in_problem in
+    joins_pair c.args.basis.now.lines.now c.in-Edge.field-2 c.in-Edge.p c.in-One.r inside.0
+
+pub returns-in_err-push-in-Edge-clause-goes : goal.returns-in_err-push-in-Edge-clause-goes
+returns-in_err-push-in-Edge-clause-goes g c = λ w known here frame.
+    let err = err_from_is_err_and c.from_residual-in_err-push-in-Edge.result c.from_residual-in_err-push-in-Edge.ensures.1 in
+    rw err.1 (none_goes c.args.basis.now.lines.now c.args.basis.now.rows.now known w (g.N.RowNames.names c.args.basis.now.names.now) (g.M.LineMaker.knows c.args.maker.now c.args.basis.now.lines.now w) (g.K.Keeper.kept c.args.keeper.now) c.args.basis.now.numbers.now c.args.chosen.now.entry.what c.args.chosen.now.entry.from c.args.chosen.now.by_edges (chosen_of c.args.basis.now.numbers.now c.args.chosen.now) c.args.refs.now.items c.push-in-Edge.new.self.items err.0)
+
+pub returns-in_ok-push-in-Edge-clause-goes : goal.returns-in_ok-push-in-Edge-clause-goes
+returns-in_ok-push-in-Edge-clause-goes g c = λ w known here frame.
+    let at : c.args.chosen.now.entry.what ≡ One c.in-One.r (cause.Edge c.in-Edge.p c.in-Edge.u c.in-Edge.field-2) = c.in-One.is ∙ ap (λ (y : Cause). let x : What = One c.in-One.r y in x) c.in-Edge.is in
+    let inside = subst (λ (x : What). IsInProblem c.args.basis.now.lines.now (change_by c.args.basis.now.numbers.now x c.args.chosen.now.entry.from)) at c.requires.in_problem in
+    edge_goes c.args.basis.now.lines.now c.args.basis.now.rows.now known w (g.N.RowNames.names c.args.basis.now.names.now) (g.M.LineMaker.knows c.args.maker.now c.args.basis.now.lines.now w) (g.K.Keeper.kept c.args.keeper.now) c.args.basis.now.numbers.now c.args.chosen.now.entry.what c.args.chosen.now.entry.from c.args.chosen.now.by_edges (g.K.Keeper.owner c.args.keeper.now) c.in-Edge.p c.in-Edge.u c.in-One.r c.in-Edge.field-2 c.in-One.cause c.args.refs.now.items c.push-in-Edge.new.self.items (Line c.edge.result) frame inside.0 inside.1 c.in-One.is c.in-Edge.is
+    (ap (λ (n : ℕ). let r : Ref = Line n in r) c.edge.ensures.line) c.in_ok-push-in-Edge.ensures.items
+
+pub returns-in_ok-push-in-Edge-clause-fits : goal.returns-in_ok-push-in-Edge-clause-fits
+returns-in_ok-push-in-Edge-clause-fits g c =
+    let at : c.args.chosen.now.entry.what ≡ One c.in-One.r (cause.Edge c.in-Edge.p c.in-Edge.u c.in-Edge.field-2) = c.in-One.is ∙ ap (λ (y : Cause). let x : What = One c.in-One.r y in x) c.in-Edge.is in
+    let inside = subst (λ (x : What). IsInProblem c.args.basis.now.lines.now (change_by c.args.basis.now.numbers.now x c.args.chosen.now.entry.from)) at c.requires.in_problem in
+    let is : Line c.edge.result ≡ edge_ref c.args.basis.now.lines.now c.in-One.r c.in-Edge.p c.in-Edge.u = ap (λ (n : ℕ). let r : Ref = Line n in r) c.edge.ensures.line in
+    subst AreRefs (sym c.in_ok-push-in-Edge.ensures.items) (refs_behind c.args.refs.now.items (Line c.edge.result ∷ []) c.requires.fits
+    (subst (λ (r : Ref). AreRefs (r ∷ [])) (sym is)
+    (edge_fits c.args.basis.now.lines.now c.in-One.r c.in-Edge.p c.in-Edge.u c.requires.limited inside.0.other_in inside.0.vertex_in inside.1 (joins_pair c.args.basis.now.lines.now c.in-Edge.field-2 c.in-Edge.p c.in-One.r inside.0), tt)))
+
+pub returns-in_ok-push-in-Edge-clause-shown : goal.returns-in_ok-push-in-Edge-clause-shown
+returns-in_ok-push-in-Edge-clause-shown g c = λ known here.
+    let at : c.args.chosen.now.entry.what ≡ One c.in-One.r (cause.Edge c.in-Edge.p c.in-Edge.u c.in-Edge.field-2) = c.in-One.is ∙ ap (λ (y : Cause). let x : What = One c.in-One.r y in x) c.in-Edge.is in
+    subst (λ (x : What). AreAt c.args.at.now (shown_of (change_by c.args.basis.now.numbers.now x c.args.chosen.now.entry.from) known)) (sym at) here

@@ -30,6 +30,12 @@ returns-in_ok-chosen-in-Nogood c = λ path here.
     (step_one c.args.walk.now.q.now c.args.walk.now.rows.now path c.args.walk.now.numbers.now c.args.entry.now.what c.args.entry.now.from (values_of (size c.args.walk.now.q.now.target) c.args.marked.now c.args.needed.now) (values_of (size c.args.walk.now.q.now.target) c.by_nogood.new.marked c.by_nogood.new.needed)
     c.in_ok-chosen-in-Nogood.chosen c.in-One.r c.in-One.cause (cause.Nogood c.in-Nogood.name) c.in-One.is c.in-Nogood.is (c.in_ok-chosen-in-Nogood.ensures path c.args.entry.now.from here))
 
+pub returns-in-Edge : goal.returns-in-Edge
+returns-in-Edge c = λ path here.
+    told_made c.args.walk.now.q.now c.args.walk.now.rows.now path (change_of c.args.walk.now.numbers.now c.args.entry.now) (values_of (size c.args.walk.now.q.now.target) c.args.marked.now c.args.needed.now) (values_of (size c.args.walk.now.q.now.target) c.by_edge.new.marked c.by_edge.new.needed) c.by_edge.result c.told_if-in-Edge.result c.told_if-in-Edge.ensures.yes c.told_if-in-Edge.ensures.no
+    (step_one c.args.walk.now.q.now c.args.walk.now.rows.now path c.args.walk.now.numbers.now c.args.entry.now.what c.args.entry.now.from (values_of (size c.args.walk.now.q.now.target) c.args.marked.now c.args.needed.now) (values_of (size c.args.walk.now.q.now.target) c.by_edge.new.marked c.by_edge.new.needed)
+    c.by_edge.result c.in-One.r c.in-One.cause (cause.Edge c.in-Edge.p c.in-Edge.u c.in-Edge.direction) c.in-One.is c.in-Edge.is (c.by_edge.ensures c.args.walk.now.rows.now path c.args.entry.now.from))
+
 pub returns-in-Others : goal.returns-in-Others
 returns-in-Others c = λ path here.
     told_made c.args.walk.now.q.now c.args.walk.now.rows.now path (change_of c.args.walk.now.numbers.now c.args.entry.now) (values_of (size c.args.walk.now.q.now.target) c.args.marked.now c.args.needed.now) (values_of (size c.args.walk.now.q.now.target) c.by_set.new.marked c.by_set.new.needed) c.by_set.result c.told_if-in-Others.result c.told_if-in-Others.ensures.yes c.told_if-in-Others.ensures.no

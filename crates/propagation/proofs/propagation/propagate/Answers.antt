@@ -42,13 +42,14 @@ loop-d-preserved g c =
     record {
       problem = c.in_ok-take_up.ensures.problem ∙ c.loop-d.invariant.problem;
       is_for = c.in_ok-have_left.ensures.is_for;
+      room = c.in_ok-have_left.ensures.room;
       kept = kept;
       narrows = narrows_more _ _ _ _ (narrows_more _ _ _ _ c.loop-d.invariant.narrows taken.0) pruned.0;
       ready = pruned.1;
-      left = leaves_on _ c.take_up.new.d c.prune_noting.new.d _ pruned.0.less (subst (λ (q : Problem). LeavesPast q c.take_up.new.d c.take_up.new.undecided) c.loop-d.invariant.problem c.in_ok-take_up.ensures.left);
+      left = leaves_on _ c.take_up.new.d c.filter_more.new.d _ pruned.0.less (subst (λ (q : Problem). LeavesPast q c.take_up.new.d c.take_up.new.undecided) c.loop-d.invariant.problem c.in_ok-take_up.ensures.left);
       fewer = fewer_more _ _ _ c.loop-d.invariant.fewer c.in_ok-take_up.ensures.fewer;
-      wait = kept_then _ c.take_up.new.nogoods (λ s. InForce c.take_up.new.d s.watches) (WatchesWait c.prune_noting.new.d c.prune_noting.new.waiting) kept
-          (λ s are force. wait_pruned _ c.take_up.new.d c.prune_noting.new.d c.prune_noting.new.waiting s pruned.0.less pruned.3 are force) c.in_ok-take_up.ensures.in_force;
+      wait = kept_then _ c.take_up.new.nogoods (λ s. InForce c.take_up.new.d s.watches) (WatchesWait c.filter_more.new.d c.filter_more.new.waiting) kept
+          (λ s are force. wait_pruned _ c.take_up.new.d c.filter_more.new.d c.filter_more.new.waiting s pruned.0.less pruned.3 are force) c.in_ok-take_up.ensures.in_force;
       moved = moved_more _ c.loop-d.d _ _ c.take_up.new.nogoods c.loop-d.invariant.narrows.less c.loop-d.invariant.moved c.in_ok-take_up.ensures.moved;
       told = λ t. c.in_ok-have_left.ensures.told c.take_up.new.nogoods (told_on _ _ _ _ _ _ _ _ c.loop-d.invariant.problem c.in_ok-take_up.ensures.told (c.loop-d.invariant.told t));
       guesses = guesses_more _ _ _ c.loop-d.invariant.guesses (guesses_more _ _ _ c.in_ok-take_up.ensures.guesses c.in_ok-have_left.ensures.guesses);
@@ -79,7 +80,7 @@ returns-in_err-have_left-clause-moved g c =
 
 pub returns-in_err-have_left-clause-left : goal.returns-in_err-have_left-clause-left
 returns-in_err-have_left-clause-left g c =
-    leaves_on _ c.take_up.new.d c.prune_noting.new.d _ c.in_err-have_left.ensures.pruned.0.less (subst (λ (q : Problem). LeavesPast q c.take_up.new.d c.take_up.new.undecided) c.loop-d.invariant.problem c.in_ok-take_up.ensures.left)
+    leaves_on _ c.take_up.new.d c.filter_more.new.d _ c.in_err-have_left.ensures.pruned.0.less (subst (λ (q : Problem). LeavesPast q c.take_up.new.d c.take_up.new.undecided) c.loop-d.invariant.problem c.in_ok-take_up.ensures.left)
 
 pub returns-in_err-have_left-clause-fails : goal.returns-in_err-have_left-clause-fails
 returns-in_err-have_left-clause-fails g c =

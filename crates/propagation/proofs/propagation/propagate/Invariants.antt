@@ -1,4 +1,5 @@
 use Rattle.std.proofs.Common.{◌≡◌, ◌*◌, ◌-◌, length, IfSome}
+use Rattle.propagation.specs.Edges.{IsRoomFor}
 use Rattle.propagation.specs.Learning.{AreKept}
 use Rattle.propagation.specs.Acting.{HaveMoved, WatchesWait}
 use Rattle.propagation.specs.Propagation.{IsFor, Narrows, Ready, LeavesPast, Fewer}
@@ -10,6 +11,7 @@ abbrev pub invariant-loop-d : goal.invariant-loop-d
 invariant-loop-d g l = record {
   problem : l.filters-inside.rows.problem ≡ l.q;
   is_for : IsFor l.q l.filters-inside.scratch;
+  room : IsRoomFor l.q l.filters-inside.edges;
   kept : AreKept l.q l.filters-inside.nogoods;
   narrows : Narrows l.q l.fn.d l.d;
   ready : Ready l.q l.d l.waiting;

@@ -7,7 +7,7 @@ use Rattle.propagation.proofs.Acting.{acted_told, moved_none, moved_more, kept_e
 use Rattle.propagation.proofs.Forcing.{ready_on, ready_at_rest, propagated_after}
 use Rattle.propagation.proofs.Telling.{tells_of}
 use Rattle.propagation.proofs.Guesses.{guesses_more}
-use Rattle.propagation.proofs.propagation.propagate_again.Goals as goal
+use Rattle.propagation.proofs.propagation.take_all_again.Goals as goal
 
 pub propagate-requires-clause-ready : goal.propagate-requires-clause-ready
 propagate-requires-clause-ready g c =

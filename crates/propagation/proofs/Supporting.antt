@@ -1,0 +1,121 @@
+-- Values without support: no embedding within the domains has them.
+
+use Rattle.std.proofs.Common.{◌≡◌, ℕ, ◌+◌, ◌<◌, ◌≤◌, ltb, Bool, true, false, ◌&&◌, ◌||◌, not, is_some, List, [], ◌∷◌, ◌++◌, length, slice_index, Option, Some, None, Ok, refl, sym, ap, ◌∙◌, subst, arith, length-append, ◌⊎◌, inl, inr}
+use Rattle.std.proofs.lemmas.Bool.{true≢false, and_parts, cases_eq, cases_lt, lt-ltb, ltb-true, or_left, or_right}
+use Rattle.std.proofs.lemmas.List.{append-nil}
+use Rattle.graph_theory.specs.Graph.{Graph, size, edge}
+use Rattle.graph_theory.specs.Embedding.{Problem, Matches}
+use Rattle.graph_theory.specs.Reversed.{turned}
+use Rattle.graph_theory.specs.declared.direction.Direction.{Direction}
+use Rattle.graph_theory.proofs.ReversedGraphs.{embeds_turned}
+use Rattle.search_theory.specs.Claims.{Inside, Quiet}
+use Rattle.all_different.specs.Prefixes.{Balanced}
+use Rattle.bit_rows.specs.BitRows.{has}
+use Rattle.domain_bits.specs.Removals.{State, in_domain}
+use Rattle.domain_bits.proofs.Sizes.{in_below}
+use Rattle.propagation.specs.Edges.{AreUnsupported, Unites, UnitesBefore}
+use Rattle.propagation.specs.Learning.{IsUnused, Forces}
+use Rattle.propagation.specs.Propagation.{IsOf, Narrows, Shrinks, HasTwo, IsSame, PrunesFor, waits_at}
+use Rattle.propagation.specs.Telling.{IsUnsupported, Joins}
+use Rattle.propagation.proofs.Sweeping.{same_trail}
+use Rattle.propagation.proofs.Waiting.{shrinks_more}
+use Rattle.propagation.proofs.Forcing.{forces_none, ready_on, ready_at_rest}
+
+-- an edge that is kept leads somewhere
+kept_there : (induced : Bool) (e f : Option ℕ) → Matches induced e f → is_some e ≡ true → is_some f ≡ true
+kept_there false None f m some = cc
+kept_there false (Some l) f m some = ap is_some m
+kept_there true None f m some = cc
+kept_there true (Some l) f m some = ap is_some m.0
+
+-- a value without support is of no embedding within the domains
+pub unused_unsupported : (q : Problem) (d : State) (direction : Direction) (p r u : ℕ) → IsUnsupported q d direction p r u → IsUnused q d (r, u, 0)
+unused_unsupported q d direction p r u is = record {
+  vertex_in = is.joins.other_in;
+  value_in = is.value_in;
+  none = λ m e h here. clash m h here (kept_there q.induced _ _ ((embeds_turned direction q m e).edges p r is.joins.vertex_in is.joins.other_in) is.joins.joined);
+}
+  where
+    clash : (m : List ℕ) → Inside q (in_domain d) m → slice_index m r ≡ u → is_some (edge (turned direction q.target) (slice_index m p) (slice_index m r)) ≡ true → ⊥
+    clash m h here leads =
+        true≢false (sym (subst (λ (v : ℕ). is_some (edge (turned direction q.target) (slice_index m p) v) ≡ true) here leads) ∙ is.none (slice_index m p) (h p is.joins.vertex_in))
+
+-- what has no support has none while values leave
+pub unsupported_on : (q : Problem) (old new : State) (direction : Direction) (p r u : ℕ) → ((s t : ℕ) → in_domain new s t ≡ true → in_domain old s t ≡ true) → IsUnsupported q old direction p r u
+    → IsUnsupported q new direction p r u
+unsupported_on q old new direction p r u less is = record { joins = is.joins; value_in = is.value_in; none = λ w here. is.none w (less p w here) }
+
+-- and a row that has all values with support goes on to
+pub unites_on : (target : Graph) (old new : State) (direction : Direction) (p : ℕ) (row : List ℕ) → ((s t : ℕ) → in_domain new s t ≡ true → in_domain old s t ≡ true)
+    → Unites target old direction p row → Unites target new direction p row
+unites_on target old new direction p row less unites w u here leads = unites w u (less p w here) leads
+
+-- a row that has gained the row of w has all values with support from those below the next one that is left
+pub unites_more : (target : Graph) (d : State) (direction : Direction) (p w n : ℕ) (domain before row after : List ℕ) → ((v : ℕ) → has domain v ≡ in_domain d p v)
+    → ((u : ℕ) → has row u ≡ is_some (edge (turned direction target) w u)) → ((u : ℕ) → has after u ≡ (has before u || has row u)) → ((v : ℕ) → w + 1 ≤ v → v < n → has domain v ≡ false)
+    → UnitesBefore target d direction p before w → UnitesBefore target d direction p after n
+unites_more target d direction p w n domain before row after bits near gained none unites v u v_in here leads = gained u ∙ by (cases_lt v w) (cases_eq v w)
+  where
+    by : (v < w) ⊎ (w ≤ v) → (v ≡ w) ⊎ (v ≡ w → ⊥) → (has before u || has row u) ≡ true
+    by (inl lt) eq = or_left (has before u) (has row u) (unites v u lt here leads)
+    by (inr le) (inl same) = or_right (has before u) (has row u) (near u ∙ subst (λ (x : ℕ). is_some (edge (turned direction target) x u) ≡ true) same leads)
+    by (inr le) (inr apart) = absurd (true≢false (sym (bits v ∙ here) ∙ none v (omega (arith, le, apart)) v_in))
+
+-- what such a row lacks has none
+pub unsupported_lacking : (q : Problem) (d : State) (direction : Direction) (p r : ℕ) (union domain gone : List ℕ) → IsOf q d → Joins q direction p r → Unites q.target d direction p union
+    → ((u : ℕ) → has domain u ≡ in_domain d r u) → ((u : ℕ) → has gone u ≡ (has domain u && not (has union u))) → AreUnsupported q d direction p r gone
+unsupported_lacking q d direction p r union domain gone of joins unites bits kept u here = record {
+  joins = joins;
+  value_in = subst (λ (n : ℕ). u < n) of.values_is (in_below d r u (sym (bits u) ∙ parts.0));
+  none = λ w left. by w left (is_some (edge (turned direction q.target) w u)) refl;
+}
+  where
+    parts : (has domain u ≡ true) × (not (has union u) ≡ true)
+    parts = and_parts (has domain u) (not (has union u)) (sym (kept u) ∙ here)
+
+    off : (b : Bool) → not b ≡ true → b ≡ true → ⊥
+    off true h e = cc
+    off false h e = cc
+
+    by : (w : ℕ) → in_domain d p w ≡ true → (b : Bool) → is_some (edge (turned direction q.target) w u) ≡ b → b ≡ false
+    by w left true is = absurd (off (has union u) parts.1 (unites w u left is))
+    by w left false is = refl
+
+-- ---- after looks at edges
+
+-- what is taken after values have left
+pub forces_more : (answer : Bool) (q : Problem) (old mid new : State) (before between after : List Bool) → Shrinks q old before mid between → Forces answer q mid between new after
+    → Forces answer q old before new after
+forces_more true q old mid new before between after s f = shrinks_more q old mid new before between after s f
+forces_more false q old mid new before between after s f = forces_none q old mid new before between s f
+
+-- where the trail is no longer, nothing has left
+narrows_same : (q : Problem) (old new : State) → Narrows q old new → length new.removed ≤ length old.removed → new ≡ old
+narrows_same q old new n le = by n.rest n.front
+  where
+    by : (rest : List (ℕ × ℕ)) → new.removed ≡ old.removed ++ rest → new ≡ old
+    by [] front = same_trail old new n.vertices_same n.values_same (front ∙ append-nil old.removed)
+    by (x ∷ xs) front = absurd (omega (arith, ap length front, length-append old.removed (x ∷ xs), le))
+
+-- what has left domains at rest, in the words of a filter's answer
+pub supported_prunes : (some : Bool) (q : Problem) (old new : State) (before after : List Bool) → Quiet q (in_domain old) → Balanced old → length before ≡ size q.pattern
+    → Shrinks q old before new after → some ≡ ltb (length old.removed) (length new.removed) → PrunesFor (Ok some) q old new after
+supported_prunes true q old new before after quiet balanced long s is = (
+  s.narrows,
+  ready_on q old new before after (ready_at_rest q old before quiet long) s,
+  ltb-true (length old.removed) (length new.removed) (sym is),
+  λ p p_in. by p (s.noted p p_in),
+)
+  where
+    by : (p : ℕ) → (waits_at after p ≡ true) ⊎ (HasTwo new p ⊎ IsSame old before new after p)
+        → (waits_at after p ≡ true) ⊎ (HasTwo new p ⊎ ((t : ℕ) → in_domain new p t ≡ in_domain old p t))
+    by p (inl waits) = inl waits
+    by p (inr (inl two)) = inr (inl two)
+    by p (inr (inr same)) = inr (inr same.domain)
+supported_prunes false q old new before after quiet balanced long s is =
+    let same = narrows_same q old new s.narrows (by (cases_lt (length old.removed) (length new.removed))) in
+    (same, subst (λ (d : State). Balanced d) (sym same) balanced)
+  where
+    by : (length old.removed < length new.removed) ⊎ (length new.removed ≤ length old.removed) → length new.removed ≤ length old.removed
+    by (inl less) = absurd (true≢false (sym (lt-ltb (length old.removed) (length new.removed) less) ∙ sym is))
+    by (inr le) = le
