@@ -18,7 +18,7 @@ use Rattle.forcing_theory.proofs.Summing.{size_append, small_sum}
 use Rattle.reason_theory.specs.Reasons.{not_there, at_leasts, pairs_clause, set_form, HaveOnly}
 use Rattle.reason_theory.proofs.SetCounting.{sum_over, one_if, distinct_sum}
 use Rattle.unit_theory.specs.Sums.{summed}
-use Rattle.unit_theory.specs.Crowds.{refused_values, beside_forms, crowd_forms, IsCrowded}
+use Rattle.unit_theory.specs.Crowds.{refused_values, beside_forms, crowd_forms}
 use Rattle.unit_theory.proofs.Crowding.{crowd_small}
 use Rattle.unit_theory.proofs.FirstValues.{refusals_small}
 use Rattle.row_theory.specs.Laws.{InLimits}
@@ -91,15 +91,16 @@ small_mosts q (t ∷ ts) few =
 
 -- ---- lines
 
-crowd : (q : Problem) (p u : ℕ) (vertices values : List ℕ) (refused : List (ℕ × ℕ)) → InLimits q → IsCrowded q p u vertices values refused → IsSmall (2 ^ 40) (summed (crowd_forms q p u vertices values))
-crowd q p u vertices values refused few is =
-    let l = distinct_few (size q.pattern) vertices is.distinct is.vertices_in in
+-- Of different vertices beside another one, and of fewer values.
+crowd : (q : Problem) (p u : ℕ) (vertices values : List ℕ) → InLimits q → are_distinct vertices ≡ true → ((r : ℕ) → is_among r vertices ≡ true → r < size q.pattern) → length values < length vertices
+    → IsSmall (2 ^ 40) (summed (crowd_forms q p u vertices values))
+crowd q p u vertices values few distinct within fewer =
+    let l = distinct_few (size q.pattern) vertices distinct within in
     let e = length-append (beside_forms q p u vertices) (map (at_most_target q) values) in
     let a = long_of (at_most_target q) values in
     let b : length (beside_forms q p u vertices) ≡ length vertices = long_of _ vertices in
     let s = few.vertices_few in
-    let f = is.fewer in
-    more (length (crowd_forms q p u vertices values) * 2 ^ 14) (2 ^ 40) _ (omega (arith, l, e, a, b, s, f))
+    more (length (crowd_forms q p u vertices values) * 2 ^ 14) (2 ^ 40) _ (omega (arith, l, e, a, b, s, fewer))
     (small_summed (2 ^ 14) (crowd_forms q p u vertices values) (crowd_small q p u vertices values few.vertices_few few.targets_few))
 
 first : (q : Problem) (p : ℕ) (values : List ℕ) → InLimits q → length values ≤ size q.target → IsSmall (2 ^ 40) (summed (refused_values q p values))
@@ -138,12 +139,13 @@ pub coefficient_laws : (q : Problem) → InLimits q → CoefficientLaws q
 coefficient_laws q few = record {
   rows = (making.row_laws q few).sizes;
   units = record {
-    crowd = λ p u vertices values refused is. crowd q p u vertices values refused few is;
+    crowd = λ p u vertices values refused is. crowd q p u vertices values few is.distinct is.vertices_in is.fewer;
     clause = λ p u. let small = refusals_small q p (u ∷ []) in more (2 ^ 14) (2 ^ 40) _ (omega arith) small.0;
     first = λ p values short. first q p values few short;
   };
   paths = record {
     set = λ d p vertices values only short. set q d p vertices values few only short;
+    over = λ d p t r vertices values has fewer. crowd q p t (r ∷ vertices) values few has.distinct has.vertices_in fewer;
     path = λ pairs short. path q pairs few short;
   };
 }

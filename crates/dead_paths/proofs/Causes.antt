@@ -16,18 +16,18 @@ use Rattle.nogood_book.specs.Places.{IsNogoodRow}
 use Rattle.propagation.specs.declared.change.Cause.{Cause}
 use Rattle.propagation.specs.declared.change.Cause.TheVariants as cause
 use Rattle.propagation.specs.declared.change.What.{What}
-use Rattle.propagation.specs.declared.change.What.TheVariants.{One, Others}
+use Rattle.propagation.specs.declared.change.What.TheVariants.{One, Others, Over}
 use Rattle.propagation.specs.declared.change.Place.{Place}
 use Rattle.propagation.specs.Recording.{change_by}
 use Rattle.propagation.specs.Telling.{Joins}
-use Rattle.dead_theory.specs.Changes.{Chosen, known_after, ExplainsChange, ExplainAll, set_forms}
-use Rattle.kept_lines.specs.Frames.{Frame, IsFrameOf, IsNamed, AreNamed, Goes, Lasts}
+use Rattle.dead_theory.specs.Changes.{Chosen, known_after, ExplainsChange, ExplainAll, set_forms, crowd_forms}
+use Rattle.kept_lines.specs.Frames.{Frame, IsFrameOf, IsNamed, AreNamed, AnyForms, Goes, Lasts}
 use Rattle.kept_lines.proofs.Going.{goes_stay, goes_as, goes_then, goes_beside}
 use Rattle.kept_lines.proofs.Naming.{named_later, are_named_later, named_behind, named_pushed}
 use Rattle.dead_paths.specs.Lines.{at_least_ref, at_most_ref, edge_ref, at_least_refs}
 use Rattle.dead_paths.specs.Making.{IsRowLine, GivesFirst, GivesRow, AreRowsNamed}
 use Rattle.dead_paths.specs.Choosing.{asked_of}
-use Rattle.dead_paths.specs.Explaining.{Explained, Knowing, Adds, AddsFor, AddsNogood, MayAdd, IsSetPushed, IsChangePushed, AreChangesPushed}
+use Rattle.dead_paths.specs.Explaining.{Explained, Knowing, Adds, AddsFor, AddsNogood, MayAdd, IsSetPushed, IsCrowdPushed, IsChangePushed, AreChangesPushed}
 use Rattle.dead_paths.proofs.LineRefs.{at_least_named, at_most_named, joins_pair, edge_named, at_leasts_named}
 
 -- ---- pushing
@@ -120,6 +120,27 @@ module _ (q : Problem) (rows : List Row) (known : List (ℕ × ℕ)) (w : Frame)
         },
       )
       by (Err e) forms h = tt
+
+  -- A crowd, of which the maker need know nothing.
+  pub crowd_goes_on : (p t : ℕ) (direction : Direction) (k : Place) (old new : List Ref) (result : Result (Unit {0}) AllocError) → Lasts knows → what ≡ Over p t direction k
+      → Goes w a b AnyForms (IsCrowdPushed q p t (slice_range numbers k.start k.middle) (slice_range numbers k.middle k.end) w old new result)
+      → Goes w a b (Knowing knows (AreRowsNamed q rows w names)) (IsChangePushed q rows known (asked_of by_edges (change_by numbers what from)) w old new knows result)
+  crowd_goes_on p t direction k old new result lasts is goes =
+      goes_as w a b (λ forms. AnyForms forms × knows forms) (λ forms. IsCrowdPushed q p t (slice_range numbers k.start k.middle) (slice_range numbers k.middle k.end) w old new result forms × knows forms) (Knowing knows (AreRowsNamed q rows w names))
+      (IsChangePushed q rows known (asked_of by_edges (change_by numbers what from)) w old new knows result) (λ forms h. (tt, h.0)) (λ forms h. by result forms h.0 h.1)
+      (goes_beside w a b AnyForms (IsCrowdPushed q p t (slice_range numbers k.start k.middle) (slice_range numbers k.middle k.end) w old new result) knows lasts goes)
+    where
+      by : (result : Result (Unit {0}) AllocError) (forms : List Form) → IsCrowdPushed q p t (slice_range numbers k.start k.middle) (slice_range numbers k.middle k.end) w old new result forms → knows forms
+          → IsChangePushed q rows known (asked_of by_edges (change_by numbers what from)) w old new knows result forms
+      by (Ok u) forms adds kept = (
+        kept,
+        record {
+          own = crowd_forms q p t (slice_range numbers k.start k.middle) (slice_range numbers k.middle k.end);
+          explains = subst (λ (x : What). ExplainsChange q rows known (asked_of by_edges (change_by numbers x from)) (crowd_forms q p t (slice_range numbers k.start k.middle) (slice_range numbers k.middle k.end))) (sym is) refl;
+          adds = adds;
+        },
+      )
+      by (Err e) forms adds kept = tt
 
 module _ (q : Problem) (rows : List Row) (known : List (ℕ × ℕ)) (w : Frame) (names : ℕ → Ref) (knows : List Form → Type 0) (kept : Option (List Step)) (numbers : List ℕ) (what : What) (from : ℕ) (by_edges : Bool) where
   -- A guess.

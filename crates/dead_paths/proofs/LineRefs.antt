@@ -1,7 +1,7 @@
 -- References to lines of the encoding: they are in range, name their forms, and a set's forms can be added up.
-use Rattle.std.proofs.Common.{◌≡◌, ℕ, suc, ◌+◌, ◌-◌, ◌^◌, ◌<◌, ◌≤◌, ◌==◌, Bool, true, false, ◌||◌, not, ◌&&◌, is_some, List, [], ◌∷◌, ◌++◌, length, slice_index, refl, sym, ap, subst, ◌∙◌, length-append, arith, Option, Some, Result, Ok, Err, append-nil, ℤ, pos, negsuc, unsigned_abs}
+use Rattle.std.proofs.Common.{◌≡◌, ℕ, suc, ◌+◌, ◌-◌, ◌^◌, ◌<◌, ◌≤◌, ◌==◌, Bool, true, false, ◌||◌, not, ◌&&◌, is_some, List, [], ◌∷◌, ◌++◌, length, slice_index, refl, sym, ap, subst, ◌∙◌, arith, Option, Some, Result, Ok, Err, append-nil, ℤ, pos, negsuc, unsigned_abs}
 use Rattle.std.specs.Prelude.{map, slice_get}
-use Rattle.std.proofs.lemmas.Bool.{eq-eqb, ne_eqb}
+use Rattle.std.proofs.lemmas.Bool.{and_parts, eq-eqb, ne_eqb}
 use Rattle.std.proofs.lemmas.Option.{slice_get_within}
 use Rattle.std.specs.declared.alloc.AllocError.{AllocError}
 use Rattle.graph_theory.specs.Graph.{size, edge}
@@ -18,7 +18,7 @@ use Rattle.log_theory.specs.LogText.{IsRef, AreRefs}
 use Rattle.log_theory.specs.Lookups.{is_among}
 use Rattle.encoding_theory.specs.Variables.{variable}
 use Rattle.encoding_theory.specs.Encoding.{encoding, every, terms_where, at_least, at_most, at_most_target, pair_form}
-use Rattle.encoding_theory.specs.Pairs.{is_linked, is_edge_pair}
+use Rattle.encoding_theory.specs.Pairs.{is_linked, is_edge_pair, is_compatible}
 use Rattle.encoding_theory.specs.Places.{at_least_place, at_most_place, at_most_target_place, edge_place}
 use Rattle.encoding_theory.proofs.PlaceProofs.{place_laws}
 use Rattle.pb_terms.proofs.Ruled.{size-sorted}
@@ -28,13 +28,13 @@ use Rattle.pb_encoding.proofs.Bounds.{few}
 use Rattle.pb_encoding.proofs.LineNumbers.{at_least_line, at_most_line, at_most_target_line}
 use Rattle.propagation.specs.Telling.{Joins}
 use Rattle.forcing_theory.specs.Sums.{sum_from, IsSmall, AreSmall}
-use Rattle.reason_theory.specs.Reasons.{at_leasts, set_form}
+use Rattle.reason_theory.specs.Reasons.{at_leasts, beside_forms, over_form}
 use Rattle.kept_lines.specs.Frames.{Frame, IsFrameOf, IsNamed, AreNamed, IsAddable, Goes, Lasts, Named, AnyForms, IsKept}
 use Rattle.kept_lines.proofs.Going.{goes_as, goes_beside}
-use Rattle.kept_lines.proofs.Naming.{line_named, named_behind}
-use Rattle.dead_paths.specs.Lines.{at_least_ref, at_most_ref, at_most_target_ref, edge_ref, at_least_refs, set_refs, AreVertices, AreValues, IsSetKept}
+use Rattle.kept_lines.proofs.Naming.{line_named, named_behind, named_count}
+use Rattle.dead_paths.specs.Lines.{at_least_ref, at_most_ref, at_most_target_ref, edge_ref, at_least_refs, beside_refs, set_refs, crowd_refs, AreVertices, AreValues, ArePairs, IsSetKept, IsCrowdKept}
 use Rattle.dead_paths.specs.Making.{GivesSet}
-use Rattle.dead_theory.specs.Changes.{set_forms}
+use Rattle.dead_theory.specs.Changes.{set_forms, crowd_forms}
 use Rattle.dead_paths.specs.Explaining.{IsLimited, Adds}
 use Rattle.dead_paths.proofs.Marking.{among_at}
 
@@ -75,6 +75,17 @@ joins_pair q direction p r joins = ap (λ (b : Bool). not b && is_linked q.patte
         by true = refl
         by false = j.joined
     linked In j = ap (λ (b : Bool). b || is_some (edge q.pattern p r)) (ap is_some (sym (edge-reversed q.pattern p r j.vertex_in j.other_in)) ∙ j.joined)
+
+-- The same from the other side.
+pub joins_out : (q : Problem) (direction : Direction) (p r : ℕ) → Joins q direction p r → is_edge_pair q p r ≡ true
+joins_out q direction p r joins =
+    ap (λ (b : Bool). not b && is_linked q.pattern p r) (ne_eqb p r joins.apart)
+    ∙ back (is_some (edge q.pattern r p)) (is_some (edge q.pattern p r)) (and_parts (not (r == p)) (is_linked q.pattern r p) (joins_pair q direction p r joins)).1
+  where
+    back : (a b : Bool) → (a || b) ≡ true → (b || a) ≡ true
+    back a true h = refl
+    back true false h = refl
+    back false false h = absurd cc
 
 pub edge_fits : (q : Problem) (p r t : ℕ) → IsLimited q → p < size q.pattern → r < size q.pattern → t < size q.target → is_edge_pair q p r ≡ true → IsRef (edge_ref q p r t)
 edge_fits q p r t limited p_in r_in t_in is =
@@ -138,58 +149,103 @@ set_refs_named q owner w forms p rest values frame vs us =
     named_behind w forms (at_least_refs q (p ∷ rest)) (at_leasts q (p ∷ rest)) (map (at_most_target_ref q) values) (map (at_most_target q) values)
     (at_leasts_named q owner w forms (p ∷ rest) frame vs) (at_mosts_named q owner w forms values frame us)
 
+-- The same of lines beside p at t.
+pub besides_fit : (q : Problem) (p t : ℕ) (vertices : List ℕ) → IsLimited q → p < size q.pattern → t < size q.target → AreVertices q vertices → ArePairs q p vertices → AreRefs (beside_refs q p t vertices)
+besides_fit q p t [] few p_in t_in vs ps = tt
+besides_fit q p t (r ∷ rs) few p_in t_in vs ps = (
+  edge_fits q p r t few p_in (vs r (among_first r rs)) t_in (ps r (among_first r rs)),
+  besides_fit q p t rs few p_in t_in (λ s among. vs s (among_later s r rs among)) (λ s among. ps s (among_later s r rs among)),
+)
+
+besides_named : (q : Problem) (owner : ℕ) (w : Frame) (forms : List Form) (p t : ℕ) (vertices : List ℕ) → IsFrameOf q owner w → p < size q.pattern → t < size q.target → AreVertices q vertices → ArePairs q p vertices
+    → AreNamed w forms (beside_refs q p t vertices) (beside_forms q p t vertices)
+besides_named q owner w forms p t [] frame p_in t_in vs ps = tt
+besides_named q owner w forms p t (r ∷ rs) frame p_in t_in vs ps = (
+  edge_named q owner w forms p r t frame p_in (vs r (among_first r rs)) t_in (ps r (among_first r rs)),
+  besides_named q owner w forms p t rs frame p_in t_in (λ s among. vs s (among_later s r rs among)) (λ s among. ps s (among_later s r rs among)),
+)
+
+pub crowd_refs_fit : (q : Problem) (p t : ℕ) (vertices values : List ℕ) → IsLimited q → p < size q.pattern → t < size q.target → AreVertices q vertices → ArePairs q p vertices → AreValues q values
+    → AreRefs (crowd_refs q p t vertices values)
+crowd_refs_fit q p t vertices values few p_in t_in vs ps us =
+    refs_behind (beside_refs q p t vertices) (map (at_most_target_ref q) values) (besides_fit q p t vertices few p_in t_in vs ps) (at_mosts_fit q values few us)
+
 -- ---- sizes
 
-small_form : (c b : ℤ) (number : ℕ → ℕ) (n : ℕ) → n ≤ 8192 → unsigned_abs c ≤ 1 → unsigned_abs b ≤ 1 → IsSmall 8192 (form_of (terms_where c every number n) b)
+small_form : (c b : ℤ) (number : ℕ → ℕ) (n : ℕ) → n ≤ 8192 → unsigned_abs c ≤ 1 → unsigned_abs b ≤ 1 → IsSmall 8193 (form_of (terms_where c every number n) b)
 small_form c b number n few small low =
     let s = size-terms c every number n small in
     let t = size-sorted (terms_where c every number n) in
     record { bound_fits = omega (arith, low); sum_fits = omega (arith, s, t, few) }
 
-at_leasts_small : (q : Problem) (vertices : List ℕ) → IsLimited q → AreSmall 8192 (at_leasts q vertices)
+at_leasts_small : (q : Problem) (vertices : List ℕ) → IsLimited q → AreSmall 8193 (at_leasts q vertices)
 at_leasts_small q [] few = tt
 at_leasts_small q (p ∷ ps) few = (small_form (pos 1) (pos 1) (variable q p) (size q.target) few.target (omega arith) (omega arith), at_leasts_small q ps few)
 
-at_mosts_small : (q : Problem) (values : List ℕ) → IsLimited q → AreSmall 8192 (map (at_most_target q) values)
+at_mosts_small : (q : Problem) (values : List ℕ) → IsLimited q → AreSmall 8193 (map (at_most_target q) values)
 at_mosts_small q [] few = tt
 at_mosts_small q (t ∷ ts) few =
     (let l = few.pattern in small_form (negsuc 0) (negsuc 0) (λ p. variable q p t) (size q.pattern) (omega (arith, l)) (omega arith) (omega arith), at_mosts_small q ts few)
+
+besides_small : (q : Problem) (p t : ℕ) (vertices : List ℕ) → IsLimited q → AreSmall 8193 (beside_forms q p t vertices)
+besides_small q p t [] few = tt
+besides_small q p t (r ∷ rs) few = (
+  record {
+    bound_fits = omega arith;
+    sum_fits =
+        let s = size-terms (pos 1) (is_compatible q p t r) (variable q r) (size q.target) (omega arith) in
+        let l = size-sorted ((variable q p t, negsuc 0) ∷ terms_where (pos 1) (is_compatible q p t r) (variable q r) (size q.target)) in
+        let most = few.target in
+        omega (arith, s, l, most);
+  },
+  besides_small q p t rs few,
+)
 
 small_behind : (n : ℕ) (fs gs : List Form) → AreSmall n fs → AreSmall n gs → AreSmall n (fs ++ gs)
 small_behind n [] gs a b = b
 small_behind n (f ∷ fs) gs a b = (a.0, small_behind n fs gs a.1 b)
 
-long_of : {A B : Type 0} (f : A → B) (xs : List A) → length (map f xs) ≡ length xs
-long_of f [] = refl
-long_of f (x ∷ xs) = ap (λ (n : ℕ). suc n) (long_of f xs)
+-- Forms of lines add up, whatever number of them is named.
+addable : (w : Frame) (refs : List Ref) (fs : List Form) → AreNamed w [] refs fs → AreSmall 8193 fs → length refs < 2 ^ 64 → IsAddable fs
+addable w refs fs named small short = record { most = 8193; small = small; fits = let e = named_count w [] refs fs named in omega (arith, e, short) }
 
--- The forms of a set add up.
-set_addable : (q : Problem) (p : ℕ) (rest values : List ℕ) → IsLimited q → length (set_refs q (p ∷ rest) values) < 2 ^ 64 → IsAddable (at_least q p ∷ (at_leasts q rest ++ map (at_most_target q) values))
-set_addable q p rest values few short = record {
-  most = 8192;
-  small = small_behind 8192 (at_leasts q (p ∷ rest)) (map (at_most_target q) values) (at_leasts_small q (p ∷ rest) few) (at_mosts_small q values few);
-  fits = (
-      let e = length-append (at_leasts q (p ∷ rest)) (map (at_most_target q) values) in
-      let d = length-append (at_least_refs q (p ∷ rest)) (map (at_most_target_ref q) values) in
-      let a = long_of (at_least q) (p ∷ rest) in
-      let b = long_of (at_most_target q) values in
-      let g = long_of (at_least_ref q) (p ∷ rest) in
-      let h = long_of (at_most_target_ref q) values in
-      omega (arith, a, b, d, e, g, h, short));
-}
+-- ---- what is kept
 
--- What summing the references of a set keeps.
+-- What summing references keeps, whatever this is called.
+sum_goes : (owner : ℕ) (w : Frame) (old new : Option (List Step)) (result : Result Name AllocError) (refs : List Ref) (f : Form) (gs : List Form) (Claim : List Form → Type 0)
+    → ((forms : List Form) → AreNamed w forms refs (f ∷ gs)) → AreSmall 8193 (f ∷ gs) → length refs < 2 ^ 64 → w.owner ≡ owner
+    → ((w : Frame) (f : Form) (gs : List Form) → w.owner ≡ owner → IsAddable (f ∷ gs) → Goes w old new (Named w refs (f ∷ gs)) (IsKept w result (sum_from f gs)))
+    → ((forms : List Form) → IsKept w result (sum_from f gs) forms → Claim forms) → Goes w old new AnyForms Claim
+sum_goes owner w old new result refs f gs Claim named small short owner_is goes claim =
+    goes_as w old new (Named w refs (f ∷ gs)) (IsKept w result (sum_from f gs)) AnyForms Claim (λ forms any. named forms) claim (goes w f gs owner_is (addable w refs (f ∷ gs) (named []) small short))
+
+-- A set's line.
 pub set_goes : (q : Problem) (owner : ℕ) (old new : Option (List Step)) (result : Result Name AllocError) (vertices values : List ℕ) (refs : List Ref) → IsLimited q → 0 < length vertices
     → refs ≡ set_refs q vertices values → length refs < 2 ^ 64 → AreVertices q vertices → AreValues q values
     → ((w : Frame) (f : Form) (gs : List Form) → w.owner ≡ owner → IsAddable (f ∷ gs) → Goes w old new (Named w refs (f ∷ gs)) (IsKept w result (sum_from f gs)))
     → (w : Frame) → IsFrameOf q owner w → Goes w old new AnyForms (IsSetKept q vertices values w result)
 set_goes q owner old new result [] values refs few some is short vs us goes w frame = absurd (omega (arith, some))
 set_goes q owner old new result (p ∷ rest) values refs few some is short vs us goes w frame =
-    goes_as w old new (Named w refs (at_least q p ∷ (at_leasts q rest ++ map (at_most_target q) values))) (IsKept w result (set_form q p rest values)) AnyForms (IsSetKept q (p ∷ rest) values w result)
-    (λ forms any. subst (λ (rs : List Ref). AreNamed w forms rs (at_least q p ∷ (at_leasts q rest ++ map (at_most_target q) values))) (sym is) (set_refs_named q owner w forms p rest values frame vs us))
-    (λ forms kept. kept)
-    (goes w (at_least q p) (at_leasts q rest ++ map (at_most_target q) values) frame.owner_is
-    (set_addable q p rest values few (let e = ap (λ (rs : List Ref). length rs) is in omega (arith, e, short))))
+    sum_goes owner w old new result refs (at_least q p) (at_leasts q rest ++ map (at_most_target q) values) (IsSetKept q (p ∷ rest) values w result)
+    (λ forms. subst (λ (rs : List Ref). AreNamed w forms rs (at_least q p ∷ (at_leasts q rest ++ map (at_most_target q) values))) (sym is) (set_refs_named q owner w forms p rest values frame vs us))
+    (small_behind 8193 (at_leasts q (p ∷ rest)) (map (at_most_target q) values) (at_leasts_small q (p ∷ rest) few) (at_mosts_small q values few)) short frame.owner_is goes (λ forms kept. kept)
+
+-- A crowd's.
+pub crowd_goes : (q : Problem) (owner : ℕ) (old new : Option (List Step)) (result : Result Name AllocError) (p t : ℕ) (vertices values : List ℕ) (refs : List Ref) → IsLimited q → 0 < length vertices
+    → refs ≡ crowd_refs q p t vertices values → length refs < 2 ^ 64 → p < size q.pattern → t < size q.target → AreVertices q vertices → ArePairs q p vertices → AreValues q values
+    → ((w : Frame) (f : Form) (gs : List Form) → w.owner ≡ owner → IsAddable (f ∷ gs) → Goes w old new (Named w refs (f ∷ gs)) (IsKept w result (sum_from f gs)))
+    → (w : Frame) → IsFrameOf q owner w → Goes w old new AnyForms (IsCrowdKept q p t vertices values w result)
+crowd_goes q owner old new result p t [] values refs few some is short p_in t_in vs ps us goes w frame = absurd (omega (arith, some))
+crowd_goes q owner old new result p t (r ∷ rest) values refs few some is short p_in t_in vs ps us goes w frame =
+    sum_goes owner w old new result refs (pair_form q p r t) (beside_forms q p t rest ++ map (at_most_target q) values) (IsCrowdKept q p t (r ∷ rest) values w result)
+    (λ forms. subst (λ (rs : List Ref). AreNamed w forms rs (beside_forms q p t (r ∷ rest) ++ map (at_most_target q) values)) (sym is)
+    (named_behind w forms (beside_refs q p t (r ∷ rest)) (beside_forms q p t (r ∷ rest)) (map (at_most_target_ref q) values) (map (at_most_target q) values) (besides_named q owner w forms p t (r ∷ rest) frame p_in t_in vs ps)
+    (at_mosts_named q owner w forms values frame us)))
+    (small_behind 8193 (beside_forms q p t (r ∷ rest)) (map (at_most_target q) values) (besides_small q p t (r ∷ rest) few) (at_mosts_small q values few)) short frame.owner_is goes (λ forms kept. by result forms kept)
+  where
+    by : (result : Result Name AllocError) (forms : List Form) → IsKept w result (over_form q p t r rest values) forms → IsCrowdKept q p t (r ∷ rest) values w result forms
+    by (Ok n) forms kept = (kept, tt)
+    by (Err e) forms kept = tt
 
 -- After a refusal nothing is claimed.
 pub set_none : (q : Problem) (vertices values : List ℕ) (w : Frame) (e : AllocError) (forms : List Form) → 0 < length vertices → IsSetKept q vertices values w (Err e) forms
@@ -217,3 +273,8 @@ pub set_pushed_made : (q : Problem) (vertices values : List ℕ) (w : Frame) (n 
     → Adds w old new (set_forms q vertices values) forms
 set_pushed_made q [] values w n old new forms pushed kept = absurd kept
 set_pushed_made q (p ∷ rest) values w n old new forms pushed kept = record { more = Made n ∷ []; front = pushed; named = (kept, tt) }
+
+-- The reference to a crowd's.
+pub crowd_pushed_none : (q : Problem) (p t : ℕ) (vertices values : List ℕ) (w : Frame) (refs : List Ref) (forms : List Form) → length vertices ≡ 0 → Adds w refs refs (crowd_forms q p t vertices values) forms
+crowd_pushed_none q p t [] values w refs forms none = record { more = []; front = sym (append-nil refs); named = tt }
+crowd_pushed_none q p t (r ∷ rest) values w refs forms none = absurd (omega (arith, none))

@@ -17,14 +17,14 @@ use Rattle.propagation.specs.declared.change.Cause.{Cause}
 use Rattle.propagation.specs.declared.change.Cause.TheVariants as cause
 use Rattle.propagation.specs.declared.change.What.{What}
 use Rattle.propagation.specs.declared.change.What.TheVariants.{One}
-use Rattle.propagation.specs.Recording.{Change, LeftOne, LeftOthers, change_by}
+use Rattle.propagation.specs.Recording.{Change, LeftOne, LeftOthers, LeftOver, change_by}
 use Rattle.needed_values.specs.Needed.{needs, AreRows, StaysNeeded, AreOthers}
 use Rattle.needed_values.specs.Consistent.{Goes, Leaves, AllConsistent}
-use Rattle.dead_theory.specs.Changes.{GoTogether, IsUpheld, AreUpheld}
+use Rattle.dead_theory.specs.Changes.{MayTake, GoTogether, IsUpheld, AreUpheld}
 use Rattle.dead_theory.specs.Walks.{RestsOn, IsWithin}
 use Rattle.dead_paths.specs.declared.takes.Choice.{Choice}
 use Rattle.dead_paths.specs.declared.takes.Choice.TheVariants as choice
-use Rattle.dead_paths.specs.Choosing.{values_of, asked_of, IsStep, IsMade, AreLeft, AreInside}
+use Rattle.dead_paths.specs.Choosing.{values_of, asked_of, IsStep, IsMade, AreLeft, AreLeftBut, AreInside}
 use Rattle.dead_paths.proofs.Marking.{among_next}
 
 -- ---- needed values
@@ -137,6 +137,30 @@ left_then n vertices set f g h first second r u u_in is = elim (first r u u_in i
 pub all_inside : (n : ℕ) (m : List Bool) (d : List ℕ) (vertices set : List ℕ) (k : ℕ) → length m ≤ k → ((r u : ℕ) → r < k → is_among r vertices ≡ false → u < n → needs n m d r u ≡ true → has set u ≡ true)
     → AreInside n vertices set (needs n m d)
 all_inside n m d vertices set k past before r u off u_in h = before r u (omega (arith, past, marked_in n m d r u h)) off u_in h
+
+-- ---- one value
+
+-- The rest of what was needed where a vertex lost one value.
+pub value_left : (n k : ℕ) (m m1 : List Bool) (d d1 : List ℕ) (r u : ℕ) (other left : List ℕ) → k ≡ n → ((v : ℕ) → v < k → has other v ≡ needs k m d r v) → ((v : ℕ) → has left v ≡ (has other v && not (u == v)))
+    → ((v : ℕ) → v < k → needs k m1 d1 r v ≡ has left v) → AreOthers k r (needs k m d) (needs k m1 d1) → AreLeftBut n r u (needs n m d) (needs n m1 d1)
+value_left n k m m1 d d1 r u other left is bits cut put others s v v_in h = by (cases_eq s r) (cases_eq v u)
+  where
+    by : (s ≡ r) ⊎ (s ≡ r → ⊥) → (v ≡ u) ⊎ (v ≡ u → ⊥) → (needs n m1 d1 s v ≡ true) ⊎ ((s ≡ r) × (v ≡ u))
+    by (inr apart) f = inl (subst (λ (w : ℕ). AreOthers w r (needs w m d) (needs w m1 d1)) is others s v apart v_in ∙ h)
+    by (inl e) (inl f) = inr (e, f)
+    by (inl e) (inr f) = inl (ap (λ (x : ℕ). needs n m1 d1 x v) e ∙ (subst (λ (w : ℕ). (x : ℕ) → x < w → needs w m1 d1 r x ≡ has left x) is put v v_in ∙ kept))
+      where
+        there : has other v ≡ true
+        there = subst (λ (w : ℕ). (x : ℕ) → x < w → has other x ≡ needs w m d r x) is bits v v_in ∙ (sym (ap (λ (x : ℕ). needs n m d x v) e) ∙ h)
+
+        kept : has left v ≡ true
+        kept = cut v ∙ (ap (λ (b : Bool). b && not (u == v)) there ∙ ap not (ne_eqb u v (λ same. f (sym same))))
+
+-- A value that two rows have is in what they have both, another one aside.
+pub beside_left : (first row both last : List ℕ) (t u : ℕ) → ((v : ℕ) → has both v ≡ (has first v && has row v)) → ((v : ℕ) → has last v ≡ (has both v && not (t == v))) → has first u ≡ true → has row u ≡ true → (t ≡ u → ⊥)
+    → has last u ≡ true
+beside_left first row both last t u cut out here there other =
+    out u ∙ (ap (λ (b : Bool). b && not (t == u)) (cut u ∙ (ap (λ (b : Bool). b && has row u) here ∙ there)) ∙ ap not (ne_eqb t u other))
 
 -- ---- steps back
 
@@ -251,44 +275,50 @@ module _ (q : Problem) (rows : List Row) (path : List (ℕ × ℕ)) where
           by true there = all u there
           by false gone = absurd (right u was gone c)
 
-  -- An edge whose value is not needed, and one whose value is.
-  pub pass_edge : (n k : ℕ) (m : List Bool) (d : List ℕ) (p u r from : ℕ) (direction : Direction) → n ≡ size q.target → k ≡ n → needs k m d r u ≡ false
-      → IsStep false q rows path (LeftOne r (cause.Edge p u direction) from) (values_of n m d) (values_of n m d)
-  pass_edge n k m d p u r from direction n_is is off = (
-    (λ v t t_in h takes. let t_n = subst (λ (w : ℕ). t < w) (sym n_is) t_in in
-        let here : needs n m d r t ≡ true = sym (ap (λ (x : ℕ). needs n m d x t) takes.0) ∙ need_of n m d v t t_n h in
-        true≢false (sym here ∙ ap (λ (x : ℕ). needs n m d r x) takes.1 ∙ subst (λ (w : ℕ). needs w m d r u ≡ false) is off)),
-    within_same (values_of n m d),
+  -- A change that takes one value, which is not needed.
+  pub pass_value : (c : Change) (n : ℕ) (m m' : List Bool) (d d' : List ℕ) (r u : ℕ) → n ≡ size q.target → ((v t : ℕ) → MayTake q rows c v t → (v ≡ r) × (t ≡ u)) → needs n m d r u ≡ false
+      → StaysNeeded n (needs n m d) (needs n m' d') → IsStep false q rows path c (values_of n m d) (values_of n m' d')
+  pass_value c n m m' d d' r u n_is taken off stays = (
+    (λ v t t_in h takes. let same = taken v t takes in
+        let here : needs n m d r t ≡ true = sym (ap (λ (x : ℕ). needs n m d x t) same.0) ∙ need_of n m d v t (subst (λ (w : ℕ). t < w) (sym n_is) t_in) h in
+        true≢false (sym here ∙ ap (λ (x : ℕ). needs n m d r x) same.1 ∙ off)),
+    within_of n n m m' d d' refl stays,
   )
 
-  pub step_edge : (n k : ℕ) (m m1 m2 : List Bool) (d d1 d2 : List ℕ) (p u r from : ℕ) (direction : Direction) (other left set : List ℕ) → n ≡ size q.target → k ≡ n
-      → ((v : ℕ) → v < k → has other v ≡ needs k m d r v) → ((v : ℕ) → has left v ≡ (has other v && not (u == v))) → ((v : ℕ) → v < k → needs k m1 d1 r v ≡ has left v)
-      → AreOthers k r (needs k m d) (needs k m1 d1) → StaysNeeded k (needs k m1 d1) (needs k m2 d2) → ((w : ℕ) → has set w ≡ is_some (edge (turned direction q.target) w u))
-      → ((w : ℕ) → w < k → has set w ≡ true → needs k m2 d2 p w ≡ true) → IsStep true q rows path (LeftOne r (cause.Edge p u direction) from) (values_of n m d) (values_of n m2 d2)
-  step_edge n k m m1 m2 d d1 d2 p u r from direction other left set n_is is bits cut put others stays leads support =
-      (record { suffices = λ v t t_in h same. tt; carried = carried; needs = all }, tt)
-    where
-      all : (w : ℕ) → w < size q.target → is_some (edge (turned direction q.target) w u) ≡ true → values_of n m2 d2 p w ≡ true
-      all w w_in there = need_up n m2 d2 p w (λ w_n. subst (λ (x : ℕ). (v : ℕ) → v < x → has set v ≡ true → needs x m2 d2 p v ≡ true) is support w w_n (leads w ∙ there))
+  -- One whose value is needed leaves all others needed.
+  but_one : (n : ℕ) (m m1 m2 : List Bool) (d d1 d2 : List ℕ) (r u : ℕ) → AreLeftBut n r u (needs n m d) (needs n m1 d1) → StaysNeeded n (needs n m1 d1) (needs n m2 d2)
+      → (s v : ℕ) → values_of n m d s v ≡ true → (values_of n m2 d2 s v ≡ true) ⊎ ((s ≡ r) × (v ≡ u))
+  but_one n m m1 m2 d d1 d2 r u left stays s v h = elim (cases_lt v n) [
+    | inr past ↦ inl (need_up n m2 d2 s v (λ v_in. absurd (omega (arith, past, v_in))))
+    | inl v_in ↦ elim (left s v v_in (need_of n m d s v v_in h)) [ inl now ↦ inl (need_up n m2 d2 s v (λ v_n. stays s v v_in now)) | inr taken ↦ inr taken ]
+  ]
 
-      more : (s v : ℕ) → v < n → needs n m1 d1 s v ≡ true → values_of n m2 d2 s v ≡ true
-      more s v v_in h = need_up n m2 d2 s v (λ v_n. subst (λ (x : ℕ). StaysNeeded x (needs x m1 d1) (needs x m2 d2)) is stays s v v_in h)
+  -- An edge's value, and a crowd's.
+  pub step_edge : (n k : ℕ) (m m1 m2 : List Bool) (d d1 d2 : List ℕ) (p u r from : ℕ) (direction : Direction) (set : List ℕ) → n ≡ size q.target → k ≡ n → AreLeftBut n r u (needs n m d) (needs n m1 d1)
+      → StaysNeeded k (needs k m1 d1) (needs k m2 d2) → ((w : ℕ) → has set w ≡ is_some (edge (turned direction q.target) w u)) → ((w : ℕ) → w < k → has set w ≡ true → needs k m2 d2 p w ≡ true)
+      → IsStep true q rows path (LeftOne r (cause.Edge p u direction) from) (values_of n m d) (values_of n m2 d2)
+  step_edge n k m m1 m2 d d1 d2 p u r from direction set n_is is left stays leads support = (
+    record {
+      suffices = λ v t t_in h same. tt;
+      carried = but_one n m m1 m2 d d1 d2 r u left (subst (λ (x : ℕ). StaysNeeded x (needs x m1 d1) (needs x m2 d2)) is stays);
+      needs = λ w w_in there. need_up n m2 d2 p w (λ w_n. subst (λ (x : ℕ). (v : ℕ) → v < x → has set v ≡ true → needs x m2 d2 p v ≡ true) is support w w_n (leads w ∙ there));
+    },
+    tt,
+  )
 
-      carried : (s v : ℕ) → values_of n m d s v ≡ true → (values_of n m2 d2 s v ≡ true) ⊎ ((s ≡ r) × (v ≡ u))
-      carried s v h = by (cases_lt v n) (cases_eq s r) (cases_eq v u)
-        where
-          by : (v < n) ⊎ (n ≤ v) → (s ≡ r) ⊎ (s ≡ r → ⊥) → (v ≡ u) ⊎ (v ≡ u → ⊥) → (values_of n m2 d2 s v ≡ true) ⊎ ((s ≡ r) × (v ≡ u))
-          by (inr past) e f = inl (need_up n m2 d2 s v (λ v_in. absurd (omega (arith, past, v_in))))
-          by (inl v_in) (inr apart) f = inl (more s v v_in (subst (λ (w : ℕ). AreOthers w r (needs w m d) (needs w m1 d1)) is others s v apart v_in ∙ need_of n m d s v v_in h))
-          by (inl v_in) (inl e) (inl f) = inr (e, f)
-          by (inl v_in) (inl e) (inr f) =
-              inl (more s v v_in (ap (λ (x : ℕ). needs n m1 d1 x v) e ∙ (subst (λ (w : ℕ). (x : ℕ) → x < w → needs w m1 d1 r x ≡ has left x) is put v v_in ∙ kept)))
-            where
-              there : has other v ≡ true
-              there = subst (λ (w : ℕ). (x : ℕ) → x < w → has other x ≡ needs w m d r x) is bits v v_in ∙ (sym (ap (λ (x : ℕ). needs n m d x v) e) ∙ need_of n m d s v v_in h)
-
-              kept : has left v ≡ true
-              kept = cut v ∙ (ap (λ (b : Bool). b && not (u == v)) there ∙ ap not (ne_eqb u v (λ same. f (sym same))))
+  pub step_crowd : (n : ℕ) (m m1 m2 : List Bool) (d d1 d2 : List ℕ) (p t from : ℕ) (direction : Direction) (vertices values set : List ℕ) → n ≡ size q.target → AreLeftBut n p t (needs n m d) (needs n m1 d1)
+      → StaysNeeded n (needs n m1 d1) (needs n m2 d2)
+      → ((u : ℕ) → u < size q.target → (t ≡ u → ⊥) → is_some (edge (turned direction q.target) t u) ≡ true → is_among u values ≡ false → has set u ≡ true)
+      → ((r u : ℕ) → is_among r vertices ≡ true → u < n → has set u ≡ true → needs n m2 d2 r u ≡ true)
+      → IsStep true q rows path (LeftOver p t direction vertices values from) (values_of n m d) (values_of n m2 d2)
+  step_crowd n m m1 m2 d d1 d2 p t from direction vertices values set n_is left stays beside each = (
+    record {
+      suffices = λ r u u_in h. tt;
+      carried = but_one n m m1 m2 d d1 d2 p t left stays;
+      needs = λ r u among u_in other leads off. need_up n m2 d2 r u (λ u_n. each r u among u_n (beside u u_in other leads off));
+    },
+    tt,
+  )
 
   pub pass_nogood : (f : ℕ → ℕ → Bool) (r name from : ℕ) → (IsNogoodRow rows name → ⊥) → IsStep false q rows path (LeftOne r (cause.Nogood name) from) f f
   pass_nogood f r name from none = ((λ v u u_in h takes. none takes.1.0), within_same f)

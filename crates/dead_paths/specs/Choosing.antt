@@ -8,7 +8,7 @@ use Rattle.needed_values.specs.Needed.{needs}
 use Rattle.nogood_book.specs.declared.row.Row.{Row}
 use Rattle.nogood_book.specs.Places.{IsNogoodRow}
 use Rattle.propagation.specs.declared.change.Cause.TheVariants as cause
-use Rattle.propagation.specs.Recording.{Change, LeftOne, LeftOthers, change_of}
+use Rattle.propagation.specs.Recording.{Change, LeftOne, LeftOthers, LeftOver, change_of}
 use Rattle.dead_theory.specs.Changes.{Chosen, IsOneOf, IsInProblem}
 use Rattle.dead_theory.specs.Walks.{MayPass, RestsOn, IsWithin, Walked}
 use Rattle.dead_paths.specs.declared.room.ChosenEntry.{ChosenEntry}
@@ -53,6 +53,7 @@ IsOfRow rows (LeftOne r (cause.Guess t) from) = Unit {0}
 IsOfRow rows (LeftOne r (cause.Vertex p t) from) = Unit {0}
 IsOfRow rows (LeftOne r (cause.Edge p u direction) from) = Unit {0}
 IsOfRow rows (LeftOthers vertices values from) = Unit {0}
+IsOfRow rows (LeftOver p t direction vertices values from) = Unit {0}
 
 -- Lines can be named for these changes.
 abbrev pub AreNameable : Problem → List Row → List Chosen → Type 0
@@ -80,6 +81,11 @@ abbrev pub AreLeft : ℕ → List ℕ → List ℕ → (ℕ → ℕ → Bool) �
 AreLeft n vertices set old new =
     (r u : ℕ) → u < n → old r u ≡ true → (new r u ≡ true) ⊎ ((is_among r vertices ≡ false)
     × (has set u ≡ false))
+
+-- Of what was needed the rest is one value of one vertex.
+abbrev pub AreLeftBut : ℕ → ℕ → ℕ → (ℕ → ℕ → Bool) → (ℕ → ℕ → Bool) → Type 0
+AreLeftBut n p t old new = (r u : ℕ) → u < n → old r u ≡ true → (new r u ≡ true)
+    ⊎ ((r ≡ p) × (u ≡ t))
 
 -- Each needed value of a vertex that is none of these is in the row.
 abbrev pub AreInside : ℕ → List ℕ → List ℕ → (ℕ → ℕ → Bool) → Type 0

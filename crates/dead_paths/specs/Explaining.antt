@@ -15,7 +15,7 @@ use Rattle.nogood_book.specs.Rows.{path_at}
 use Rattle.nogood_book.specs.declared.row.Row.{Row}
 use Rattle.nogood_book.specs.Places.{IsNogoodRow}
 use Rattle.propagation.specs.Recording.{Change, CountedSet}
-use Rattle.dead_theory.specs.Changes.{Chosen, IsOneOf, IsBorne, AreBorne, known_after, ExplainsChange, ExplainAll, set_forms}
+use Rattle.dead_theory.specs.Changes.{Chosen, IsOneOf, IsBorne, AreBorne, known_after, ExplainsChange, ExplainAll, set_forms, crowd_forms}
 use Rattle.dead_theory.specs.Ends.{End, Empty, Whole, Short, Exhausted, end_of, EndsIn, EndNeeds}
 use Rattle.dead_theory.specs.Walks.{IsChoice}
 use Rattle.kept_lines.specs.Frames.{Frame, IsNamed, AreNamed}
@@ -143,6 +143,12 @@ abbrev pub IsSetPushed : Problem → List ℕ → List ℕ → Frame → List Re
     → Type 0) → Result (Unit {0}) AllocError → List Form → Type 0
 IsSetPushed q vertices values w old new knows result forms = OnOk result (knows forms
     × Adds w old new (set_forms q vertices values) forms)
+
+-- To the line of a crowd.
+abbrev pub IsCrowdPushed : Problem → ℕ → ℕ → List ℕ → List ℕ → Frame → List Ref → List Ref
+    → Result (Unit {0}) AllocError → List Form → Type 0
+IsCrowdPushed q p t vertices values w old new result forms = OnOk result
+    (Adds w old new (crowd_forms q p t vertices values) forms)
 
 -- To forms that explain a change.
 pub record AddsFor (q : Problem) (rows : List Row) (known : List (ℕ

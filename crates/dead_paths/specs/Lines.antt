@@ -1,17 +1,19 @@
 -- References to lines of the encoding, and the lines of sets.
 
-use Rattle.std.specs.Prelude.{◌≡◌, ℕ, ◌+◌, ◌<◌, true, List, [], ◌∷◌, ◌++◌, map, Result}
+use Rattle.std.specs.Prelude.{◌≡◌, ℕ, ◌+◌, ◌<◌, true, List, [], ◌∷◌, ◌++◌, map, Result, Ok, Err}
 use Rattle.std.specs.declared.alloc.AllocError.{AllocError}
 use Rattle.graph_theory.specs.Graph.{size}
 use Rattle.graph_theory.specs.Embedding.{Problem}
 use Rattle.proof_theory.specs.Forms.{Form}
 use Rattle.log_theory.specs.declared.step.Name.{Name}
 use Rattle.log_theory.specs.declared.step.Ref.{Ref}
-use Rattle.log_theory.specs.declared.step.Ref.TheVariants.{Line}
+use Rattle.log_theory.specs.declared.step.Ref.TheVariants.{Line, Made}
 use Rattle.log_theory.specs.Lookups.{is_among}
+use Rattle.encoding_theory.specs.Pairs.{is_edge_pair}
 use Rattle.encoding_theory.specs.Places.{at_least_place, at_most_place, at_most_target_place, edge_place}
 use Rattle.reason_theory.specs.Reasons.{set_form}
-use Rattle.kept_lines.specs.Frames.{Frame, IsKept}
+use Rattle.dead_theory.specs.Changes.{crowd_forms}
+use Rattle.kept_lines.specs.Frames.{Frame, IsKept, AreNamed}
 
 -- That p goes somewhere; that it goes to one place; that one vertex goes to t; that with p at t r goes where the edge between them leads.
 abbrev pub at_least_ref : Problem → ℕ → Ref
@@ -33,6 +35,14 @@ at_least_refs q vertices = map (at_least_ref q) vertices
 abbrev pub set_refs : Problem → List ℕ → List ℕ → List Ref
 set_refs q vertices values = at_least_refs q vertices ++ map (at_most_target_ref q) values
 
+-- That beside p at t each of these vertices goes where the edge between them leads.
+abbrev pub beside_refs : Problem → ℕ → ℕ → List ℕ → List Ref
+beside_refs q p t vertices = map (λ r. edge_ref q p r t) vertices
+
+-- What the line of a crowd sums.
+abbrev pub crowd_refs : Problem → ℕ → ℕ → List ℕ → List ℕ → List Ref
+crowd_refs q p t vertices values = beside_refs q p t vertices ++ map (at_most_target_ref q) values
+
 -- All are vertices of the pattern; all are vertices of the target.
 abbrev pub AreVertices : Problem → List ℕ → Type 0
 AreVertices q vertices = (p : ℕ) → is_among p vertices ≡ true → p < size q.pattern
@@ -45,3 +55,14 @@ abbrev pub IsSetKept : Problem → List ℕ → List ℕ → Frame → Result Na
     → Type 0
 IsSetKept q [] values w result forms = ⊥
 IsSetKept q (p ∷ rest) values w result forms = IsKept w result (set_form q p rest values) forms
+
+-- An edge joins each of these to p.
+abbrev pub ArePairs : Problem → ℕ → List ℕ → Type 0
+ArePairs q p vertices = (r : ℕ) → is_among r vertices ≡ true → is_edge_pair q p r ≡ true
+
+-- The name that is answered is that of the crowd's form.
+abbrev pub IsCrowdKept : Problem → ℕ → ℕ → List ℕ → List ℕ → Frame → Result Name AllocError
+    → List Form → Type 0
+IsCrowdKept q p t vertices values w (Ok n) forms = AreNamed w forms (Made n ∷ [])
+    (crowd_forms q p t vertices values)
+IsCrowdKept q p t vertices values w (Err e) forms = Unit {0}

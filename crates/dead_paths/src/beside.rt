@@ -1,4 +1,6 @@
-//! Two vertices, the first of them at a value.
+//! A vertex at a value with another one beside it, or with several.
+
+use graph_theory::direction::Direction;
 
 /// The first vertex, its value, and the other vertex.
 #[derive(Clone, Copy)]
@@ -6,4 +8,14 @@ pub(crate) struct Beside {
     pub(crate) p: u16,
     pub(crate) t: u16,
     pub(crate) r: u16,
+}
+
+/// A vertex and its value, with vertices to which edges lead from it in the direction, and the values that are left for these beside it.
+#[derive(Clone, Copy)]
+pub(crate) struct Crowd<'a> {
+    pub(crate) p: u16,
+    pub(crate) t: u16,
+    pub(crate) direction: Direction,
+    pub(crate) vertices: &'a [u16],
+    pub(crate) values: &'a [u16],
 }

@@ -1,11 +1,15 @@
-//! References to lines of the encoding, and the line of a set.
+//! References to lines of the encoding, and the lines of sets and of crowds.
 
 ghost use Rattle.std.specs.Prelude.{◌≡◌, ◌<◌, ◌++◌, length, map, OnOk, IfOk};
+ghost use Rattle.graph_theory.specs.Graph.{size};
 ghost use Rattle.log_theory.specs.LogText.{IsName};
+ghost use Rattle.propagation.specs.Recording.{LeftOver};
+ghost use Rattle.dead_theory.specs.Changes.{IsInProblem};
 ghost use Rattle.kept_lines.specs.Frames.{Frame, IsFrameOf, AnyForms, Goes};
-ghost use Rattle.dead_paths.specs.Lines.{at_least_refs, at_most_target_ref, AreVertices, AreValues, IsSetKept};
+ghost use Rattle.dead_paths.specs.Lines.{at_least_refs, at_most_target_ref, beside_refs, AreVertices, AreValues, ArePairs, IsSetKept, IsCrowdKept};
 ghost use Rattle.dead_paths.specs.Explaining.{IsLimited};
 
+use crate::beside::Crowd;
 use journals::Keeper;
 use kept_lines::keep_sum;
 use log_theory::{Name, Ref};
@@ -42,6 +46,54 @@ pub(crate) fn push_at_most(
         refs.push(Ref::Line(lines.at_most_target(*t)))?;
     }
     Ok(())
+}
+
+/// Puts references to the lines by which, beside `p` at `t`, these vertices go to places that are compatible with it.
+fn push_beside(
+    lines: &Encoding<'_>,
+    p: u16,
+    t: u16,
+    vertices: &[u16],
+    refs: &mut Vec<Ref>,
+) -> Result<(), AllocError>
+    requires p_in { p < size lines.now.pattern }
+    requires t_in { t < size lines.now.target }
+    requires vertices { AreVertices lines.now vertices.now }
+    requires pairs { ArePairs lines.now p vertices.now }
+    ensures { OnOk result
+        (refs.new.items ≡ refs.old.items ++ beside_refs lines.now p t vertices.now) }
+{
+    for r in vertices {
+        refs.push(Ref::Line(lines.edge(p, *r, t)))?;
+    }
+    Ok(())
+}
+
+/// Keeps the line of a crowd: that its vertices go where the edges lead, and that one vertex at most goes to each of its values, summed. Cost: a
+/// reference for each vertex and value, and a logarithmic look for each vertex.
+pub(crate) fn keep_crowd<K: Keeper>(
+    alloc: Global,
+    lines: &Encoding<'_>,
+    keeper: &mut K,
+    crowd: &Crowd<'_>,
+) -> Result<Name, AllocError>
+    requires limited { IsLimited lines.now }
+    requires some { 0 < length crowd.now.vertices.now }
+    requires in_problem { IsInProblem lines.now (LeftOver crowd.now.p crowd.now.t
+        crowd.now.direction crowd.now.vertices.now crowd.now.values.now 0) }
+    ensures goes { (w : Frame) → IsFrameOf lines.now (K.owner keeper.old) w
+        → Goes w (K.kept keeper.old) (K.kept keeper.new) AnyForms
+        (IsCrowdKept lines.now crowd.now.p crowd.now.t crowd.now.vertices.now crowd.now.values.now
+        w result) }
+    ensures name { IfOk result IsName }
+    ensures owner { K.owner keeper.new ≡ K.owner keeper.old }
+    ensures notes { K.notes keeper.new ≡ K.notes keeper.old }
+    ensures spare { K.spare keeper.new ≡ K.spare keeper.old }
+{
+    let mut refs = Vec::new(alloc);
+    push_beside(lines, crowd.p, crowd.t, crowd.vertices, &mut refs)?;
+    push_at_most(lines, crowd.values, &mut refs)?;
+    keep_sum(alloc, keeper, &refs)
 }
 
 /// Keeps the line of a set: that its vertices go somewhere and that one vertex at most goes to each of its values, summed. Cost: a reference

@@ -1,7 +1,8 @@
 //! What is needed before a change, or at an end: all values of a vertex but the one it is at, or those that a set of vertices has not.
 
-ghost use Rattle.std.specs.Prelude.{◌≡◌, ℕ, ◌*◌, ◌<◌, ◌≤◌, true, false, List, length, OnOk};
-ghost use Rattle.graph_theory.specs.Graph.{size};
+ghost use Rattle.std.specs.Prelude.{◌≡◌, ℕ, ◌*◌, ◌<◌, ◌≤◌, true, false, List, length, is_some, OnOk};
+ghost use Rattle.graph_theory.specs.Graph.{size, edge};
+ghost use Rattle.graph_theory.specs.Reversed.{turned};
 ghost use Rattle.log_theory.specs.Lookups.{is_among};
 ghost use Rattle.bit_rows.specs.BitRows.{has, words_for};
 ghost use Rattle.nogood_watch.specs.Nogoods.{literal};
@@ -13,8 +14,9 @@ ghost use Rattle.dead_theory.specs.Walks.{IsWithin};
 ghost use Rattle.dead_paths.specs.Choosing.{values_of, AreAt};
 
 use crate::known::{holds_at, is_left_out};
-use bit_rows::{fill_below, unset_bit};
+use bit_rows::{and_into, fill_below, unset_bit};
 use graph_rows::Problem;
+use graph_theory::direction::Direction;
 use needed_values::{need_but, need_set};
 use nogood_book::{Row, push_path};
 use std::alloc::{AllocError, Global};
@@ -129,6 +131,26 @@ pub(crate) fn fill_without(q: &Problem, values: &[u16], row: &mut [u64])
 {
     fill_below(row, count_values(q));
     take_out(values, row);
+}
+
+/// The row of all values to which an edge leads from `t`, in the direction, `t` itself and these aside.
+pub(crate) fn fill_beside(
+    q: &Problem,
+    t: u16,
+    direction: Direction,
+    values: &[u16],
+    row: &mut [u64],
+)
+    requires t_in { t < size q.now.target }
+    requires long { length row.old ≡ words_for (size q.now.target) }
+    requires values { (u : ℕ) → is_among u values.now ≡ true → u < size q.now.target }
+    ensures { (u : ℕ) → u < size q.now.target → (t ≡ u → ⊥)
+        → is_some (edge (turned direction q.now.target) t u) ≡ true
+        → is_among u values.now ≡ false → has row.new u ≡ true }
+{
+    fill_without(q, values, row);
+    and_into(row, q.target().row_by(direction, t));
+    unset_bit(row, usize::from(t));
 }
 
 /// Takes these values out of the row.

@@ -5,16 +5,17 @@ ghost use Rattle.graph_theory.specs.Graph.{size};
 ghost use Rattle.log_theory.specs.LogText.{IsRef, AreRefs};
 ghost use Rattle.nogood_book.specs.Rows.{Sound};
 ghost use Rattle.nogood_book.specs.Places.{IsNogoodRow};
-ghost use Rattle.propagation.specs.Recording.{change_of};
+ghost use Rattle.propagation.specs.Recording.{LeftOver, change_of};
 ghost use Rattle.dead_theory.specs.Changes.{shown_of, IsInProblem};
-ghost use Rattle.kept_lines.specs.Frames.{Frame, IsFrameOf, Goes};
+ghost use Rattle.kept_lines.specs.Frames.{Frame, IsFrameOf, AnyForms, Goes};
 ghost use Rattle.dead_paths.specs.Lines.{AreVertices, AreValues};
 ghost use Rattle.dead_paths.specs.Making.{AreRowsNamed, GivesRow};
 ghost use Rattle.dead_paths.specs.Choosing.{AreAt, IsOfRow, chosen_of};
-ghost use Rattle.dead_paths.specs.Explaining.{IsLimited, Knowing, AddsNogood, IsSetPushed, IsChangePushed};
+ghost use Rattle.dead_paths.specs.Explaining.{IsLimited, Knowing, AddsNogood, IsSetPushed, IsCrowdPushed, IsChangePushed};
 
-use crate::beside::Beside;
+use crate::beside::{Beside, Crowd};
 use crate::known::{push_bearing_all, push_decided};
+use crate::lines::keep_crowd;
 use crate::lookups::part;
 use crate::maker::{Basis, LineMaker, RowNames};
 use crate::room::ChosenEntry;
@@ -79,6 +80,35 @@ pub(crate) fn push_set<M: LineMaker, K: Keeper>(
         return Ok(());
     }
     let name = maker.set(alloc, lines, keeper, vertices, values)?;
+    refs.push(Ref::Made(name))?;
+    Ok(())
+}
+
+/// Keeps the line of a crowd and puts the reference to it, if the crowd has a vertex. It is kept anew for each path that rests on it.
+fn push_crowd<K: Keeper>(
+    alloc: Global,
+    lines: &Encoding<'_>,
+    keeper: &mut K,
+    crowd: &Crowd<'_>,
+    refs: &mut Vec<Ref>,
+) -> Result<(), AllocError>
+    requires limited { IsLimited lines.now }
+    requires in_problem { IsInProblem lines.now (LeftOver crowd.now.p crowd.now.t
+        crowd.now.direction crowd.now.vertices.now crowd.now.values.now 0) }
+    requires fits { AreRefs refs.old.items }
+    ensures goes { (w : Frame) → IsFrameOf lines.now (K.owner keeper.old) w
+        → Goes w (K.kept keeper.old) (K.kept keeper.new) AnyForms
+        (IsCrowdPushed lines.now crowd.now.p crowd.now.t crowd.now.vertices.now
+        crowd.now.values.now w refs.old.items refs.new.items result) }
+    ensures fits { OnOk result (AreRefs refs.new.items) }
+    ensures owner { K.owner keeper.new ≡ K.owner keeper.old }
+    ensures notes { K.notes keeper.new ≡ K.notes keeper.old }
+    ensures spare { K.spare keeper.new ≡ K.spare keeper.old }
+{
+    if crowd.vertices.is_empty() {
+        return Ok(());
+    }
+    let name = keep_crowd(alloc, lines, keeper, crowd)?;
     refs.push(Ref::Made(name))?;
     Ok(())
 }
@@ -188,6 +218,19 @@ pub(crate) fn push_change<M: LineMaker, N: RowNames, K: Keeper>(
             keeper,
             part(basis.numbers, place.start, place.middle),
             part(basis.numbers, place.middle, place.end),
+            refs,
+        ),
+        What::Over(p, t, direction, place) => push_crowd(
+            basis.alloc,
+            basis.lines,
+            keeper,
+            &Crowd {
+                p,
+                t,
+                direction,
+                vertices: part(basis.numbers, place.start, place.middle),
+                values: part(basis.numbers, place.middle, place.end),
+            },
             refs,
         ),
     }

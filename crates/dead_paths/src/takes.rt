@@ -7,17 +7,17 @@ ghost use Rattle.bit_rows.specs.BitRows.{has, words_for};
 ghost use Rattle.nogood_book.specs.declared.row.Row.{Row as TheRow};
 ghost use Rattle.nogood_book.specs.Rows.{Sound};
 ghost use Rattle.propagation.specs.declared.change.Cause.TheVariants as cause;
-ghost use Rattle.propagation.specs.Recording.{LeftOne, LeftOthers, change_of};
+ghost use Rattle.propagation.specs.Recording.{LeftOne, LeftOthers, LeftOver, change_of};
 ghost use Rattle.propagation.specs.Telling.{Joins};
 ghost use Rattle.needed_values.specs.Needed.{needs, AreRows, StaysNeeded};
 ghost use Rattle.needed_values.specs.Consistent.{Goes, AllConsistent};
 ghost use Rattle.dead_theory.specs.Changes.{IsInProblem};
-ghost use Rattle.dead_paths.specs.Choosing.{values_of, AreAt, IsStep, IsMade, AreLeft, AreInside};
+ghost use Rattle.dead_paths.specs.Choosing.{values_of, AreAt, IsStep, IsMade, AreLeft, AreLeftBut, AreInside};
 ghost use Rattle.dead_paths.specs.declared.takes.Choice.TheVariants.{Passed, AsTold, ByEdges};
 
-use crate::beside::Beside;
+use crate::beside::{Beside, Crowd};
 use crate::lookups::{holds, is_nogood_row, part};
-use crate::needs::{Walk, count_values, fill_without, need_each, uphold, uphold_row};
+use crate::needs::{Walk, count_values, fill_beside, fill_without, need_each, uphold, uphold_row};
 use crate::room::Room;
 use bit_rows::{and_into, unset_bit};
 use graph_rows::Problem;
@@ -222,6 +222,37 @@ fn by_nogood(
     Ok(true)
 }
 
+/// Whether a vertex needs a value; if it does, it needs that no more.
+fn take_value(
+    q: &Problem,
+    x: (u16, u16),
+    marked: &mut [bool],
+    needed: &mut [u64],
+    other: &mut [u64],
+) -> bool
+    requires held { AreRows (size q.now.target) marked.old needed.old }
+    requires vertex { x.0 < length marked.old }
+    requires value { x.1 < size q.now.target }
+    requires other { length other.old ≡ words_for (size q.now.target) }
+    ensures none { result ≡ false
+        → needs (size q.now.target) marked.old needed.old x.0 x.1 ≡ false }
+    ensures stays { result ≡ false → StaysNeeded (size q.now.target)
+        (needs (size q.now.target) marked.old needed.old)
+        (needs (size q.now.target) marked.new needed.new) }
+    ensures left { AreLeftBut (size q.now.target) x.0 x.1
+        (needs (size q.now.target) marked.old needed.old)
+        (needs (size q.now.target) marked.new needed.new) }
+{
+    let values = count_values(q);
+    if !is_needed(marked, needed, values, x.0, x.1) {
+        return false;
+    }
+    copy_needed(marked, needed, values, x.0, other);
+    unset_bit(other, usize::from(x.1));
+    put_needed(marked, needed, values, x.0, other);
+    true
+}
+
 /// A value of `r` to which no value of `p` has an edge, in the direction in which one leads from `p` to `r`.
 #[derive(Clone, Copy)]
 struct Lost {
@@ -252,15 +283,43 @@ fn by_edge(
         (values_of (size q.now.target) marked.old needed.old)
         (values_of (size q.now.target) marked.new needed.new) }
 {
-    let values = count_values(q);
-    if !is_needed(marked, needed, values, lost.r, lost.u) {
+    if !take_value(q, (lost.r, lost.u), marked, needed, other) {
         return false;
     }
-    copy_needed(marked, needed, values, lost.r, other);
-    unset_bit(other, usize::from(lost.u));
-    put_needed(marked, needed, values, lost.r, other);
     let support = q.target().in_row_by(lost.direction, lost.u);
-    need_set(marked, needed, values, lost.p, support, spare);
+    need_set(marked, needed, count_values(q), lost.p, support, spare);
+    true
+}
+
+/// A crowd takes the value of its vertex: where that is needed, so are the other values of the crowd's vertices to which an edge leads from it.
+fn by_crowd(
+    q: &Problem,
+    crowd: &Crowd<'_>,
+    marked: &mut [bool],
+    needed: &mut [u64],
+    set: &mut [u64],
+    spare: &mut [u64],
+    other: &mut [u64],
+) -> bool
+    requires held { AreRows (size q.now.target) marked.old needed.old }
+    requires size { length marked.old ≡ size q.now.pattern }
+    requires in_problem { IsInProblem q.now (LeftOver crowd.now.p crowd.now.t
+        crowd.now.direction crowd.now.vertices.now crowd.now.values.now 0) }
+    requires set { length set.old ≡ words_for (size q.now.target) }
+    requires spare { length spare.old ≡ words_for (size q.now.target) }
+    requires other { length other.old ≡ words_for (size q.now.target) }
+    ensures { (rows : List TheRow) (path : List (ℕ × ℕ)) (from : ℕ)
+        → IsStep result q.now rows path
+        (LeftOver crowd.now.p crowd.now.t crowd.now.direction crowd.now.vertices.now
+        crowd.now.values.now from)
+        (values_of (size q.now.target) marked.old needed.old)
+        (values_of (size q.now.target) marked.new needed.new) }
+{
+    if !take_value(q, (crowd.p, crowd.t), marked, needed, other) {
+        return false;
+    }
+    fill_beside(q, crowd.t, crowd.direction, crowd.values, set);
+    need_each(q, crowd.vertices, set, marked, needed, spare);
     true
 }
 
@@ -410,8 +469,8 @@ fn by_set(
 
 /// One step back from a change. It is chosen where it may have taken a needed value; then what it takes by itself is needed no more, and what
 /// it rests on is. Cost: for a change of one vertex a few steps for each word of a row, and what `are_all_consistent` and `keep_consistent`
-/// cost; for a value taken by an edge one step where it is not needed; for a set the words of each marked vertex's row, with a look for the
-/// vertex among the set's.
+/// cost; for a value taken by an edge or a crowd one step where it is not needed; for a set the words of each marked vertex's row, with a look
+/// for the vertex among the set's.
 pub(crate) fn go_back(
     walk: &Walk<'_>,
     entry: &Entry,
@@ -471,6 +530,21 @@ pub(crate) fn go_back(
                 part(walk.numbers, place.start, place.middle),
                 part(walk.numbers, place.middle, place.end),
             ),
+            marked,
+            needed,
+            &mut room.set,
+            &mut room.spare,
+            &mut room.other,
+        ))),
+        What::Over(p, t, direction, place) => Ok(told_if(by_crowd(
+            walk.q,
+            &Crowd {
+                p,
+                t,
+                direction,
+                vertices: part(walk.numbers, place.start, place.middle),
+                values: part(walk.numbers, place.middle, place.end),
+            },
             marked,
             needed,
             &mut room.set,

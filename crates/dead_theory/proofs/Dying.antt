@@ -24,7 +24,7 @@ use Rattle.nogood_watch.specs.Nogoods as watched
 use Rattle.nogood_book.specs.declared.row.Row.{Row}
 use Rattle.nogood_book.specs.Rows.{Sound}
 use Rattle.propagation.specs.declared.change.Cause.TheVariants as cause
-use Rattle.propagation.specs.Recording.{Change, LeftOne, LeftOthers}
+use Rattle.propagation.specs.Recording.{Change, LeftOne, LeftOthers, LeftOver}
 use Rattle.propagation.specs.Telling as telling
 use Rattle.propagation.specs.Telling.{Stands, Leaves, Changed, Told}
 use Rattle.dead_theory.specs.Changes.{Chosen, told_of, NamesRows, IsOneOf, Covers, Suffices, shown_of, known_after, ExplainsTold, ExplainsChange, ExplainAll, Needs, IsGuessed, AreGuessed, IsInProblem, AreInProblem}
@@ -89,6 +89,7 @@ module _ (q : Problem) (rows : List Row) (sound : Sound q rows) (s : Option watc
   shown_gives by_edges (LeftOne r (cause.Nogood name) from) d old now known at own values_is l out on_p on needs h x here = inr (run_keeps at own (variable q x.0 x.1) true (on x here))
   shown_gives by_edges (LeftOne r (cause.Edge v u direction) from) d old now known at own values_is l out on_p on needs h x here = inr (run_keeps at own (variable q x.0 x.1) true (on x here))
   shown_gives by_edges (LeftOthers vertices values from) d old now known at own values_is l out on_p on needs h x here = inr (run_keeps at own (variable q x.0 x.1) true (on x here))
+  shown_gives by_edges (LeftOver p t direction vertices values from) d old now known at own values_is l out on_p on needs h x here = inr (run_keeps at own (variable q x.0 x.1) true (on x here))
 
   quiet : (at : Setting) (own : List Form) (v : ℕ) (b : Bool) → refutes at own ≡ false → Gives at own v b → run at own v ≡ Some b
   quiet at own v b calm (inl refuted) = absurd (true≢false (sym refuted ∙ calm))
@@ -180,6 +181,8 @@ change_in q s old new (LeftOne r (cause.Nogood name) from) is l = l.stands
 change_in q s old new (LeftOne r (cause.Edge p u direction) from) is l = (l.stands.joins, l.stands.value_in)
 change_in q s old new (LeftOthers vertices values from) is l =
     (λ p h. l.stands.0.vertices_in p (same_among vertices p ∙ h), λ u h. l.stands.0.values_in u (same_among values u ∙ h))
+change_in q s old new (LeftOver p t direction vertices values from) is l =
+    (l.stands.vertex_in, l.stands.value_in, λ r h. l.stands.joins r (same_among vertices r ∙ h), λ u h. l.stands.values_in u (same_among values u ∙ h))
 
 pub told_in : (q : Problem) (s : Option watched.State) (d : State) (cs : List Change) → d.values ≡ size q.target → Told q s d cs → AreInProblem q cs
 told_in q s d [] is told = tt

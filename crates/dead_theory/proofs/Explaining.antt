@@ -1,6 +1,6 @@
 -- Each change that was told is explained by its forms.
 use Rattle.std.proofs.Common.{◌≡◌, ℕ, zero, suc, ◌+◌, ◌<◌, ◌≤◌, ◌==◌, eqb, ltb, Bool, true, false, not, ◌&&◌, ◌||◌, cond, List, [], ◌∷◌, ◌++◌, length, is_some, Option, Some, None, refl, sym, ap, subst, ◌∙◌, arith, inl, inr, ◌⊎◌}
-use Rattle.std.proofs.lemmas.Bool.{and_parts, cases_eq, eqb-true, eq-eqb, lt-ltb, ltb-true, true≢false}
+use Rattle.std.proofs.lemmas.Bool.{and_parts, cases_eq, eqb-true, eq-eqb, or_cases, lt-ltb, ltb-true, true≢false}
 use Rattle.graph_theory.specs.Graph.{size, edge}
 use Rattle.graph_theory.specs.Reversed.{turned}
 use Rattle.graph_theory.specs.declared.direction.Direction.{Direction}
@@ -17,9 +17,10 @@ use Rattle.encoding_theory.specs.Pairs.{is_match, is_compatible}
 use Rattle.forcing_theory.specs.Chains.{run, Domains, AreOut}
 use Rattle.forcing_theory.proofs.Chaining.{after_keeps, run_keeps}
 use Rattle.reason_theory.specs.Reasons as reasons
-use Rattle.reason_theory.specs.Reasons.{IsPair, ForcesFirst, at_leasts, pairs_clause, set_form}
+use Rattle.reason_theory.specs.Reasons.{IsPair, ForcesFirst, at_leasts, pairs_clause, set_form, over_form}
 use Rattle.reason_theory.proofs.Giving.{Leads, Gives, one_gives, then_gives, leads_on}
 use Rattle.reason_theory.proofs.Forcing.{pair_takes, at_least_forces, at_most_forces, AreSet, clause_forces}
+use Rattle.reason_theory.proofs.OverCounting.{over_takes}
 use Rattle.reason_theory.proofs.Explaining as explaining
 use Rattle.domain_bits.specs.Removals.{State, in_domain, times}
 use Rattle.domain_bits.proofs.Removed.{times-append}
@@ -30,9 +31,9 @@ use Rattle.nogood_watch.specs.Nogoods.{literal}
 use Rattle.nogood_book.specs.declared.row.Row.{Row}
 use Rattle.nogood_book.specs.Rows.{path_at, Sound}
 use Rattle.propagation.specs.declared.change.Cause.TheVariants as cause
-use Rattle.propagation.specs.Recording.{Change, LeftOne, LeftOthers}
-use Rattle.propagation.specs.Telling.{HasAtMost, IsForbidden, IsUnsupported, Joins, AreDistinct, HaveOnly, Leaves}
-use Rattle.dead_theory.specs.Changes.{NamesRows, IsOneOf, IsLeftOut, IsBorne, AreBorne, NogoodForms, set_forms, Forces, ExplainsTold, MayTake, GoTogether, CoversTold, SufficesTold, IsUpheld, AreUpheld, AreKeptIn, AllSupport, Needs}
+use Rattle.propagation.specs.Recording.{Change, LeftOne, LeftOthers, LeftOver}
+use Rattle.propagation.specs.Telling.{HasAtMost, IsForbidden, IsUnsupported, IsCrowded, Joins, AreDistinct, HaveOnly, Leaves}
+use Rattle.dead_theory.specs.Changes.{NamesRows, IsOneOf, IsLeftOut, IsBorne, AreBorne, NogoodForms, set_forms, crowd_forms, Forces, ExplainsTold, MayTake, GoTogether, CoversTold, SufficesTold, IsUpheld, AreUpheld, AreKeptIn, AllSupport, AllBeside, Needs}
 
 -- ---- lists of vertices
 
@@ -195,6 +196,60 @@ compatible_leads q In p r u w joins u_in w_in fits =
     ap is_some (edge-reversed q.target w u w_in u_in)
     ∙ matched_some q.induced (edge q.pattern r p) (edge q.target u w) both.0 (ap is_some (sym (edge-reversed q.pattern p r joins.vertex_in joins.other_in)) ∙ joins.joined)
 
+-- and the same from the side of the first
+leads_beside : (q : Problem) (direction : Direction) (p t r u : ℕ) → Joins q direction p r → t < size q.target → u < size q.target → is_compatible q p t r u ≡ true
+    → is_some (edge (turned direction q.target) t u) ≡ true
+leads_beside q Out p t r u joins t_in u_in fits =
+    let parts = and_parts (not (t == u)) (is_match q.induced (edge q.pattern p r) (edge q.target t u) && is_match q.induced (edge q.pattern r p) (edge q.target u t)) fits in
+    let both = and_parts (is_match q.induced (edge q.pattern p r) (edge q.target t u)) (is_match q.induced (edge q.pattern r p) (edge q.target u t)) parts.1 in
+    matched_some q.induced (edge q.pattern p r) (edge q.target t u) both.0 joins.joined
+leads_beside q In p t r u joins t_in u_in fits =
+    let parts = and_parts (not (t == u)) (is_match q.induced (edge q.pattern p r) (edge q.target t u) && is_match q.induced (edge q.pattern r p) (edge q.target u t)) fits in
+    let both = and_parts (is_match q.induced (edge q.pattern p r) (edge q.target t u)) (is_match q.induced (edge q.pattern r p) (edge q.target u t)) parts.1 in
+    ap is_some (edge-reversed q.target t u t_in u_in)
+    ∙ matched_some q.induced (edge q.pattern r p) (edge q.target u t) both.1 (ap is_some (sym (edge-reversed q.pattern p r joins.vertex_in joins.other_in)) ∙ joins.joined)
+
+-- two that are compatible are at two places
+places_apart : (q : Problem) (p t r u : ℕ) → is_compatible q p t r u ≡ true → t ≡ u → ⊥
+places_apart q p t r u fits same =
+    let parts = and_parts (not (t == u)) (is_match q.induced (edge q.pattern p r) (edge q.target t u) && is_match q.induced (edge q.pattern r p) (edge q.target u t)) fits in
+    true≢false (sym parts.0 ∙ ap not (eq-eqb t u same))
+
+-- ---- crowded neighbours
+
+-- Domains in which all is left but what is compatible with p at t and none of these values.
+abbrev beside_these : Problem → ℕ → ℕ → List ℕ → Domains
+beside_these q p t values r u = is_among u values || not (is_compatible q p t r u)
+
+these_beside : (q : Problem) (d : State) (direction : Direction) (p t : ℕ) (vertices values : List ℕ) → IsCrowded q d direction p t vertices values
+    → reasons.HaveBeside q (beside_these q p t values) p t vertices values
+these_beside q d direction p t vertices values is = record {
+  distinct = distinct_of vertices is.distinct;
+  vertices_in = λ r h. (is.joins r (same_among vertices r ∙ h)).other_in;
+  within = λ r u h u_in fits there. by r u fits (or_cases (is_among u values) (not (is_compatible q p t r u)) there);
+}
+  where
+    by : (r u : ℕ) → is_compatible q p t r u ≡ true → (is_among u values ≡ true) ⊎ (not (is_compatible q p t r u) ≡ true) → is_among u values ≡ true
+    by r u fits (inl here) = here
+    by r u fits (inr not_fits) = absurd (true≢false (sym not_fits ∙ ap not fits))
+
+-- What the needed values of the neighbours say of these domains.
+beside_out : (q : Problem) (s : Setting) (d : State) (needed : ℕ → ℕ → Bool) (direction : Direction) (p t : ℕ) (vertices values : List ℕ) → IsCrowded q d direction p t vertices values
+    → NeededOut q s d needed → AllBeside q direction t vertices values needed → (r : ℕ) → is_among r vertices ≡ true → AreOut (variable q) (size q.target) s (beside_these q p t values) r
+beside_out q s d needed direction p t vertices values is out kept r among u u_in gone = by (is_among u values) refl (is_compatible q p t r u) refl gone
+  where
+    left : (b : Bool) → in_domain d r u ≡ b → (t ≡ u → ⊥) → is_some (edge (turned direction q.target) t u) ≡ true → is_among u values ≡ false → in_domain d r u ≡ false
+    left false here other leads off = here
+    left true here other leads off = absurd (true≢false (sym (sym (same_among values u) ∙ is.within r u (same_among vertices r ∙ among) here other leads) ∙ off))
+
+    by : (a : Bool) → is_among u values ≡ a → (c : Bool) → is_compatible q p t r u ≡ c → (a || not c) ≡ false → s (variable q r u) ≡ Some false
+    by true off c fits h = absurd cc
+    by false off false fits h = absurd cc
+    by false off true fits h =
+        let other = places_apart q p t r u fits in
+        let leads = leads_beside q direction p t r u (is.joins r (same_among vertices r ∙ among)) is.value_in u_in fits in
+        out r u u_in (kept r u among u_in other leads off) (left (in_domain d r u) refl other leads off)
+
 -- ---- one change
 
 module _ (q : Problem) (rows : List Row) (sound : Sound q rows) (s : Option watched.State) (names : NamesRows rows s) where
@@ -219,6 +274,7 @@ module _ (q : Problem) (rows : List Row) (sound : Sound q rows) (s : Option watc
       one_at (y ∷ ys) zero x k_in is = inl is
       one_at (y ∷ ys) (suc k) x k_in is = inr (one_at ys k x (omega (arith, k_in)) is)
   refused_may (LeftOne p (cause.Edge v t direction) from) old new l r u there gone = l.refused r u there gone
+  refused_may (LeftOver p t direction vertices values from) old new l r u there gone = l.refused r u there gone
   refused_may (LeftOthers vertices values from) old new l r u there gone =
       let h = l.refused r u there gone in (sym (same_among vertices r) ∙ h.1, sym (same_among values u) ∙ h.2)
 
@@ -322,6 +378,16 @@ module _ (q : Problem) (rows : List Row) (sound : Sound q rows) (s : Option watc
         by (inr forced) = inr (forced r u (ap not outside) u_in (ap (λ (b : Bool). cond b (is_among u values) true) outside)
             (ap (λ (b : Bool). cond b (is_among u values) (not (ltb r (size q.pattern) && is_among u values))) outside ∙ ap (λ (b : Bool). not (b && is_among u values)) (lt-ltb r (size q.pattern) r_in) ∙ ap not among))
 
+    -- The line for neighbours that would be crowded.
+    crowd_gives : (direction : Direction) (p t : ℕ) (vertices values : List ℕ) (own : List Form) → IsCrowded q old direction p t vertices values → AllBeside q direction t vertices values needed
+        → own ≡ crowd_forms q p t vertices values → Gives at own (variable q p t) false
+    crowd_gives direction p t [] values own is kept own_is = absurd (omega (arith, is.fewer))
+    crowd_gives direction p t (r ∷ rest) values own is kept own_is =
+        subst (λ (fs : List Form). Gives at fs (variable q p t) false) (sym own_is)
+        (one_gives at (over_form q p t r rest values) (variable q p t) false
+        (over_takes q at (beside_these q p t values) p t r rest values (these_beside q old direction p t (r ∷ rest) values is) is.fewer
+        (beside_out q at old needed direction p t (r ∷ rest) values is out kept)))
+
     -- The forms of a change take what it took, and what it covers.
     pub change_gives : (by_edges : Bool) (c : Change) (new : State) (own : List Form) → Leaves q s old new c → ((r t from : ℕ) → c ≡ LeftOne r (cause.Guess t) from → at (variable q r t) ≡ Some true) → Needs q rows path c needed
         → ExplainsTold by_edges q rows known c own → (r u : ℕ) → u < size q.target → (in_domain old r u ≡ true) × (in_domain new r u ≡ false) × SufficesTold by_edges q c r u ⊎ ((in_domain old r u ≡ false) × CoversTold by_edges q c r u)
@@ -375,3 +441,13 @@ module _ (q : Problem) (rows : List Row) (sound : Sound q rows) (s : Option watc
         set_gives vertices values r u own l.stands.0 l.stands.1 needs h refused.0 (sym (same_among vertices r) ∙ refused.1) (sym (same_among values u) ∙ refused.2) u_in
     change_gives by_edges (LeftOthers vertices values from) new own l guessed needs h r u u_in (inr covers) =
         set_gives vertices values r u own l.stands.0 l.stands.1 needs h covers.1.0 covers.1.1 covers.1.2 u_in
+    change_gives by_edges (LeftOver p t direction vertices values from) new own l guessed needs h r u u_in which = by which
+      where
+        take : r ≡ p → u ≡ t → Gives at own (variable q r u) false
+        take same is =
+            subst (λ (w : ℕ). Gives at own (variable q w u) false) (sym same)
+            (subst (λ (w : ℕ). Gives at own (variable q p w) false) (sym is) (crowd_gives direction p t vertices values own l.stands needs h))
+
+        by : (in_domain old r u ≡ true) × (in_domain new r u ≡ false) × SufficesTold by_edges q (LeftOver p t direction vertices values from) r u ⊎ ((in_domain old r u ≡ false) × CoversTold by_edges q (LeftOver p t direction vertices values from) r u) → Gives at own (variable q r u) false
+        by (inl gone) = let refused = l.refused r u gone.0 gone.1 in take refused.0 refused.1
+        by (inr covers) = take covers.1.0 covers.1.1

@@ -8,7 +8,7 @@ use Rattle.graph_theory.specs.declared.direction.Direction.{Direction}
 use Rattle.proof_theory.specs.Forms.{Form}
 use Rattle.log_theory.specs.Lookups.{is_among}
 use Rattle.encoding_theory.specs.Encoding.{at_least, at_most, pair_form}
-use Rattle.reason_theory.specs.Reasons.{pairs_clause, at_leasts, set_form, ForcesFirst, ForcesBeside, ForcesByEdges}
+use Rattle.reason_theory.specs.Reasons.{pairs_clause, at_leasts, set_form, over_form, ForcesFirst, ForcesBeside, ForcesByEdges}
 use Rattle.search_theory.specs.Consistency.{IsFirstValue, AreConsistent}
 use Rattle.nogood_watch.specs.Nogoods as watched
 use Rattle.nogood_watch.specs.Nogoods.{literal}
@@ -17,7 +17,7 @@ use Rattle.nogood_book.specs.Rows.{path_at}
 use Rattle.nogood_book.specs.Places.{IsNogoodRow}
 use Rattle.propagation.specs.declared.change.Cause.{Cause}
 use Rattle.propagation.specs.declared.change.Cause.TheVariants as cause
-use Rattle.propagation.specs.Recording.{Change, LeftOne, LeftOthers}
+use Rattle.propagation.specs.Recording.{Change, LeftOne, LeftOthers, LeftOver}
 use Rattle.propagation.specs.Telling.{IsNamed, Joins}
 
 -- ---- names
@@ -56,6 +56,7 @@ shown_by (cause.Edge p u direction) known = known
 abbrev pub shown_of : Change → List (ℕ × ℕ) → List (ℕ × ℕ)
 shown_of (LeftOne r why from) known = shown_by why known
 shown_of (LeftOthers vertices values from) known = known
+shown_of (LeftOver p t direction vertices values from) known = known
 
 -- The pairs that hold once these changes, the last one first, are explained: those of the path, and what the changes show.
 abbrev pub known_after : List (ℕ × ℕ) → List Chosen → List (ℕ × ℕ)
@@ -108,12 +109,19 @@ abbrev pub set_forms : Problem → List ℕ → List ℕ → List Form
 set_forms q [] values = []
 set_forms q (p ∷ rest) values = set_form q p rest values ∷ []
 
+-- One line for neighbours that are crowded beside p at t; no neighbours are.
+abbrev pub crowd_forms : Problem → ℕ → ℕ → List ℕ → List ℕ → List Form
+crowd_forms q p t [] values = []
+crowd_forms q p t (r ∷ rest) values = over_form q p t r rest values ∷ []
+
 -- So it is of a change, and of one that is chosen.
 abbrev pub ExplainsTold : Bool → Problem → List Row → List (ℕ × ℕ) → Change → List Form → Type 0
 ExplainsTold by_edges q rows known (LeftOne r why from) forms = ExplainsBy by_edges why q rows known
     r forms
 ExplainsTold by_edges q rows known (LeftOthers vertices values from) forms = forms ≡ set_forms q
     vertices values
+ExplainsTold by_edges q rows known (LeftOver p t direction vertices values from) forms =
+    forms ≡ crowd_forms q p t vertices values
 
 abbrev pub ExplainsChange : Problem → List Row → List (ℕ × ℕ) → Chosen → List Form → Type 0
 ExplainsChange q rows known c forms = ExplainsTold c.by_edges q rows known c.change forms
@@ -141,6 +149,7 @@ abbrev pub MayTake : Problem → List Row → Change → ℕ → ℕ → Type 0
 MayTake q rows (LeftOne p why from) r u = (r ≡ p) × MayTakeBy why q rows r u
 MayTake q rows (LeftOthers vertices values from) r u = (is_among r vertices ≡ false)
     × (is_among u values ≡ true)
+MayTake q rows (LeftOver p t direction vertices values from) r u = (r ≡ p) × (u ≡ t)
 
 -- The two go together, as all is asked, or as edges say alone.
 abbrev pub GoTogether : Bool → Problem → ℕ → ℕ → ℕ → ℕ → Type 0
@@ -159,6 +168,7 @@ abbrev pub CoversTold : Bool → Problem → Change → ℕ → ℕ → Type 0
 CoversTold by_edges q (LeftOne p why from) r u = (r ≡ p) × CoversBy by_edges why q r u
 CoversTold by_edges q (LeftOthers vertices values from) r u = (r < size q.pattern)
     × (is_among r vertices ≡ false) × (is_among u values ≡ true)
+CoversTold by_edges q (LeftOver p t direction vertices values from) r u = (r ≡ p) × (u ≡ t)
 
 abbrev pub Covers : Problem → Chosen → ℕ → ℕ → Type 0
 Covers q c r u = CoversTold c.by_edges q c.change r u
@@ -175,6 +185,7 @@ SufficesBy by_edges (cause.Edge p v direction) q r u = Unit {0}
 abbrev pub SufficesTold : Bool → Problem → Change → ℕ → ℕ → Type 0
 SufficesTold by_edges q (LeftOne p why from) r u = r ≡ p → SufficesBy by_edges why q r u
 SufficesTold by_edges q (LeftOthers vertices values from) r u = Unit {0}
+SufficesTold by_edges q (LeftOver p t direction vertices values from) r u = Unit {0}
 
 abbrev pub Suffices : Problem → Chosen → ℕ → ℕ → Type 0
 Suffices q c r u = SufficesTold c.by_edges q c.change r u
@@ -200,6 +211,12 @@ abbrev pub AllSupport : Problem → Direction → ℕ → ℕ → (ℕ → ℕ �
 AllSupport q direction p u needed = (w : ℕ) → w < size q.target
     → is_some (edge (turned direction q.target) w u) ≡ true → needed p w ≡ true
 
+-- All values of these vertices to which an edge leads from t, in the direction, t itself and the values of the set aside.
+abbrev pub AllBeside : Problem → Direction → ℕ → List ℕ → List ℕ → (ℕ → ℕ → Bool) → Type 0
+AllBeside q direction t vertices values needed = (r u : ℕ) → is_among r vertices ≡ true
+    → u < size q.target → (t ≡ u → ⊥) → is_some (edge (turned direction q.target) t u) ≡ true
+    → is_among u values ≡ false → needed r u ≡ true
+
 -- What the reason of a change rests on is needed.
 abbrev pub NeedsBy : Cause → Problem → List Row → List (ℕ × ℕ) → ℕ → (ℕ → ℕ → Bool) → Type 0
 NeedsBy cause.First q rows path r needed = Unit {0}
@@ -212,6 +229,8 @@ NeedsBy (cause.Edge p u direction) q rows path r needed = AllSupport q direction
 abbrev pub Needs : Problem → List Row → List (ℕ × ℕ) → Change → (ℕ → ℕ → Bool) → Type 0
 Needs q rows path (LeftOne r why from) needed = NeedsBy why q rows path r needed
 Needs q rows path (LeftOthers vertices values from) needed = AreKeptIn vertices values needed
+Needs q rows path (LeftOver p t direction vertices values from) needed = AllBeside q direction t
+    vertices values needed
 
 -- ---- guesses
 
@@ -223,6 +242,7 @@ IsGuessed path (LeftOne r (cause.Vertex p t) from) = Unit {0}
 IsGuessed path (LeftOne r (cause.Nogood name) from) = Unit {0}
 IsGuessed path (LeftOne r (cause.Edge p u direction) from) = Unit {0}
 IsGuessed path (LeftOthers vertices values from) = Unit {0}
+IsGuessed path (LeftOver p t direction vertices values from) = Unit {0}
 
 abbrev pub AreGuessed : List (ℕ × ℕ) → List Change → Type 0
 AreGuessed path [] = Unit {0}
@@ -244,6 +264,9 @@ IsInProblem q (LeftOne r why from) = IsInBy why q r
 IsInProblem q (LeftOthers vertices values from) =
     ((p : ℕ) → is_among p vertices ≡ true → p < size q.pattern) × ((u : ℕ)
     → is_among u values ≡ true → u < size q.target)
+IsInProblem q (LeftOver p t direction vertices values from) = (p < size q.pattern)
+    × (t < size q.target) × ((r : ℕ) → is_among r vertices ≡ true → Joins q direction p r)
+    × ((u : ℕ) → is_among u values ≡ true → u < size q.target)
 
 abbrev pub AreInProblem : Problem → List Change → Type 0
 AreInProblem q [] = Unit {0}

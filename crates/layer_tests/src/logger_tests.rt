@@ -42,7 +42,6 @@ fn a_log_begins_with_no_line(rt: HostRuntime) -> Result<(), Fail> {
     let encoding = Encoding::new(alloc, &q)?;
     let maker = KeepsLines::new(&q, &encoding);
     let journal = log_of(alloc, &maker)?.into_journal();
-    assert!(rt; journal.text().is_empty());
-    assert!(rt; journal.notes().is_empty());
+    assert!(rt; journal.text().is_empty() && journal.notes().is_empty());
     Ok(())
 }

@@ -5,12 +5,11 @@ ghost use Rattle.graph_theory.specs.Plain.{ArePlain};
 
 use graph_rows::Problem;
 use log_theory::Profile;
-use outer_io::{MemoryFiles, MemoryPart};
 use proof_files::{Finding, write_proof};
 use sample_graphs::graph;
 use std::alloc::{AllocError, Global};
 use std::test::Fail;
-use worked_examples::{Example, first_wrong};
+use worked_examples::{Example, InMemory, all_hold, files_in_memory};
 
 /// The problem.
 fn problem(alloc: Global) -> Option<Problem>
@@ -21,27 +20,8 @@ fn problem(alloc: Global) -> Option<Problem>
     Some(Problem::new(pattern, target, false))
 }
 
-/// A file with room for some bytes.
-fn part(alloc: Global, name: &str, bytes: Option<&[u8]>) -> Result<MemoryPart, AllocError> {
-    let bytes = match bytes {
-        Some(bytes) => Some(Vec::from_slice(alloc, bytes)?),
-        None => None,
-    };
-    let name = String::from_str(alloc, name)?;
-    Ok(MemoryPart {
-        name,
-        bytes,
-        room: 256,
-    })
-}
-
-/// A file `e` that holds something else, and a file `l` that is not there; one call fails.
-fn files(alloc: Global, failing: u64) -> Result<MemoryFiles, AllocError> {
-    let mut parts = Vec::new(alloc);
-    parts.push(part(alloc, "e", Some(b"other"))?)?;
-    parts.push(part(alloc, "l", None)?)?;
-    MemoryFiles::new(alloc, parts, Vec::from_slice(alloc, &[failing])?)
-}
+/// A file that holds something else, and one that is not there.
+static FILES: [InMemory; 2] = [InMemory("e", Some(b"other"), 256), InMemory("l", None, 256)];
 
 /// What the two files hold.
 type Contents = (Option<&'static [u8]>, Option<&'static [u8]>);
@@ -57,7 +37,7 @@ fn leaves(
     let Some(q) = problem(alloc) else {
         return Ok(false);
     };
-    let mut files = files(alloc, failing)?;
+    let mut files = files_in_memory(alloc, &FILES, failing)?;
     let finding = if q.is_embedding(map) {
         Finding::Embedding(map)
     } else {
@@ -107,8 +87,7 @@ static WHOLE: [Left; 3] = [
 
 #[test]
 fn files_hold_the_encoding_and_a_log(rt: HostRuntime) -> Result<(), Fail> {
-    assert_eq!(rt; first_wrong(&rt, rt.alloc(), &WHOLE)?, None);
-    Ok(())
+    all_hold(&rt, rt.alloc(), &WHOLE)
 }
 
 static FAULTY: [Left; 6] = [
@@ -132,6 +111,5 @@ static FAULTY: [Left; 6] = [
 
 #[test]
 fn each_call_fails_in_turn(rt: HostRuntime) -> Result<(), Fail> {
-    assert_eq!(rt; first_wrong(&rt, rt.alloc(), &FAULTY)?, None);
-    Ok(())
+    all_hold(&rt, rt.alloc(), &FAULTY)
 }

@@ -9,7 +9,7 @@ use pair_rows::{MOST_WORDS, PairKinds, PairRows};
 use sample_graphs::{APART, EDGE, FOUR_CYCLE, PATH, TRIANGLE};
 use std::alloc::{AllocError, Global};
 use std::test::Fail;
-use worked_examples::{Example, first_wrong};
+use worked_examples::{Example, all_hold};
 
 /// Two neighbours, of which the first has a loop, and a vertex apart.
 const LOOP: &[u8] = b"3 2 0 1 1 0 0";
@@ -116,8 +116,7 @@ static WORKED: [Worked; 7] = [
 
 #[test]
 fn rows_hold_what_goes_together(rt: HostRuntime) -> Result<(), Fail> {
-    assert_eq!(rt; first_wrong(&rt, rt.alloc(), &WORKED)?, None);
-    Ok(())
+    all_hold(&rt, rt.alloc(), &WORKED)
 }
 
 /// The same of texts with directions.
@@ -208,8 +207,7 @@ static DIRECTED: [Directed; 7] = [
 
 #[test]
 fn rows_hold_what_goes_together_along_edges(rt: HostRuntime) -> Result<(), Fail> {
-    assert_eq!(rt; first_wrong(&rt, rt.alloc(), &DIRECTED)?, None);
-    Ok(())
+    all_hold(&rt, rt.alloc(), &DIRECTED)
 }
 
 /// Whether `p` and `r` are asked nothing but distinct images in a cycle.
@@ -342,6 +340,5 @@ static NEAR: [Near; 5] = [
 
 #[test]
 fn few_neighbours_are_listed(rt: HostRuntime) -> Result<(), Fail> {
-    assert_eq!(rt; first_wrong(&rt, rt.alloc(), &NEAR)?, None);
-    Ok(())
+    all_hold(&rt, rt.alloc(), &NEAR)
 }

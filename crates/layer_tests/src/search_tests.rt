@@ -17,7 +17,7 @@ use restart_search::{Equipment, Outcome, Stage, Worker, WorkerSettings};
 use sample_graphs::{APART, EDGE, FOUR_CYCLE, PATH, TRIANGLE};
 use std::alloc::{AllocError, Global};
 use std::test::Fail;
-use worked_examples::{Example, first_wrong};
+use worked_examples::{Example, all_hold};
 use worker_gate::{AnswerCell, OpenGate};
 
 const TRIANGLE_AND_TAIL: &[u8] = b"4 1 1 3 0 2 3 2 1 3 2 1 2";
@@ -244,14 +244,12 @@ fn ends(
 
 #[test]
 fn small_problems_are_decided(rt: HostRuntime) -> Result<(), Fail> {
-    assert_eq!(rt; first_wrong(&rt, rt.alloc(), &SMALL)?, None);
-    Ok(())
+    all_hold(&rt, rt.alloc(), &SMALL)
 }
 
 #[test]
 fn small_problems_are_decided_along_edges(rt: HostRuntime) -> Result<(), Fail> {
-    assert_eq!(rt; first_wrong(&rt, rt.alloc(), &ALONG)?, None);
-    Ok(())
+    all_hold(&rt, rt.alloc(), &ALONG)
 }
 
 #[test]
@@ -269,8 +267,7 @@ fn a_budget_that_suffices_is_not_spent(rt: HostRuntime) {
 
 #[test]
 fn a_search_leaves_rows_and_goes_on_over_restarts(rt: HostRuntime) -> Result<(), Fail> {
-    assert_eq!(rt; first_wrong(&rt, rt.alloc(), &LONG)?, None);
-    Ok(())
+    all_hold(&rt, rt.alloc(), &LONG)
 }
 
 /// How a worker ends that looks at the cell, and how it ends when it is run again without one, if it was stopped.

@@ -14,10 +14,11 @@ use Rattle.dead_theory.specs.Changes.{IsInProblem, AreInProblem}
 use Rattle.dead_paths.proofs.Marking.{among_next}
 use Rattle.dead_paths.proofs.LineRefs.{refs_behind}
 
-pub below_next : (xs : List ℕ) (i v n : ℕ) → i < length xs → slice_index xs i ≡ v → v < n → ((p : ℕ) → is_among p (take i xs) ≡ true → p < n) → (p : ℕ) → is_among p (take (i + 1) xs) ≡ true → p < n
-below_next xs i v n below is small old p among =
+-- What is so of all up to one, and of this.
+pub all_next : (P : ℕ → Type 0) (xs : List ℕ) (i v : ℕ) → i < length xs → slice_index xs i ≡ v → P v → ((p : ℕ) → is_among p (take i xs) ≡ true → P p) → (p : ℕ) → is_among p (take (i + 1) xs) ≡ true → P p
+all_next P xs i v below is here old p among =
     let e : i + 1 ≡ suc i = omega arith in
-    elim (among_next xs i p below (sym (ap (λ (k : ℕ). is_among p (take k xs)) e) ∙ among)) [ inl h ↦ old p h | inr here ↦ omega (arith, here, is, small) ]
+    elim (among_next xs i p below (sym (ap (λ (k : ℕ). is_among p (take k xs)) e) ∙ among)) [ inl h ↦ old p h | inr same ↦ subst P (sym is ∙ same) here ]
 
 range_more : (q : Problem) (xs : List (ℕ × ℕ)) (x : ℕ × ℕ) → AreInRange q xs → x.0 < size q.pattern → x.1 < size q.target → AreInRange q (xs ++ x ∷ [])
 range_more q [] x all p t = (p, t, tt)

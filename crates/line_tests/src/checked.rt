@@ -7,7 +7,8 @@ ghost use Rattle.log_theory.specs.LogText.{AreRefs};
 ghost use Rattle.log_theory.specs.Lookups.{is_among};
 ghost use Rattle.nogood_book.specs.Rows.{Sound, AreInRange};
 ghost use Rattle.nogood_book.specs.Places.{IsNogoodRow};
-ghost use Rattle.propagation.specs.Recording.{change_by, changes_of, set_at};
+ghost use Rattle.propagation.specs.Recording.{change_by, changes_of, set_at, IsIn};
+ghost use Rattle.propagation.specs.Telling.{Joins};
 ghost use Rattle.dead_theory.specs.Changes.{IsInBy, IsInProblem, AreInProblem};
 ghost use Rattle.dead_paths.specs.Explaining.{end_by, IsEndIn};
 
@@ -73,11 +74,18 @@ fn are_below(numbers: &[u16], limit: u16) -> bool
     true
 }
 
-/// Whether a set stands among the numbers, and is one of vertices of the pattern and of values.
+/// Whether a set stands among the numbers.
+fn is_placed(numbers: &[u16], place: Place) -> bool
+    ensures { result ≡ true → IsIn place (length numbers.now) }
+{
+    place.start <= place.middle && place.middle <= place.end && place.end <= numbers.len()
+}
+
+/// The same, and it is one of vertices of the pattern and of values.
 fn is_set(q: &Problem, numbers: &[u16], place: Place) -> bool
     ensures { result ≡ true → IsInProblem q.now (change_by numbers.now (What.Others place) 0) }
 {
-    if place.start > place.middle || place.middle > place.end || place.end > numbers.len() {
+    if !is_placed(numbers, place) {
         return false;
     }
     are_below(&numbers[place.start..place.middle], q.pattern().size())
@@ -91,6 +99,38 @@ fn leads(q: &Problem, direction: Direction, p: u16, r: u16) -> bool
     ensures { result ≡ is_some (edge (turned direction q.now.pattern) p r) }
 {
     has_bit(q.pattern().row_by(direction, p), usize::from(r))
+}
+
+/// Whether edges of the pattern lead from a vertex to all of these, in this direction, none of which is itself.
+fn leads_to_all(q: &Problem, direction: Direction, p: u16, vertices: &[u16]) -> bool
+    requires { p < size q.now.pattern }
+    ensures { result ≡ true → (r : ℕ) → is_among r vertices.now ≡ true → Joins q.now direction p r }
+{
+    for r in vertices {
+        if *r >= q.pattern().size() || *r == p || !leads(q, direction, p, *r) {
+            return false;
+        }
+    }
+    true
+}
+
+/// Whether a set stands among the numbers that may be one of neighbours of the vertex, beside it at the value.
+fn is_crowd(
+    q: &Problem,
+    numbers: &[u16],
+    p: u16,
+    t: u16,
+    direction: Direction,
+    place: Place,
+) -> bool
+    ensures { result ≡ true
+        → IsInProblem q.now (change_by numbers.now (What.Over p t direction place) 0) }
+{
+    if p >= q.pattern().size() || t >= q.target().size() || !is_placed(numbers, place) {
+        return false;
+    }
+    leads_to_all(q, direction, p, &numbers[place.start..place.middle])
+        && are_below(&numbers[place.middle..place.end], q.target().size())
 }
 
 /// Whether the numbers of a cause, and the vertex whose values it took, are in range.
@@ -118,6 +158,7 @@ fn is_change(q: &Problem, numbers: &[u16], what: What, from: Mark) -> bool
     match what {
         What::One(r, cause) => is_cause(q, cause, r),
         What::Others(place) => is_set(q, numbers, place),
+        What::Over(p, t, direction, place) => is_crowd(q, numbers, p, t, direction, place),
     }
 }
 

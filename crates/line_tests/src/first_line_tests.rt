@@ -11,7 +11,7 @@ use pb_encoding::Encoding;
 use sample_graphs::{PATH, TRIANGLE};
 use std::alloc::{AllocError, Global};
 use std::test::Fail;
-use worked_examples::{Example, first_wrong};
+use worked_examples::{Example, all_hold};
 
 /// The lines for the first domains of so many pattern vertices, in order.
 fn made(alloc: Global, q: &Problem, lines: &Encoding, count: u16) -> Result<Journal, AllocError>
@@ -213,8 +213,7 @@ p 1.9 1.2 1.6 + 1.8 + ;
 
 #[test]
 fn a_first_domain_is_one_line(rt: HostRuntime) -> Result<(), Fail> {
-    assert_eq!(rt; first_wrong(&rt, rt.alloc(), &FIRSTS)?, None);
-    Ok(())
+    all_hold(&rt, rt.alloc(), &FIRSTS)
 }
 
 /// Whether nothing is made for the first vertex without a log.

@@ -18,7 +18,7 @@ use row_lines::{PlacedPair, RowLines};
 use std::alloc::{AllocError, Global};
 
 /// The names of the lines that were made so far for a problem. Cost of a line that is there: one step for one of two vertices, which is found
-/// by hash, and for a set a sort of its vertices, one step for each vertex and value, and the logarithm of how many sets there are.
+/// by hash, and for a set, found so too, a sort of its vertices and one step for each vertex and value.
 #[derive(Drop)]
 pub struct MadeLines<'a> {
     problem: &'a Problem,

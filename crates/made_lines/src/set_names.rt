@@ -8,7 +8,7 @@ ghost use Rattle.made_lines.specs.Sets.{counted, counted_at, HasName, with_set};
 use log_theory::Name;
 use propagation::Place;
 use std::alloc::{AllocError, Global};
-use std::collections::BTreeMap;
+use std::collections::HashMap;
 use std::marker::Model;
 
 /// Where a set stands in the list of numbers, and the name of its line.
@@ -24,7 +24,7 @@ pub(crate) struct Seat {
 pub(crate) struct SetNames {
     numbers: Vec<u16>,
     seats: Vec<Seat>,
-    by_mixed: BTreeMap<u64, usize>,
+    by_mixed: HashMap<u64, usize>,
 }
 
 impl Model for SetNames {
@@ -86,11 +86,11 @@ impl SetNames {
         SetNames {
             numbers: Vec::new(alloc),
             seats: Vec::new(alloc),
-            by_mixed: BTreeMap::new(alloc),
+            by_mixed: HashMap::new(alloc),
         }
     }
 
-    /// The name of a set's line, where the set is found. Cost: one step for each of its vertices and values, and logarithmic in how many sets
+    /// The name of a set's line, where the set is found. Cost: one step for each of its vertices and values, however many sets
     /// there are.
     pub(crate) fn find(&self, vertices: &[u16], values: &[u16]) -> Option<Name>
         ensures name { IfSome result (HasName self.now (counted vertices.now values.now)) }

@@ -60,6 +60,12 @@ module _ (q : Problem) (p t r u : ℕ) (p_in : p < size q.pattern) (r_in : r < s
   both_agree : Compatible q p t r u → (edges_agree q p t r u ≡ true) × (edges_agree (reversed_problem q) p t r u ≡ true)
   both_agree c = (agreed q.induced (edge q.pattern p r) (edge q.target t u) c.out, back_is ∙ agreed q.induced (edge q.pattern r p) (edge q.target u t) c.back)
 
+  -- Where edges stand both ways, what is right along them is right against them.
+  mutual_back : AreMutual q → edges_agree (reversed_problem q) p t r u ≡ edges_agree q p t r u
+  mutual_back ways =
+      back_is ∙ ap (λ (b : Bool). agree b q.induced (is_some (edge q.target u t))) (ways.pattern_mutual.both r p r_in p_in)
+      ∙ ap (λ (b : Bool). agree (is_some (edge q.pattern p r)) q.induced b) (ways.target_mutual.both u t u_in t_in)
+
   -- Without an edge between p and r nothing more is asked.
   free : are_joined q p r ≡ false → (t ≡ u → ⊥) → edges_agree q p t r u ≡ true → edges_agree (reversed_problem q) p t r u ≡ true → Compatible q p t r u
   free apart other along against =
@@ -77,6 +83,22 @@ module _ (q : Problem) (p t r u : ℕ) (p_in : p < size q.pattern) (r_in : r < s
     out = zeros_match q.induced (edge q.pattern p r) (edge q.target t u) (λ l. zero.pattern_zeros.zeros p r l p_in r_in) (λ l. zero.target_zeros.zeros t u l t_in u_in) along;
     back = zeros_match q.induced (edge q.pattern r p) (edge q.target u t) (λ l. zero.pattern_zeros.zeros r p l r_in p_in) (λ l. zero.target_zeros.zeros u t l u_in t_in) (sym back_is ∙ against);
   }
+
+-- So where all that a row holds is right along edges, nothing is lost against them.
+pub stays_back : (q : Problem) (p t r u : ℕ) → p < size q.pattern → r < size q.pattern → t < size q.target → (row : List ℕ) → ((v : ℕ) → has row v ≡ true → v < size q.target) → ((v : ℕ) → has row v ≡ true → edges_agree q p t r v ≡ true)
+    → AreMutual q → has row u ≡ (has row u && edges_agree (reversed_problem q) p t r u)
+stays_back q p t r u p_in r_in t_in row within along ways = by (has row u) refl
+  where
+    back : Bool
+    back = edges_agree (reversed_problem q) p t r u
+
+    by : (b : Bool) → has row u ≡ b → has row u ≡ (has row u && back)
+    by true h = h ∙ sym (ap (λ (b : Bool). b && back) h ∙ mutual_back q p t r u p_in r_in t_in (within u h) ways ∙ along u h)
+    by false h = h ∙ sym (ap (λ (b : Bool). b && back) h)
+
+-- What passed two tests passed each.
+pub kept_both : (a b c : Bool) → c ≡ (a && b) → c ≡ true → (a ≡ true) × (b ≡ true)
+kept_both a b c is h = and_true a b (sym is ∙ h)
 
 -- What is left after the edges of each direction, then without t.
 module _ (q : Problem) (p t r : ℕ) (old out near mid : List ℕ) (p_in : p < size q.pattern) (r_in : r < size q.pattern) (t_in : t < size q.target) (within : (u : ℕ) → has old u ≡ true → u < size q.target)

@@ -1,3 +1,4 @@
 pub mod Marks
 pub mod Agreeing
 pub mod Others
+pub mod Enough

@@ -1,13 +1,13 @@
 //! What a vertex at its place leaves to another.
 
-ghost use Rattle.std.specs.Prelude.{◌≡◌, ℕ, ◌<◌, ◌&&◌, ◌==◌, ◌⊎◌, true, false, length, IfOk, OnOk};
-ghost use Rattle.graph_theory.specs.Graph.{size};
+ghost use Rattle.std.specs.Prelude.{◌≡◌, ℕ, ◌*◌, ◌<◌, ◌≤◌, ◌&&◌, ◌==◌, ◌⊎◌, true, false, is_some, length, IfOk, OnOk};
+ghost use Rattle.graph_theory.specs.Graph.{size, edge};
 ghost use Rattle.graph_theory.specs.Neighbours.{common};
-ghost use Rattle.graph_theory.specs.Reversed.{turned, turned_problem};
+ghost use Rattle.graph_theory.specs.Reversed.{turned, turned_problem, reversed_problem};
 ghost use Rattle.bit_rows.specs.BitRows.{has, words_for};
 ghost use Rattle.needed_values.specs.Consistent.{edges_agree, are_joined, HaveZeroLabels, Leaves, AllConsistent, Goes, AllGo, Shares, AllShare};
 
-use bit_rows::{and_into, and_not_into, has_bit, keep_counted, next_member, unset_bit};
+use bit_rows::{and_into, and_not_into, count_both, has_bit, keep_counted, next_member, unset_bit};
 use common_neighbour::Counts;
 use graph_rows::{Graph, Problem};
 use graph_theory::direction::Direction;
@@ -31,6 +31,24 @@ fn keep_near(q: &Problem, direction: Direction, p: u16, t: u16, r: u16, row: &mu
     } else if q.induced() {
         and_not_into(row, q.target().row_by(direction, t));
     }
+}
+
+/// Keeps of a row of values, all of which are right along edges, those that are against them. Cost: one step for each word; where edges are
+/// known to stand both ways all are, and it takes one step.
+fn keep_back(q: &Problem, p: u16, t: u16, r: u16, row: &mut [u64])
+    requires p_in { p < size q.now.pattern }
+    requires t_in { t < size q.now.target }
+    requires r_in { r < size q.now.pattern }
+    requires long { length row.old ≡ words_for (size q.now.target) }
+    requires within { (u : ℕ) → has row.old u ≡ true → u < size q.now.target }
+    requires along { (u : ℕ) → has row.old u ≡ true → edges_agree q.now p t r u ≡ true }
+    ensures { (u : ℕ) → has row.new u
+        ≡ (has row.old u && edges_agree (reversed_problem q.now) p t r u) }
+{
+    if q.is_mutual() {
+        return;
+    }
+    keep_near(q, Direction::In, p, t, r, row);
 }
 
 /// Keeps of a row of values those that go together with `p` at `t`, each of them tested. Cost: four words for each value.
@@ -84,7 +102,7 @@ pub fn keep_compatible(q: &Problem, p: u16, t: u16, r: u16, row: &mut [u64])
     ensures all { AllGo q.now p t r row.new }
 {
     keep_near(q, Direction::Out, p, t, r, row);
-    keep_near(q, Direction::In, p, t, r, row);
+    keep_back(q, p, t, r, row);
     unset_bit(row, usize::from(t));
     if asks_labels(q, p, r) {
         keep_tested(q, p, t, r, row);
@@ -198,35 +216,67 @@ pub fn keep_consistent(
     keep_sharing_both(alloc, q, p, t, r, row, counts)
 }
 
-/// Whether each value of a row shares so many neighbours with `t` in a direction. Cost: where none need be shared one step, else one for each
-/// word of a row, for each value up to the first that does not.
-fn all_share(
-    alloc: Global,
+/// Whether both rows hold the value.
+fn in_both(xs: &[u64], ys: &[u64], value: usize) -> bool
+    requires x_in { value < 64 * length xs.now }
+    requires y_in { value < 64 * length ys.now }
+    ensures { result ≡ (has xs.now value && has ys.now value) }
+{
+    has_bit(xs, value) && has_bit(ys, value)
+}
+
+/// Whether `u` shares so many neighbours with `t`, whose row of neighbours is `near`. Both rows may hold the two themselves; with two more
+/// than need be shared that is not looked at. Cost: one step for each word of a row.
+#[inline(always)]
+fn shares_enough(
     target: &Graph,
     direction: Direction,
+    near: &[u64],
     t: u16,
+    u: u16,
     shared: u16,
-    row: &[u64],
-) -> Result<bool, AllocError>
+) -> bool
+    requires t_in { t < size target.now }
+    requires u_in { u < size target.now }
+    requires apart { t ≡ u → ⊥ }
+    requires long { length near.now ≡ words_for (size target.now) }
+    requires near { (v : ℕ)
+        → has near.now v ≡ is_some (edge (turned direction target.now) t v) }
+    ensures { result ≡ true → shared ≤ common (turned direction target.now) t u }
+{
+    let row = target.row_by(direction, u);
+    let both = count_both(near, row, usize::from(target.size()));
+    let least = usize::from(shared);
+    if both >= least + 2 {
+        return true;
+    }
+    let itself = in_both(near, row, usize::from(t));
+    let other = in_both(near, row, usize::from(u));
+    both >= least + usize::from(itself) + usize::from(other)
+}
+
+/// Whether each value of a row shares so many neighbours with `t` in a direction. Cost: where none need be shared one step, else one for each
+/// word of a row, for each value up to the first that does not.
+fn all_share(target: &Graph, direction: Direction, t: u16, shared: u16, row: &[u64]) -> bool
     requires t_in { t < size target.now }
     requires long { length row.now ≡ words_for (size target.now) }
     requires within { (u : ℕ) → has row.now u ≡ true → u < size target.now }
     requires other { has row.now t ≡ false }
-    ensures { IfOk result (λ b. AllShare b (turned direction target.now) t shared row.now) }
+    ensures { AllShare result (turned direction target.now) t shared row.now }
 {
     let _size = target.size();
     if shared == 0 {
-        return Ok(true);
+        return true;
     }
-    let counts = Counts::new(alloc, target, direction)?;
+    let near = target.row_by(direction, t);
     let mut u = next_member(row, 0);
     while u < 64 * row.len() {
-        if counts.count(t, u as u16) < shared {
-            return Ok(false);
+        if !shares_enough(target, direction, near, t, u as u16, shared) {
+            return false;
         }
         u = next_member(row, u + 1);
     }
-    Ok(true)
+    true
 }
 
 /// Whether each value of a row of `r`, all of which go together with `p` at `t`, is consistent with it. Where edges are known to stand both ways
@@ -250,7 +300,7 @@ pub fn are_all_consistent(
 {
     let (pattern, target) = (q.pattern(), q.target());
     let out = shared_by(alloc, pattern, Direction::Out, p, r)?;
-    let along = all_share(alloc, target, Direction::Out, t, out, row)?;
+    let along = all_share(target, Direction::Out, t, out, row);
     if q.is_mutual() {
         return Ok(along);
     }
@@ -258,5 +308,5 @@ pub fn are_all_consistent(
         return Ok(false);
     }
     let back = shared_by(alloc, pattern, Direction::In, p, r)?;
-    all_share(alloc, target, Direction::In, t, back, row)
+    Ok(all_share(target, Direction::In, t, back, row))
 }

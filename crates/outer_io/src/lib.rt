@@ -25,8 +25,8 @@ pub mod reading;
 pub mod real_files;
 pub mod real_sink;
 pub mod sink;
-#[cfg(test)]
-mod tests;
+// Its tests need no more than what it offers: they are in `proof_tests`, since a crate with tests of its own is proved twice,
+// and all that reads or writes stands on this one.
 pub mod text_buffer;
 
 pub use fault::{Failed, LoadFault, Purpose, PutFault};

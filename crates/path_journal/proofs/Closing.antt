@@ -18,7 +18,7 @@ use Rattle.nogood_book.specs.declared.row.Row.{Row}
 use Rattle.nogood_book.specs.Rows.{path_at, Sound, AreInRange}
 use Rattle.propagation.specs.declared.change.Cause.TheVariants as cause
 use Rattle.propagation.specs.declared.change.Failure.TheVariants as failure
-use Rattle.propagation.specs.Recording.{Change, LeftOne, LeftOthers, CountedSet}
+use Rattle.propagation.specs.Recording.{Change, LeftOne, LeftOthers, LeftOver, CountedSet}
 use Rattle.dead_theory.specs.Changes.{AreInProblem, IsGuessed, AreGuessed}
 use Rattle.dead_theory.specs.Ends.{Whole, Short, EndsBy}
 use Rattle.dead_theory.specs.Laws.{Dies}
@@ -189,6 +189,7 @@ told_guessed xs (c ∷ cs) h = (one c (λ p t from e. h p t from (inl e)), told_
     one (LeftOne r (cause.Nogood n) from) f = tt
     one (LeftOne r (cause.Edge p u direction) from) f = tt
     one (LeftOthers vertices values from) f = tt
+    one (LeftOver p t direction vertices values from) f = tt
 
 -- The same with what is kept.
 pub ends_kept : (q : Problem) (rows : List Row) (changes : Option (List Change)) (cs : List Change) (old short : Option CountedSet) (a : Account) (end : DeadEnd) → EndsPath q rows changes old a end

@@ -4,6 +4,7 @@ use memory_runs::{CLEAN, Failing, Ran, run_over};
 use std::alloc::{AllocError, Global};
 use std::test::Fail;
 use std::thread::Threads;
+use worked_examples::none_wrong;
 
 /// Runs the words over no file, with this call on the output failing.
 fn run_demo<R: Threads + Sync>(
@@ -88,8 +89,7 @@ static SHOWN: [Shown; 4] = [
 
 #[test]
 fn both_problems_of_a_seed_are_decided(rt: HostRuntime) -> Result<(), Fail> {
-    assert_eq!(rt; first_wrong(&rt, rt.alloc(), &SHOWN)?, None);
-    Ok(())
+    none_wrong(first_wrong(&rt, rt.alloc(), &SHOWN)?)
 }
 
 /// Whether the cycle was left unknown by each of three workers, and the planted pattern was found or left unknown too.

@@ -4,6 +4,7 @@ use memory_runs::{EDGE, run_pair};
 use std::alloc::{AllocError, Global};
 use std::test::Fail;
 use std::thread::Threads;
+use worked_examples::none_wrong;
 
 const EDGE_INTO_EDGE: &str = "* #variable= 4 #constraint= 10
 +1 x1 +1 x2 >= 1 ;
@@ -162,6 +163,5 @@ static ENCODED: [Encoded; 11] = [
 
 #[test]
 fn each_problem_has_its_text(rt: HostRuntime) -> Result<(), Fail> {
-    assert_eq!(rt; first_wrong(&rt, rt.alloc(), &ENCODED)?, None);
-    Ok(())
+    none_wrong(first_wrong(&rt, rt.alloc(), &ENCODED)?)
 }

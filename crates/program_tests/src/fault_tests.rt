@@ -4,6 +4,7 @@ use memory_runs::{CLEAN, EDGE, FOUR_CYCLE, Failing, Ran, TRIANGLE, part, parts, 
 use std::alloc::{AllocError, Global};
 use std::test::Fail;
 use std::thread::Threads;
+use worked_examples::none_wrong;
 
 /// Runs the program over an edge as pattern and target, a good and a bad mapping of it, an encoding with a good and a
 /// bad log of each kind, and faulty graphs, with this call failing.
@@ -130,8 +131,7 @@ static OF_FILES: [OfFiles; 5] = [
 
 #[test]
 fn each_fault_of_the_files_is_told(rt: HostRuntime) -> Result<(), Fail> {
-    assert_eq!(rt; first_wrong_of_files(&rt, rt.alloc(), &OF_FILES)?, None);
-    Ok(())
+    none_wrong(first_wrong_of_files(&rt, rt.alloc(), &OF_FILES)?)
 }
 
 /// Words, and the number of the first call on the output that a run no longer makes.
@@ -212,8 +212,7 @@ static OF_OUTPUT: [OfOutput; 5] = [
 
 #[test]
 fn each_fault_of_the_output_is_told(rt: HostRuntime) -> Result<(), Fail> {
-    assert_eq!(rt; first_wrong_of_output(&rt, rt.alloc(), &OF_OUTPUT)?, None);
-    Ok(())
+    none_wrong(first_wrong_of_output(&rt, rt.alloc(), &OF_OUTPUT)?)
 }
 
 /// Words, and the status with which a run ends wherever a call on its error stream fails.
@@ -335,8 +334,7 @@ static OF_ERRORS: [OfErrors; 16] = [
 
 #[test]
 fn a_fault_of_the_error_stream_changes_no_status(rt: HostRuntime) -> Result<(), Fail> {
-    assert_eq!(rt; first_wrong_of_errors(&rt, rt.alloc(), &OF_ERRORS)?, None);
-    Ok(())
+    none_wrong(first_wrong_of_errors(&rt, rt.alloc(), &OF_ERRORS)?)
 }
 
 /// Whether a front of a target's text ends early, in place of this word.
@@ -375,6 +373,6 @@ fn first_front_that_is_read<R: Threads + Sync>(
 fn each_front_of_a_graph_ends_early(rt: HostRuntime) -> Result<(), Fail> {
     let read = first_front_that_is_read(&rt, rt.alloc(), FOUR_CYCLE.as_bytes())?;
     // All 13 words, without the last line's end.
-    assert_eq!(rt; read, 25);
+    assert!(rt; read == 25);
     Ok(())
 }

@@ -4,6 +4,7 @@ use memory_runs::{CLEAN, part, run_over, run_pair};
 use std::alloc::{AllocError, Global};
 use std::test::Fail;
 use std::thread::Threads;
+use worked_examples::none_wrong;
 
 /// Words, the texts in the files `p` and `t`, and the error line, where a text is refused.
 struct Refused {
@@ -108,8 +109,7 @@ static REFUSED: [Refused; 11] = [
 
 #[test]
 fn each_bad_text_is_refused(rt: HostRuntime) -> Result<(), Fail> {
-    assert_eq!(rt; first_wrong_refused(&rt, rt.alloc(), &REFUSED)?, None);
-    Ok(())
+    none_wrong(first_wrong_refused(&rt, rt.alloc(), &REFUSED)?)
 }
 
 /// Whether a file that the words name is not there.

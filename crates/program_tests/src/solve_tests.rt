@@ -4,6 +4,7 @@ use memory_runs::{EDGE, FOUR_CYCLE, Ran, TRIANGLE, run_pair, run_three};
 use std::alloc::{AllocError, Global};
 use std::test::Fail;
 use std::thread::Threads;
+use worked_examples::none_wrong;
 
 /// A path of three vertices.
 const PATH: &str = "3\n1 1\n2 0 2\n1 1\n";
@@ -214,8 +215,7 @@ static ANSWERED: [Answered; 24] = [
 
 #[test]
 fn each_pair_has_its_answer(rt: HostRuntime) -> Result<(), Fail> {
-    assert_eq!(rt; first_wrong_answered(&rt, rt.alloc(), &ANSWERED)?, None);
-    Ok(())
+    none_wrong(first_wrong_answered(&rt, rt.alloc(), &ANSWERED)?)
 }
 
 /// Words by which a triangle is not found in a cycle of four vertices.
@@ -266,8 +266,7 @@ static SPENT: [Spent; 4] = [
 
 #[test]
 fn each_thread_leaves_an_account(rt: HostRuntime) -> Result<(), Fail> {
-    assert_eq!(rt; first_wrong_spent(&rt, rt.alloc(), &SPENT)?, None);
-    Ok(())
+    none_wrong(first_wrong_spent(&rt, rt.alloc(), &SPENT)?)
 }
 
 /// So many vertices without an edge.
@@ -392,6 +391,5 @@ static EMBEDDED: [Embedded; 8] = [
 
 #[test]
 fn what_solve_prints_verifies(rt: HostRuntime) -> Result<(), Fail> {
-    assert_eq!(rt; first_wrong_embedded(&rt, rt.alloc(), &EMBEDDED)?, None);
-    Ok(())
+    none_wrong(first_wrong_embedded(&rt, rt.alloc(), &EMBEDDED)?)
 }

@@ -4,6 +4,7 @@ use memory_runs::{EDGE, run_three};
 use std::alloc::{AllocError, Global};
 use std::test::Fail;
 use std::thread::Threads;
+use worked_examples::none_wrong;
 
 /// Words, what the files `p`, `t` and `m` hold, and what a run ends with.
 struct Verified {
@@ -267,6 +268,5 @@ static VERIFIED: [Verified; 25] = [
 
 #[test]
 fn each_mapping_has_its_answer(rt: HostRuntime) -> Result<(), Fail> {
-    assert_eq!(rt; first_wrong(&rt, rt.alloc(), &VERIFIED)?, None);
-    Ok(())
+    none_wrong(first_wrong(&rt, rt.alloc(), &VERIFIED)?)
 }

@@ -4,6 +4,7 @@ use memory_runs::run_pair;
 use std::alloc::{AllocError, Global};
 use std::test::Fail;
 use std::thread::Threads;
+use worked_examples::none_wrong;
 
 /// Words that are no command.
 struct NoCommand(&'static str);
@@ -49,8 +50,7 @@ static NO_COMMAND: [NoCommand; 16] = [
 
 #[test]
 fn other_words_are_no_command(rt: HostRuntime) -> Result<(), Fail> {
-    assert_eq!(rt; first_wrong(&rt, rt.alloc(), &NO_COMMAND)?, None);
-    Ok(())
+    none_wrong(first_wrong(&rt, rt.alloc(), &NO_COMMAND)?)
 }
 
 /// Words that name a target by so many bytes.

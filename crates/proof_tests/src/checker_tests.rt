@@ -6,11 +6,10 @@ use crate::worked_models::{THREE_INTO_TWO, TRIANGLE_INTO_CYCLE, TWO_LINES};
 use Expected::{Is, Stops};
 use log_theory::{Cause, Verdict};
 use opb_text::{Model, read_opb};
-use outer_io::{MemoryFiles, MemoryPart};
 use proof_checker::{Checked, Checker, check, check_file};
 use std::alloc::{AllocError, Global};
 use std::test::Fail;
-use worked_examples::{Example, first_wrong};
+use worked_examples::{Example, InMemory, all_hold, files_in_memory};
 
 /// What is expected of a log.
 #[derive(Clone, Copy)]
@@ -93,8 +92,7 @@ static OVER_TWO_LINES: [Shows; 36] = [
 
 #[test]
 fn logs_over_two_lines(rt: HostRuntime) -> Result<(), Fail> {
-    assert_eq!(rt; first_wrong(&rt, rt.alloc(), &OVER_TWO_LINES)?, None);
-    Ok(())
+    all_hold(&rt, rt.alloc(), &OVER_TWO_LINES)
 }
 
 /// A model's text, a whole log, and its verdict.
@@ -168,8 +166,7 @@ static SMALL_MODELS: [Whole; 8] = [
 
 #[test]
 fn head_lines_and_small_models(rt: HostRuntime) -> Result<(), Fail> {
-    assert_eq!(rt; first_wrong(&rt, rt.alloc(), &SMALL_MODELS)?, None);
-    Ok(())
+    all_hold(&rt, rt.alloc(), &SMALL_MODELS)
 }
 
 /// Three vertices go to two: the sum of all constraints, divided by three.
@@ -181,8 +178,7 @@ static COUNTED: [Whole; 1] = [Whole {
 
 #[test]
 fn counting_refutes_three_into_two(rt: HostRuntime) -> Result<(), Fail> {
-    assert_eq!(rt; first_wrong(&rt, rt.alloc(), &COUNTED)?, None);
-    Ok(())
+    all_hold(&rt, rt.alloc(), &COUNTED)
 }
 
 /// Coefficients that sum to exactly 2^31, and to one less.
@@ -228,8 +224,7 @@ static AROUND_2_31: [Whole; 6] = [
 
 #[test]
 fn coefficients_around_2_31(rt: HostRuntime) -> Result<(), Fail> {
-    assert_eq!(rt; first_wrong(&rt, rt.alloc(), &AROUND_2_31)?, None);
-    Ok(())
+    all_hold(&rt, rt.alloc(), &AROUND_2_31)
 }
 
 const WHOLE_LOG: &[u8] = b"embedding proof 1
@@ -269,11 +264,9 @@ fn first_front_that_ends(alloc: Global, model: &Model, log: &[u8]) -> usize {
 fn each_front_of_an_accepted_log_ends_early(rt: HostRuntime) -> Result<(), Fail> {
     let alloc = rt.alloc();
     let model = read_opb(alloc, TRIANGLE_INTO_CYCLE).ok().ok_or("no model")?;
-    assert!(rt; check(alloc, &model, WHOLE_LOG) == Verdict::Unsatisfiable);
-    assert_eq!(rt;
-        first_front_that_ends(alloc, &model, WHOLE_LOG),
-        WHOLE_LOG.len()
-    );
+    let is_accepted = check(alloc, &model, WHOLE_LOG) == Verdict::Unsatisfiable;
+    let front = first_front_that_ends(alloc, &model, WHOLE_LOG);
+    assert!(rt; is_accepted && front == WHOLE_LOG.len());
     Ok(())
 }
 
@@ -293,8 +286,7 @@ static FROM_TEXTS: [Whole; 2] = [
 
 #[test]
 fn a_model_from_its_text(rt: HostRuntime) -> Result<(), Fail> {
-    assert_eq!(rt; first_wrong(&rt, rt.alloc(), &FROM_TEXTS)?, None);
-    Ok(())
+    all_hold(&rt, rt.alloc(), &FROM_TEXTS)
 }
 
 /// The verdict of a log that is fed by pieces of so many bytes.
@@ -414,20 +406,13 @@ impl<R> Example<R> for InFile {
         let Ok(model) = read_opb(alloc, TWO_LINES) else {
             return Ok(false);
         };
-        let mut parts = Vec::new(alloc);
-        parts.push(MemoryPart {
-            name: String::from_str(alloc, "l")?,
-            bytes: Some(Vec::from_slice(alloc, self.log.as_bytes())?),
-            room: 0,
-        })?;
-        let failing = Vec::from_slice(alloc, &[self.failing])?;
-        let mut files = MemoryFiles::new(alloc, parts, failing)?;
+        let file = InMemory("l", Some(self.log.as_bytes()), 0);
+        let mut files = files_in_memory(alloc, &[file], self.failing)?;
         Ok(check_file(alloc, &model, &mut files, "l", self.most) == self.expected)
     }
 }
 
 #[test]
 fn logs_in_files(rt: HostRuntime) -> Result<(), Fail> {
-    assert_eq!(rt; first_wrong(&rt, rt.alloc(), &IN_FILES)?, None);
-    Ok(())
+    all_hold(&rt, rt.alloc(), &IN_FILES)
 }

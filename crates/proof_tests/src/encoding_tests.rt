@@ -11,7 +11,7 @@ use pb_encoding::Encoding;
 use sample_graphs::{EDGE, FOUR_CYCLE, TRIANGLE, graph_in};
 use std::alloc::{AllocError, Global};
 use std::test::Fail;
-use worked_examples::{Example, first_wrong};
+use worked_examples::{Example, all_hold};
 
 const SECOND_WITH_LOOP: &[u8] = b"2 0 1 1";
 
@@ -262,8 +262,7 @@ static ENCODED: [Encoded; 11] = [
 
 #[test]
 fn makes_each_line(rt: HostRuntime) -> Result<(), Fail> {
-    assert_eq!(rt; first_wrong(&rt, rt.alloc(), &ENCODED)?, None);
-    Ok(())
+    all_hold(&rt, rt.alloc(), &ENCODED)
 }
 
 const LABELLED_EDGE: &str = "* #variable= 4 #constraint= 12
@@ -357,45 +356,110 @@ fn lines_of(
     }
 }
 
-#[test]
-fn numbers_lines_of_a_triangle(rt: HostRuntime) -> Result<(), Fail> {
-    let q = problem(rt.alloc(), TRIANGLE, FOUR_CYCLE, LadKind::Lad, false).ok_or("no problem")?;
-    let encoding = Encoding::new(rt.alloc(), &q)?;
-    assert_eq!(rt; encoding.len(), 34);
-    assert_eq!(rt; lines_of(&encoding, &q, 2, 3), Some((5, 6, 10, None)));
-    assert_eq!(rt; edge_of(&encoding, &q, 0, 2, 0), Some(15));
-    assert_eq!(rt; edge_of(&encoding, &q, 1, 2, 1), Some(24));
-    assert_eq!(rt; edge_of(&encoding, &q, 2, 1, 3), Some(34));
-    assert_eq!(rt; edge_of(&encoding, &q, 1, 1, 0), None);
-    Ok(())
+/// What has a number in an encoding.
+enum Line {
+    /// The lines of a vertex at a value, and their numbers.
+    Of(u16, u16, (u64, u64, u64, Option<u64>)),
+    /// The line of two vertices with an edge at a value of the first.
+    Edge(u16, u16, u16, Option<u64>),
+    /// The same of two without an edge.
+    NonEdge(u16, u16, u16, Option<u64>),
 }
 
-#[test]
-fn numbers_lines_of_an_induced_copy(rt: HostRuntime) -> Result<(), Fail> {
-    let q = problem(
-        rt.alloc(),
-        b"3 1 1 1 0 0",
-        SECOND_WITH_LOOP,
-        LadKind::Lad,
-        true,
-    );
-    let q = q.ok_or("no problem")?;
-    let encoding = Encoding::new(rt.alloc(), &q)?;
-    assert_eq!(rt; encoding.len(), 23);
-    assert_eq!(rt; lines_of(&encoding, &q, 2, 1), Some((5, 6, 8, Some(11))));
-    assert_eq!(rt; edge_of(&encoding, &q, 1, 0, 1), Some(15));
-    assert_eq!(rt; non_edge_of(&encoding, &q, 0, 2, 0), Some(16));
-    assert_eq!(rt; non_edge_of(&encoding, &q, 2, 1, 1), Some(23));
-    Ok(())
+impl Line {
+    /// Whether it has this number.
+    fn is_numbered(&self, encoding: &Encoding, q: &Problem) -> bool
+        requires { encoding.now ≡ q.now }
+    {
+        match *self {
+            Line::Of(p, t, numbers) => lines_of(encoding, q, p, t) == Some(numbers),
+            Line::Edge(p, r, t, number) => edge_of(encoding, q, p, r, t) == number,
+            Line::NonEdge(p, r, t, number) => non_edge_of(encoding, q, p, r, t) == number,
+        }
+    }
 }
 
+/// Whether each has its number.
+fn are_numbered(encoding: &Encoding, q: &Problem, lines: &[Line]) -> bool
+    requires { encoding.now ≡ q.now }
+{
+    for line in lines {
+        if !line.is_numbered(encoding, q) {
+            return false;
+        }
+    }
+    true
+}
+
+/// The format of two graphs, the graphs, whether the copy is to be induced, how many lines the encoding has, and numbers of lines.
+struct Numbered {
+    kind: LadKind,
+    pattern: &'static [u8],
+    target: &'static [u8],
+    induced: bool,
+    len: u64,
+    lines: &'static [Line],
+}
+
+impl Numbered {
+    /// Whether the encoding of the problem has these numbers.
+    fn is_of(&self, alloc: Global, q: &Problem) -> Result<bool, AllocError> {
+        let encoding = Encoding::new(alloc, q)?;
+        Ok(encoding.len() == self.len && are_numbered(&encoding, q, self.lines))
+    }
+}
+
+impl<R> Example<R> for Numbered {
+    fn holds(&self, _rt: &R, alloc: Global) -> Result<bool, AllocError> {
+        match problem(alloc, self.pattern, self.target, self.kind, self.induced) {
+            Some(q) => self.is_of(alloc, &q),
+            None => Ok(false),
+        }
+    }
+}
+
+static NUMBERED: [Numbered; 3] = [
+    // a triangle into a cycle of four
+    Numbered {
+        kind: LadKind::Lad,
+        pattern: TRIANGLE,
+        target: FOUR_CYCLE,
+        induced: false,
+        len: 34,
+        lines: &[
+            Line::Of(2, 3, (5, 6, 10, None)),
+            Line::Edge(0, 2, 0, Some(15)),
+            Line::Edge(1, 2, 1, Some(24)),
+            Line::Edge(2, 1, 3, Some(34)),
+            Line::Edge(1, 1, 0, None),
+        ],
+    },
+    // an induced copy
+    Numbered {
+        kind: LadKind::Lad,
+        pattern: b"3 1 1 1 0 0",
+        target: SECOND_WITH_LOOP,
+        induced: true,
+        len: 23,
+        lines: &[
+            Line::Of(2, 1, (5, 6, 8, Some(11))),
+            Line::Edge(1, 0, 1, Some(15)),
+            Line::NonEdge(0, 2, 0, Some(16)),
+            Line::NonEdge(2, 1, 1, Some(23)),
+        ],
+    },
+    // an edge one way
+    Numbered {
+        kind: LadKind::DirectedLad,
+        pattern: b"2 1 1 0",
+        target: b"2 1 1 0",
+        induced: false,
+        len: 10,
+        lines: &[Line::Edge(0, 1, 1, Some(8)), Line::Edge(1, 0, 0, Some(9))],
+    },
+];
+
 #[test]
-fn numbers_lines_of_an_edge_one_way(rt: HostRuntime) -> Result<(), Fail> {
-    let edge = b"2 1 1 0";
-    let q = problem(rt.alloc(), edge, edge, LadKind::DirectedLad, false).ok_or("no problem")?;
-    let encoding = Encoding::new(rt.alloc(), &q)?;
-    assert_eq!(rt; encoding.len(), 10);
-    assert_eq!(rt; edge_of(&encoding, &q, 0, 1, 1), Some(8));
-    assert_eq!(rt; edge_of(&encoding, &q, 1, 0, 0), Some(9));
-    Ok(())
+fn numbers_lines(rt: HostRuntime) -> Result<(), Fail> {
+    all_hold(&rt, rt.alloc(), &NUMBERED)
 }

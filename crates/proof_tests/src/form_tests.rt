@@ -3,7 +3,7 @@
 use pb_terms::{Constraint, Literal, Literals, PbFault};
 use std::alloc::{AllocError, Global};
 use std::test::Fail;
-use worked_examples::{Example, first_wrong};
+use worked_examples::{Example, all_hold};
 
 const LIMIT: i128 = 1 << 125;
 
@@ -66,8 +66,7 @@ static MADE: [Made; 4] = [
 
 #[test]
 fn new_sorts_and_adds_like_terms(rt: HostRuntime) -> Result<(), Fail> {
-    assert_eq!(rt; first_wrong(&rt, rt.alloc(), &MADE)?, None);
-    Ok(())
+    all_hold(&rt, rt.alloc(), &MADE)
 }
 
 /// `3 x1 - 2 x2 >= 1`.
@@ -107,11 +106,18 @@ fn saturates(alloc: Global) -> Result<bool, PbFault> {
 }
 
 #[test]
-fn rules_give_the_worked_forms(rt: HostRuntime) {
-    let alloc = rt.alloc();
-    assert!(rt; scales(alloc) == Ok(true));
-    assert!(rt; adds(alloc) == Ok(true));
-    assert!(rt; saturates(alloc) == Ok(true));
+fn a_constraint_is_divided_and_multiplied(rt: HostRuntime) {
+    assert!(rt; scales(rt.alloc()) == Ok(true));
+}
+
+#[test]
+fn a_sum_is_that_of_both(rt: HostRuntime) {
+    assert!(rt; adds(rt.alloc()) == Ok(true));
+}
+
+#[test]
+fn a_constraint_is_saturated(rt: HostRuntime) {
+    assert!(rt; saturates(rt.alloc()) == Ok(true));
 }
 
 /// Terms and a bound of which one number, or a sum of them as given, is past the limit.
@@ -145,12 +151,18 @@ fn multiplies_up_to_the_limit(alloc: Global) -> Result<bool, PbFault> {
 }
 
 #[test]
-fn wide_is_past_the_limit_and_not_at_it(rt: HostRuntime) -> Result<(), Fail> {
-    let alloc = rt.alloc();
-    assert_eq!(rt; first_wrong(&rt, alloc, &WIDE)?, None);
-    assert!(rt; ends_at_the_limit(alloc) == Ok(true));
-    assert!(rt; multiplies_up_to_the_limit(alloc) == Ok(true));
-    Ok(())
+fn wide_is_past_the_limit(rt: HostRuntime) -> Result<(), Fail> {
+    all_hold(&rt, rt.alloc(), &WIDE)
+}
+
+#[test]
+fn sums_and_multiples_are_wide_past_the_limit(rt: HostRuntime) {
+    assert!(rt; ends_at_the_limit(rt.alloc()) == Ok(true));
+}
+
+#[test]
+fn multiples_up_to_the_limit_are_made(rt: HostRuntime) {
+    assert!(rt; multiplies_up_to_the_limit(rt.alloc()) == Ok(true));
 }
 
 /// Whether a constraint of two terms has this slack, and forces its first and its second term so.
@@ -225,8 +237,11 @@ static EMPTY: [Empty; 3] = [
 ];
 
 #[test]
-fn holds_and_is_false_read_the_form(rt: HostRuntime) -> Result<(), Fail> {
-    assert_eq!(rt; first_wrong(&rt, rt.alloc(), &VALUED)?, None);
-    assert_eq!(rt; first_wrong(&rt, rt.alloc(), &EMPTY)?, None);
-    Ok(())
+fn holds_reads_the_form(rt: HostRuntime) -> Result<(), Fail> {
+    all_hold(&rt, rt.alloc(), &VALUED)
+}
+
+#[test]
+fn is_false_reads_the_form(rt: HostRuntime) -> Result<(), Fail> {
+    all_hold(&rt, rt.alloc(), &EMPTY)
 }

@@ -7,7 +7,7 @@ use outer_io::MemorySink;
 use proof_log::{StepFault, plain, read_step, write_step};
 use std::alloc::{AllocError, Global};
 use std::test::Fail;
-use worked_examples::{Example, first_wrong};
+use worked_examples::{Example, all_hold};
 
 /// Whether a step is written as this line in a log of this profile.
 fn is_written_as(
@@ -89,8 +89,7 @@ static KEPT: [Kept; 46] = [
 
 #[test]
 fn reads_and_writes_lines(rt: HostRuntime) -> Result<(), Fail> {
-    assert_eq!(rt; first_wrong(&rt, rt.alloc(), &KEPT)?, None);
-    Ok(())
+    all_hold(&rt, rt.alloc(), &KEPT)
 }
 
 /// A line that is no step.
@@ -190,8 +189,7 @@ static REFUSED: [Refused; 40] = [
 
 #[test]
 fn refuses_lines(rt: HostRuntime) -> Result<(), Fail> {
-    assert_eq!(rt; first_wrong(&rt, rt.alloc(), &REFUSED)?, None);
-    Ok(())
+    all_hold(&rt, rt.alloc(), &REFUSED)
 }
 
 /// The line whose writing is to stop.
@@ -220,7 +218,7 @@ fn first_not_stopped(alloc: Global) -> Result<u64, AllocError> {
 
 #[test]
 fn stops_where_the_sink_fails(rt: HostRuntime) -> Result<(), Fail> {
-    assert_eq!(rt; first_not_stopped(rt.alloc())?, 6);
+    assert!(rt; first_not_stopped(rt.alloc())? == 6);
     Ok(())
 }
 
@@ -261,8 +259,7 @@ static DROPPED: [Dropped; 9] = [
 
 #[test]
 fn reads_and_writes_lines_without_hints(rt: HostRuntime) -> Result<(), Fail> {
-    assert_eq!(rt; first_wrong(&rt, rt.alloc(), &DROPPED)?, None);
-    Ok(())
+    all_hold(&rt, rt.alloc(), &DROPPED)
 }
 
 /// A line that is no step in a log of this profile.
@@ -290,6 +287,5 @@ static OF_THE_OTHER_PROFILE: [Other; 8] = [
 
 #[test]
 fn refuses_lines_of_the_other_profile(rt: HostRuntime) -> Result<(), Fail> {
-    assert_eq!(rt; first_wrong(&rt, rt.alloc(), &OF_THE_OTHER_PROFILE)?, None);
-    Ok(())
+    all_hold(&rt, rt.alloc(), &OF_THE_OTHER_PROFILE)
 }

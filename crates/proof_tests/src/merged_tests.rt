@@ -13,7 +13,7 @@ use proof_checker::check;
 use proof_log::read_step;
 use std::alloc::{AllocError, Global};
 use std::test::Fail;
-use worked_examples::{Example, first_wrong};
+use worked_examples::{Example, all_hold};
 
 /// Keeps the line that a text tells.
 fn keep(alloc: Global, journal: &mut Journal, line: &[u8]) -> Result<(), AllocError>
@@ -104,23 +104,35 @@ fn journals_of_two_owners_are_merged(rt: HostRuntime) -> Result<(), Fail> {
     journals.push_reserved(second);
     let rows = [nogood(1, 0), nogood(2, 1)];
     let mut sink = MemorySink::new(rt.alloc(), 4096, Vec::new(rt.alloc()))?;
-    assert!(rt; write_refutation(Profile::Hinted, 34, &journals, &rows, 2, &mut sink).is_ok());
-    assert_eq!(rt; sink.bytes(), MERGED);
+    let written = write_refutation(Profile::Hinted, 34, &journals, &rows, 2, &mut sink);
+    assert!(rt; written.is_ok() && sink.bytes() == MERGED);
+    Ok(())
+}
+
+/// Whether a log of a search that was not decided is this text.
+fn is_undecided_log(alloc: Global, text: &[u8]) -> Result<bool, AllocError> {
+    let mut sink = MemorySink::new(alloc, 4096, Vec::new(alloc))?;
+    let is_written = write_undecided(Profile::Hinted, 34, &mut sink).is_ok();
+    Ok(is_written && sink.bytes() == text)
+}
+
+/// Whether a log of a solution in which `x1` and `x4` are one is this text.
+fn is_solution_log(alloc: Global, text: &[u8]) -> Result<bool, AllocError> {
+    let mut sink = MemorySink::new(alloc, 4096, Vec::new(alloc))?;
+    let ones = Variables::new(Vec::from_slice(alloc, &[1u32, 4])?);
+    let is_written = write_solution(Profile::Hinted, 10, ones, &mut sink).is_ok();
+    Ok(is_written && sink.bytes() == text)
+}
+
+#[test]
+fn a_log_of_nothing_is_a_head_and_a_line(rt: HostRuntime) -> Result<(), Fail> {
+    assert!(rt; is_undecided_log(rt.alloc(), b"embedding proof 1\nm 34\nq\n")?);
     Ok(())
 }
 
 #[test]
-fn other_logs_are_a_head_and_a_line(rt: HostRuntime) -> Result<(), Fail> {
-    let mut sink = MemorySink::new(rt.alloc(), 4096, Vec::new(rt.alloc()))?;
-    assert!(rt; write_undecided(Profile::Hinted, 34, &mut sink).is_ok());
-    assert_eq!(rt; sink.bytes(), b"embedding proof 1\nm 34\nq\n".as_slice());
-    let mut sink = MemorySink::new(rt.alloc(), 4096, Vec::new(rt.alloc()))?;
-    let ones = Variables::new(Vec::from_slice(rt.alloc(), &[1u32, 4])?);
-    assert!(rt; write_solution(Profile::Hinted, 10, ones, &mut sink).is_ok());
-    assert_eq!(rt;
-        sink.bytes(),
-        b"embedding proof 1\nm 10\ny x1 x4\n".as_slice()
-    );
+fn a_log_of_a_solution_is_a_head_and_a_line(rt: HostRuntime) -> Result<(), Fail> {
+    assert!(rt; is_solution_log(rt.alloc(), b"embedding proof 1\nm 10\ny x1 x4\n")?);
     Ok(())
 }
 
@@ -177,6 +189,5 @@ static JUDGED: [Judged; 4] = [
 
 #[test]
 fn the_checker_goes_by_the_order_of_the_rows(rt: HostRuntime) -> Result<(), Fail> {
-    assert_eq!(rt; first_wrong(&rt, rt.alloc(), &JUDGED)?, None);
-    Ok(())
+    all_hold(&rt, rt.alloc(), &JUDGED)
 }

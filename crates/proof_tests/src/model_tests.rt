@@ -4,7 +4,7 @@ use opb_text::{Model, OpbFault, read_opb, write_opb};
 use outer_io::MemorySink;
 use std::alloc::{AllocError, Global};
 use std::test::Fail;
-use worked_examples::{Example, first_wrong};
+use worked_examples::{Example, all_hold};
 
 /// The text that a model is written as.
 fn text_of(alloc: Global, model: &Model) -> Result<String, AllocError> {
@@ -88,8 +88,7 @@ static LENIENT: [Line; 21] = [
 
 #[test]
 fn reads_leniently(rt: HostRuntime) -> Result<(), Fail> {
-    assert_eq!(rt; first_wrong(&rt, rt.alloc(), &LENIENT)?, None);
-    Ok(())
+    all_hold(&rt, rt.alloc(), &LENIENT)
 }
 
 static FAULTY: [Line; 45] = [
@@ -169,8 +168,7 @@ static FAULTY: [Line; 45] = [
 
 #[test]
 fn tells_the_first_fault(rt: HostRuntime) -> Result<(), Fail> {
-    assert_eq!(rt; first_wrong(&rt, rt.alloc(), &FAULTY)?, None);
-    Ok(())
+    all_hold(&rt, rt.alloc(), &FAULTY)
 }
 
 const EDGE_INTO_EDGE: &[u8] = b"* #variable= 4 #constraint= 10
@@ -238,8 +236,7 @@ static HEADS: [Read; 16] = [
 
 #[test]
 fn reads_the_first_line(rt: HostRuntime) -> Result<(), Fail> {
-    assert_eq!(rt; first_wrong(&rt, rt.alloc(), &HEADS)?, None);
-    Ok(())
+    all_hold(&rt, rt.alloc(), &HEADS)
 }
 
 /// A text that is written as it is read.
@@ -275,8 +272,7 @@ static WRITTEN: [Written; 5] = [
 
 #[test]
 fn writes_what_it_reads(rt: HostRuntime) -> Result<(), Fail> {
-    assert_eq!(rt; first_wrong(&rt, rt.alloc(), &WRITTEN)?, None);
-    Ok(())
+    all_hold(&rt, rt.alloc(), &WRITTEN)
 }
 
 /// The room of a sink that the text of an edge into an edge does not fit into.
@@ -308,6 +304,5 @@ static ROOMS: [Room; 9] = [
 
 #[test]
 fn stops_in_the_text_at_a_fault(rt: HostRuntime) -> Result<(), Fail> {
-    assert_eq!(rt; first_wrong(&rt, rt.alloc(), &ROOMS)?, None);
-    Ok(())
+    all_hold(&rt, rt.alloc(), &ROOMS)
 }

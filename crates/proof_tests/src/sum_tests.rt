@@ -10,7 +10,7 @@ fn a_sum_names_its_references_in_order(rt: HostRuntime) -> Result<(), Fail> {
     let mut journal = Journal::new(rt.alloc(), 7);
     let refs = [Ref::Line(3), Ref::Shared(5), Ref::Line(1)];
     let name = keep_sum(rt.alloc(), &mut journal, &refs)?;
-    assert_eq!(rt; (name.owner, name.number), (7, 1));
-    assert_eq!(rt; journal.text(), b"p 7.1 3 #5 + 1 + ;\n".as_slice());
+    let is_first = name.owner == 7 && name.number == 1;
+    assert!(rt; is_first && journal.text() == b"p 7.1 3 #5 + 1 + ;\n".as_slice());
     Ok(())
 }

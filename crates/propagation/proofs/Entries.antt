@@ -6,9 +6,9 @@ use Rattle.std.proofs.lemmas.List.{append-nil, take_at, take_all, drop_at, take-
 use Rattle.graph_theory.specs.Neighbours.{members}
 use Rattle.propagation.specs.declared.change.Place.{Place}
 use Rattle.propagation.specs.declared.change.What.{What}
-use Rattle.propagation.specs.declared.change.What.TheVariants.{One, Others}
+use Rattle.propagation.specs.declared.change.What.TheVariants.{One, Others, Over}
 use Rattle.propagation.specs.declared.change.Entry.{Entry}
-use Rattle.propagation.specs.Recording.{Change, LeftOthers, Took, KeepsSame, with_change, from_of, cut, change_by, change_of, changes_of, when_whole, LaidBy, Laid, AreLaid, Adds, IsPlaced, IsLast, EndsBefore, left_by}
+use Rattle.propagation.specs.Recording.{Change, LeftOthers, LeftOver, Took, KeepsSame, with_change, from_of, cut, change_by, change_of, changes_of, when_whole, IsIn, LaidBy, Laid, AreLaid, Adds, IsPlaced, IsLast, EndsBefore, left_by}
 
 -- ---- numbers
 
@@ -82,12 +82,18 @@ part_front xs a b n first within =
 part_same : (xs ys : List ℕ) (a b n : ℕ) → a ≤ b → b ≤ n → take n xs ≡ take n ys → slice_range xs a b ≡ slice_range ys a b
 part_same xs ys a b n first within same = sym (part_front xs a b n first within) ∙ (ap (λ (zs : List ℕ). slice_range zs a b) same ∙ part_front ys a b n first within)
 
+-- a set among them
+set_same : (xs ys : List ℕ) (k : Place) (n : ℕ) (f : List ℕ → List ℕ → Change) → IsIn k n → take n xs ≡ take n ys
+    → f (slice_range xs k.start k.middle) (slice_range xs k.middle k.end) ≡ f (slice_range ys k.start k.middle) (slice_range ys k.middle k.end)
+set_same xs ys k n f is_in same =
+    let first = part_same xs ys k.start k.middle n is_in.first (omega (arith, is_in.second, is_in.within)) same in
+    let second = part_same xs ys k.middle k.end n is_in.second is_in.within same in
+    ap (λ (us : List ℕ). f us (slice_range xs k.middle k.end)) first ∙ ap (λ (us : List ℕ). f (slice_range ys k.start k.middle) us) second
+
 change_same : (xs ys : List ℕ) (what : What) (from n : ℕ) (Before : ℕ → Type 0) → LaidBy what Before n → take n xs ≡ take n ys → change_by xs what from ≡ change_by ys what from
 change_same xs ys (One p cause) from n Before laid same = refl
-change_same xs ys (Others k) from n Before laid same =
-    let first = part_same xs ys k.start k.middle n laid.0.first (omega (arith, laid.0.second, laid.0.within)) same in
-    let second = part_same xs ys k.middle k.end n laid.0.second laid.0.within same in
-    ap (λ (us : List ℕ). LeftOthers us (slice_range xs k.middle k.end) from) first ∙ ap (λ (us : List ℕ). LeftOthers (slice_range ys k.start k.middle) us from) second
+change_same xs ys (Others k) from n Before laid same = set_same xs ys k n (λ us vs. LeftOthers us vs from) laid.0 same
+change_same xs ys (Over p t direction k) from n Before laid same = set_same xs ys k n (λ us vs. LeftOver p t direction us vs from) laid.0 same
 
 pub same_changes : (es : List Entry) (n : ℕ) (xs ys : List ℕ) → Laid es n → take n xs ≡ take n ys → map (change_of xs) es ≡ map (change_of ys) es
 same_changes [] n xs ys laid same = refl
@@ -95,22 +101,31 @@ same_changes (e ∷ es) n xs ys laid same =
     ap (λ (c : Change). c ∷ map (change_of xs) es) (change_same xs ys e.what e.from n (Laid es) laid same)
     ∙ ap (λ (cs : List Change). change_of ys e ∷ cs) (later (λ m. same_changes es m xs ys) e.what laid)
   where
-    later : ((m : ℕ) → Laid es m → take m xs ≡ take m ys → map (change_of xs) es ≡ map (change_of ys) es) → (what : What) → LaidBy what (Laid es) n
+    before_set : ((m : ℕ) → Laid es m → take m xs ≡ take m ys → map (change_of xs) es ≡ map (change_of ys) es) → (k : Place) → IsIn k n × Laid es k.start
         → map (change_of xs) es ≡ map (change_of ys) es
-    later rest (One p cause) before = rest n before same
-    later rest (Others k) laid_k =
+    before_set rest k laid_k =
         rest k.start laid_k.1
         (sym (take-take k.start n xs (omega (arith, laid_k.0.first, laid_k.0.second, laid_k.0.within)))
         ∙ (ap (take k.start) same ∙ take-take k.start n ys (omega (arith, laid_k.0.first, laid_k.0.second, laid_k.0.within))))
+
+    later : ((m : ℕ) → Laid es m → take m xs ≡ take m ys → map (change_of xs) es ≡ map (change_of ys) es) → (what : What) → LaidBy what (Laid es) n
+        → map (change_of xs) es ≡ map (change_of ys) es
+    later rest (One p cause) before = rest n before same
+    later rest (Others k) laid_k = before_set rest k laid_k
+    later rest (Over p t direction k) laid_k = before_set rest k laid_k
 
 -- entries are laid in more numbers
 laid_on : (es : List Entry) (n m : ℕ) → n ≤ m → Laid es n → Laid es m
 laid_on [] n m le laid = tt
 laid_on (e ∷ es) n m le laid = by (laid_on es n m le) e.what laid
   where
+    in_more : (k : Place) → IsIn k n → IsIn k m
+    in_more k is_in = record { first = is_in.first; second = is_in.second; within = omega (arith, is_in.within, le) }
+
     by : (Laid es n → Laid es m) → (what : What) → LaidBy what (Laid es) n → LaidBy what (Laid es) m
     by rest (One p cause) before = rest before
-    by rest (Others k) (is_in, before) = (record { first = is_in.first; second = is_in.second; within = omega (arith, is_in.within, le) }, before)
+    by rest (Others k) (is_in, before) = (in_more k is_in, before)
+    by rest (Over p t direction k) (is_in, before) = (in_more k is_in, before)
 
 -- ---- one change more
 
@@ -132,22 +147,28 @@ laid_push es numbers e laid = subst (λ (rs : List Entry). Laid rs (length numbe
 from_is : (numbers : List ℕ) (what : What) (from : ℕ) → from_of (change_by numbers what from) ≡ from
 from_is numbers (One p cause) from = refl
 from_is numbers (Others k) from = refl
+from_is numbers (Over p t direction k) from = refl
 
 -- what is left of the numbers where the last entry goes
 pub record Shorter (mark : ℕ) (es before : List Entry) (old new : List ℕ) : Type 0 where
   pub laid : AreLaid before new
   pub cut_is : cut mark (changes_of new before) ≡ cut mark (changes_of old es)
 
+shorter_set : (rs : List Entry) (numbers : List ℕ) (k : Place) → IsIn k (length numbers) → Laid rs k.start
+    → Laid rs (length (take k.start numbers)) × (map (change_of (take k.start numbers)) rs ≡ map (change_of numbers) rs)
+shorter_set rs numbers k is_in laid =
+    let low : k.start ≤ length numbers = omega (arith, is_in.first, is_in.second, is_in.within) in (
+      subst (λ (n : ℕ). Laid rs n) (sym (length-take-le k.start numbers low)) laid,
+      same_changes rs k.start (take k.start numbers) numbers laid (take-take k.start k.start numbers (omega arith)),
+    )
+
 shorter : (rs : List Entry) (e : Entry) (numbers : List ℕ) (mark : ℕ) (what : What) → LaidBy what (Laid rs) (length numbers)
     → Laid rs (length (take (left_by what (length numbers)) numbers)) × (map (change_of (take (left_by what (length numbers)) numbers)) rs ≡ map (change_of numbers) rs)
 shorter rs e numbers mark (One p cause) laid =
     let whole = take_all (length numbers) numbers (omega arith) in
     (subst (λ (xs : List ℕ). Laid rs (length xs)) (sym whole) laid, ap (λ (xs : List ℕ). map (change_of xs) rs) whole)
-shorter rs e numbers mark (Others k) (is_in, laid) =
-    let low : k.start ≤ length numbers = omega (arith, is_in.first, is_in.second, is_in.within) in (
-      subst (λ (n : ℕ). Laid rs n) (sym (length-take-le k.start numbers low)) laid,
-      same_changes rs k.start (take k.start numbers) numbers laid (take-take k.start k.start numbers (omega arith)),
-    )
+shorter rs e numbers mark (Others k) (is_in, laid) = shorter_set rs numbers k is_in laid
+shorter rs e numbers mark (Over p t direction k) (is_in, laid) = shorter_set rs numbers k is_in laid
 
 pub cut_last : (es before : List Entry) (e : Entry) (numbers : List ℕ) (mark : ℕ) → es ≡ before ++ e ∷ [] → ltb e.from mark ≡ false → AreLaid es numbers
     → Shorter mark es before numbers (take (left_by e.what (length numbers)) numbers)
@@ -197,27 +218,30 @@ before_last es e mark l =
 -- ---- what a recorder does
 
 -- the entry was added, or was not
-pub laid_maybe : (es new_es : List Entry) (old new vertices values : List ℕ) (k : Place) (from : ℕ) (b : Bool) → AreLaid es old → Adds old new → IsPlaced old new vertices values k
-    → new_es ≡ (if b then es ++ record { what = Others k; from = from } ∷ [] else es) → AreLaid new_es new
-laid_maybe es new_es old new vertices values k from true laid a p is =
-    subst (λ (xs : List Entry). AreLaid xs new) (sym is)
-    (laid_push es new (record { what = Others k; from = from }) (p.is_in, subst (λ (n : ℕ). Laid (reverse es) n) (sym p.start_is) laid))
-laid_maybe es new_es old new vertices values k from false laid a p is = subst (λ (xs : List Entry). AreLaid xs new) (sym is) (laid_added es old new laid a)
+pub laid_maybe : (es new_es : List Entry) (old new : List ℕ) (what : What) (from : ℕ) (b : Bool) → AreLaid es old → Adds old new → LaidBy what (Laid (reverse es)) (length new)
+    → new_es ≡ (if b then es ++ record { what = what; from = from } ∷ [] else es) → AreLaid new_es new
+laid_maybe es new_es old new what from true laid a within is = subst (λ (xs : List Entry). AreLaid xs new) (sym is) (laid_push es new (record { what = what; from = from }) within)
+laid_maybe es new_es old new what from false laid a within is = subst (λ (xs : List Entry). AreLaid xs new) (sym is) (laid_added es old new laid a)
 
--- the set left all others
-pub told_set : (held : Option (List Change)) (whole : Bool) (es new_es : List Entry) (old new vertices values : List ℕ) (k : Place) (from : ℕ) (b : Bool) → whole ≡ true
-    → when_whole whole (changes_of old es) ≡ held → AreLaid es old → Adds old new → IsPlaced old new vertices values k → b ≡ true
-    → new_es ≡ (if b then es ++ record { what = Others k; from = from } ∷ [] else es) → Took held (when_whole whole (changes_of new new_es)) (LeftOthers vertices values from)
-told_set held false es new_es old new vertices values k from b up view laid a p pushed is = cc
-told_set held true es new_es old new vertices values k from false up view laid a p pushed is = cc
-told_set held true es new_es old new vertices values k from true up view laid a p pushed is =
-    inl (ap Some (ap (changes_of new) is ∙ (changes_push new es (record { what = Others k; from = from }) ∙ (first ∙ ap (λ (cs : List Change). LeftOthers vertices values from ∷ cs) (changes_added es old new laid a))))
-    ∙ ap (λ (h : Option (List Change)). with_change h (LeftOthers vertices values from)) view)
-  where
-    first : LeftOthers (slice_range new k.start k.middle) (slice_range new k.middle k.end) from ∷ changes_of new es ≡ LeftOthers vertices values from ∷ changes_of new es
-    first =
-        ap (λ (us : List ℕ). LeftOthers us (slice_range new k.middle k.end) from ∷ changes_of new es) p.vertices_are
-        ∙ ap (λ (us : List ℕ). LeftOthers vertices us from ∷ changes_of new es) p.values_are
+-- a set behind the old numbers is laid behind the entries
+pub set_laid : (es : List Entry) (old new vertices values : List ℕ) (k : Place) → AreLaid es old → IsPlaced old new vertices values k → IsIn k (length new) × Laid (reverse es) k.start
+set_laid es old new vertices values k laid p = (p.is_in, subst (λ (n : ℕ). Laid (reverse es) n) (sym p.start_is) laid)
+
+-- and stands for these vertices and values
+pub set_placed : (f : List ℕ → List ℕ → Change) (old new vertices values : List ℕ) (k : Place) → IsPlaced old new vertices values k
+    → f (slice_range new k.start k.middle) (slice_range new k.middle k.end) ≡ f vertices values
+set_placed f old new vertices values k p = ap (λ (us : List ℕ). f us (slice_range new k.middle k.end)) p.vertices_are ∙ ap (f vertices) p.values_are
+
+-- the change is told
+pub told_entry : (held : Option (List Change)) (whole : Bool) (es new_es : List Entry) (old new : List ℕ) (what : What) (from : ℕ) (b : Bool) (c : Change) → whole ≡ true
+    → when_whole whole (changes_of old es) ≡ held → AreLaid es old → Adds old new → change_by new what from ≡ c → b ≡ true
+    → new_es ≡ (if b then es ++ record { what = what; from = from } ∷ [] else es) → Took held (when_whole whole (changes_of new new_es)) c
+told_entry held false es new_es old new what from b c up view laid a stands pushed is = cc
+told_entry held true es new_es old new what from false c up view laid a stands pushed is = cc
+told_entry held true es new_es old new what from true c up view laid a stands pushed is =
+    inl (ap Some (ap (changes_of new) is ∙ (changes_push new es (record { what = what; from = from }) ∙ (ap (λ (x : Change). x ∷ changes_of new es) stands
+    ∙ ap (λ (cs : List Change). c ∷ cs) (changes_added es old new laid a))))
+    ∙ ap (λ (h : Option (List Change)). with_change h c) view)
 
 -- the numbers of a set that is short stand behind the others
 pub kept_added : (held : Option (List Change)) (whole : Bool) (es : List Entry) (old new : List ℕ) → when_whole whole (changes_of old es) ≡ held → AreLaid es old → Adds old new

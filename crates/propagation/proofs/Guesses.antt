@@ -2,7 +2,7 @@
 
 use Rattle.std.proofs.Common.{◌≡◌, ℕ, List, ◌∷◌, Option, Some, None, sym, subst, inl, inr}
 use Rattle.propagation.specs.declared.change.Cause.TheVariants as cause
-use Rattle.propagation.specs.Recording.{Change, LeftOne, LeftOthers, Took, MayTake, KeepsSame, IsAmong, HasGuess, NoNewGuess}
+use Rattle.propagation.specs.Recording.{Change, LeftOne, LeftOthers, LeftOver, Took, MayTake, KeepsSame, IsAmong, HasGuess, NoNewGuess}
 
 -- The change is a guess.
 abbrev pub IsGuess : Change → Type 0
@@ -12,6 +12,7 @@ IsGuess (LeftOne p (cause.Vertex r t) from) = ⊥
 IsGuess (LeftOne p (cause.Nogood name) from) = ⊥
 IsGuess (LeftOne p (cause.Edge r u direction) from) = ⊥
 IsGuess (LeftOthers vertices values from) = ⊥
+IsGuess (LeftOver p t direction vertices values from) = ⊥
 
 -- where nothing is told, no guess is new
 pub guesses_same : (b a : Option (List Change)) → a ≡ b → NoNewGuess b a

@@ -15,3 +15,4 @@ pub mod Reasons
 pub mod Entries
 pub mod Guesses
 pub mod Supporting
+pub mod Gathering

@@ -28,8 +28,8 @@ use Rattle.nogood_watch.specs.Watching.{IsAssigned, Follows, AllFollow, IsWhole,
 use Rattle.nogood_watch.proofs.Visits.{partner_half, partner_in}
 use Rattle.propagation.specs.declared.change.Cause.TheVariants as cause
 use Rattle.propagation.specs.Propagation.{IsOf, Sweeps}
-use Rattle.propagation.specs.Recording.{Change, LeftOne, LeftOthers, CountedSet, members_of, KeepsShort}
-use Rattle.propagation.specs.Telling.{HasFirst, HasAtMost, NamesUnit, IsForbidden, AreForbidden, IsUnsupported, AreDistinct, HaveOnly, Leaves, IsDecided, IsShown}
+use Rattle.propagation.specs.Recording.{Change, LeftOne, LeftOthers, LeftOver, CountedSet, members_of, KeepsShort}
+use Rattle.propagation.specs.Telling.{HasFirst, HasAtMost, NamesUnit, IsForbidden, AreForbidden, IsUnsupported, IsCrowded, AreDistinct, HaveOnly, Leaves, IsDecided, IsShown}
 use Rattle.propagation.proofs.Visits.{gone_kept}
 use Rattle.propagation.proofs.Forcing.{half_in}
 
@@ -86,6 +86,21 @@ leaves_unsupported q s old new p r u from direction k unsupported is = record {
       (left.0, only_taken u v left.1);
 }
 
+-- what is taken where neighbours would be crowded
+pub leaves_crowded : (q : Problem) (s : Option watched.State) (old new : State) (direction : Direction) (p t : ℕ) (vertices values : List ℕ) (from : ℕ)
+    → changes.Keeps old new p (λ v. not (v == t)) → IsCrowded q old direction p t vertices values → from ≡ length old.removed → Leaves q s old new (LeftOver p t direction vertices values from)
+leaves_crowded q s old new direction p t vertices values from k crowded is = record {
+  vertices_same = k.shrinks.vertices_same;
+  values_same = k.shrinks.values_same;
+  rest = k.shrinks.rest;
+  front = k.shrinks.front;
+  from_is = is;
+  stands = crowded;
+  refused = λ x v here gone.
+      let left = gone_kept old new p (λ w. not (w == t)) k x v here gone in
+      (left.0, only_taken t v left.1);
+}
+
 -- what is not in the first domain
 pub leaves_first : (q : Problem) (s : Option watched.State) (old new : State) (p from : ℕ) (row : List ℕ) → IsOf q old → p < old.vertices → changes.Keeps old new p (has row)
     → HasFirst q p row → from ≡ length old.removed → Leaves q s old new (LeftOne p cause.First from)
@@ -131,7 +146,7 @@ among_push (x ∷ xs) y t = rw (among_push xs y t) (turned (eqb x t) (among xs t
     turned false b c = refl
 
 -- a number that is among the members passes
-passes_among : (f : ℕ → Bool) (n t : ℕ) → among (members f n) t ≡ true → f t ≡ true
+pub passes_among : (f : ℕ → Bool) (n t : ℕ) → among (members f n) t ≡ true → f t ≡ true
 passes_among f zero t h = cc
 passes_among f (suc n) t h = by (f n) refl (passes_among f n t) h
   where
@@ -144,7 +159,7 @@ passes_among f (suc n) t h = by (f n) refl (passes_among f n t) h
     by false is earlier here = earlier (subst (λ (xs : List ℕ). among xs t ≡ true) (append-nil (members f n)) here)
 
 -- and one that passes is among them
-among_passing : (f : ℕ → Bool) (n t : ℕ) → f t ≡ true → t < n → among (members f n) t ≡ true
+pub among_passing : (f : ℕ → Bool) (n t : ℕ) → f t ≡ true → t < n → among (members f n) t ≡ true
 among_passing f zero t passes t_in = absurd (omega (arith, t_in))
 among_passing f (suc n) t passes t_in = by (among_passing f n t passes) (cases_eq n t)
   where
@@ -186,12 +201,12 @@ count_equal x (suc n) = by (count_equal x n) (cases_eq x n)
     by earlier (inl same) = rw (eq-eqb x n same) (omega (arith, count_none (λ i. eqb x i) n (λ i i_in. ne_eqb x i (λ is. omega (arith, i_in, is, same)))))
     by earlier (inr other) = rw (ne_eqb x n other) (omega (arith, earlier))
 
-few_among : (xs : List ℕ) (n : ℕ) → count (among xs) n ≤ length xs
+pub few_among : (xs : List ℕ) (n : ℕ) → count (among xs) n ≤ length xs
 few_among [] n = omega (arith, count_none (among []) n (λ i i_in. refl))
 few_among (x ∷ xs) n = omega (arith, count_either (λ i. eqb x i) (among xs) n, count_equal x n, few_among xs n)
 
 -- a list of as many numbers as are among it has none twice
-distinct_counted : (xs : List ℕ) (n : ℕ) → length xs ≤ count (among xs) n → AreDistinct xs
+pub distinct_counted : (xs : List ℕ) (n : ℕ) → length xs ≤ count (among xs) n → AreDistinct xs
 distinct_counted [] n h = tt
 distinct_counted (x ∷ xs) n h = by (distinct_counted xs n) (among xs x) refl
   where
@@ -207,7 +222,7 @@ distinct_counted (x ∷ xs) n h = by (distinct_counted xs n) (among xs x) refl
     by rest false off = (refl, rest (omega (arith, h, count_either (λ i. eqb x i) (among xs) n, count_equal x n)))
 
 -- what a row holds is one of its bits
-held_in : (row : List ℕ) (t : ℕ) → has row t ≡ true → t < 64 * length row
+pub held_in : (row : List ℕ) (t : ℕ) → has row t ≡ true → t < 64 * length row
 held_in row t h = by (cases_lt t (64 * length row))
   where
     by : (t < 64 * length row) ⊎ (64 * length row ≤ t) → t < 64 * length row

@@ -22,7 +22,7 @@ use Rattle.propagation.proofs.Waiting.{shrinks_more}
 use Rattle.propagation.proofs.Forcing.{forces_none, ready_on, ready_at_rest}
 
 -- an edge that is kept leads somewhere
-kept_there : (induced : Bool) (e f : Option ℕ) → Matches induced e f → is_some e ≡ true → is_some f ≡ true
+pub kept_there : (induced : Bool) (e f : Option ℕ) → Matches induced e f → is_some e ≡ true → is_some f ≡ true
 kept_there false None f m some = cc
 kept_there false (Some l) f m some = ap is_some m
 kept_there true None f m some = cc

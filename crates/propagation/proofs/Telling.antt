@@ -12,7 +12,7 @@ use Rattle.propagation.specs.declared.change.Cause.TheVariants as cause
 use Rattle.propagation.specs.declared.change.Failure.{Failure}
 use Rattle.propagation.specs.declared.change.Failure.TheVariants as failure
 use Rattle.propagation.specs.Acting.{HaveMoved}
-use Rattle.propagation.specs.Recording.{Change, LeftOne, LeftOthers, from_of, CountedSet, cut, cut_at, Took, KeepsSame}
+use Rattle.propagation.specs.Recording.{Change, LeftOne, LeftOthers, LeftOver, from_of, CountedSet, cut, cut_at, Took, KeepsSame}
 use Rattle.propagation.specs.Telling.{NamesList, NamesUnit, KeepsNames, IsForbidden, Refuses, Leaves, Changed, Told, begins, goes_on, Tells, TellsOn, IsEmptied, Fails, TellingLaws}
 use Rattle.propagation.proofs.Sweeping.{same_trail}
 
@@ -80,6 +80,7 @@ refuses_named q s r old (LeftOne v (cause.Vertex w t) from) p u keeps h = h
 refuses_named q s r old (LeftOne v (cause.Nogood name) from) p u keeps h = (h.0, forbidden_named s r old name v u keeps h.1)
 refuses_named q s r old (LeftOne v (cause.Edge w t direction) from) p u keeps h = h
 refuses_named q s r old (LeftOthers vertices values from) p u keeps h = h
+refuses_named q s r old (LeftOver v t direction vertices values from) p u keeps h = h
 
 leaves_named : (q : Problem) (s r : Option watched.State) (old new : State) (c : Change) → KeepsNames s r → Leaves q s old new c → Leaves q r old new c
 leaves_named q s r old new c keeps l = record {

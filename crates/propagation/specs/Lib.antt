@@ -5,3 +5,4 @@ pub mod Holding
 pub mod Recording
 pub mod Telling
 pub mod Edges
+pub mod Crowding

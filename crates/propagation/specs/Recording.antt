@@ -3,23 +3,26 @@
 use Rattle.std.specs.Prelude.{◌≡◌, ℕ, ◌*◌, ◌≤◌, nat_lt, Bool, true, false, cond, ◌⊎◌, List, [], ◌∷◌, ◌++◌, length, map, reverse, slice_range, Option, Some, None}
 use Rattle.bit_rows.specs.BitRows.{has}
 use Rattle.graph_theory.specs.Neighbours.{members}
+use Rattle.graph_theory.specs.declared.direction.Direction.{Direction}
 use Rattle.propagation.specs.declared.change.Cause.{Cause}
 use Rattle.propagation.specs.declared.change.Cause.TheVariants.{Guess}
 use Rattle.propagation.specs.declared.change.Place.{Place}
 use Rattle.propagation.specs.declared.change.What.{What}
-use Rattle.propagation.specs.declared.change.What.TheVariants.{One, Others}
+use Rattle.propagation.specs.declared.change.What.TheVariants.{One, Others, Over}
 use Rattle.propagation.specs.declared.change.Entry.{Entry}
 
 -- A change of the domains, and how much had left before it: values left the domain of one vertex by a cause; or the values that some
--- vertices have together left the domains of all others.
+-- vertices have together left the domains of all others; or a value left that of one vertex, whose neighbours in a direction, these vertices, would have too few, these values.
 pub data Change : Type 0 where
   LeftOne : ℕ → Cause → ℕ → Change
   LeftOthers : List ℕ → List ℕ → ℕ → Change
+  LeftOver : ℕ → ℕ → Direction → List ℕ → List ℕ → ℕ → Change
 
 -- How much had left before it.
 abbrev pub from_of : Change → ℕ
 from_of (LeftOne p cause from) = from
 from_of (LeftOthers vertices values from) = from
+from_of (LeftOver p t direction vertices values from) = from
 
 -- Vertices, and the values that they have together.
 pub record CountedSet : Type 0 where
@@ -88,6 +91,8 @@ abbrev pub change_by : List ℕ → What → ℕ → Change
 change_by numbers (One p cause) from = LeftOne p cause from
 change_by numbers (Others k) from = LeftOthers (slice_range numbers k.start k.middle)
     (slice_range numbers k.middle k.end) from
+change_by numbers (Over p t direction k) from = LeftOver p t direction (slice_range numbers k.start
+    k.middle) (slice_range numbers k.middle k.end) from
 
 abbrev pub change_of : List ℕ → Entry → Change
 change_of numbers e = change_by numbers e.what e.from
@@ -125,6 +130,7 @@ pub record IsIn (k : Place) (n : ℕ) : Type 0 where
 abbrev pub LaidBy : What → (ℕ → Type 0) → ℕ → Type 0
 LaidBy (One p cause) Before n = Before n
 LaidBy (Others k) Before n = IsIn k n × Before k.start
+LaidBy (Over p t direction k) Before n = IsIn k n × Before k.start
 
 abbrev pub Laid : List Entry → ℕ → Type 0
 Laid [] n = Unit {0}
@@ -160,3 +166,4 @@ EndsBefore (e ∷ es) mark = nat_lt e.from mark ≡ true
 abbrev pub left_by : What → ℕ → ℕ
 left_by (One p cause) n = n
 left_by (Others k) n = k.start
+left_by (Over p t direction k) n = k.start

@@ -17,7 +17,7 @@ use Rattle.propagation.specs.declared.change.Cause.{Cause}
 use Rattle.propagation.specs.declared.change.Cause.TheVariants as cause
 use Rattle.propagation.specs.declared.change.Failure.{Failure}
 use Rattle.propagation.specs.declared.change.Failure.TheVariants as failure
-use Rattle.propagation.specs.Recording.{Change, LeftOne, LeftOthers, from_of, CountedSet, cut_at}
+use Rattle.propagation.specs.Recording.{Change, LeftOne, LeftOthers, LeftOver, from_of, CountedSet, cut_at}
 
 -- No value but t is left for p.
 abbrev pub HasAtMost : State → ℕ → ℕ → Type 0
@@ -105,6 +105,19 @@ pub record HaveOnly (q : Problem) (d : State) (vertices values : List ℕ) : Typ
   pub distinct : AreDistinct vertices
   pub within : (p t : ℕ) → among vertices p ≡ true → in_domain d p t ≡ true → among values t ≡ true
 
+-- In this direction edges lead from p to these vertices, none of which is twice here; but among the values to which edges lead from t, t itself aside, they have only these, which
+-- are fewer. So p does not go to t.
+pub record IsCrowded (q : Problem) (d : State) (direction : Direction) (p t : ℕ) (vertices
+    values : List ℕ) : Type 0 where
+  pub vertex_in : p < size q.pattern
+  pub value_in : t < size q.target
+  pub joins : (r : ℕ) → among vertices r ≡ true → Joins q direction p r
+  pub distinct : AreDistinct vertices
+  pub values_in : (u : ℕ) → among values u ≡ true → u < size q.target
+  pub within : (r u : ℕ) → among vertices r ≡ true → in_domain d r u ≡ true → (t ≡ u → ⊥)
+      → is_some (edge (turned direction q.target) t u) ≡ true → among values u ≡ true
+  pub fewer : length values < length vertices
+
 -- What the cause of a change says of the domains before it.
 abbrev pub StandsBy : Cause → Problem → State → ℕ → Type 0
 StandsBy cause.First q d r = r < size q.pattern
@@ -117,6 +130,8 @@ abbrev pub Stands : Change → Problem → State → Type 0
 Stands (LeftOne r why from) q d = StandsBy why q d r
 Stands (LeftOthers vertices values from) q d = HaveOnly q d vertices values
     × (length values ≤ length vertices)
+Stands (LeftOver p t direction vertices values from) q d = IsCrowded q d direction p t vertices
+    values
 
 -- The cause refuses u for r.
 abbrev pub RefusesBy : Cause → Problem → Option watched.State → State → ℕ → ℕ → Type 0
@@ -126,11 +141,12 @@ RefusesBy (cause.Vertex p t) q s d r u = AreConsistent q p t r u → ⊥
 RefusesBy (cause.Nogood name) q s d r u = IsForbidden s d name r u
 RefusesBy (cause.Edge p v direction) q s d r u = u ≡ v
 
--- So does a change: of its vertex by its cause, or of all vertices but those of a set the values of these.
+-- So does a change: of its vertex by its cause, or of all vertices but those of a set the values of these, or of one vertex one value.
 abbrev pub Refuses : Change → Problem → Option watched.State → State → ℕ → ℕ → Type 0
 Refuses (LeftOne p why from) q s d r u = (r ≡ p) × RefusesBy why q s d p u
 Refuses (LeftOthers vertices values from) q s d r u = (r < size q.pattern)
     × (among vertices r ≡ false) × (among values u ≡ true)
+Refuses (LeftOver p t direction vertices values from) q s d r u = (r ≡ p) × (u ≡ t)
 
 -- What leaves, if anything does, leaves by the change.
 pub record Leaves (q : Problem) (s : Option watched.State) (old new : State)

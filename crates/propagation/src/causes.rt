@@ -4,8 +4,9 @@ ghost use Rattle.std.specs.Prelude.{◌≡◌, [], List, Option, None, Some, IfO
 
 use crate::change::{Cause, Entry, Place, What};
 use crate::recorder::Recorder;
-use crate::sets::{cut_entries, put_set};
+use crate::sets::{cut_entries, put_rows, put_set};
 use domain_bits::Mark;
+use graph_theory::direction::Direction;
 use std::alloc::{AllocError, Global};
 use std::marker::Model;
 
@@ -132,6 +133,33 @@ impl Recorder for Causes {
             Ok(place) => {
                 let entry = Entry {
                     what: What::Others(place),
+                    from,
+                };
+                if self.entries.push(entry).is_err() {
+                    self.whole = false;
+                }
+            }
+            Err(_) => self.whole = false,
+        }
+    }
+
+    fn crowded(
+        &mut self,
+        vertex: u16,
+        value: u16,
+        direction: Direction,
+        vertices: &[u64],
+        values: &[u64],
+        from: Mark,
+    ) {
+        self.short = None;
+        if !self.whole {
+            return;
+        }
+        match put_rows(&mut self.numbers, vertices, values) {
+            Ok(place) => {
+                let entry = Entry {
+                    what: What::Over(vertex, value, direction, place),
                     from,
                 };
                 if self.entries.push(entry).is_err() {

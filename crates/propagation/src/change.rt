@@ -37,6 +37,9 @@ pub enum What {
     One(u16, Cause),
     /// The values of a set left all other domains.
     Others(Place),
+    /// The domain of this vertex, the first, lost this value: the vertices of the set, to which edges lead from the vertex in this direction, have
+    /// none but the set's values among those to which edges lead from this value, and these are too few.
+    Over(u16, u16, Direction, Place),
 }
 
 /// A change as it is kept.

@@ -17,6 +17,7 @@ ghost use Rattle.propagation.specs.Propagation.{IsOf, IsFor, LeavesPast, Undecid
 use crate::change::Failure;
 use crate::edge_room::EdgeRoom;
 use crate::edges::support_edges;
+use crate::matching::match_neighbours;
 use crate::recorder::Recorder;
 use crate::removal::prune;
 use all_different::Scratch;
@@ -154,5 +155,9 @@ pub(crate) fn filter_more<T: Trail, R: Recorder>(
     if have_left {
         return Ok(true);
     }
-    support_edges(d, waiting, undecided, room, told, problem)
+    let unsupported = support_edges(d, waiting, undecided, room, told, problem)?;
+    if unsupported {
+        return Ok(true);
+    }
+    match_neighbours(d, waiting, undecided, room, told, problem)
 }

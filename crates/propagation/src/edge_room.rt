@@ -9,6 +9,7 @@ ghost use Rattle.std.specs.Prelude.{◌≡◌, ◌<◌, IfOk};
 ghost use Rattle.graph_theory.specs.Graph.{size};
 ghost use Rattle.propagation.specs.Edges.{IsRoomFor};
 
+use crate::match_room::MatchRoom;
 use bit_rows::words_for;
 use graph_rows::Problem;
 use std::alloc::{AllocError, Global};
@@ -50,6 +51,8 @@ pub(crate) struct EdgeRoom {
     /// What paths of one guess have cost where they were not, and how many there were.
     below: u64,
     paths: u64,
+    /// Memory for matching neighbourhoods.
+    pub(crate) matching: MatchRoom,
 }
 
 impl Model for EdgeRoom {
@@ -62,7 +65,9 @@ impl Model for EdgeRoom {
 
     ghost invariant = { λ r. (length r.wanted.items ≡ length r.union.items)
         × (length r.gone.items ≡ length r.union.items)
-        × (length r.root.items ≡ length r.seen.items) };
+        × (length r.root.items ≡ length r.seen.items)
+        × (r.matching.vertices ≡ length r.seen.items)
+        × (r.matching.words ≡ length r.union.items) };
 }
 
 impl EdgeRoom {
@@ -78,6 +83,7 @@ impl EdgeRoom {
         let gone = vec![in alloc; 0u64; words]?;
         let seen = vec![in alloc; NOT_SEEN; vertices]?;
         let root = vec![in alloc; NOT_SEEN; vertices]?;
+        let matching = MatchRoom::new(alloc, q)?;
         Ok(EdgeRoom {
             union,
             wanted,
@@ -97,6 +103,7 @@ impl EdgeRoom {
             looked: false,
             below: 0,
             paths: 0,
+            matching,
         })
     }
 
@@ -109,6 +116,17 @@ impl EdgeRoom {
             .saturating_add(self.first / 8)
             .saturating_add(self.gains);
         have.saturating_sub(self.spent)
+    }
+
+    /// Gives matching its credit: at the root a fortieth of what the search has cost, with an eighth of what the first run did. Cost: a few steps.
+    pub(crate) fn allow_matching(&mut self)
+        ensures { self.new ≡ self.old }
+    {
+        self.matching.most = if self.on && self.depth == 0 {
+            (self.steps / 40).saturating_add(self.first / 8)
+        } else {
+            0
+        };
     }
 
     /// Whether the edges of `p` are to be looked at, its domain being of this size; then it is the size at the last look. Cost: a few steps.

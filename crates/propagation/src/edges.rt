@@ -336,7 +336,7 @@ fn support_all<T: Trail, R: Recorder>(
 }
 
 /// Whether one of these vertices waits. Cost: one step for each of them.
-fn any_waits(waiting: &[bool], members: &[u16]) -> bool
+pub(crate) fn any_waits(waiting: &[bool], members: &[u16]) -> bool
     requires { (k : ℕ) → k < length members.now
         → slice_index members.now k < length waiting.now }
 {

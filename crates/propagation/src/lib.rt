@@ -9,9 +9,12 @@
 mod causes;
 mod change;
 mod counting;
+mod crowding;
 mod edge_room;
 mod edges;
 mod filters;
+mod match_room;
+mod matching;
 mod nogoods;
 mod propagation;
 mod recorder;

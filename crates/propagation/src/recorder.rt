@@ -9,11 +9,12 @@ ghost use Rattle.propagation.specs.Telling.{TellingLaws};
 
 use crate::change::Cause;
 use domain_bits::Mark;
+use graph_theory::direction::Direction;
 use std::alloc::Global;
 
 /// Hears of each change of the domains.
 pub trait Recorder: Drop {
-    ghost use Rattle.propagation.specs.Recording.{Change, CountedSet, LeftOne, LeftOthers, Took, KeepsSame, KeepsShort, cut_at, members_of};
+    ghost use Rattle.propagation.specs.Recording.{Change, CountedSet, LeftOne, LeftOthers, LeftOver, Took, KeepsSame, KeepsShort, cut_at, members_of};
 
     ghost changes: { Self → Option (List Change) };
 
@@ -28,6 +29,22 @@ pub trait Recorder: Drop {
         requires { length row.now ≤ 1024 }
         ensures { Took (changes self.old) (changes self.new) (LeftOthers vertices.now
             (members_of row.now) from) };
+
+    /// The value left the domain of the vertex, since to the vertices of the one row edges lead from it in the direction, and they have no other values than
+    /// those of the second row, too few, among the ones to which edges lead from the value.
+    fn crowded(
+        &mut self,
+        vertex: u16,
+        value: u16,
+        direction: Direction,
+        vertices: &[u64],
+        values: &[u64],
+        from: Mark,
+    )
+        requires vertices { length vertices.now ≤ 1024 }
+        requires values { length values.now ≤ 1024 }
+        ensures { Took (changes self.old) (changes self.new) (LeftOver vertex value direction
+            (members_of vertices.now) (members_of values.now) from) };
 
     /// These vertices have fewer values together, as the row holds them, than there are of them.
     fn found_short(&mut self, vertices: &[u16], row: &[u64])
@@ -63,6 +80,16 @@ impl Recorder for Silent {
     fn took(&mut self, _vertex: u16, _cause: Cause, _from: Mark) {}
 
     fn counted(&mut self, _vertices: &[u16], _row: &[u64], _from: Mark) {}
+
+    fn crowded(
+        &mut self,
+        _vertex: u16,
+        _value: u16,
+        _direction: Direction,
+        _vertices: &[u64],
+        _values: &[u64],
+        _from: Mark,
+    ) {}
 
     fn found_short(&mut self, _vertices: &[u16], _row: &[u64]) {}
 

@@ -18,8 +18,8 @@ ghost use Rattle.pair_rows.specs.Rows.{IsMade};
 ghost use Rattle.nogood_watch.specs.Nogoods as watched;
 ghost use Rattle.propagation.specs.Propagation.{IsOf, IsFor, waits_at, NotesSize, NotesTaken, Sweeps, pruned_of};
 ghost use Rattle.propagation.specs.declared.change.Cause.TheVariants as cause;
-ghost use Rattle.propagation.specs.Recording.{LeftOne, MayTake, NoNewGuess};
-ghost use Rattle.propagation.specs.Telling.{HasFirst, Leaves, Tells, TellsOn, IsForbidden, IsUnsupported, Fails};
+ghost use Rattle.propagation.specs.Recording.{LeftOne, LeftOver, MayTake, NoNewGuess, members_of};
+ghost use Rattle.propagation.specs.Telling.{HasFirst, IsCrowded, Leaves, Tells, TellsOn, IsForbidden, IsUnsupported, Fails};
 
 use crate::change::{Cause, Failure};
 use crate::recorder::Recorder;
@@ -38,6 +38,45 @@ fn tell<T: Trail, R: Recorder>(d: &Domains<T>, told: &mut R, vertex: u16, cause:
 {
     if from.is_before(d.mark()) {
         told.took(vertex, cause, from);
+    }
+}
+
+/// A value of a vertex, vertices to which edges lead from the vertex in the direction, and values to which edges lead from the value, both as rows.
+#[derive(Drop)]
+pub(crate) struct Crowd<'a> {
+    /// The vertex.
+    pub p: u16,
+    /// The value that it has.
+    pub t: u16,
+    /// In which direction the edges lead.
+    pub direction: Direction,
+    /// The vertices to which they lead from `p`.
+    pub vertices: &'a [u64],
+    /// The values to which they lead from `t`: all that is left for these vertices.
+    pub values: &'a [u64],
+}
+
+/// Tells that the value of a crowd has left since the mark, if it has. Cost: one step, and that of `crowded`.
+fn tell_crowd<T: Trail, R: Recorder>(d: &Domains<T>, told: &mut R, crowd: &Crowd<'_>, from: Mark)
+    requires vertices { length crowd.now.vertices.now ≤ 1024 }
+    requires values { length crowd.now.values.now ≤ 1024 }
+    ensures told { (q : Problem) (s : Option watched.State) (old : State)
+        → Leaves q s old d.now (LeftOver crowd.now.p crowd.now.t crowd.now.direction
+        (members_of crowd.now.vertices.now) (members_of crowd.now.values.now) from)
+        → Tells q s old (R.changes told.old) → Tells q s d.now (R.changes told.new) }
+    ensures took { MayTake (R.changes told.old) (R.changes told.new) (LeftOver crowd.now.p
+        crowd.now.t crowd.now.direction (members_of crowd.now.vertices.now)
+        (members_of crowd.now.values.now) from) }
+{
+    if from.is_before(d.mark()) {
+        told.crowded(
+            crowd.p,
+            crowd.t,
+            crowd.direction,
+            crowd.vertices,
+            crowd.values,
+            from,
+        );
     }
 }
 
@@ -272,6 +311,35 @@ pub(crate) fn take_unsupported<T: Trail, R: Recorder>(
     let from = d.mark();
     let some = take_value(d, waiting, r, u);
     tell(d, told, r, Cause::Edge(p, u, direction), from);
+    some
+}
+
+/// Takes the value of a crowd from the domain of its vertex: the vertices would not all have a value beside it. It is told. Where one value is left, the
+/// vertex waits; where none is, the answer is false. Cost: one step, and that of `crowded`.
+pub(crate) fn take_crowded<T: Trail, R: Recorder>(
+    d: &mut Domains<T>,
+    waiting: &mut [bool],
+    told: &mut R,
+    crowd: &Crowd<'_>,
+) -> bool
+    requires p_in { crowd.now.p < d.old.vertices }
+    requires t_in { crowd.now.t < d.old.values }
+    requires flags { crowd.now.p < length waiting.old }
+    requires bounded { length d.old.removed ≤ d.old.vertices * d.old.values }
+    requires vertices { length crowd.now.vertices.now ≤ 1024 }
+    requires values { length crowd.now.values.now ≤ 1024 }
+    ensures keeps { Keeps d.old d.new crowd.now.p (λ v. not (v == crowd.now.t)) }
+    ensures taken { NotesTaken result d.old waiting.old d.new waiting.new crowd.now.p crowd.now.t }
+    ensures bounded { length d.new.removed ≤ d.new.vertices * d.new.values }
+    ensures told { (q : Problem) (s : Option watched.State)
+        → IsCrowded q d.old crowd.now.direction crowd.now.p crowd.now.t
+        (members_of crowd.now.vertices.now) (members_of crowd.now.values.now)
+        → Tells q s d.old (R.changes told.old) → Tells q s d.new (R.changes told.new) }
+    ensures guesses { NoNewGuess (R.changes told.old) (R.changes told.new) }
+{
+    let from = d.mark();
+    let some = take_value(d, waiting, crowd.p, crowd.t);
+    tell_crowd(d, told, crowd, from);
     some
 }
 

@@ -45,6 +45,30 @@ pub(crate) fn put_set(
     })
 }
 
+/// Adds a set, the members of both rows. Where memory is refused, a part may stand behind the old numbers. Cost: one step for each of them and for
+/// each word of the rows.
+pub(crate) fn put_rows(
+    numbers: &mut Vec<u16>,
+    vertices: &[u64],
+    values: &[u64],
+) -> Result<Place, AllocError>
+    requires vertices { length vertices.now ≤ 1024 }
+    requires values { length values.now ≤ 1024 }
+    ensures adds { Adds numbers.old.items numbers.new.items }
+    ensures placed { IfOk result (IsPlaced numbers.old.items numbers.new.items
+        (members_of vertices.now) (members_of values.now)) }
+{
+    let start = numbers.len();
+    put_members(numbers, vertices)?;
+    let middle = numbers.len();
+    put_members(numbers, values)?;
+    Ok(Place {
+        start,
+        middle,
+        end: numbers.len(),
+    })
+}
+
 /// The last entry, if it is not before the mark. Cost: one step.
 fn last_since(entries: &[Entry], mark: Mark) -> Option<Entry>
     ensures some { IfSome result (λ e. IsLast entries.now e mark) }
@@ -67,6 +91,7 @@ fn left_before(what: What, numbers: usize) -> usize
     match what {
         What::One(_, _) => numbers,
         What::Others(place) => place.start,
+        What::Over(_, _, _, place) => place.start,
     }
 }
 

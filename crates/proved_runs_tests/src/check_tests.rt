@@ -4,6 +4,7 @@ use memory_runs::{CLEAN, check_over, parts, run_over};
 use std::alloc::{AllocError, Global};
 use std::test::Fail;
 use std::thread::Threads;
+use worked_examples::none_wrong;
 
 /// A model of one variable that is one and is not.
 const BOTH_WAYS: &str = "* #variable= 1 #constraint= 2\n+1 x1 >= 1 ;\n-1 x1 >= 0 ;\n";
@@ -175,8 +176,7 @@ static CHECKED: [Checked; 19] = [
 
 #[test]
 fn each_log_has_its_answer(rt: HostRuntime) -> Result<(), Fail> {
-    assert_eq!(rt; first_wrong(&rt, rt.alloc(), &CHECKED)?, None);
-    Ok(())
+    none_wrong(first_wrong(&rt, rt.alloc(), &CHECKED)?)
 }
 
 #[test]
@@ -295,8 +295,7 @@ static BEHIND: [Behind; 15] = [
 
 #[test]
 fn each_faulty_line_is_told_with_hints_and_without(rt: HostRuntime) -> Result<(), Fail> {
-    assert_eq!(rt; first_not_told(&rt, rt.alloc(), &BEHIND)?, None);
-    Ok(())
+    none_wrong(first_not_told(&rt, rt.alloc(), &BEHIND)?)
 }
 
 /// An encoding, and what a check of an empty log over it ends with.
@@ -371,6 +370,5 @@ static ENCODINGS: [Encoding; 9] = [
 
 #[test]
 fn each_encoding_is_read_or_its_fault_told(rt: HostRuntime) -> Result<(), Fail> {
-    assert_eq!(rt; first_wrong_encoding(&rt, rt.alloc(), &ENCODINGS)?, None);
-    Ok(())
+    none_wrong(first_wrong_encoding(&rt, rt.alloc(), &ENCODINGS)?)
 }

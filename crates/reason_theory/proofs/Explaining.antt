@@ -14,11 +14,12 @@ use Rattle.forcing_theory.specs.Units.{Follows, Implies}
 use Rattle.forcing_theory.specs.Chains.{run, Within, Domains, AreOut, Explains, EndsAt}
 use Rattle.forcing_theory.proofs.Uniting.{unit}
 use Rattle.forcing_theory.proofs.Chaining.{after_keeps, run_keeps}
-use Rattle.reason_theory.specs.Reasons.{pairs_clause, at_leasts, vertices_of, set_form, TakesFirst, TakesBeside, HasAtMost, AreDecided, IsPair, IsNoPair, HaveOnly, OnlyOf, LeftRefused, reason_for, no_vertex, AreTrue, value_clauses}
+use Rattle.reason_theory.specs.Reasons.{pairs_clause, at_leasts, vertices_of, set_form, over_form, TakesFirst, TakesBeside, HasAtMost, AreDecided, IsPair, IsNoPair, HaveOnly, HaveBeside, OnlyOf, LeftRefused, reason_for, no_vertex, AreTrue, value_clauses}
 use Rattle.reason_theory.specs.Laws.{ChangeLaws, EndLaws}
 use Rattle.reason_theory.proofs.Giving.{Leads, Gives, one_gives, then_gives, leads_on, leads_to_end, no_solution, explains_each, explains_one}
 use Rattle.reason_theory.proofs.Forcing.{not_both, pair_takes, at_least_forces, at_least_fails, at_most_forces, others_false, out_within, clause_forces, clause_fails, AreSet, set_within, decided_lead}
 use Rattle.reason_theory.proofs.SetCounting.{sum_rises, enough_values, none_outside}
+use Rattle.reason_theory.proofs.OverCounting.{over_takes}
 
 pub conflict_refutes : (s : Setting) (f : Form) → conflict s f ≡ true → refutes s (f ∷ []) ≡ true
 conflict_refutes s f c = ap (λ (b : Bool). b || false) c
@@ -108,6 +109,14 @@ module _ (q : Problem) where
       is_out true h = absurd cc
       is_out false h = refl
 
+  over : (base : Setting) (d e : Domains) (p t r : ℕ) (vertices values : List ℕ) → HaveBeside q d p t (r ∷ vertices) values → length values < length (r ∷ vertices) → OnlyOf d e p
+      → LeftRefused d e p (λ v. v == t) → Explains (variable q) (size q.target) base d e (reason_for (over_form q p t r vertices values ∷ []) p (λ v. is_among v (r ∷ vertices)))
+  over base d e p t r vertices values beside fewer only left =
+      explains_one (variable q) (size q.target) base d e (over_form q p t r vertices values ∷ []) p (λ v. is_among v (r ∷ vertices)) only
+      (λ s above out v v_in there gone.
+      subst (λ (u : ℕ). Gives s (over_form q p t r vertices values ∷ []) (variable q p u) false) (sym (eqb-true v t (left v there gone)))
+      (one_gives s (over_form q p t r vertices values) (variable q p t) false (over_takes q s d p t r vertices values beside fewer out)))
+
   -- ---- ends
 
   empty : (base : Setting) (d : Domains) (p : ℕ) → ((u : ℕ) → u < size q.target → d p u ≡ false) → EndsAt (variable q) (size q.target) base d (λ r. r == p) (at_least q p ∷ [])
@@ -173,7 +182,7 @@ module _ (q : Problem) where
       by gone u u_in false was = run_keeps s (value_clauses q path p values) (variable q p u) false (out p (eq-eqb p p refl) u u_in was)
 
   pub change_laws : ChangeLaws q
-  change_laws = record { first = first; guess = guess; vertex = vertex; nogood = nogood; edge = edge; counted = counted }
+  change_laws = record { first = first; guess = guess; vertex = vertex; nogood = nogood; edge = edge; counted = counted; over = over }
 
   pub end_laws : EndLaws q
   end_laws = record { empty = empty; whole = whole; short = short; refuted = refuted }

@@ -1,4 +1,5 @@
 pub mod Giving
 pub mod Forcing
 pub mod SetCounting
+pub mod OverCounting
 pub mod Explaining

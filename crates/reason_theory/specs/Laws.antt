@@ -10,7 +10,7 @@ use Rattle.encoding_theory.specs.Variables.{variable}
 use Rattle.encoding_theory.specs.Encoding.{at_least, at_most, pair_form}
 use Rattle.encoding_theory.specs.Pairs.{is_compatible}
 use Rattle.forcing_theory.specs.Chains.{Domains, Explains, EndsAt}
-use Rattle.reason_theory.specs.Reasons.{pairs_clause, at_leasts, vertices_of, set_form, TakesFirst, TakesBeside, HasAtMost, AreDecided, IsPair, IsNoPair, HaveOnly, OnlyOf, LeftRefused, reason_for, no_vertex, AreTrue, value_clauses}
+use Rattle.reason_theory.specs.Reasons.{pairs_clause, at_leasts, vertices_of, set_form, over_form, TakesFirst, TakesBeside, HasAtMost, AreDecided, IsPair, IsNoPair, HaveOnly, HaveBeside, OnlyOf, LeftRefused, reason_for, no_vertex, AreTrue, value_clauses}
 
 -- The reasons of changes of the domains of a problem.
 pub record ChangeLaws (q : Problem) : Type 0 where
@@ -43,6 +43,11 @@ pub record ChangeLaws (q : Problem) : Type 0 where
             (p ∷ vertices));
         needs = λ r. is_among r (p ∷ vertices);
       })
+  pub over : (base : Setting) (d e : Domains) (p t r : ℕ) (vertices values : List ℕ)
+      → HaveBeside q d p t (r ∷ vertices) values → length values < length (r ∷ vertices)
+      → OnlyOf d e p → LeftRefused d e p (λ v. v == t) → Explains (variable q) (size q.target)
+      base d e (reason_for (over_form q p t r vertices values ∷ []) p
+      (λ v. is_among v (r ∷ vertices)))
 
 -- The ends of dead paths.
 pub record EndLaws (q : Problem) : Type 0 where

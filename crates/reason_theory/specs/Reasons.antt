@@ -9,7 +9,8 @@ use Rattle.proof_theory.specs.Forms.{Form}
 use Rattle.proof_theory.specs.Slack.{Setting, conflict, after, refutes, clause_form}
 use Rattle.log_theory.specs.Lookups.{is_among, are_distinct}
 use Rattle.encoding_theory.specs.Variables.{variable}
-use Rattle.encoding_theory.specs.Encoding.{at_least, at_most, at_most_target}
+use Rattle.encoding_theory.specs.Pairs.{is_compatible}
+use Rattle.encoding_theory.specs.Encoding.{at_least, at_most, at_most_target, pair_form}
 use Rattle.forcing_theory.specs.Sums.{sum_from}
 use Rattle.forcing_theory.specs.Chains.{Domains, Reason, Explains, EndsAt}
 
@@ -34,6 +35,15 @@ vertices_of pairs = map (λ x. x.0) pairs
 -- That vertices go somewhere and that values are taken once, all added up: those vertices need as many of these values as they are.
 abbrev pub set_form : Problem → ℕ → List ℕ → List ℕ → Form
 set_form q p vertices values = sum_from (at_least q p) (at_leasts q vertices
+    ++ map (at_most_target q) values)
+
+-- That beside p at t these vertices go to places that are compatible with it.
+abbrev pub beside_forms : Problem → ℕ → ℕ → List ℕ → List Form
+beside_forms q p t vertices = map (λ r. pair_form q p r t) vertices
+
+-- The same of r and of these vertices, and that values are taken once, all added up: beside p at t they need as many of these values as they are.
+abbrev pub over_form : Problem → ℕ → ℕ → ℕ → List ℕ → List ℕ → Form
+over_form q p t r vertices values = sum_from (pair_form q p r t) (beside_forms q p t vertices
     ++ map (at_most_target q) values)
 
 -- ---- what forms force
@@ -94,6 +104,14 @@ pub record HaveOnly (q : Problem) (d : Domains) (vertices values : List ℕ) : T
   pub values_in : (u : ℕ) → is_among u values ≡ true → u < size q.target
   pub within : (p u : ℕ) → is_among p vertices ≡ true → u < size q.target → d p u ≡ true
       → is_among u values ≡ true
+
+-- Vertices of the pattern, none twice, that beside p at t have no values but these.
+pub record HaveBeside (q : Problem) (d : Domains) (p t : ℕ) (vertices values : List
+    ℕ) : Type 0 where
+  pub distinct : are_distinct vertices ≡ true
+  pub vertices_in : (r : ℕ) → is_among r vertices ≡ true → r < size q.pattern
+  pub within : (r u : ℕ) → is_among r vertices ≡ true → u < size q.target
+      → is_compatible q p t r u ≡ true → d r u ≡ true → is_among u values ≡ true
 
 -- ---- changes
 

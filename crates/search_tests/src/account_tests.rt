@@ -9,6 +9,7 @@ use graph_rows::{Graph, Problem};
 use lad_reader::{EdgeLabels, GraphParts, Labels, LadKind, NeighbourLists};
 use std::alloc::{AllocError, Global};
 use std::test::Fail;
+use worked_examples::{Example, all_hold};
 
 /// A list of two vertices.
 fn two(alloc: Global, a: u32, b: u32) -> Result<Vec<u32>, AllocError>
@@ -70,39 +71,91 @@ fn guess_and_fail(account: &mut Account, q: &Problem, t: u16)
     account.fail(q);
 }
 
-#[test]
-fn the_sequence_begins(rt: HostRuntime) {
-    let first_terms = [1, 1, 2, 1, 1, 2, 4, 1];
-    for i in 0..8 {
-        assert_eq!(rt; luby(i as u64 + 1), first_terms[i]);
+/// Whether vertex 0 may be guessed at `t`, and the guess fails and is refuted by that.
+fn is_guessed_in_vain(account: &mut Account, q: &Problem, t: u16) -> bool
+    requires problem { q.now ≡ triangle_into_four_cycle }
+    requires honest { Honest q.now account.old }
+    requires before { account.old ≡ after_guesses account.old.budget t }
+    requires value_in { t < 4 }
+    requires unspent { t < account.old.budget }
+    ensures honest { Honest q.now account.new }
+    ensures after { account.new ≡ after_guesses account.old.budget (t + 1) }
+{
+    let may_be_guessed = !account.spent() && !account.is_refuted(t);
+    guess_and_fail(account, q, t);
+    may_be_guessed && account.is_refuted(t) && account.fails() == u64::from(t) + 1
+}
+
+/// Whether all four values are.
+fn all_are_guessed_in_vain(account: &mut Account, q: &Problem) -> bool
+    requires problem { q.now ≡ triangle_into_four_cycle }
+    requires honest { Honest q.now account.old }
+    requires before { account.old ≡ after_guesses 4 0 }
+    ensures pattern { account.new.pattern ≡ 3 }
+{
+    for t in 0..4 {
+        if !is_guessed_in_vain(account, q, t) {
+            return false;
+        }
     }
-    assert_eq!(rt; luby(15), 8);
-    assert_eq!(rt; luby(1 << 40), 1);
-    assert_eq!(rt; luby(u64::MAX), 1 << 63);
+    true
+}
+
+/// Whether a level is of this vertex and has this row.
+fn is_level(account: &Account, i: u16, vertex: Option<u16>, row: u64) -> bool
+    requires { i < account.now.pattern }
+{
+    let (found, values) = account.level(i);
+    found == vertex && values == [row].as_slice()
+}
+
+/// Whether the account is spent in its first run, with all values of vertex 0 refuted at the root.
+fn is_spent_at_the_root(account: &Account) -> bool
+    requires { account.now.pattern ≡ 3 }
+{
+    account.spent()
+        && !account.at_cutoff()
+        && account.run_number() == 1
+        && account.vertex() == Some(0)
+        && is_level(account, 0, Some(0), 15)
+        && is_level(account, 1, None, 0)
+}
+
+/// A place in the sequence, and its term.
+struct Term(u64, u64);
+
+impl<R> Example<R> for Term {
+    fn holds(&self, _rt: &R, _alloc: Global) -> Result<bool, AllocError> {
+        let Term(place, term) = *self;
+        Ok(place > 0 && luby(place) == term)
+    }
+}
+
+static TERMS: [Term; 11] = [
+    Term(1, 1),
+    Term(2, 1),
+    Term(3, 2),
+    Term(4, 1),
+    Term(5, 1),
+    Term(6, 2),
+    Term(7, 4),
+    Term(8, 1),
+    Term(15, 8),
+    Term(1 << 40, 1),
+    Term(u64::MAX, 1 << 63),
+];
+
+#[test]
+fn the_sequence_begins(rt: HostRuntime) -> Result<(), Fail> {
+    all_hold(&rt, rt.alloc(), &TERMS)
 }
 
 #[test]
 fn each_guess_of_a_triangle_in_a_four_cycle_fails(rt: HostRuntime) -> Result<(), Fail> {
     let q = &worked_problem(rt.alloc())?;
     let mut account = Account::new(rt.alloc(), q, 4)?;
-    assert_eq!(rt; account.path().len(), 0);
-    assert_eq!(rt; account.vertex(), None);
-    for t in 0..4 {
-        assert!(rt; !account.spent());
-        assert!(rt; !account.is_refuted(t));
-        guess_and_fail(&mut account, q, t);
-        assert!(rt; account.is_refuted(t));
-        assert_eq!(rt; account.fails(), u64::from(t) + 1);
-    }
-    assert!(rt; account.spent());
-    assert!(rt; !account.at_cutoff());
-    assert_eq!(rt; account.run_number(), 1);
-    assert_eq!(rt; account.vertex(), Some(0));
-    let (vertex, row) = account.level(0);
-    assert_eq!(rt; vertex, Some(0));
-    assert_eq!(rt; row, [15].as_slice());
-    let (vertex, row) = account.level(1);
-    assert_eq!(rt; vertex, None);
-    assert_eq!(rt; row, [0].as_slice());
+    let is_fresh = account.path().is_empty() && account.vertex().is_none();
+    let all_fail = all_are_guessed_in_vain(&mut account, q);
+    assert!(rt; is_fresh && all_fail && is_spent_at_the_root(&account));
     Ok(())
 }

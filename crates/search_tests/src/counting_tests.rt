@@ -8,30 +8,44 @@ use all_different::{Pruned, Scratch, prune, prune_undecided};
 use domain_bits::Domains;
 use std::alloc::{AllocError, Global};
 use std::test::Fail;
-use worked_examples::{Example, first_wrong};
+use worked_examples::{Example, all_hold};
+
+/// Whether a set is what counting left in its scratch: these vertices, and their values as one word.
+fn is_left(scratch: &Scratch, set: &[u16], values: u64) -> bool {
+    scratch.set() == set && scratch.values() == [values].as_slice()
+}
+
+/// Whether two domains of the same two values empty a third of these, once.
+fn empty_a_third(alloc: Global) -> Result<bool, AllocError> {
+    let mut domains = Domains::new(alloc, 3, 3)?;
+    let mut scratch = Scratch::new(alloc, 3, 3)?;
+    domains.intersect(0, &[0b011]);
+    domains.intersect(1, &[0b011]);
+    let first = prune(&mut domains, &mut scratch);
+    let is_told = is_left(&scratch, &[0, 1], 0b011);
+    let is_emptied = domains.row(2) == [0b100].as_slice();
+    let second = prune(&mut domains, &mut scratch);
+    Ok(first == Pruned::Hall && is_told && is_emptied && second == Pruned::Quiet)
+}
 
 #[test]
 fn two_domains_of_two_values_empty_a_third(rt: HostRuntime) -> Result<(), Fail> {
-    let mut domains = Domains::new(rt.alloc(), 3, 3)?;
-    let mut scratch = Scratch::new(rt.alloc(), 3, 3)?;
-    domains.intersect(0, &[0b011]);
-    domains.intersect(1, &[0b011]);
-    assert_eq!(rt; prune(&mut domains, &mut scratch), Pruned::Hall);
-    assert_eq!(rt; scratch.set(), [0, 1].as_slice());
-    assert_eq!(rt; scratch.values(), [0b011].as_slice());
-    assert_eq!(rt; domains.row(2), [0b100].as_slice());
-    assert_eq!(rt; prune(&mut domains, &mut scratch), Pruned::Quiet);
+    assert!(rt; empty_a_third(rt.alloc())?);
     Ok(())
+}
+
+/// Whether three domains of two values fail, and lose none.
+fn have_no_choice(alloc: Global) -> Result<bool, AllocError> {
+    let mut domains = Domains::new(alloc, 3, 2)?;
+    let mut scratch = Scratch::new(alloc, 3, 2)?;
+    let answer = prune(&mut domains, &mut scratch);
+    let is_told = is_left(&scratch, &[0, 1, 2], 0b11);
+    Ok(answer == Pruned::Fail && is_told && domains.trail().is_empty())
 }
 
 #[test]
 fn three_domains_of_two_values_have_no_choice(rt: HostRuntime) -> Result<(), Fail> {
-    let mut domains = Domains::new(rt.alloc(), 3, 2)?;
-    let mut scratch = Scratch::new(rt.alloc(), 3, 2)?;
-    assert_eq!(rt; prune(&mut domains, &mut scratch), Pruned::Fail);
-    assert_eq!(rt; scratch.set(), [0, 1, 2].as_slice());
-    assert_eq!(rt; scratch.values(), [0b11].as_slice());
-    assert_eq!(rt; domains.trail().len(), 0);
+    assert!(rt; have_no_choice(rt.alloc())?);
     Ok(())
 }
 
@@ -162,6 +176,5 @@ static COUNTED: [Counted; 6] = [
 
 #[test]
 fn both_answer_alike_on_domains_at_rest(rt: HostRuntime) -> Result<(), Fail> {
-    assert_eq!(rt; first_wrong(&rt, rt.alloc(), &COUNTED)?, None);
-    Ok(())
+    all_hold(&rt, rt.alloc(), &COUNTED)
 }

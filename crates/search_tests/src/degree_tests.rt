@@ -8,8 +8,9 @@ use graph_rows::Problem;
 use graph_theory::direction::Direction;
 use lad_reader::LadKind;
 use sample_graphs::{PATH, TRIANGLE, graph_in};
-use std::alloc::Global;
+use std::alloc::{AllocError, Global};
 use std::test::Fail;
+use worked_examples::{Example, all_hold};
 
 const PLAIN: LadKind = LadKind::Lad;
 
@@ -28,20 +29,42 @@ fn problem(alloc: Global, kind: LadKind, pattern: &[u8], target: &[u8]) -> Optio
     Some(Problem::new(pattern, target, false))
 }
 
+/// The texts of a pattern and a target, a vertex of each, and whether the degrees of the second keep the first.
+struct Kept(LadKind, &'static [u8], &'static [u8], u16, u16, bool);
+
 /// Whether the degrees of `t` keep `p`.
-fn kept(
-    alloc: Global,
-    kind: LadKind,
-    pattern: &[u8],
-    target: &[u8],
-    p: u16,
-    t: u16,
-) -> Option<bool> {
-    let q = problem(alloc, kind, pattern, target)?;
+fn is_kept(q: &Problem, p: u16, t: u16) -> Option<bool> {
     if p >= q.pattern().size() || t >= q.target().size() {
         return None;
     }
-    Some(keeps(&q, p, t))
+    Some(keeps(q, p, t))
+}
+
+impl<R> Example<R> for Kept {
+    fn holds(&self, _rt: &R, alloc: Global) -> Result<bool, AllocError> {
+        let Kept(kind, pattern, target, p, t, expected) = *self;
+        match problem(alloc, kind, pattern, target) {
+            Some(q) => Ok(is_kept(&q, p, t) == Some(expected)),
+            None => Ok(false),
+        }
+    }
+}
+
+static KEPT: [Kept; 7] = [
+    // its degree or more
+    Kept(PLAIN, TRIANGLE, PATH, 0, 0, false),
+    Kept(PLAIN, TRIANGLE, PATH, 0, 1, true),
+    Kept(PLAIN, PATH, TRIANGLE, 0, 1, true),
+    // both its degrees or more
+    Kept(DIRECTED, FORK, MIXED, 0, 0, true),
+    Kept(DIRECTED, FORK, MIXED, 0, 1, false),
+    Kept(DIRECTED, FORK, MIXED, 1, 0, false),
+    Kept(DIRECTED, FORK, MIXED, 1, 2, true),
+];
+
+#[test]
+fn a_vertex_keeps_values_of_its_degrees_or_more(rt: HostRuntime) -> Result<(), Fail> {
+    all_hold(&rt, rt.alloc(), &KEPT)
 }
 
 /// The values whose degrees of a direction keep `p`, as one word.
@@ -56,60 +79,30 @@ fn kept_row(q: &Problem, direction: Direction, p: u16) -> Option<u64> {
     Some(row[0])
 }
 
-/// The values whose out-degrees keep `p`, and those whose in-degrees do.
-fn kept_rows(
-    alloc: Global,
-    kind: LadKind,
-    pattern: &[u8],
-    target: &[u8],
-    p: u16,
-) -> Option<(u64, u64)> {
-    let q = problem(alloc, kind, pattern, target)?;
-    Some((
-        kept_row(&q, Direction::Out, p)?,
-        kept_row(&q, Direction::In, p)?,
-    ))
+/// The texts of a pattern and a target, a pattern vertex, the values whose out-degrees keep it, and those whose in-degrees do.
+struct KeptRows(LadKind, &'static [u8], &'static [u8], u16, u64, u64);
+
+impl<R> Example<R> for KeptRows {
+    fn holds(&self, _rt: &R, alloc: Global) -> Result<bool, AllocError> {
+        let KeptRows(kind, pattern, target, p, outward, inward) = *self;
+        match problem(alloc, kind, pattern, target) {
+            Some(q) => Ok(
+                kept_row(&q, Direction::Out, p) == Some(outward)
+                    && kept_row(&q, Direction::In, p) == Some(inward),
+            ),
+            None => Ok(false),
+        }
+    }
 }
 
-#[test]
-fn a_vertex_keeps_values_of_its_degree_or_more(rt: HostRuntime) -> Result<(), Fail> {
-    assert_eq!(rt; kept(rt.alloc(), PLAIN, TRIANGLE, PATH, 0, 0), Some(false));
-    assert_eq!(rt; kept(rt.alloc(), PLAIN, TRIANGLE, PATH, 0, 1), Some(true));
-    assert_eq!(rt; kept(rt.alloc(), PLAIN, PATH, TRIANGLE, 0, 1), Some(true));
-    Ok(())
-}
-
-#[test]
-fn a_vertex_keeps_values_of_both_its_degrees_or_more(rt: HostRuntime) -> Result<(), Fail> {
-    assert_eq!(rt; kept(rt.alloc(), DIRECTED, FORK, MIXED, 0, 0), Some(true));
-    assert_eq!(rt; kept(rt.alloc(), DIRECTED, FORK, MIXED, 0, 1), Some(false));
-    assert_eq!(rt; kept(rt.alloc(), DIRECTED, FORK, MIXED, 1, 0), Some(false));
-    assert_eq!(rt; kept(rt.alloc(), DIRECTED, FORK, MIXED, 1, 2), Some(true));
-    Ok(())
-}
-
-#[test]
-fn a_row_keeps_values_of_the_degree_or_more(rt: HostRuntime) -> Result<(), Fail> {
-    assert_eq!(rt;
-        kept_rows(rt.alloc(), PLAIN, TRIANGLE, PATH, 0),
-        Some((0b010, 0b010))
-    );
-    assert_eq!(rt;
-        kept_rows(rt.alloc(), PLAIN, PATH, TRIANGLE, 1),
-        Some((0b111, 0b111))
-    );
-    Ok(())
-}
+static KEPT_ROWS: [KeptRows; 4] = [
+    KeptRows(PLAIN, TRIANGLE, PATH, 0, 0b010, 0b010),
+    KeptRows(PLAIN, PATH, TRIANGLE, 1, 0b111, 0b111),
+    KeptRows(DIRECTED, FORK, MIXED, 0, 0b0001, 0b1111),
+    KeptRows(DIRECTED, FORK, MIXED, 1, 0b1111, 0b0110),
+];
 
 #[test]
 fn a_row_keeps_values_by_the_degrees_of_its_direction(rt: HostRuntime) -> Result<(), Fail> {
-    assert_eq!(rt;
-        kept_rows(rt.alloc(), DIRECTED, FORK, MIXED, 0),
-        Some((0b0001, 0b1111))
-    );
-    assert_eq!(rt;
-        kept_rows(rt.alloc(), DIRECTED, FORK, MIXED, 1),
-        Some((0b1111, 0b0110))
-    );
-    Ok(())
+    all_hold(&rt, rt.alloc(), &KEPT_ROWS)
 }

@@ -6,14 +6,19 @@ use graph_rows::{Graph, Problem};
 use graph_theory::direction::Direction;
 use lad_reader::LadKind;
 use sample_graphs::{PATH, graph_in};
-use std::alloc::Global;
+use std::alloc::{AllocError, Global};
 use std::test::Fail;
+use worked_examples::{Example, all_hold};
+
+const PLAIN: LadKind = LadKind::Lad;
+
+const DIRECTED: LadKind = LadKind::DirectedLad;
 
 /// Edges from 0 to 1 and 2, from 1 to itself and 2, and from 3 to 2.
 const MIXED: &[u8] = b"4 2 1 2 2 1 2 0 1 2";
 
 /// The row of `a` in a direction, and the row the other way round.
-fn rows(graph: &Graph, direction: Direction, a: u16) -> Option<(u64, u64)> {
+fn rows_by(graph: &Graph, direction: Direction, a: u16) -> Option<(u64, u64)> {
     if a >= graph.size() {
         return None;
     }
@@ -23,7 +28,7 @@ fn rows(graph: &Graph, direction: Direction, a: u16) -> Option<(u64, u64)> {
 }
 
 /// The degree of `a` in a direction, as it is counted for one vertex and for all, and the degree the other way round.
-fn degrees(graph: &Graph, direction: Direction, a: u16) -> Option<(u16, u16, u16)> {
+fn degrees_by(graph: &Graph, direction: Direction, a: u16) -> Option<(u16, u16, u16)> {
     if a >= graph.size() {
         return None;
     }
@@ -32,19 +37,57 @@ fn degrees(graph: &Graph, direction: Direction, a: u16) -> Option<(u16, u16, u16
     Some((graph.degree_by(direction, a), among, back))
 }
 
-/// The rows of a vertex of a few edges.
-fn mixed_rows(alloc: Global, direction: Direction, a: u16) -> Option<(u64, u64)> {
-    rows(&graph_in(alloc, MIXED, LadKind::DirectedLad)?, direction, a)
+/// A graph's text, a direction, a vertex, its row, and the row the other way round.
+struct Rows(LadKind, &'static [u8], Direction, u16, u64, u64);
+
+impl<R> Example<R> for Rows {
+    fn holds(&self, _rt: &R, alloc: Global) -> Result<bool, AllocError> {
+        let Rows(kind, text, direction, a, row, back) = *self;
+        match graph_in(alloc, text, kind) {
+            Some(graph) => Ok(rows_by(&graph, direction, a) == Some((row, back))),
+            None => Ok(false),
+        }
+    }
 }
 
-/// The degrees of a vertex of a few edges.
-fn mixed_degrees(alloc: Global, direction: Direction, a: u16) -> Option<(u16, u16, u16)> {
-    degrees(&graph_in(alloc, MIXED, LadKind::DirectedLad)?, direction, a)
+static ROWS: [Rows; 6] = [
+    Rows(DIRECTED, MIXED, Direction::Out, 0, 0b0110, 0),
+    Rows(DIRECTED, MIXED, Direction::Out, 1, 0b0110, 0b0011),
+    Rows(DIRECTED, MIXED, Direction::In, 1, 0b0011, 0b0110),
+    Rows(DIRECTED, MIXED, Direction::In, 2, 0b1011, 0),
+    // without directions both are the same
+    Rows(PLAIN, PATH, Direction::Out, 1, 0b101, 0b101),
+    Rows(PLAIN, PATH, Direction::In, 1, 0b101, 0b101),
+];
+
+#[test]
+fn rows_are_those_of_their_direction(rt: HostRuntime) -> Result<(), Fail> {
+    all_hold(&rt, rt.alloc(), &ROWS)
 }
 
-/// The rows of the middle of a path without directions.
-fn path_rows(alloc: Global, direction: Direction) -> Option<(u64, u64)> {
-    rows(&graph_in(alloc, PATH, LadKind::Lad)?, direction, 1)
+/// A direction, a vertex of a few edges, its degree, and the degree the other way round.
+struct Degrees(Direction, u16, u16, u16);
+
+impl<R> Example<R> for Degrees {
+    fn holds(&self, _rt: &R, alloc: Global) -> Result<bool, AllocError> {
+        let Degrees(direction, a, degree, back) = *self;
+        match graph_in(alloc, MIXED, DIRECTED) {
+            Some(graph) => Ok(degrees_by(&graph, direction, a) == Some((degree, degree, back))),
+            None => Ok(false),
+        }
+    }
+}
+
+static DEGREES: [Degrees; 4] = [
+    Degrees(Direction::Out, 0, 2, 0),
+    Degrees(Direction::Out, 1, 1, 1),
+    Degrees(Direction::In, 0, 0, 2),
+    Degrees(Direction::In, 2, 3, 0),
+];
+
+#[test]
+fn degrees_are_those_of_their_direction(rt: HostRuntime) -> Result<(), Fail> {
+    all_hold(&rt, rt.alloc(), &DEGREES)
 }
 
 /// Whether edges of a problem are known to stand both ways.
@@ -54,65 +97,22 @@ fn is_mutual(alloc: Global, pattern: LadKind, target: LadKind) -> Option<bool> {
     Some(Problem::new(pattern, target, false).is_mutual())
 }
 
-#[test]
-fn rows_are_those_of_their_direction(rt: HostRuntime) -> Result<(), Fail> {
-    assert_eq!(rt;
-        mixed_rows(rt.alloc(), Direction::Out, 0),
-        Some((0b0110, 0))
-    );
-    assert_eq!(rt;
-        mixed_rows(rt.alloc(), Direction::Out, 1),
-        Some((0b0110, 0b0011))
-    );
-    assert_eq!(rt;
-        mixed_rows(rt.alloc(), Direction::In, 1),
-        Some((0b0011, 0b0110))
-    );
-    assert_eq!(rt; mixed_rows(rt.alloc(), Direction::In, 2), Some((0b1011, 0)));
-    Ok(())
+/// The formats of a pattern and a target, and whether edges of such a problem are known to stand both ways.
+struct Mutual(LadKind, LadKind, bool);
+
+impl<R> Example<R> for Mutual {
+    fn holds(&self, _rt: &R, alloc: Global) -> Result<bool, AllocError> {
+        Ok(is_mutual(alloc, self.0, self.1) == Some(self.2))
+    }
 }
 
-#[test]
-fn rows_without_directions_are_the_same(rt: HostRuntime) -> Result<(), Fail> {
-    assert_eq!(rt; path_rows(rt.alloc(), Direction::Out), Some((0b101, 0b101)));
-    assert_eq!(rt; path_rows(rt.alloc(), Direction::In), Some((0b101, 0b101)));
-    Ok(())
-}
-
-#[test]
-fn degrees_are_those_of_their_direction(rt: HostRuntime) -> Result<(), Fail> {
-    assert_eq!(rt;
-        mixed_degrees(rt.alloc(), Direction::Out, 0),
-        Some((2, 2, 0))
-    );
-    assert_eq!(rt;
-        mixed_degrees(rt.alloc(), Direction::Out, 1),
-        Some((1, 1, 1))
-    );
-    assert_eq!(rt;
-        mixed_degrees(rt.alloc(), Direction::In, 0),
-        Some((0, 0, 2))
-    );
-    assert_eq!(rt;
-        mixed_degrees(rt.alloc(), Direction::In, 2),
-        Some((3, 3, 0))
-    );
-    Ok(())
-}
+static MUTUAL: [Mutual; 3] = [
+    Mutual(PLAIN, PLAIN, true),
+    Mutual(DIRECTED, PLAIN, false),
+    Mutual(PLAIN, DIRECTED, false),
+];
 
 #[test]
 fn a_problem_is_mutual_where_neither_format_has_directions(rt: HostRuntime) -> Result<(), Fail> {
-    assert_eq!(rt;
-        is_mutual(rt.alloc(), LadKind::Lad, LadKind::Lad),
-        Some(true)
-    );
-    assert_eq!(rt;
-        is_mutual(rt.alloc(), LadKind::DirectedLad, LadKind::Lad),
-        Some(false)
-    );
-    assert_eq!(rt;
-        is_mutual(rt.alloc(), LadKind::Lad, LadKind::DirectedLad),
-        Some(false)
-    );
-    Ok(())
+    all_hold(&rt, rt.alloc(), &MUTUAL)
 }

@@ -2,98 +2,225 @@
 
 ghost use Rattle.std.specs.Prelude.{◌≡◌, length};
 
-use domain_bits::{Domains, WordTrail, and_into, and_not_into, count_ones, or_into};
+use domain_bits::{
+    Domains, Mark, PairTrail, Trail, WordTrail, and_into, and_not_into, count_ones, or_into,
+};
 use std::alloc::{AllocError, Global};
 use std::test::Fail;
-use worked_examples::{Example, first_wrong};
+use worked_examples::{Example, all_hold};
+
+/// What is done to domains, or found of them.
+enum Act {
+    /// A value leaves a domain, or was not there.
+    Removes(u16, u16, bool),
+    /// A vertex goes to a value.
+    Assigns(u16, u16),
+    /// A domain loses what a row lacks.
+    Meets(u16, &'static [u64]),
+    /// What has left since the mark comes back.
+    Undoes,
+    /// A domain has a value.
+    Has(u16, u16),
+    /// A domain has so many values.
+    Sizes(u16, u16),
+    /// A domain has this value alone, or not one value alone.
+    Only(u16, Option<u16>),
+    /// A domain is this row.
+    Is(u16, &'static [u64]),
+}
+
+/// Whether a value left, or was not there, as told.
+fn removes<T: Trail>(domains: &mut Domains<T>, p: u16, t: u16, was_there: bool) -> bool {
+    p < domains.vertices() && t < domains.values() && domains.remove(p, t) == was_there
+}
+
+/// Whether the domain has the value.
+fn has<T: Trail>(domains: &Domains<T>, p: u16, t: u16) -> bool {
+    p < domains.vertices() && t < domains.values() && domains.has(p, t)
+}
+
+/// Whether the vertex could go to the value.
+fn assigns<T: Trail>(domains: &mut Domains<T>, p: u16, t: u16) -> bool {
+    if p >= domains.vertices() || t >= domains.values() || !domains.has(p, t) {
+        return false;
+    }
+    domains.assign(p, t);
+    true
+}
+
+/// Whether the row is one of as many values as domains have.
+fn meets<T: Trail>(domains: &mut Domains<T>, p: u16, row: &[u64]) -> bool {
+    if p >= domains.vertices() || row.len() != domains.row(p).len() {
+        return false;
+    }
+    domains.intersect(p, row);
+    true
+}
+
+/// Whether no less has left than at the mark.
+fn undoes<T: Trail>(domains: &mut Domains<T>, mark: Mark) -> bool {
+    if domains.mark().is_before(mark) {
+        return false;
+    }
+    domains.undo_to(mark);
+    true
+}
+
+impl Act {
+    /// Whether it can be done, or is so.
+    fn holds<T: Trail>(&self, domains: &mut Domains<T>, mark: Mark) -> bool {
+        match *self {
+            Act::Removes(p, t, was_there) => removes(domains, p, t, was_there),
+            Act::Assigns(p, t) => assigns(domains, p, t),
+            Act::Meets(p, row) => meets(domains, p, row),
+            Act::Undoes => undoes(domains, mark),
+            Act::Has(p, t) => has(domains, p, t),
+            Act::Sizes(p, size) => p < domains.vertices() && domains.size(p) == size,
+            Act::Only(p, value) => p < domains.vertices() && domains.only(p) == value,
+            Act::Is(p, row) => p < domains.vertices() && domains.row(p) == row,
+        }
+    }
+}
+
+/// Whether one after the other holds, and what is undone is undone to this mark.
+fn hold<T: Trail>(domains: &mut Domains<T>, mark: Mark, acts: &[Act]) -> bool {
+    for act in acts {
+        if !act.holds(domains, mark) {
+            return false;
+        }
+    }
+    true
+}
+
+/// Acts on domains of two vertices: how many values they have, what comes before a mark, what comes after it until a copy is made,
+/// what comes then, and what comes of the copy.
+struct Life {
+    values: u16,
+    first: &'static [Act],
+    then: &'static [Act],
+    last: &'static [Act],
+    of_copy: &'static [Act],
+}
+
+/// Whether all holds of domains of this kind.
+fn lives<T: Trail>(alloc: Global, life: &Life) -> Result<bool, AllocError> {
+    let mut domains: Domains<T> = Domains::with_trail(alloc, 2, life.values)?;
+    let start = domains.mark();
+    if !hold(&mut domains, start, life.first) {
+        return Ok(false);
+    }
+    let mark = domains.mark();
+    if !hold(&mut domains, mark, life.then) {
+        return Ok(false);
+    }
+    let mut copy = domains.copy(alloc)?;
+    Ok(hold(&mut domains, mark, life.last) && hold(&mut copy, mark, life.of_copy))
+}
+
+impl<R> Example<R> for Life {
+    fn holds(&self, _rt: &R, alloc: Global) -> Result<bool, AllocError> {
+        Ok(lives::<PairTrail>(alloc, self)? && lives::<WordTrail>(alloc, self)?)
+    }
+}
+
+static LIVES: [Life; 5] = [
+    // what has left comes back
+    Life {
+        values: 3,
+        first: &[],
+        then: &[
+            Act::Removes(0, 1, true),
+            Act::Removes(0, 1, false),
+            Act::Has(1, 2),
+            Act::Assigns(1, 2),
+            Act::Only(1, Some(2)),
+            Act::Only(0, None),
+        ],
+        last: &[Act::Undoes, Act::Sizes(0, 3), Act::Sizes(1, 3)],
+        of_copy: &[],
+    },
+    // rows of several words
+    Life {
+        values: 130,
+        first: &[
+            Act::Meets(1, &[0xff, 0, 3]),
+            Act::Sizes(1, 10),
+            Act::Is(1, &[0xff, 0, 3]),
+        ],
+        then: &[Act::Meets(1, &[0x101, 0, 2]), Act::Is(1, &[1, 0, 2])],
+        last: &[Act::Undoes, Act::Is(1, &[0xff, 0, 3])],
+        of_copy: &[Act::Is(1, &[1, 0, 2]), Act::Is(0, &[u64::MAX, u64::MAX, 3])],
+    },
+    // the only value left is known
+    Life {
+        values: 130,
+        first: &[
+            Act::Meets(1, &[8, 0, 1]),
+            Act::Only(1, None),
+            Act::Removes(1, 3, true),
+            Act::Only(1, Some(128)),
+        ],
+        then: &[],
+        last: &[],
+        of_copy: &[],
+    },
+    // a value given back is known
+    Life {
+        values: 130,
+        first: &[Act::Meets(1, &[0, 0, 2])],
+        then: &[Act::Meets(1, &[1, 0, 0]), Act::Only(1, None)],
+        last: &[Act::Undoes, Act::Only(1, Some(129))],
+        of_copy: &[],
+    },
+    // the value left stays known
+    Life {
+        values: 130,
+        first: &[
+            Act::Meets(0, &[8, 0, 0]),
+            Act::Only(0, Some(3)),
+            Act::Meets(0, &[8, 1, 0]),
+            Act::Only(0, Some(3)),
+        ],
+        then: &[Act::Has(1, 129), Act::Assigns(1, 129)],
+        last: &[],
+        of_copy: &[Act::Only(0, Some(3)), Act::Only(1, Some(129))],
+    },
+];
+
+#[test]
+fn domains_give_back_what_they_took_and_copies_keep_it(rt: HostRuntime) -> Result<(), Fail> {
+    all_hold(&rt, rt.alloc(), &LIVES)
+}
+
+static TAKEN: [Act; 3] = [
+    Act::Removes(0, 1, true),
+    Act::Removes(0, 1, false),
+    Act::Assigns(1, 2),
+];
+
+/// Whether what leaves enters the trail, in its order, and leaves it again.
+fn enters_the_trail(alloc: Global) -> Result<bool, AllocError> {
+    let mut domains = Domains::new(alloc, 2, 3)?;
+    let mark = domains.mark();
+    let is_taken = hold(&mut domains, mark, &TAKEN)
+        && domains.trail() == [(0, 1), (1, 0), (1, 1)].as_slice();
+    Ok(is_taken && undoes(&mut domains, mark) && domains.trail().is_empty())
+}
 
 #[test]
 fn removals_enter_the_trail_and_are_undone(rt: HostRuntime) -> Result<(), Fail> {
-    let mut domains = Domains::new(rt.alloc(), 2, 3)?;
-    let mark = domains.mark();
-    assert!(rt; domains.remove(0, 1));
-    assert!(rt; !domains.remove(0, 1));
-    assert!(rt; domains.has(1, 2));
-    domains.assign(1, 2);
-    assert_eq!(rt; domains.trail(), [(0, 1), (1, 0), (1, 1)].as_slice());
-    assert_eq!(rt; domains.only(1), Some(2));
-    assert_eq!(rt; domains.only(0), None);
-    domains.undo_to(mark);
-    assert_eq!(rt; domains.size(0), 3);
-    assert_eq!(rt; domains.size(1), 3);
-    assert_eq!(rt; domains.trail().len(), 0);
+    assert!(rt; enters_the_trail(rt.alloc())?);
     Ok(())
 }
 
-#[test]
-fn rows_of_several_words_are_filtered(rt: HostRuntime) -> Result<(), Fail> {
-    let mut domains = Domains::new(rt.alloc(), 2, 130)?;
-    domains.intersect(1, &[0xff, 0, 3]);
-    assert_eq!(rt; domains.size(1), 10);
-    assert_eq!(rt; domains.row(1), [0xff, 0, 3].as_slice());
-    let mark = domains.mark();
-    domains.intersect(1, &[0x101, 0, 2]);
-    assert_eq!(rt; domains.row(1), [1, 0, 2].as_slice());
-    let copy = domains.copy(rt.alloc())?;
-    domains.undo_to(mark);
-    assert_eq!(rt; domains.row(1), [0xff, 0, 3].as_slice());
-    assert_eq!(rt; copy.row(1), [1, 0, 2].as_slice());
-    assert_eq!(rt; copy.row(0), [u64::MAX, u64::MAX, 3].as_slice());
-    Ok(())
+/// The only value of a domain of one.
+fn lone_value(alloc: Global) -> Result<Option<u16>, AllocError> {
+    Ok(Domains::new(alloc, 1, 1)?.only(0))
 }
 
 #[test]
-fn a_trail_of_words_gives_back_what_it_took(rt: HostRuntime) -> Result<(), Fail> {
-    let mut domains: Domains<WordTrail> = Domains::with_trail(rt.alloc(), 2, 130)?;
-    domains.intersect(1, &[0xff, 0, 3]);
-    assert_eq!(rt; domains.size(1), 10);
-    let mark = domains.mark();
-    domains.intersect(1, &[0x101, 0, 2]);
-    assert_eq!(rt; domains.row(1), [1, 0, 2].as_slice());
-    let copy = domains.copy(rt.alloc())?;
-    domains.undo_to(mark);
-    assert_eq!(rt; domains.row(1), [0xff, 0, 3].as_slice());
-    assert_eq!(rt; copy.row(1), [1, 0, 2].as_slice());
-    assert_eq!(rt; copy.row(0), [u64::MAX, u64::MAX, 3].as_slice());
-    Ok(())
-}
-
-#[test]
-fn the_only_value_left_is_known(rt: HostRuntime) -> Result<(), Fail> {
-    let mut domains: Domains<WordTrail> = Domains::with_trail(rt.alloc(), 2, 130)?;
-    domains.intersect(1, &[8, 0, 1]);
-    assert_eq!(rt; domains.only(1), None);
-    assert!(rt; domains.remove(1, 3));
-    assert_eq!(rt; domains.only(1), Some(128));
-    Ok(())
-}
-
-#[test]
-fn a_value_given_back_is_known(rt: HostRuntime) -> Result<(), Fail> {
-    let mut domains: Domains<WordTrail> = Domains::with_trail(rt.alloc(), 2, 130)?;
-    domains.intersect(1, &[0, 0, 2]);
-    let mark = domains.mark();
-    domains.intersect(1, &[1, 0, 0]);
-    assert_eq!(rt; domains.only(1), None);
-    domains.undo_to(mark);
-    assert_eq!(rt; domains.only(1), Some(129));
-    Ok(())
-}
-
-#[test]
-fn the_value_left_stays_known(rt: HostRuntime) -> Result<(), Fail> {
-    let mut domains = Domains::new(rt.alloc(), 2, 130)?;
-    domains.intersect(0, &[8, 0, 0]);
-    assert_eq!(rt; domains.only(0), Some(3));
-    domains.intersect(0, &[8, 1, 0]);
-    assert_eq!(rt; domains.only(0), Some(3));
-    assert!(rt; domains.has(1, 129));
-    domains.assign(1, 129);
-    let copy = domains.copy(rt.alloc())?;
-    assert_eq!(rt; copy.only(0), Some(3));
-    assert_eq!(rt; copy.only(1), Some(129));
-    let lone = Domains::new(rt.alloc(), 1, 1)?;
-    assert_eq!(rt; lone.only(0), Some(0));
+fn a_lone_value_is_known(rt: HostRuntime) -> Result<(), Fail> {
+    assert!(rt; lone_value(rt.alloc())? == Some(0));
     Ok(())
 }
 
@@ -109,16 +236,20 @@ fn domains_cross_threads(rt: HostRuntime) -> Result<(), Fail> {
     Ok(())
 }
 
+/// Whether a row is changed by others, one after the other.
+fn combines(row: &mut [u64; 3]) -> bool {
+    and_into(row, &[0b1010, 1, 7]);
+    let is_met = row.as_slice() == [0b1000, 1, 7].as_slice();
+    or_into(row, &[1, 2, 8]);
+    let is_joined = row.as_slice() == [0b1001, 3, 15].as_slice();
+    and_not_into(row, &[1, 0, 4]);
+    let is_cut = row.as_slice() == [0b1000, 3, 11].as_slice();
+    is_met && is_joined && is_cut && count_ones(row) == 6
+}
+
 #[test]
 fn kernels_combine_rows(rt: HostRuntime) -> Result<(), Fail> {
-    let mut row = [0b1100, 1, u64::MAX];
-    and_into(&mut row, &[0b1010, 1, 7]);
-    assert_eq!(rt; row.as_slice(), [0b1000, 1, 7].as_slice());
-    or_into(&mut row, &[1, 2, 8]);
-    assert_eq!(rt; row.as_slice(), [0b1001, 3, 15].as_slice());
-    and_not_into(&mut row, &[1, 0, 4]);
-    assert_eq!(rt; row.as_slice(), [0b1000, 3, 11].as_slice());
-    assert_eq!(rt; count_ones(&row), 6);
+    assert!(rt; combines(&mut [0b1100, 1, u64::MAX]));
     Ok(())
 }
 
@@ -227,6 +358,5 @@ static CHANGED: [Changed; 9] = [
 
 #[test]
 fn kernels_take_four_words_at_a_time(rt: HostRuntime) -> Result<(), Fail> {
-    assert_eq!(rt; first_wrong(&rt, rt.alloc(), &CHANGED)?, None);
-    Ok(())
+    all_hold(&rt, rt.alloc(), &CHANGED)
 }

@@ -12,7 +12,7 @@ use lad_reader::{LadKind, read_lad};
 use outer_io::MemorySink;
 use std::alloc::{AllocError, Global};
 use std::test::Fail;
-use worked_examples::{Example, first_wrong};
+use worked_examples::{Example, all_hold};
 
 const PLAIN: LadKind = LadKind::Lad;
 
@@ -267,8 +267,7 @@ static DECIDED: [Decided; 16] = [
 
 #[test]
 fn decides_embeddings_as_the_plain_program(rt: HostRuntime) -> Result<(), Fail> {
-    assert_eq!(rt; first_wrong(&rt, rt.alloc(), &DECIDED)?, None);
-    Ok(())
+    all_hold(&rt, rt.alloc(), &DECIDED)
 }
 
 /// A text that is no mapping, and its first faulty line.
@@ -325,17 +324,22 @@ fn is_read_and_written(alloc: Global, text: &[u8], images: &[u32]) -> Result<boo
 #[test]
 fn reads_and_writes_mappings(rt: HostRuntime) -> Result<(), Fail> {
     assert!(rt; is_read_and_written(rt.alloc(), MAPPING, &[1, 4294967295])?);
-    assert_eq!(rt; first_wrong(&rt, rt.alloc(), &FAULTY)?, None);
-    Ok(())
+    all_hold(&rt, rt.alloc(), &FAULTY)
+}
+
+/// Whether a graph of three vertices has labels, degrees and one loop, at 1.
+fn has_a_loop_at_one(graph: &Graph) -> bool {
+    graph.loops() == [0b010u64].as_slice()
+        && graph.labels() == [5u32, 5, 6].as_slice()
+        && graph.degrees() == [2u16, 1, 1].as_slice()
+        && graph.size() > 1
+        && graph.loop_at(1) == Some(0)
+        && graph.loop_at(0).is_none()
 }
 
 #[test]
 fn loops_and_degrees_lie_beside_the_rows(rt: HostRuntime) -> Result<(), Fail> {
     let graph = graph(rt.alloc(), b"3 5 2 1 2 5 2 1 0 6 1 0", LABELLED).ok_or("no graph")?;
-    assert_eq!(rt; graph.loops(), [0b010u64].as_slice());
-    assert_eq!(rt; graph.labels(), [5u32, 5, 6].as_slice());
-    assert_eq!(rt; graph.degrees(), [2u16, 1, 1].as_slice());
-    assert_eq!(rt; graph.size() > 1 && graph.loop_at(1) == Some(0), true);
-    assert_eq!(rt; graph.size() > 1 && graph.loop_at(0).is_none(), true);
+    assert!(rt; has_a_loop_at_one(&graph));
     Ok(())
 }

@@ -7,8 +7,13 @@ use graph_rows::Graph;
 use graph_theory::direction::Direction;
 use lad_reader::LadKind;
 use sample_graphs::{FOUR_CYCLE, TRIANGLE, graph, graph_in};
-use std::alloc::Global;
+use std::alloc::{AllocError, Global};
 use std::test::Fail;
+use worked_examples::{Example, all_hold};
+
+const PLAIN: LadKind = LadKind::Lad;
+
+const DIRECTED: LadKind = LadKind::DirectedLad;
 
 /// Vertices 0 and 1 and 2 with an edge between each two, vertex 3 with an edge to 0 and 1, and loops at 0 and 1.
 const LOOPS: &[u8] = b"4 4 0 1 2 3 4 0 1 2 3 2 0 1 2 0 1";
@@ -19,8 +24,26 @@ const MIXED: &[u8] = b"4 2 1 2 2 1 2 0 1 2";
 /// A path of vertices 0, 1 and 2 with a loop at 1, and a vertex without edges.
 const PATH: &[u8] = b"4 1 1 3 0 1 2 1 1 0";
 
+/// Two vertices of a text's graph, and their count.
+struct Counted(&'static [u8], u16, u16, u16);
+
+impl<R> Example<R> for Counted {
+    fn holds(&self, _rt: &R, alloc: Global) -> Result<bool, AllocError> {
+        let Counted(text, a, b, count) = *self;
+        Ok(count_of(alloc, text, a, b) == Some(count))
+    }
+}
+
+static COUNTED: [Counted; 5] = [
+    Counted(FOUR_CYCLE, 0, 2, 2),
+    Counted(FOUR_CYCLE, 0, 1, 0),
+    Counted(TRIANGLE, 0, 1, 1),
+    Counted(TRIANGLE, 2, 0, 1),
+    Counted(b"2 2 0 1 2 0 1", 0, 1, 0),
+];
+
 /// The count of two vertices of a text's graph.
-fn counted(alloc: Global, text: &[u8], a: u16, b: u16) -> Option<u16> {
+fn count_of(alloc: Global, text: &[u8], a: u16, b: u16) -> Option<u16> {
     let graph = graph(alloc, text)?;
     let Ok(counts) = Counts::new(alloc, &graph, Direction::Out) else {
         return None;
@@ -31,45 +54,33 @@ fn counted(alloc: Global, text: &[u8], a: u16, b: u16) -> Option<u16> {
     Some(counts.count(a, b))
 }
 
-/// The vertices that share so many neighbours with `t`, as one word.
-fn near(alloc: Global, text: &[u8], t: u16, c: u16) -> Option<u64> {
-    let graph = graph(alloc, text)?;
-    let Ok(counts) = Counts::new(alloc, &graph, Direction::Out) else {
-        return None;
-    };
-    if t >= graph.size() {
-        return None;
+#[test]
+fn counts_are_those_of_the_graph(rt: HostRuntime) -> Result<(), Fail> {
+    all_hold(&rt, rt.alloc(), &COUNTED)
+}
+
+/// A vertex of a graph of four vertices, a direction, and its counts with all others.
+struct AllCounted(LadKind, &'static [u8], Direction, u16, [u16; 4]);
+
+impl<R> Example<R> for AllCounted {
+    fn holds(&self, _rt: &R, alloc: Global) -> Result<bool, AllocError> {
+        let AllCounted(kind, text, direction, t, counts) = *self;
+        match graph_in(alloc, text, kind) {
+            Some(graph) => Ok(counts_by(alloc, &graph, direction, t) == Some(counts)),
+            None => Ok(false),
+        }
     }
-    let mut row = [u64::MAX];
-    counts.fill_at_least(t, c, &mut row);
-    Some(row[0])
 }
 
-/// The counts of a vertex with all others, in a graph of four vertices.
-fn all_counts(alloc: Global, text: &[u8], t: u16) -> Option<[u16; 4]> {
-    let graph = graph(alloc, text)?;
-    counts_by(alloc, &graph, Direction::Out, t)
-}
-
-/// The same of a few edges with a direction.
-fn directed_counts(alloc: Global, direction: Direction, t: u16) -> Option<[u16; 4]> {
-    let graph = graph_in(alloc, MIXED, LadKind::DirectedLad)?;
-    counts_by(alloc, &graph, direction, t)
-}
-
-/// The vertices of a few edges with a direction that share a neighbour with `t`, as one word.
-fn directed_near(alloc: Global, direction: Direction, t: u16) -> Option<u64> {
-    let graph = graph_in(alloc, MIXED, LadKind::DirectedLad)?;
-    let Ok(counts) = Counts::new(alloc, &graph, direction) else {
-        return None;
-    };
-    if t >= graph.size() {
-        return None;
-    }
-    let mut row = [u64::MAX];
-    counts.fill_at_least(t, 1, &mut row);
-    Some(row[0])
-}
+static ALL_COUNTED: [AllCounted; 7] = [
+    AllCounted(PLAIN, FOUR_CYCLE, Direction::Out, 1, [0, 9, 0, 2]),
+    AllCounted(PLAIN, LOOPS, Direction::Out, 1, [2, 9, 1, 1]),
+    AllCounted(PLAIN, PATH, Direction::Out, 0, [9, 0, 1, 0]),
+    AllCounted(DIRECTED, MIXED, Direction::Out, 0, [9, 1, 0, 1]),
+    AllCounted(DIRECTED, MIXED, Direction::Out, 2, [0, 0, 9, 0]),
+    AllCounted(DIRECTED, MIXED, Direction::In, 0, [9, 0, 0, 0]),
+    AllCounted(DIRECTED, MIXED, Direction::In, 2, [0, 1, 9, 0]),
+];
 
 /// The counts of a vertex with all others in a direction, in a graph of four vertices.
 fn counts_by(alloc: Global, graph: &Graph, direction: Direction, t: u16) -> Option<[u16; 4]> {
@@ -85,52 +96,53 @@ fn counts_by(alloc: Global, graph: &Graph, direction: Direction, t: u16) -> Opti
 }
 
 #[test]
-fn counts_are_those_of_the_graph(rt: HostRuntime) -> Result<(), Fail> {
-    assert_eq!(rt; counted(rt.alloc(), FOUR_CYCLE, 0, 2), Some(2));
-    assert_eq!(rt; counted(rt.alloc(), FOUR_CYCLE, 0, 1), Some(0));
-    assert_eq!(rt; counted(rt.alloc(), TRIANGLE, 0, 1), Some(1));
-    assert_eq!(rt; counted(rt.alloc(), TRIANGLE, 2, 0), Some(1));
-    assert_eq!(rt; counted(rt.alloc(), b"2 2 0 1 2 0 1", 0, 1), Some(0));
-    assert_eq!(rt; all_counts(rt.alloc(), FOUR_CYCLE, 1), Some([0, 9, 0, 2]));
-    assert_eq!(rt; all_counts(rt.alloc(), LOOPS, 1), Some([2, 9, 1, 1]));
-    assert_eq!(rt; all_counts(rt.alloc(), PATH, 0), Some([9, 0, 1, 0]));
-    Ok(())
+fn counts_of_a_direction_are_those_of_its_neighbours(rt: HostRuntime) -> Result<(), Fail> {
+    all_hold(&rt, rt.alloc(), &ALL_COUNTED)
 }
+
+/// A graph's text, a direction, a vertex, a number, and the vertices that share so many neighbours with it, as one word.
+struct Near(LadKind, &'static [u8], Direction, u16, u16, u64);
+
+impl<R> Example<R> for Near {
+    fn holds(&self, _rt: &R, alloc: Global) -> Result<bool, AllocError> {
+        let Near(kind, text, direction, t, shared, row) = *self;
+        match graph_in(alloc, text, kind) {
+            Some(graph) => Ok(near_row(alloc, &graph, direction, t, shared) == Some(row)),
+            None => Ok(false),
+        }
+    }
+}
+
+/// The vertices of the graph that share so many neighbours of a direction with `t`, as one word.
+fn near_row(
+    alloc: Global,
+    graph: &Graph,
+    direction: Direction,
+    t: u16,
+    shared: u16,
+) -> Option<u64> {
+    let Ok(counts) = Counts::new(alloc, graph, direction) else {
+        return None;
+    };
+    if t >= graph.size() || graph.size() > 64 {
+        return None;
+    }
+    let mut row = [u64::MAX];
+    counts.fill_at_least(t, shared, &mut row);
+    Some(row[0])
+}
+
+static NEAR: [Near; 7] = [
+    Near(PLAIN, FOUR_CYCLE, Direction::Out, 0, 0, 0b1110),
+    Near(PLAIN, FOUR_CYCLE, Direction::Out, 0, 2, 0b0100),
+    Near(PLAIN, FOUR_CYCLE, Direction::Out, 0, 3, 0),
+    Near(PLAIN, TRIANGLE, Direction::Out, 1, 1, 0b101),
+    Near(DIRECTED, MIXED, Direction::Out, 0, 1, 0b1010),
+    Near(DIRECTED, MIXED, Direction::In, 0, 1, 0),
+    Near(DIRECTED, MIXED, Direction::In, 2, 1, 0b0010),
+];
 
 #[test]
 fn rows_hold_those_that_share_enough(rt: HostRuntime) -> Result<(), Fail> {
-    assert_eq!(rt; near(rt.alloc(), FOUR_CYCLE, 0, 0), Some(0b1110));
-    assert_eq!(rt; near(rt.alloc(), FOUR_CYCLE, 0, 2), Some(0b0100));
-    assert_eq!(rt; near(rt.alloc(), FOUR_CYCLE, 0, 3), Some(0));
-    assert_eq!(rt; near(rt.alloc(), TRIANGLE, 1, 1), Some(0b101));
-    Ok(())
-}
-
-#[test]
-fn counts_of_a_direction_are_those_of_its_neighbours(rt: HostRuntime) -> Result<(), Fail> {
-    assert_eq!(rt;
-        directed_counts(rt.alloc(), Direction::Out, 0),
-        Some([9, 1, 0, 1])
-    );
-    assert_eq!(rt;
-        directed_counts(rt.alloc(), Direction::Out, 2),
-        Some([0, 0, 9, 0])
-    );
-    assert_eq!(rt;
-        directed_counts(rt.alloc(), Direction::In, 0),
-        Some([9, 0, 0, 0])
-    );
-    assert_eq!(rt;
-        directed_counts(rt.alloc(), Direction::In, 2),
-        Some([0, 1, 9, 0])
-    );
-    Ok(())
-}
-
-#[test]
-fn rows_of_a_direction_hold_those_that_share_its_neighbours(rt: HostRuntime) -> Result<(), Fail> {
-    assert_eq!(rt; directed_near(rt.alloc(), Direction::Out, 0), Some(0b1010));
-    assert_eq!(rt; directed_near(rt.alloc(), Direction::In, 0), Some(0));
-    assert_eq!(rt; directed_near(rt.alloc(), Direction::In, 2), Some(0b0010));
-    Ok(())
+    all_hold(&rt, rt.alloc(), &NEAR)
 }

@@ -1,39 +1,60 @@
 //! Small worked rows.
 
+ghost use Rattle.std.specs.Prelude.{◌≡◌, length};
+
 use bit_rows::{
     clear, count_both, fill_below, has_bit, keep_counted, keep_equal, next_member, set_bit,
     unset_bit,
 };
 use std::test::Fail;
 
-#[test]
-fn bits_are_set_and_counted(rt: HostRuntime) -> Result<(), Fail> {
-    let mut row = [7u64, 7];
-    clear(&mut row);
-    set_bit(&mut row, 65);
-    set_bit(&mut row, 3);
-    assert_eq!(rt; row.as_slice(), [8, 2].as_slice());
-    assert!(rt; has_bit(&row, 65));
-    assert!(rt; !has_bit(&row, 64));
-    assert_eq!(rt; count_both(&row, &[u64::MAX, u64::MAX], 128), 2);
-    assert_eq!(rt; count_both(&row, &[u64::MAX, u64::MAX], 65), 1);
-    assert_eq!(rt; count_both(&row, &[7, u64::MAX], 128), 1);
-    Ok(())
+/// Whether bits that are set in a row are there, and are counted.
+fn sets_and_counts(row: &mut [u64; 2]) -> bool {
+    clear(row);
+    set_bit(row, 65);
+    set_bit(row, 3);
+    row.as_slice() == [8, 2].as_slice()
+        && has_bit(row, 65)
+        && !has_bit(row, 64)
+        && count_both(row, &[u64::MAX, u64::MAX], 128) == 2
+        && count_both(row, &[u64::MAX, u64::MAX], 65) == 1
+        && count_both(row, &[7, u64::MAX], 128) == 1
 }
 
 #[test]
-fn rows_are_filled_and_walked(rt: HostRuntime) -> Result<(), Fail> {
-    let mut row = [7u64, 7];
-    fill_below(&mut row, 67);
-    assert_eq!(rt; row.as_slice(), [u64::MAX, 7].as_slice());
-    fill_below(&mut row, 64);
-    unset_bit(&mut row, 63);
-    assert_eq!(rt; row.as_slice(), [u64::MAX >> 1, 0].as_slice());
-    let walked = [0b100u64, 0b1001];
-    assert_eq!(rt; next_member(&walked, 0), 2);
-    assert_eq!(rt; next_member(&walked, 3), 64);
-    assert_eq!(rt; next_member(&walked, 65), 67);
-    assert_eq!(rt; next_member(&walked, 68), 128);
+fn bits_are_set_and_counted(rt: HostRuntime) -> Result<(), Fail> {
+    assert!(rt; sets_and_counts(&mut [7, 7]));
+    Ok(())
+}
+
+/// Whether a row is filled up to a bit, and a bit of it is taken away.
+fn fills(row: &mut [u64; 2]) -> bool {
+    fill_below(row, 67);
+    let is_filled = row.as_slice() == [u64::MAX, 7].as_slice();
+    fill_below(row, 64);
+    unset_bit(row, 63);
+    is_filled && row.as_slice() == [u64::MAX >> 1, 0].as_slice()
+}
+
+#[test]
+fn rows_are_filled(rt: HostRuntime) -> Result<(), Fail> {
+    assert!(rt; fills(&mut [7, 7]));
+    Ok(())
+}
+
+/// Whether a walk over a row comes to its members.
+fn is_walked(row: &[u64]) -> bool
+    requires { length row.now ≡ 2 }
+{
+    next_member(row, 0) == 2
+        && next_member(row, 3) == 64
+        && next_member(row, 65) == 67
+        && next_member(row, 68) == 128
+}
+
+#[test]
+fn rows_are_walked(rt: HostRuntime) -> Result<(), Fail> {
+    assert!(rt; is_walked(&[0b100, 0b1001]));
     Ok(())
 }
 
@@ -45,9 +66,9 @@ fn what_is_counted_is_kept(rt: HostRuntime) -> Result<(), Fail> {
     counts[4] = 2;
     let mut row = [0b11011u64];
     keep_counted(&mut row, &counts, 0);
-    assert_eq!(rt; row[0], 0b11011);
+    assert!(rt; row[0] == 0b11011);
     keep_counted(&mut row, &counts, 2);
-    assert_eq!(rt; row[0], 0b10010);
+    assert!(rt; row[0] == 0b10010);
     Ok(())
 }
 
@@ -60,6 +81,6 @@ fn values_of_one_number_are_kept(rt: HostRuntime) -> Result<(), Fail> {
     fill_below(&mut row, 65);
     unset_bit(&mut row, 2);
     keep_equal(&mut row, &numbers, 7);
-    assert_eq!(rt; row.as_slice(), [!0b110u64, 0].as_slice());
+    assert!(rt; row.as_slice() == [!0b110u64, 0].as_slice());
     Ok(())
 }

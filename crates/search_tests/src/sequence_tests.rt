@@ -6,9 +6,14 @@ use graph_rows::{Graph, Problem};
 use graph_theory::direction::Direction;
 use lad_reader::LadKind;
 use nds_filter::{KeptRows, SequenceAnswer, Sequences, keeps};
-use sample_graphs::{EDGE, TRIANGLE, graph, graph_in};
-use std::alloc::Global;
+use sample_graphs::{EDGE, TRIANGLE, graph_in};
+use std::alloc::{AllocError, Global};
 use std::test::Fail;
+use worked_examples::{Example, all_hold};
+
+const PLAIN: LadKind = LadKind::Lad;
+
+const DIRECTED: LadKind = LadKind::DirectedLad;
 
 const LONG_PATH: &[u8] = b"4 1 1 2 0 2 2 1 3 1 2";
 
@@ -18,17 +23,11 @@ const ALONG: &[u8] = b"3 1 1 1 2 0";
 /// Edges from 0 to 1 and 2, from 1 to itself and 2, and from 3 to 2.
 const MIXED: &[u8] = b"4 2 1 2 2 1 2 0 1 2";
 
-/// The answer for two vertices of two texts' graphs.
-fn answer(alloc: Global, pattern: &[u8], target: &[u8], p: u16, t: u16) -> Option<SequenceAnswer> {
-    let (pattern, target) = (graph(alloc, pattern)?, graph(alloc, target)?);
-    answer_by(alloc, &pattern, &target, Direction::Out, p, t)
-}
-
-/// The same of an edge after another into a few edges.
-fn directed_answer(alloc: Global, direction: Direction, p: u16, t: u16) -> Option<SequenceAnswer> {
-    let pattern = graph_in(alloc, ALONG, LadKind::DirectedLad)?;
-    let target = graph_in(alloc, MIXED, LadKind::DirectedLad)?;
-    answer_by(alloc, &pattern, &target, direction, p, t)
+/// The problem of two texts of this kind.
+fn problem(alloc: Global, kind: LadKind, pattern: &[u8], target: &[u8]) -> Option<Problem> {
+    let pattern = graph_in(alloc, pattern, kind)?;
+    let target = graph_in(alloc, target, kind)?;
+    Some(Problem::new(pattern, target, false))
 }
 
 /// The answer for two vertices of two graphs in a direction.
@@ -52,64 +51,50 @@ fn answer_by(
     Some(keeps(&ps, &ts, p, t))
 }
 
+/// The texts of a pattern and a target, a direction, a vertex of each, and the answer for them.
+struct Compared(
+    LadKind,
+    &'static [u8],
+    &'static [u8],
+    Direction,
+    (u16, u16),
+    SequenceAnswer,
+);
+
+impl<R> Example<R> for Compared {
+    fn holds(&self, _rt: &R, alloc: Global) -> Result<bool, AllocError> {
+        let Compared(kind, pattern, target, direction, (p, t), answer) = *self;
+        match problem(alloc, kind, pattern, target) {
+            Some(q) => {
+                let found = answer_by(alloc, q.pattern(), q.target(), direction, p, t);
+                Ok(found == Some(answer))
+            }
+            None => Ok(false),
+        }
+    }
+}
+
+const KEPT: SequenceAnswer = SequenceAnswer::Kept;
+
+const FIRST: SequenceAnswer = SequenceAnswer::FailsAt(0);
+
+const SECOND: SequenceAnswer = SequenceAnswer::FailsAt(1);
+
+static COMPARED: [Compared; 9] = [
+    Compared(PLAIN, TRIANGLE, LONG_PATH, Direction::Out, (0, 1), SECOND),
+    Compared(PLAIN, LONG_PATH, TRIANGLE, Direction::Out, (1, 0), KEPT),
+    Compared(PLAIN, TRIANGLE, EDGE, Direction::Out, (0, 0), FIRST),
+    Compared(PLAIN, EDGE, LONG_PATH, Direction::Out, (1, 3), KEPT),
+    Compared(PLAIN, LONG_PATH, LONG_PATH, Direction::Out, (1, 3), SECOND),
+    Compared(DIRECTED, ALONG, MIXED, Direction::Out, (0, 0), KEPT),
+    Compared(DIRECTED, ALONG, MIXED, Direction::Out, (0, 1), FIRST),
+    Compared(DIRECTED, ALONG, MIXED, Direction::In, (2, 2), KEPT),
+    Compared(DIRECTED, ALONG, MIXED, Direction::In, (2, 1), FIRST),
+];
+
 #[test]
 fn sequences_are_compared_place_by_place(rt: HostRuntime) -> Result<(), Fail> {
-    assert_eq!(rt;
-        answer(rt.alloc(), TRIANGLE, LONG_PATH, 0, 1),
-        Some(SequenceAnswer::FailsAt(1))
-    );
-    assert_eq!(rt;
-        answer(rt.alloc(), LONG_PATH, TRIANGLE, 1, 0),
-        Some(SequenceAnswer::Kept)
-    );
-    assert_eq!(rt;
-        answer(rt.alloc(), TRIANGLE, EDGE, 0, 0),
-        Some(SequenceAnswer::FailsAt(0))
-    );
-    assert_eq!(rt;
-        answer(rt.alloc(), EDGE, LONG_PATH, 1, 3),
-        Some(SequenceAnswer::Kept)
-    );
-    assert_eq!(rt;
-        answer(rt.alloc(), LONG_PATH, LONG_PATH, 1, 3),
-        Some(SequenceAnswer::FailsAt(1))
-    );
-    Ok(())
-}
-
-#[test]
-fn sequences_of_each_direction_are_compared(rt: HostRuntime) -> Result<(), Fail> {
-    assert_eq!(rt;
-        directed_answer(rt.alloc(), Direction::Out, 0, 0),
-        Some(SequenceAnswer::Kept)
-    );
-    assert_eq!(rt;
-        directed_answer(rt.alloc(), Direction::Out, 0, 1),
-        Some(SequenceAnswer::FailsAt(0))
-    );
-    assert_eq!(rt;
-        directed_answer(rt.alloc(), Direction::In, 2, 2),
-        Some(SequenceAnswer::Kept)
-    );
-    assert_eq!(rt;
-        directed_answer(rt.alloc(), Direction::In, 2, 1),
-        Some(SequenceAnswer::FailsAt(0))
-    );
-    Ok(())
-}
-
-/// The values whose sequences keep that of `p`, as one word.
-fn kept(alloc: Global, pattern: &[u8], target: &[u8], p: u16) -> Option<u64> {
-    let q = Problem::new(graph(alloc, pattern)?, graph(alloc, target)?, false);
-    kept_by(alloc, &q, Direction::Out, p)
-}
-
-/// The same of an edge after another into a few edges.
-fn directed_kept(alloc: Global, direction: Direction, p: u16) -> Option<u64> {
-    let pattern = graph_in(alloc, ALONG, LadKind::DirectedLad)?;
-    let target = graph_in(alloc, MIXED, LadKind::DirectedLad)?;
-    let q = Problem::new(pattern, target, false);
-    kept_by(alloc, &q, direction, p)
+    all_hold(&rt, rt.alloc(), &COMPARED)
 }
 
 /// The values whose sequences of a direction keep that of `p`, as one word.
@@ -123,27 +108,36 @@ fn kept_by(alloc: Global, q: &Problem, direction: Direction, p: u16) -> Option<u
     rows.row(p).first().copied()
 }
 
-#[test]
-fn vertices_of_one_sequence_have_one_row(rt: HostRuntime) -> Result<(), Fail> {
-    assert_eq!(rt; kept(rt.alloc(), LONG_PATH, LONG_PATH, 0), Some(0b1111));
-    assert_eq!(rt; kept(rt.alloc(), LONG_PATH, LONG_PATH, 1), Some(0b0110));
-    assert_eq!(rt; kept(rt.alloc(), LONG_PATH, LONG_PATH, 2), Some(0b0110));
-    assert_eq!(rt; kept(rt.alloc(), TRIANGLE, LONG_PATH, 2), Some(0));
-    Ok(())
+/// The texts of a pattern and a target, a direction, a pattern vertex, and the values whose sequences keep its own.
+struct KeptRow(LadKind, &'static [u8], &'static [u8], Direction, u16, u64);
+
+impl<R> Example<R> for KeptRow {
+    fn holds(&self, _rt: &R, alloc: Global) -> Result<bool, AllocError> {
+        let KeptRow(kind, pattern, target, direction, p, row) = *self;
+        match problem(alloc, kind, pattern, target) {
+            Some(q) => Ok(kept_by(alloc, &q, direction, p) == Some(row)),
+            None => Ok(false),
+        }
+    }
 }
 
-#[test]
-fn rows_along_the_edges_are_by_out_degrees(rt: HostRuntime) -> Result<(), Fail> {
-    assert_eq!(rt; directed_kept(rt.alloc(), Direction::Out, 0), Some(0b0001));
-    assert_eq!(rt; directed_kept(rt.alloc(), Direction::Out, 1), Some(0b1011));
-    assert_eq!(rt; directed_kept(rt.alloc(), Direction::Out, 2), Some(0b1111));
-    Ok(())
-}
+static KEPT_ROWS: [KeptRow; 10] = [
+    // vertices of one sequence have one row
+    KeptRow(PLAIN, LONG_PATH, LONG_PATH, Direction::Out, 0, 0b1111),
+    KeptRow(PLAIN, LONG_PATH, LONG_PATH, Direction::Out, 1, 0b0110),
+    KeptRow(PLAIN, LONG_PATH, LONG_PATH, Direction::Out, 2, 0b0110),
+    KeptRow(PLAIN, TRIANGLE, LONG_PATH, Direction::Out, 2, 0),
+    // rows along the edges are by out-degrees
+    KeptRow(DIRECTED, ALONG, MIXED, Direction::Out, 0, 0b0001),
+    KeptRow(DIRECTED, ALONG, MIXED, Direction::Out, 1, 0b1011),
+    KeptRow(DIRECTED, ALONG, MIXED, Direction::Out, 2, 0b1111),
+    // rows against the edges are by in-degrees
+    KeptRow(DIRECTED, ALONG, MIXED, Direction::In, 0, 0b1111),
+    KeptRow(DIRECTED, ALONG, MIXED, Direction::In, 1, 0b0110),
+    KeptRow(DIRECTED, ALONG, MIXED, Direction::In, 2, 0b0100),
+];
 
 #[test]
-fn rows_against_the_edges_are_by_in_degrees(rt: HostRuntime) -> Result<(), Fail> {
-    assert_eq!(rt; directed_kept(rt.alloc(), Direction::In, 0), Some(0b1111));
-    assert_eq!(rt; directed_kept(rt.alloc(), Direction::In, 1), Some(0b0110));
-    assert_eq!(rt; directed_kept(rt.alloc(), Direction::In, 2), Some(0b0100));
-    Ok(())
+fn rows_hold_the_values_whose_sequences_keep_a_vertex(rt: HostRuntime) -> Result<(), Fail> {
+    all_hold(&rt, rt.alloc(), &KEPT_ROWS)
 }

@@ -1,46 +1,172 @@
 //! Nogoods of a few pairs.
 
-use domain_bits::Domains;
+ghost use Rattle.std.specs.Prelude.{◌≡◌};
+
+use domain_bits::{Domains, Mark};
 use nogood_watch::{WatchAnswer, Watched};
 use std::test::Fail;
+
+/// What is done to domains and to the nogoods over them, or found of these.
+enum Act {
+    /// A value that is there leaves a domain.
+    Removes(u16, u16),
+    /// A vertex goes to a value.
+    Assigns(u16, u16),
+    /// All that has left comes back.
+    Undoes,
+    /// The watches of a pair that is assigned are looked at, with this answer.
+    Looks(u16, u16, WatchAnswer),
+    /// These pairs were forced out, each with its nogood's name.
+    Forces(&'static [(u16, u16, u32)]),
+    /// So many were, and each is this pair.
+    ForcesAlike(usize, u16, u16),
+}
+
+/// Whether the value was there and has left.
+fn removes(domains: &mut Domains, p: u16, t: u16) -> bool
+    ensures vertices { domains.new.vertices ≡ domains.old.vertices }
+    ensures values { domains.new.values ≡ domains.old.values }
+{
+    p < domains.vertices() && t < domains.values() && domains.remove(p, t)
+}
+
+/// Whether the vertex could go to the value.
+fn assigns(domains: &mut Domains, p: u16, t: u16) -> bool
+    ensures vertices { domains.new.vertices ≡ domains.old.vertices }
+    ensures values { domains.new.values ≡ domains.old.values }
+{
+    if p >= domains.vertices() || t >= domains.values() || !domains.has(p, t) {
+        return false;
+    }
+    domains.assign(p, t);
+    true
+}
+
+/// Whether no less has left than at the mark.
+fn undoes(domains: &mut Domains, mark: Mark) -> bool
+    ensures vertices { domains.new.vertices ≡ domains.old.vertices }
+    ensures values { domains.new.values ≡ domains.old.values }
+{
+    if domains.mark().is_before(mark) {
+        return false;
+    }
+    domains.undo_to(mark);
+    true
+}
+
+/// Whether the pair is assigned, and its watches give this answer.
+fn looks(watched: &mut Watched, domains: &Domains, p: u16, t: u16, answer: WatchAnswer) -> bool
+    requires vertices { domains.now.vertices ≡ watched.old.vertices }
+    requires values { domains.now.values ≡ watched.old.values }
+    ensures vertices { watched.new.vertices ≡ watched.old.vertices }
+    ensures values { watched.new.values ≡ watched.old.values }
+{
+    if p >= domains.vertices() {
+        return false;
+    }
+    match domains.only(p) {
+        Some(value) if value == t => watched.on_assign(domains, p, t) == answer,
+        _ => false,
+    }
+}
+
+/// Whether so many pairs were forced out, and each is this one.
+fn forces_alike(forced: &[(u16, u16, u32)], count: usize, p: u16, t: u16) -> bool {
+    for (q, u, _name) in forced {
+        if *q != p || *u != t {
+            return false;
+        }
+    }
+    forced.len() == count
+}
+
+impl Act {
+    /// Whether it can be done, or is so.
+    fn holds(&self, watched: &mut Watched, domains: &mut Domains, mark: Mark) -> bool
+        requires vertices { domains.old.vertices ≡ watched.old.vertices }
+        requires values { domains.old.values ≡ watched.old.values }
+        ensures vertices { domains.new.vertices ≡ watched.new.vertices }
+        ensures values { domains.new.values ≡ watched.new.values }
+    {
+        match *self {
+            Act::Removes(p, t) => removes(domains, p, t),
+            Act::Assigns(p, t) => assigns(domains, p, t),
+            Act::Undoes => undoes(domains, mark),
+            Act::Looks(p, t, answer) => looks(watched, domains, p, t, answer),
+            Act::Forces(forced) => watched.forced() == forced,
+            Act::ForcesAlike(count, p, t) => forces_alike(watched.forced(), count, p, t),
+        }
+    }
+}
+
+/// Whether one after the other holds.
+fn hold(watched: &mut Watched, domains: &mut Domains, acts: &[Act]) -> bool
+    requires vertices { domains.old.vertices ≡ watched.old.vertices }
+    requires values { domains.old.values ≡ watched.old.values }
+{
+    let mark = domains.mark();
+    for act in acts {
+        if !act.holds(watched, domains, mark) {
+            return false;
+        }
+    }
+    true
+}
+
+static FORCED_OUT: [Act; 6] = [
+    Act::Assigns(0, 0),
+    Act::Looks(0, 0, WatchAnswer::Forced),
+    Act::Forces(&[(1, 1, 7)]),
+    Act::Removes(1, 1),
+    Act::Looks(0, 0, WatchAnswer::Quiet),
+    Act::Forces(&[]),
+];
 
 #[test]
 fn the_last_literal_is_forced_out(rt: HostRuntime) -> Result<(), Fail> {
     let mut watched = Watched::new(rt.alloc(), 2, 2)?;
     watched.add(&[(0, 0), (1, 1)], 7)?;
     let mut domains = Domains::new(rt.alloc(), 2, 2)?;
-    domains.assign(0, 0);
-    assert_eq!(rt; watched.on_assign(&domains, 0, 0), WatchAnswer::Forced);
-    assert_eq!(rt; watched.forced(), [(1, 1, 7)].as_slice());
-    assert!(rt; domains.remove(1, 1));
-    assert_eq!(rt; watched.on_assign(&domains, 0, 0), WatchAnswer::Quiet);
-    assert_eq!(rt; watched.forced().len(), 0);
+    assert!(rt; hold(&mut watched, &mut domains, &FORCED_OUT));
     Ok(())
 }
+
+static ON_AND_BACK: [Act; 15] = [
+    Act::Assigns(0, 0),
+    Act::Looks(0, 0, WatchAnswer::Quiet),
+    Act::Assigns(2, 2),
+    Act::Looks(2, 2, WatchAnswer::Quiet),
+    Act::Assigns(3, 0),
+    Act::Looks(3, 0, WatchAnswer::Forced),
+    Act::Forces(&[(1, 1, 0)]),
+    Act::Undoes,
+    Act::Assigns(1, 1),
+    Act::Looks(1, 1, WatchAnswer::Quiet),
+    Act::Assigns(2, 2),
+    Act::Looks(2, 2, WatchAnswer::Quiet),
+    Act::Assigns(0, 0),
+    Act::Looks(0, 0, WatchAnswer::Forced),
+    Act::Forces(&[(3, 0, 0)]),
+];
 
 #[test]
 fn a_watch_moves_on_and_back(rt: HostRuntime) -> Result<(), Fail> {
     let mut watched = Watched::new(rt.alloc(), 4, 3)?;
     watched.add(&[(0, 0), (1, 1), (2, 2), (3, 0)], 0)?;
     let mut domains = Domains::new(rt.alloc(), 4, 3)?;
-    let mark = domains.mark();
-    domains.assign(0, 0);
-    assert_eq!(rt; watched.on_assign(&domains, 0, 0), WatchAnswer::Quiet);
-    domains.assign(2, 2);
-    assert_eq!(rt; watched.on_assign(&domains, 2, 2), WatchAnswer::Quiet);
-    domains.assign(3, 0);
-    assert_eq!(rt; watched.on_assign(&domains, 3, 0), WatchAnswer::Forced);
-    assert_eq!(rt; watched.forced(), [(1, 1, 0)].as_slice());
-    domains.undo_to(mark);
-    domains.assign(1, 1);
-    assert_eq!(rt; watched.on_assign(&domains, 1, 1), WatchAnswer::Quiet);
-    domains.assign(2, 2);
-    assert_eq!(rt; watched.on_assign(&domains, 2, 2), WatchAnswer::Quiet);
-    domains.assign(0, 0);
-    assert_eq!(rt; watched.on_assign(&domains, 0, 0), WatchAnswer::Forced);
-    assert_eq!(rt; watched.forced(), [(3, 0, 0)].as_slice());
+    assert!(rt; hold(&mut watched, &mut domains, &ON_AND_BACK));
     Ok(())
 }
+
+static WHOLE: [Act; 7] = [
+    Act::Assigns(0, 0),
+    Act::Assigns(1, 1),
+    Act::Looks(0, 0, WatchAnswer::Quiet),
+    Act::Looks(1, 1, WatchAnswer::Forced),
+    Act::Forces(&[(2, 0, 4)]),
+    Act::Assigns(2, 0),
+    Act::Looks(2, 0, WatchAnswer::Fail(4)),
+];
 
 #[test]
 fn a_whole_nogood_fails(rt: HostRuntime) -> Result<(), Fail> {
@@ -48,15 +174,20 @@ fn a_whole_nogood_fails(rt: HostRuntime) -> Result<(), Fail> {
     watched.add(&[(0, 1), (2, 0)], 3)?;
     watched.add(&[(0, 0), (1, 1), (2, 0)], 4)?;
     let mut domains = Domains::new(rt.alloc(), 3, 2)?;
-    domains.assign(0, 0);
-    domains.assign(1, 1);
-    assert_eq!(rt; watched.on_assign(&domains, 0, 0), WatchAnswer::Quiet);
-    assert_eq!(rt; watched.on_assign(&domains, 1, 1), WatchAnswer::Forced);
-    assert_eq!(rt; watched.forced(), [(2, 0, 4)].as_slice());
-    domains.assign(2, 0);
-    assert_eq!(rt; watched.on_assign(&domains, 2, 0), WatchAnswer::Fail(4));
+    assert!(rt; hold(&mut watched, &mut domains, &WHOLE));
     Ok(())
 }
+
+static AT_ITS_OWN_LOOK: [Act; 8] = [
+    Act::Assigns(0, 0),
+    Act::Assigns(1, 0),
+    Act::Looks(1, 0, WatchAnswer::Quiet),
+    Act::Looks(0, 0, WatchAnswer::Forced),
+    Act::ForcesAlike(2, 2, 0),
+    Act::Assigns(3, 1),
+    Act::Looks(3, 1, WatchAnswer::Forced),
+    Act::Forces(&[(2, 1, 9)]),
+];
 
 #[test]
 fn each_of_two_assigned_watches_moves_at_its_own_look(rt: HostRuntime) -> Result<(), Fail> {
@@ -65,35 +196,28 @@ fn each_of_two_assigned_watches_moves_at_its_own_look(rt: HostRuntime) -> Result
     watched.add(&[(0, 0), (1, 0), (2, 0)], 1)?;
     watched.add(&[(0, 0), (1, 0), (2, 1), (3, 1)], 9)?;
     let mut domains = Domains::new(rt.alloc(), 4, 2)?;
-    domains.assign(0, 0);
-    domains.assign(1, 0);
-    assert_eq!(rt; watched.on_assign(&domains, 1, 0), WatchAnswer::Quiet);
-    assert_eq!(rt; watched.on_assign(&domains, 0, 0), WatchAnswer::Forced);
-    assert_eq!(rt; watched.forced().len(), 2);
-    for (q, u, _name) in watched.forced() {
-        assert_eq!(rt; (*q, *u), (2, 0));
-    }
-    domains.assign(3, 1);
-    assert_eq!(rt; watched.on_assign(&domains, 3, 1), WatchAnswer::Forced);
-    assert_eq!(rt; watched.forced(), [(2, 1, 9)].as_slice());
+    assert!(rt; hold(&mut watched, &mut domains, &AT_ITS_OWN_LOOK));
     Ok(())
 }
+
+static BESIDE_ONE_THAT_LEFT: [Act; 9] = [
+    Act::Removes(1, 1),
+    Act::Assigns(0, 0),
+    Act::Looks(0, 0, WatchAnswer::Quiet),
+    Act::Undoes,
+    Act::Assigns(0, 0),
+    Act::Assigns(1, 1),
+    Act::Looks(0, 0, WatchAnswer::Quiet),
+    Act::Looks(1, 1, WatchAnswer::Forced),
+    Act::Forces(&[(2, 0, 5)]),
+];
 
 #[test]
 fn a_watch_moves_also_where_the_other_one_has_left(rt: HostRuntime) -> Result<(), Fail> {
     let mut watched = Watched::new(rt.alloc(), 3, 2)?;
     watched.add(&[(0, 0), (1, 1), (2, 0)], 5)?;
     let mut domains = Domains::new(rt.alloc(), 3, 2)?;
-    let mark = domains.mark();
-    assert!(rt; domains.remove(1, 1));
-    domains.assign(0, 0);
-    assert_eq!(rt; watched.on_assign(&domains, 0, 0), WatchAnswer::Quiet);
-    domains.undo_to(mark);
-    domains.assign(0, 0);
-    domains.assign(1, 1);
-    assert_eq!(rt; watched.on_assign(&domains, 0, 0), WatchAnswer::Quiet);
-    assert_eq!(rt; watched.on_assign(&domains, 1, 1), WatchAnswer::Forced);
-    assert_eq!(rt; watched.forced(), [(2, 0, 5)].as_slice());
+    assert!(rt; hold(&mut watched, &mut domains, &BESIDE_ONE_THAT_LEFT));
     Ok(())
 }
 
@@ -103,6 +227,6 @@ fn one_literal_is_a_unit(rt: HostRuntime) -> Result<(), Fail> {
     watched.add(&[(1, 2)], 0)?;
     watched.add(&[(0, 1), (1, 1)], 1)?;
     watched.add(&[(0, 2)], 2)?;
-    assert_eq!(rt; watched.units(), [(1, 2, 0), (0, 2, 2)].as_slice());
+    assert!(rt; watched.units() == [(1, 2, 0), (0, 2, 2)].as_slice());
     Ok(())
 }

@@ -1,6 +1,6 @@
 //! Graphs' texts.
 
-use crate::spoiling::{NUMBERS, Random, spoilt};
+use crate::spoiling::{NUMBERS, Random, none_differs, spoilt};
 use graph_theory::plain_lad::{ListedVertex, vertices_in};
 use lad_reader::{GraphParts, LadFault, LadKind, read_lad};
 use std::alloc::{AllocError, Global};
@@ -82,17 +82,12 @@ static PLAIN: [&[u8]; 6] = [
 
 #[test]
 fn spoilt_graphs(rt: HostRuntime) -> Result<(), Fail> {
-    assert_eq!(rt; first_difference(rt.alloc(), LadKind::Lad, &PLAIN)?, None);
-    Ok(())
+    none_differs(first_difference(rt.alloc(), LadKind::Lad, &PLAIN)?)
 }
 
 #[test]
 fn spoilt_graphs_with_directions(rt: HostRuntime) -> Result<(), Fail> {
-    assert_eq!(rt;
-        first_difference(rt.alloc(), LadKind::DirectedLad, &PLAIN)?,
-        None
-    );
-    Ok(())
+    none_differs(first_difference(rt.alloc(), LadKind::DirectedLad, &PLAIN)?)
 }
 
 /// Texts with labels of vertices.
@@ -106,8 +101,7 @@ static LABELLED: [&[u8]; 4] = [
 #[test]
 fn spoilt_graphs_with_labels(rt: HostRuntime) -> Result<(), Fail> {
     let found = first_difference(rt.alloc(), LadKind::VertexLabelledLad, &LABELLED)?;
-    assert_eq!(rt; found, None);
-    Ok(())
+    none_differs(found)
 }
 
 /// Texts with labels of vertices and edges.
@@ -121,6 +115,5 @@ static LABELLED_EDGES: [&[u8]; 4] = [
 #[test]
 fn spoilt_graphs_with_labels_of_edges(rt: HostRuntime) -> Result<(), Fail> {
     let found = first_difference(rt.alloc(), LadKind::LabelledLad, &LABELLED_EDGES)?;
-    assert_eq!(rt; found, None);
-    Ok(())
+    none_differs(found)
 }

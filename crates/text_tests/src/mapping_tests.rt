@@ -1,6 +1,6 @@
 //! Mappings' texts.
 
-use crate::spoiling::{NUMBERS, Random, spoilt};
+use crate::spoiling::{NUMBERS, Random, none_differs, spoilt};
 use graph_rows::read_mapping;
 use graph_theory::mapping_text::MapFault;
 use graph_theory::plain_mapping::mapping_in;
@@ -40,6 +40,5 @@ static MAPPINGS: [&[u8]; 5] = [
 
 #[test]
 fn spoilt_mappings(rt: HostRuntime) -> Result<(), Fail> {
-    assert_eq!(rt; first_difference(rt.alloc(), &MAPPINGS)?, None);
-    Ok(())
+    none_differs(first_difference(rt.alloc(), &MAPPINGS)?)
 }

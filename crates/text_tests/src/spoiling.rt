@@ -1,6 +1,7 @@
 //! Edits of texts, at random.
 
 use std::alloc::{AllocError, Global};
+use std::test::Fail;
 
 /// A generator of numbers that look random, by multiplying and adding.
 #[derive(Clone, Copy)]
@@ -272,4 +273,12 @@ pub fn spoilt(
         }
     }
     Ok(text)
+}
+
+/// That no text was found to be read otherwise, or which one was, as the failure of a test.
+pub fn none_differs(found: Option<u64>) -> Result<(), Fail> {
+    match found {
+        None => Ok(()),
+        Some(number) => Err(Fail::new(format_args!("text {number} is read otherwise"))),
+    }
 }

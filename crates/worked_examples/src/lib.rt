@@ -1,9 +1,14 @@
 //! Tables of worked examples, for tests: a row is a type of its own that tells whether it holds.
 //!
-//! One loop goes over the rows of every table, since a loop is the costly part of a test's proof.
+//! One loop goes over the rows of every table, since a loop is the costly part of a test's proof; and one function tells which row does not
+//! hold, since an assertion that formats what it compares takes five seconds of each test's proof.
 #![tactic(auto)]
 
+mod files;
+
+pub use files::{InMemory, files_in_memory};
 use std::alloc::{AllocError, Global};
+use std::test::Fail;
 
 /// A worked example: a row of a table. `R` is what it runs with.
 pub trait Example<R> {
@@ -11,7 +16,7 @@ pub trait Example<R> {
     fn holds(&self, rt: &R, alloc: Global) -> Result<bool, AllocError>;
 }
 
-/// The place, from 0, of the first row that does not hold.
+/// The place, from 0, of the first row that does not hold. Cost: that of the rows up to it.
 pub fn first_wrong<R, E: Example<R>>(
     rt: &R,
     alloc: Global,
@@ -23,4 +28,17 @@ pub fn first_wrong<R, E: Example<R>>(
         }
     }
     Ok(None)
+}
+
+/// That no row was found to be wrong, or which one was, as the failure of a test.
+pub fn none_wrong(found: Option<usize>) -> Result<(), Fail> {
+    match found {
+        None => Ok(()),
+        Some(at) => Err(Fail::new(format_args!("row {at} does not hold"))),
+    }
+}
+
+/// That all rows hold, or which is the first that does not, as the failure of a test.
+pub fn all_hold<R, E: Example<R>>(rt: &R, alloc: Global, rows: &[E]) -> Result<(), Fail> {
+    none_wrong(first_wrong(rt, alloc, rows)?)
 }

@@ -99,6 +99,10 @@ pub returns-in-Others-clause-shown : goal.returns-in-Others-clause-shown
 returns-in-Others-clause-shown g c = λ known here.
     ok_still c.push_set.result (subst (λ (x : What). AreAt c.args.at.now (shown_of (change_by c.args.basis.now.numbers.now x c.args.chosen.now.entry.from) known)) (sym c.in-Others.is) here)
 
+pub returns-in-Over-clause-shown : goal.returns-in-Over-clause-shown
+returns-in-Over-clause-shown g c = λ known here.
+    ok_still c.push_crowd.result (subst (λ (x : What). AreAt c.args.at.now (shown_of (change_by c.args.basis.now.numbers.now x c.args.chosen.now.entry.from) known)) (sym c.in-Over.is) here)
+
 pub returns-in-Nogood-clause-goes : goal.returns-in-Nogood-clause-goes
 returns-in-Nogood-clause-goes g c = λ w known here frame.
     let at : c.args.chosen.now.entry.what ≡ One c.in-One.r (cause.Nogood c.in-Nogood.name) = c.in-One.is ∙ ap (λ (y : Cause). let x : What = One c.in-One.r y in x) c.in-Nogood.is in

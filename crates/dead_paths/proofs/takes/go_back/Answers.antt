@@ -36,6 +36,12 @@ returns-in-Edge c = λ path here.
     (step_one c.args.walk.now.q.now c.args.walk.now.rows.now path c.args.walk.now.numbers.now c.args.entry.now.what c.args.entry.now.from (values_of (size c.args.walk.now.q.now.target) c.args.marked.now c.args.needed.now) (values_of (size c.args.walk.now.q.now.target) c.by_edge.new.marked c.by_edge.new.needed)
     c.by_edge.result c.in-One.r c.in-One.cause (cause.Edge c.in-Edge.p c.in-Edge.u c.in-Edge.direction) c.in-One.is c.in-Edge.is (c.by_edge.ensures c.args.walk.now.rows.now path c.args.entry.now.from))
 
+pub returns-in-Over : goal.returns-in-Over
+returns-in-Over c = λ path here.
+    told_made c.args.walk.now.q.now c.args.walk.now.rows.now path (change_of c.args.walk.now.numbers.now c.args.entry.now) (values_of (size c.args.walk.now.q.now.target) c.args.marked.now c.args.needed.now) (values_of (size c.args.walk.now.q.now.target) c.by_crowd.new.marked c.by_crowd.new.needed) c.by_crowd.result c.told_if-in-Over.result c.told_if-in-Over.ensures.yes c.told_if-in-Over.ensures.no
+    (subst (λ (x : What). IsStep c.by_crowd.result c.args.walk.now.q.now c.args.walk.now.rows.now path (change_by c.args.walk.now.numbers.now x c.args.entry.now.from) (values_of (size c.args.walk.now.q.now.target) c.args.marked.now c.args.needed.now) (values_of (size c.args.walk.now.q.now.target) c.by_crowd.new.marked c.by_crowd.new.needed))
+    (sym c.in-Over.is) (rw (c.part-in-Over.ensures, c.part-in-Over-2.ensures) at c.by_crowd.ensures c.args.walk.now.rows.now path c.args.entry.now.from))
+
 pub returns-in-Others : goal.returns-in-Others
 returns-in-Others c = λ path here.
     told_made c.args.walk.now.q.now c.args.walk.now.rows.now path (change_of c.args.walk.now.numbers.now c.args.entry.now) (values_of (size c.args.walk.now.q.now.target) c.args.marked.now c.args.needed.now) (values_of (size c.args.walk.now.q.now.target) c.by_set.new.marked c.by_set.new.needed) c.by_set.result c.told_if-in-Others.result c.told_if-in-Others.ensures.yes c.told_if-in-Others.ensures.no

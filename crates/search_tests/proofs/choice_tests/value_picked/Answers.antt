@@ -3,7 +3,7 @@ use Rattle.std.proofs.lemmas.Bool.{cases_lt, false≢true}
 use Rattle.std.proofs.lemmas.Nat.Bits.{bit_at_above}
 use Rattle.bit_rows.specs.BitRows.{has}
 use Rattle.bit_rows.proofs.Rows.{has_past}
-use Rattle.search_tests.proofs.choice_tests.words_choose_by_the_running_sum.Goals as goal
+use Rattle.search_tests.proofs.choice_tests.value_picked.Goals as goal
 
 members_below : (v : ℕ) → has (164 ∷ []) v ≡ true → v < 8
 members_below v e = by (cases_lt v 8) (cases_lt v 64)
@@ -18,4 +18,4 @@ members_below v e = by (cases_lt v 8) (cases_lt v 64)
         absurd (false≢true h)
 
 pub pick-requires-clause-degrees : goal.pick-requires-clause-degrees
-pick-requires-clause-degrees g c = members_below
+pick-requires-clause-degrees c = members_below

@@ -1,0 +1,292 @@
+//! Tables over files and sinks in memory, which fail where they are told to, and tests over the system's files.
+
+ghost use Rattle.std.specs.Prelude.{◌≡◌, ◌≤◌, ◌++◌, Some, length, IsTrue, OnOk, OnErr, codes};
+ghost use Rattle.outer_io.specs.KnownText.{Wrote};
+ghost use Rattle.outer_io.specs.NamedFiles.{SameOthers};
+ghost use Rattle.outer_io.specs.Sinks.{HasBlame};
+
+use outer_io::{
+    Failed, FileSink, Files, LoadFault, MemorySink, NAME_LIMIT, PieceRoom, Pieces, Purpose,
+    PutFault, RealFiles, RealSink, Sink, load, put_all,
+};
+use std::alloc::{AllocError, Global};
+use std::test::Fail;
+use std::{fs, io};
+use worked_examples::{Example, InMemory, all_hold, files_in_memory};
+
+/// A file of five bytes, an empty one, and one that is not there, with room for six bytes.
+static THREE_FILES: [InMemory; 3] = [
+    InMemory("a", Some(b"abcde"), 0),
+    InMemory("e", Some(b""), 0),
+    InMemory("l", None, 6),
+];
+
+/// A file that is not there.
+static LONE_FILE: [InMemory; 1] = [InMemory("p", None, 200_000)];
+
+/// Two puts in a row, through `?`.
+fn put_both<S: Sink>(sink: &mut S, first: &[u8], second: &[u8]) -> Result<(), Failed>
+    ensures cause { HasBlame S.spot S.rest S.faults S.blamed sink.old sink.new result }
+{
+    sink.put(first)?;
+    sink.put(second)
+}
+
+/// A line of three pieces.
+fn put_line<S: Sink>(word: &[u8], sink: &mut S) -> Result<(), PutFault>
+    ensures text { Wrote (S.spot sink.old).steady (S.contents sink.old) (S.contents sink.new) result
+        (codes "< " ++ word.now ++ codes " >") }
+    ensures cause { HasBlame S.spot S.rest S.faults S.blamed sink.old sink.new result }
+{
+    put_all(&[b"< ", word, b" >"], sink)?;
+    Ok(())
+}
+
+/// A line in a file.
+fn write_line<F: Files>(files: &mut F, name: &str) -> Result<(), PutFault>
+    requires { length name.now ≤ NAME_LIMIT }
+    ensures text { OnOk result (IsTrue (F.tells files.old)
+        → F.content files.new name.now ≡ Some (codes "< w >")) }
+    ensures failed { OnErr result (F.fault_at files.new ≡ Some (name.now, Purpose.Writing)) }
+    ensures later { F.faults files.old ≤ F.faults files.new }
+    ensures tells { F.tells files.new ≡ F.tells files.old }
+    ensures others { SameOthers name.now (F.content files.old) (F.content files.new) }
+{
+    files.begin(name)?;
+    let mut sink = FileSink::new(files, name);
+    put_line(b"w", &mut sink)
+}
+
+/// What a file that is asked for gives: its bytes, or why there are none.
+type Content = Result<&'static [u8], LoadFault>;
+
+/// Whether what was loaded is this.
+fn is_content(loaded: Result<Vec<u8>, LoadFault>, expected: Content) -> bool {
+    match loaded {
+        Ok(bytes) => expected == Ok(bytes.as_slice()),
+        Err(fault) => expected == Err(fault),
+    }
+}
+
+/// Whether loading the file gives this.
+fn loads<F: Files>(alloc: Global, files: &mut F, name: &str, most: u64, expected: Content) -> bool {
+    if name.len() > NAME_LIMIT {
+        return false;
+    }
+    is_content(load(alloc, files, name, most), expected)
+}
+
+/// Whether a line in the file succeeds.
+fn writes<F: Files>(files: &mut F, name: &str) -> bool {
+    if name.len() > NAME_LIMIT {
+        return false;
+    }
+    write_line(files, name).is_ok()
+}
+
+/// One of the three files, the most bytes that are asked for, the number of the call that fails, and what loading it gives.
+struct Loaded(&'static str, u64, u64, Content);
+
+impl<R> Example<R> for Loaded {
+    fn holds(&self, _rt: &R, alloc: Global) -> Result<bool, AllocError> {
+        let Loaded(name, most, failing, expected) = *self;
+        let mut files = files_in_memory(alloc, &THREE_FILES, failing)?;
+        Ok(loads(alloc, &mut files, name, most, expected))
+    }
+}
+
+static LOADED: [Loaded; 11] = [
+    Loaded("a", 5, 0, Ok(b"abcde")),
+    Loaded("a", 6, 0, Ok(b"abcde")),
+    Loaded("a", u64::MAX, 0, Ok(b"abcde")),
+    Loaded("a", 4, 0, Err(LoadFault::TooLong)),
+    Loaded("a", 0, 0, Err(LoadFault::TooLong)),
+    Loaded("e", 0, 0, Ok(b"")),
+    Loaded("l", 9, 0, Err(LoadFault::Failed)),
+    Loaded("a", 5, 1, Err(LoadFault::Failed)),
+    Loaded("a", 5, 2, Err(LoadFault::Failed)),
+    Loaded("a", 5, 3, Err(LoadFault::Failed)),
+    Loaded("a", 5, 4, Ok(b"abcde")),
+];
+
+#[test]
+fn loads_whole_or_says_why(rt: HostRuntime) -> Result<(), Fail> {
+    all_hold(&rt, rt.alloc(), &LOADED)
+}
+
+/// A sink's room, the number of the call that fails, whether two puts succeed, and what the sink then has.
+struct Puts(u64, u64, bool, &'static [u8]);
+
+impl<R> Example<R> for Puts {
+    fn holds(&self, _rt: &R, alloc: Global) -> Result<bool, AllocError> {
+        let Puts(room, failing, is_put, expected) = *self;
+        let mut sink = MemorySink::new(alloc, room, Vec::from_slice(alloc, &[failing])?)?;
+        let put = put_both(&mut sink, b"ab", b"cd");
+        Ok(put.is_ok() == is_put && sink.bytes() == expected)
+    }
+}
+
+static PUTS: [Puts; 6] = [
+    Puts(9, 0, true, b"abcd"),
+    Puts(4, 0, true, b"abcd"),
+    Puts(3, 0, false, b"abc"),
+    Puts(9, 1, false, b""),
+    Puts(9, 2, false, b"ab"),
+    Puts(9, 3, true, b"abcd"),
+];
+
+#[test]
+fn sinks_fail_where_told(rt: HostRuntime) -> Result<(), Fail> {
+    all_hold(&rt, rt.alloc(), &PUTS)
+}
+
+/// One of the three files, the number of the call that fails, whether a line is written, and what the file then holds.
+struct Written(&'static str, u64, bool, Option<&'static [u8]>);
+
+impl<R> Example<R> for Written {
+    fn holds(&self, _rt: &R, alloc: Global) -> Result<bool, AllocError> {
+        let Written(name, failing, is_written, expected) = *self;
+        let mut files = files_in_memory(alloc, &THREE_FILES, failing)?;
+        Ok(writes(&mut files, name) == is_written && files.content(name) == expected)
+    }
+}
+
+static WRITTEN: [Written; 7] = [
+    Written("l", 0, true, Some(b"< w >")),
+    Written("l", 1, false, None),
+    Written("l", 2, false, Some(b"")),
+    Written("l", 3, false, Some(b"< ")),
+    Written("l", 4, false, Some(b"< w")),
+    Written("a", 0, false, Some(b"")),
+    Written("x", 0, false, None),
+];
+
+#[test]
+fn files_fail_where_told(rt: HostRuntime) -> Result<(), Fail> {
+    all_hold(&rt, rt.alloc(), &WRITTEN)
+}
+
+/// Whether loading a file of the system gives this.
+fn loads_really(
+    rt: &HostRuntime,
+    name: &str,
+    most: u64,
+    expected: Content,
+) -> Result<bool, AllocError> {
+    let mut files = RealFiles::new(rt.alloc(), rt)?;
+    Ok(loads(rt.alloc(), &mut files, name, most, expected))
+}
+
+/// Whether a line in a file of the system succeeds.
+fn writes_really(rt: &HostRuntime, name: &str) -> Result<bool, AllocError> {
+    let mut files = RealFiles::new(rt.alloc(), rt)?;
+    Ok(writes(&mut files, name))
+}
+
+#[test]
+fn real_files_are_written_and_loaded(rt: HostRuntime) -> Result<(), Fail> {
+    let name = "outer_io_written.txt";
+    let is_written = writes_really(&rt, name)?
+        && loads_really(&rt, name, 5, Ok(b"< w >"))?
+        && loads_really(&rt, name, 4, Err(LoadFault::TooLong))?;
+    fs::remove_file(&rt, name)?;
+    let is_gone = loads_really(&rt, name, 5, Err(LoadFault::Failed))?;
+    assert!(rt; is_written && is_gone);
+    Ok(())
+}
+
+#[test]
+fn a_directory_is_no_file(rt: HostRuntime) -> Result<(), Fail> {
+    let is_refused = loads_really(&rt, ".", 5, Err(LoadFault::Failed))?
+        && !writes_really(&rt, ".")?;
+    assert!(rt; is_refused);
+    Ok(())
+}
+
+#[test]
+fn real_sink_takes_bytes(rt: HostRuntime) {
+    let mut sink = RealSink::new(io::writer(&rt));
+    assert!(rt; put_both(&mut sink, b"ab", b"cd").is_ok());
+}
+
+/// Two parts of a text through a sink that keeps bytes back, and then what it kept.
+fn put_and_flush<F: Files>(
+    sink: &mut Pieces<F>,
+    first: &[u8],
+    second: &[u8],
+) -> Result<(), Failed> {
+    put_both(sink, first, second)?;
+    sink.flush()
+}
+
+/// The parts in a file, the first as a head or not.
+fn write_in_pieces<F: Files>(
+    files: &mut F,
+    room: &mut PieceRoom,
+    is_headed: bool,
+    first: &[u8],
+    second: &[u8],
+) -> Result<(), Failed> {
+    files.begin("p")?;
+    if is_headed {
+        put_and_flush(&mut Pieces::headed(files, "p", room), first, second)
+    } else {
+        put_and_flush(&mut Pieces::new(files, "p", room), first, second)
+    }
+}
+
+/// So many bytes.
+fn long_text(alloc: Global, len: u32) -> Result<Vec<u8>, AllocError> {
+    let mut text = Vec::new(alloc);
+    for i in 0..len {
+        text.push((i % 251) as u8)?;
+    }
+    Ok(text)
+}
+
+/// Whether the first part is a head, the lengths of both, the number of the call that fails (the first is `begin`, and each
+/// further one an `add`), and how many bytes the file then holds.
+struct InPieces(bool, u32, u32, u64, usize);
+
+impl InPieces {
+    /// Whether the file then holds a front part of that length, and all only where the call says so.
+    fn has_written(&self, alloc: Global, first: &[u8], second: &[u8]) -> Result<bool, AllocError> {
+        let InPieces(is_headed, _, _, failing, expected) = *self;
+        let mut files = files_in_memory(alloc, &LONE_FILE, failing)?;
+        let mut room = PieceRoom::new(alloc)?;
+        let written = write_in_pieces(&mut files, &mut room, is_headed, first, second);
+        let mut whole = Vec::from_slice(alloc, first)?;
+        whole.extend_from_slice(second)?;
+        let is_whole = expected == whole.len();
+        Ok(written.is_ok() == is_whole && files.content("p") == whole.get(..expected))
+    }
+}
+
+impl<R> Example<R> for InPieces {
+    fn holds(&self, _rt: &R, alloc: Global) -> Result<bool, AllocError> {
+        let InPieces(_, first, second, _, _) = *self;
+        let first = long_text(alloc, first)?;
+        let second = long_text(alloc, second)?;
+        self.has_written(alloc, &first, &second)
+    }
+}
+
+static IN_PIECES: [InPieces; 12] = [
+    InPieces(false, 100, 140_000, 0, 140_100),
+    InPieces(false, 100, 140_000, 2, 0),
+    InPieces(false, 100, 140_000, 3, 65_536),
+    InPieces(false, 100, 140_000, 4, 131_072),
+    InPieces(false, 100, 140_000, 5, 140_100),
+    InPieces(false, 65_535, 1, 2, 0),
+    InPieces(false, 65_535, 1, 3, 65_536),
+    InPieces(false, 0, 131_072, 4, 131_072),
+    InPieces(true, 23, 100_000, 3, 23),
+    InPieces(true, 23, 100_000, 4, 65_559),
+    InPieces(true, 23, 100_000, 5, 100_023),
+    InPieces(true, 23, 0, 3, 23),
+];
+
+#[test]
+fn pieces_are_whole_but_the_last(rt: HostRuntime) -> Result<(), Fail> {
+    all_hold(&rt, rt.alloc(), &IN_PIECES)
+}

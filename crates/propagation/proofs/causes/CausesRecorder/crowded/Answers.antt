@@ -1,0 +1,24 @@
+use Rattle.std.proofs.Common.{not, ap, ◌∙◌}
+use Rattle.std.specs.Result.{is_ok}
+use Rattle.propagation.specs.declared.change.What.TheVariants.{Over}
+use Rattle.propagation.specs.Recording.{Recorded, LeftOver, members_of}
+use Rattle.propagation.proofs.Entries.{laid_added, laid_maybe, set_laid, set_placed, told_entry}
+use Rattle.propagation.proofs.causes.CausesRecorder.crowded.Goals as goal
+
+pub invariant_of-self-then-is_err : goal.invariant_of-self-then-is_err
+invariant_of-self-then-is_err c =
+    laid_maybe c.self.inside.entries.items c.push.new.self.items c.self.inside.numbers.items c.put_rows.new.numbers.items (Over c.args.vertex c.args.value c.args.direction c.in-Ok.place) c.args.from (is_ok c.push.result)
+    c.self.invariant c.in-Ok.ensures.adds
+    (set_laid c.self.inside.entries.items c.self.inside.numbers.items c.put_rows.new.numbers.items (members_of c.args.vertices.now) (members_of c.args.values.now) c.in-Ok.place c.self.invariant
+    c.in-Ok.ensures.placed) c.push.ensures.items
+
+pub invariant_of-self-in-Err : goal.invariant_of-self-in-Err
+invariant_of-self-in-Err c = laid_added c.self.inside.entries.items c.self.inside.numbers.items c.put_rows.new.numbers.items c.self.invariant c.in-Err.ensures.adds
+
+pub returns-else-is_err : goal.returns-else-is_err
+returns-else-is_err c =
+    told_entry c.args.self.now.changes c.self.inside.whole c.self.inside.entries.items c.push.new.self.items c.self.inside.numbers.items c.put_rows.new.numbers.items (Over c.args.vertex c.args.value c.args.direction c.in-Ok.place)
+    c.args.from (is_ok c.push.result) (LeftOver c.args.vertex c.args.value c.args.direction (members_of c.args.vertices.now) (members_of c.args.values.now) c.args.from) c.if-not-self.false (ap (λ (r : Recorded). r.changes) c.self.view_is)
+    c.self.invariant c.in-Ok.ensures.adds
+    (set_placed (λ us vs. LeftOver c.args.vertex c.args.value c.args.direction us vs c.args.from) c.self.inside.numbers.items c.put_rows.new.numbers.items (members_of c.args.vertices.now) (members_of c.args.values.now) c.in-Ok.place
+    c.in-Ok.ensures.placed) (c.is_err.ensures.negation ∙ ap not c.if-is_err.false) c.push.ensures.items
