@@ -57,6 +57,22 @@ upheld_of n k m d r t is h u other = need_up n m d r u (λ u_in. subst (λ (w : 
 pub all_of : (n k : ℕ) (m : List Bool) (d : List ℕ) (r : ℕ) → k ≡ n → ((u : ℕ) → u < k → needs k m d r u ≡ true) → (u : ℕ) → values_of n m d r u ≡ true
 all_of n k m d r is h u = need_up n m d r u (λ u_in. subst (λ (w : ℕ). (v : ℕ) → v < w → needs w m d r v ≡ true) is h u u_in)
 
+-- Of a row of needed values those of the target are the needed ones.
+pub kept_needs : (n k r : ℕ) (m : List Bool) (d row other : List ℕ) → k ≡ n → ((u : ℕ) → u < k → has row u ≡ needs k m d r u) → ((u : ℕ) → has other u ≡ (has row u && nat_lt u n)) → (u : ℕ) → u < n → has other u ≡ needs n m d r u
+kept_needs n k r m d row other is row_is bits u u_in =
+    bits u ∙ ap (λ (b : Bool). has row u && b) (lt-ltb u n u_in) ∙ and_right (has row u) ∙ subst (λ (w : ℕ). (v : ℕ) → v < w → has row v ≡ needs w m d r v) is row_is u u_in
+  where
+    and_right : (b : Bool) → (b && true) ≡ b
+    and_right true = refl
+    and_right false = refl
+
+pub kept_below : (n : ℕ) (row other : List ℕ) → ((u : ℕ) → has other u ≡ (has row u && nat_lt u n)) → (u : ℕ) → has other u ≡ true → u < n
+kept_below n row other bits u h = ltb-true u n (second (has row u) (nat_lt u n) (sym (bits u) ∙ h))
+  where
+    second : (a b : Bool) → (a && b) ≡ true → b ≡ true
+    second true b e = e
+    second false b e = absurd cc
+
 -- A vertex of a needed value has a mark.
 pub marked_in : (n : ℕ) (m : List Bool) (d : List ℕ) (r u : ℕ) → needs n m d r u ≡ true → r < length m
 marked_in n m d r u h = by (cases_lt r (length m))
@@ -198,12 +214,12 @@ module _ (q : Problem) (rows : List Row) (path : List (ℕ × ℕ)) where
       ]
 
   -- The rows before and after a vertex has taken what it does from r, and then what it needs itself.
-  pub pass_vertex : (n k : ℕ) (m : List Bool) (d : List ℕ) (p t r from : ℕ) (other spare left : List ℕ) → n ≡ size q.target → k ≡ n → ((u : ℕ) → u < k → has other u ≡ needs k m d r u)
-      → AllConsistent true q p t r left → other ≡ left → IsStep false q rows path (LeftOne r (cause.Vertex p t) from) (values_of n m d) (values_of n m d)
-  pass_vertex n k m d p t r from other spare left n_is is bits all same = (
+  pub pass_vertex : (n : ℕ) (m : List Bool) (d : List ℕ) (p t r from : ℕ) (other left : List ℕ) → n ≡ size q.target → ((u : ℕ) → u < n → has other u ≡ needs n m d r u)
+      → AllConsistent true q p t r left → ((u : ℕ) → has other u ≡ true → has left u ≡ true) → IsStep false q rows path (LeftOne r (cause.Vertex p t) from) (values_of n m d) (values_of n m d)
+  pass_vertex n m d p t r from other left n_is bits all same = (
     (λ v u u_in h takes. let u_n = subst (λ (w : ℕ). u < w) (sym n_is) u_in in
         let here : needs n m d r u ≡ true = sym (ap (λ (x : ℕ). needs n m d x u) takes.0) ∙ need_of n m d v u u_n h in
-        takes.1 (subst (λ (x : ℕ). AreConsistent q p t x u) (sym takes.0) (all u (sym (ap (λ (xs : List ℕ). has xs u) same) ∙ subst (λ (w : ℕ). (v : ℕ) → v < w → has other v ≡ needs w m d r v) is bits u u_n ∙ here)))),
+        takes.1 (subst (λ (x : ℕ). AreConsistent q p t x u) (sym takes.0) (all u (same u (bits u u_n ∙ here))))),
     within_same (values_of n m d),
   )
 

@@ -11,6 +11,7 @@ ghost use Rattle.dead_theory.specs.Changes.{known_after, AreGuessed, AreInProble
 ghost use Rattle.dead_theory.specs.Ends.{EndNeeds};
 ghost use Rattle.dead_theory.specs.Laws.{Dies};
 ghost use Rattle.kept_lines.specs.Frames.{Frame, IsFrameOf, Goes};
+ghost use Rattle.dead_paths.specs.Rooms.{IsFit};
 ghost use Rattle.dead_paths.specs.Making.{AreRowsNamed};
 ghost use Rattle.dead_paths.specs.Choosing.{values_of, AreAt, chosen_in, AreNameable};
 ghost use Rattle.dead_paths.specs.Explaining.{IsLimited, Knowing, AreChangesPushed, IsEndPushed, end_by, IsEndIn, IsChosenFor, IsBegun, AreGathered, IsDeadName, IsLastOf};
@@ -75,13 +76,14 @@ fn mark_end(
         (end_by end (set_at walk.now.numbers.now short) []) }
     requires held { AreRows (size walk.now.q.now.target) marked.old needed.old }
     requires size { length marked.old ≡ size walk.now.q.now.pattern }
-    ensures { (path : List (ℕ × ℕ)) → AreAt walk.now.at.now path
+    requires fit { IsFit (size walk.now.q.now.target) room.old }
+    ensures needs { (path : List (ℕ × ℕ)) → AreAt walk.now.at.now path
         → OnOk result (EndNeeds walk.now.rows.now path (end_by end
         (set_at walk.now.numbers.now short) [])
         (values_of (size walk.now.q.now.target) marked.new needed.new)) }
+    ensures fit { OnOk result (IsFit (size walk.now.q.now.target) room.new) }
 {
     let values = count_values(walk.q);
-    room.fit(values)?;
     match end {
         PathEnd::Failed(failure) => match failure {
             Failure::Empty(p) => {
@@ -254,6 +256,7 @@ fn choose_in(
     chosen: &mut Vec<ChosenEntry>,
 ) -> Result<(), AllocError>
     requires sound { Sound walk.now.q.now walk.now.rows.now }
+    requires sharers { walk.now.sharers.now ≡ walk.now.q.now }
     requires in_problem { AreInProblem walk.now.q.now (changes_of walk.now.numbers.now
         entries.now) }
     requires end { IsEndIn walk.now.q.now walk.now.rows.now
@@ -269,6 +272,7 @@ fn choose_in(
         → OnOk result (AreNameable walk.now.q.now walk.now.rows.now
         (chosen_in walk.now.numbers.now chosen.new.items)) }
 {
+    room.fit(count_values(walk.q))?;
     unmark_all(marked);
     mark_end(walk, end.1, end.0, marked, needed, room)?;
     choose(walk, entries, marked, needed, room, chosen)
@@ -285,6 +289,7 @@ fn choose_for(
     chosen: &mut Vec<ChosenEntry>,
 ) -> Result<(), AllocError>
     requires sound { Sound walk.now.q.now walk.now.rows.now }
+    requires sharers { walk.now.sharers.now ≡ walk.now.q.now }
     requires in_problem { AreInProblem walk.now.q.now (changes_of walk.now.numbers.now
         entries.now) }
     requires end { IsEndIn walk.now.q.now walk.now.rows.now
@@ -411,6 +416,7 @@ pub fn explain<M: LineMaker, N: RowNames, K: Keeper>(
     let walk = Walk {
         alloc: basis.alloc,
         q,
+        sharers: basis.lines.sharers(),
         rows: basis.rows,
         numbers: basis.numbers,
         at: &scratch.at,

@@ -8,8 +8,8 @@ ghost use Rattle.dead_theory.specs.Changes.{IsOneOf, IsLeftOut};
 ghost use Rattle.dead_paths.specs.Choosing.{AreAt};
 ghost use Rattle.dead_paths.specs.Explaining.{IsLimited, MayAdd, AddsBorne};
 
+use crate::ground::Ground;
 use log_theory::Ref;
-use pb_encoding::Encoding;
 use std::alloc::AllocError;
 
 /// Where a vertex has no value.
@@ -68,7 +68,7 @@ pub(crate) fn fill_at(at: &mut Vec<u16>, size: usize, path: &[(u16, u16)]) -> Re
 
 /// Puts the reference to the line by which the vertex goes somewhere, unless its pair is known to hold. From then on it is.
 pub(crate) fn push_decided(
-    lines: &Encoding<'_>,
+    lines: &Ground<'_>,
     at: &mut [u16],
     p: u16,
     t: u16,
@@ -94,7 +94,7 @@ pub(crate) fn push_decided(
 
 /// Puts the reference to the line by which the vertex of the pair goes somewhere, unless the pair is known to hold, or the vertex is left out.
 fn push_bearing(
-    lines: &Encoding<'_>,
+    lines: &Ground<'_>,
     at: &[u16],
     but: Option<u16>,
     x: (u16, u16),
@@ -121,7 +121,7 @@ fn push_bearing(
 
 /// The same for each of these pairs.
 pub(crate) fn push_bearing_all(
-    lines: &Encoding<'_>,
+    lines: &Ground<'_>,
     at: &[u16],
     but: Option<u16>,
     pairs: &[(u16, u16)],

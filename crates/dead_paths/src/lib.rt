@@ -10,6 +10,7 @@
 
 mod beside;
 mod dead_line;
+mod ground;
 mod known;
 mod lines;
 mod lookups;
@@ -17,10 +18,13 @@ mod maker;
 mod needs;
 mod pushes;
 mod room;
+mod sets;
+mod shared;
 mod takes;
 mod walk;
 
 pub use dead_line::{DeadPath, PathEnd, explain};
+pub use ground::Ground;
 pub use lines::keep_set;
 pub use maker::{Basis, LineMaker, RowNames};
 pub use room::Scratch;

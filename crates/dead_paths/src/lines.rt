@@ -10,15 +10,15 @@ ghost use Rattle.dead_paths.specs.Lines.{at_least_refs, at_most_target_ref, besi
 ghost use Rattle.dead_paths.specs.Explaining.{IsLimited};
 
 use crate::beside::Crowd;
+use crate::ground::Ground;
 use journals::Keeper;
 use kept_lines::keep_sum;
 use log_theory::{Name, Ref};
-use pb_encoding::Encoding;
 use std::alloc::{AllocError, Global};
 
 /// Puts references to the lines by which these vertices go somewhere.
 pub(crate) fn push_at_least(
-    lines: &Encoding<'_>,
+    lines: &Ground<'_>,
     vertices: &[u16],
     refs: &mut Vec<Ref>,
 ) -> Result<(), AllocError>
@@ -34,7 +34,7 @@ pub(crate) fn push_at_least(
 
 /// Puts references to the lines by which one vertex at most goes to each of these values.
 pub(crate) fn push_at_most(
-    lines: &Encoding<'_>,
+    lines: &Ground<'_>,
     values: &[u16],
     refs: &mut Vec<Ref>,
 ) -> Result<(), AllocError>
@@ -50,7 +50,7 @@ pub(crate) fn push_at_most(
 
 /// Puts references to the lines by which, beside `p` at `t`, these vertices go to places that are compatible with it.
 fn push_beside(
-    lines: &Encoding<'_>,
+    lines: &Ground<'_>,
     p: u16,
     t: u16,
     vertices: &[u16],
@@ -73,7 +73,7 @@ fn push_beside(
 /// reference for each vertex and value, and a logarithmic look for each vertex.
 pub(crate) fn keep_crowd<K: Keeper>(
     alloc: Global,
-    lines: &Encoding<'_>,
+    lines: &Ground<'_>,
     keeper: &mut K,
     crowd: &Crowd<'_>,
 ) -> Result<Name, AllocError>
@@ -100,7 +100,7 @@ pub(crate) fn keep_crowd<K: Keeper>(
 /// for each vertex and value.
 pub fn keep_set<K: Keeper>(
     alloc: Global,
-    lines: &Encoding<'_>,
+    lines: &Ground<'_>,
     keeper: &mut K,
     vertices: &[u16],
     values: &[u16],

@@ -11,10 +11,10 @@ ghost use Rattle.dead_paths.specs.Lines.{AreVertices, AreValues};
 ghost use Rattle.dead_paths.specs.Making.{GivesFirst, GivesRow, GivesSet};
 ghost use Rattle.dead_paths.specs.Explaining.{IsLimited};
 
+use crate::ground::Ground;
 use journals::Keeper;
 use log_theory::{Name, Ref};
 use nogood_book::Row;
-use pb_encoding::Encoding;
 use std::alloc::{AllocError, Global};
 
 /// Gives a reference to a line when it is asked for one, and keeps the line first if it is not there.
@@ -32,7 +32,7 @@ pub trait LineMaker: Drop {
     fn first<K: Keeper>(
         &mut self,
         alloc: Global,
-        lines: &Encoding<'_>,
+        lines: &Ground<'_>,
         keeper: &mut K,
         p: u16,
     ) -> Result<Ref, AllocError>
@@ -50,7 +50,7 @@ pub trait LineMaker: Drop {
     fn row<K: Keeper>(
         &mut self,
         alloc: Global,
-        lines: &Encoding<'_>,
+        lines: &Ground<'_>,
         keeper: &mut K,
         p: u16,
         t: u16,
@@ -73,7 +73,7 @@ pub trait LineMaker: Drop {
     fn edge_row<K: Keeper>(
         &mut self,
         alloc: Global,
-        lines: &Encoding<'_>,
+        lines: &Ground<'_>,
         keeper: &mut K,
         p: u16,
         t: u16,
@@ -96,7 +96,7 @@ pub trait LineMaker: Drop {
     fn set<K: Keeper>(
         &mut self,
         alloc: Global,
-        lines: &Encoding<'_>,
+        lines: &Ground<'_>,
         keeper: &mut K,
         vertices: &[u16],
         values: &[u16],
@@ -137,12 +137,12 @@ pub trait RowNames {
         ensures fits { IsRef result };
 }
 
-/// What the lines of dead paths are made from: the encoding, the rows of a book with the names of their clauses, and the numbers of the sets
+/// What the lines of dead paths are made from: the encoding with its rows, the rows of a book with the names of their clauses, and the numbers of the sets
 /// that were counted together.
 #[derive(Drop)]
 pub struct Basis<'a, N: RowNames> {
     pub alloc: Global,
-    pub lines: &'a Encoding<'a>,
+    pub lines: &'a Ground<'a>,
     pub rows: &'a [Row],
     pub names: &'a N,
     pub numbers: &'a [u16],

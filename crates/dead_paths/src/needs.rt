@@ -17,15 +17,16 @@ use crate::known::{holds_at, is_left_out};
 use bit_rows::{and_into, fill_below, unset_bit};
 use graph_rows::Problem;
 use graph_theory::direction::Direction;
-use needed_values::{need_but, need_set};
+use needed_values::{Sharers, need_but, need_set};
 use nogood_book::{Row, push_path};
 use std::alloc::{AllocError, Global};
 
-/// What a walk back reads: the problem, the book's rows, the numbers of sets, and the path's values at their vertices.
+/// What a walk back reads: the problem, its rows of values that share neighbours, the book's rows, the numbers of sets, and the path's values at their vertices.
 #[derive(Clone, Copy)]
 pub(crate) struct Walk<'a> {
     pub(crate) alloc: Global,
     pub(crate) q: &'a Problem,
+    pub(crate) sharers: &'a Sharers<'a>,
     pub(crate) rows: &'a [Row],
     pub(crate) numbers: &'a [u16],
     pub(crate) at: &'a [u16],

@@ -14,6 +14,7 @@ ghost use Rattle.dead_paths.specs.Choosing.{AreAt, IsOfRow, chosen_of};
 ghost use Rattle.dead_paths.specs.Explaining.{IsLimited, Knowing, AddsNogood, IsSetPushed, IsCrowdPushed, IsChangePushed};
 
 use crate::beside::{Beside, Crowd};
+use crate::ground::Ground;
 use crate::known::{push_bearing_all, push_decided};
 use crate::lines::keep_crowd;
 use crate::lookups::part;
@@ -22,7 +23,6 @@ use crate::room::ChosenEntry;
 use journals::Keeper;
 use log_theory::Ref;
 use nogood_book::push_path;
-use pb_encoding::Encoding;
 use propagation::{Cause, What};
 use std::alloc::{AllocError, Global};
 
@@ -56,7 +56,7 @@ pub(crate) fn push_nogood<N: RowNames>(
 /// Puts the reference to the line of a set, if it has a vertex.
 pub(crate) fn push_set<M: LineMaker, K: Keeper>(
     alloc: Global,
-    lines: &Encoding<'_>,
+    lines: &Ground<'_>,
     maker: &mut M,
     keeper: &mut K,
     vertices: &[u16],
@@ -87,7 +87,7 @@ pub(crate) fn push_set<M: LineMaker, K: Keeper>(
 /// Keeps the line of a crowd and puts the reference to it, if the crowd has a vertex. It is kept anew for each path that rests on it.
 fn push_crowd<K: Keeper>(
     alloc: Global,
-    lines: &Encoding<'_>,
+    lines: &Ground<'_>,
     keeper: &mut K,
     crowd: &Crowd<'_>,
     refs: &mut Vec<Ref>,

@@ -1,8 +1,9 @@
 //! Memory that a walk back needs, and that the next one uses again.
 
-ghost use Rattle.std.specs.Prelude.{◌≡◌, ◌≤◌, [], true, length, OnOk};
+ghost use Rattle.std.specs.Prelude.{◌≡◌, ◌≤◌, [], length, OnOk};
 ghost use Rattle.bit_rows.specs.BitRows.{words_for};
 ghost use Rattle.needed_values.specs.Needed.{AreRows};
+ghost use Rattle.dead_paths.specs.Rooms.{IsFit};
 
 use bit_rows::words_for;
 use propagation::Entry;
@@ -52,33 +53,12 @@ fn fit_marks(marked: &mut Vec<bool>, count: usize) -> Result<(), AllocError>
 }
 
 impl Room {
-    /// Whether there are rows for so many values, of so many words, and a count for each.
-    #[inline(always)]
-    fn is_fit(&self, values: usize, words: usize) -> bool
-        ensures spare { result ≡ true → length self.now.spare.items ≡ words }
-        ensures other { result ≡ true → length self.now.other.items ≡ words }
-        ensures set { result ≡ true → length self.now.set.items ≡ words }
-        ensures counts { result ≡ true → length self.now.counts.items ≡ values }
-    {
-        self.spare.len() == words
-            && self.other.len() == words
-            && self.set.len() == words
-            && self.counts.len() == values
-    }
-
     /// Rows for so many values, and a count for each. What stands in them is of no meaning. Cost: four steps where they are there.
-    #[inline(always)]
     pub(crate) fn fit(&mut self, values: usize) -> Result<(), AllocError>
         requires { values ≤ 8192 }
-        ensures spare { OnOk result (length self.new.spare.items ≡ words_for values) }
-        ensures other { OnOk result (length self.new.other.items ≡ words_for values) }
-        ensures set { OnOk result (length self.new.set.items ≡ words_for values) }
-        ensures counts { OnOk result (length self.new.counts.items ≡ values) }
+        ensures { OnOk result (IsFit values self.new) }
     {
         let words = words_for(values);
-        if self.is_fit(values, words) {
-            return Ok(());
-        }
         fit_words(&mut self.spare, words)?;
         fit_words(&mut self.other, words)?;
         fit_words(&mut self.set, words)?;

@@ -1,40 +1,34 @@
 //! One step back from a change: whether it may have taken a needed value, which ones, and what it rests on.
 
-ghost use Rattle.std.specs.Prelude.{◌≡◌, ℕ, ◌<◌, ◌⊎◌, ◌||◌, true, false, List, length, OnOk, IfOk};
+ghost use Rattle.std.specs.Prelude.{◌≡◌, ℕ, ◌<◌, true, false, List, length, OnOk, IfOk};
 ghost use Rattle.graph_theory.specs.Graph.{size};
-ghost use Rattle.log_theory.specs.Lookups.{is_among};
 ghost use Rattle.bit_rows.specs.BitRows.{has, words_for};
 ghost use Rattle.nogood_book.specs.declared.row.Row.{Row as TheRow};
 ghost use Rattle.nogood_book.specs.Rows.{Sound};
 ghost use Rattle.propagation.specs.declared.change.Cause.TheVariants as cause;
-ghost use Rattle.propagation.specs.Recording.{LeftOne, LeftOthers, LeftOver, change_of};
+ghost use Rattle.propagation.specs.Recording.{LeftOne, LeftOver, change_of};
 ghost use Rattle.propagation.specs.Telling.{Joins};
 ghost use Rattle.needed_values.specs.Needed.{needs, AreRows, StaysNeeded};
 ghost use Rattle.needed_values.specs.Consistent.{Goes, AllConsistent};
 ghost use Rattle.dead_theory.specs.Changes.{IsInProblem};
-ghost use Rattle.dead_paths.specs.Choosing.{values_of, AreAt, IsStep, IsMade, AreLeft, AreLeftBut, AreInside};
+ghost use Rattle.dead_paths.specs.Choosing.{values_of, AreAt, IsStep, IsMade, AreLeftBut};
+ghost use Rattle.dead_paths.specs.Rooms.{IsFit};
 ghost use Rattle.dead_paths.specs.declared.takes.Choice.TheVariants.{Passed, AsTold, ByEdges};
 
 use crate::beside::{Beside, Crowd};
-use crate::lookups::{holds, is_nogood_row, part};
-use crate::needs::{Walk, count_values, fill_beside, fill_without, need_each, uphold, uphold_row};
+use crate::lookups::{is_nogood_row, part};
+use crate::needs::{Walk, count_values, fill_beside, need_each, uphold, uphold_row};
 use crate::room::Room;
-use bit_rows::{and_into, unset_bit};
+use crate::sets::by_set;
+use bit_rows::unset_bit;
 use graph_rows::Problem;
 use graph_theory::direction::Direction;
 use needed_values::{
-    are_all_consistent, copy_needed, is_any_needed, is_needed, keep_compatible, keep_consistent,
-    need_set, put_needed, unmark,
+    are_all_consistent, copy_needed, is_any_needed, is_needed, keep_consistent, need_set,
+    needed_row, part_compatible, put_needed, unmark,
 };
 use propagation::{Cause, Entry, What};
 use std::alloc::AllocError;
-
-/// Whether two rows are the same.
-fn is_same(row: &[u64], other: &[u64]) -> bool
-    ensures { result ≡ true → row.now ≡ other.now }
-{
-    row == other
-}
 
 /// What comes of a step back from a change.
 #[derive(Clone, Copy, PartialEq, Eq)]
@@ -156,6 +150,7 @@ fn by_vertex(
     other: &mut [u64],
     counts: &mut [u16],
 ) -> Result<Choice, AllocError>
+    requires sharers { walk.now.sharers.now ≡ walk.now.q.now }
     requires held { AreRows (size walk.now.q.now.target) marked.old needed.old }
     requires size { length marked.old ≡ size walk.now.q.now.pattern }
     requires p_in { beside.p < size walk.now.q.now.pattern }
@@ -171,15 +166,20 @@ fn by_vertex(
         (values_of (size walk.now.q.now.target) marked.old needed.old)
         (values_of (size walk.now.q.now.target) marked.new needed.new)) }
 {
-    let values = count_values(walk.q);
-    if !is_any_needed(marked, needed, values, beside.r) {
-        return Ok(Choice::Passed);
-    }
-    copy_needed(marked, needed, values, beside.r, other);
-    spare.copy_from_slice(other);
-    keep_compatible(walk.q, beside.p, beside.t, beside.r, spare);
-    let all = are_all_consistent(walk.alloc, walk.q, beside.p, beside.t, beside.r, spare)?;
-    if all && is_same(other, spare) {
+    let row = match needed_row(marked, needed, count_values(walk.q), beside.r) {
+        None => return Ok(Choice::Passed),
+        Some(row) => row,
+    };
+    let same = part_compatible(walk.q, beside.p, beside.t, beside.r, row, other, spare);
+    let all = are_all_consistent(
+        walk.alloc,
+        walk.sharers,
+        beside.p,
+        beside.t,
+        beside.r,
+        spare,
+    )?;
+    if all && same {
         return Ok(Choice::Passed);
     }
     if all {
@@ -323,150 +323,6 @@ fn by_crowd(
     true
 }
 
-/// Keeps of the needed values of a vertex those that the row has, and tells whether it had others.
-fn take_row(
-    q: &Problem,
-    r: u16,
-    set: &[u64],
-    marked: &mut [bool],
-    needed: &mut [u64],
-    spare: &mut [u64],
-    other: &mut [u64],
-) -> bool
-    requires held { AreRows (size q.now.target) marked.old needed.old }
-    requires r_in { r < length marked.old }
-    requires set { length set.now ≡ words_for (size q.now.target) }
-    requires spare { length spare.old ≡ words_for (size q.now.target) }
-    requires other { length other.old ≡ words_for (size q.now.target) }
-    ensures inside { result ≡ false → (u : ℕ) → u < size q.now.target
-        → needs (size q.now.target) marked.old needed.old r u ≡ true → has set.now u ≡ true }
-    ensures stays { result ≡ false → StaysNeeded (size q.now.target)
-        (needs (size q.now.target) marked.old needed.old)
-        (needs (size q.now.target) marked.new needed.new) }
-    ensures left { (s u : ℕ) → u < size q.now.target
-        → needs (size q.now.target) marked.old needed.old s u ≡ true
-        → (needs (size q.now.target) marked.new needed.new s u ≡ true)
-        ⊎ ((s ≡ r) × (has set.now u ≡ false)) }
-{
-    let values = count_values(q);
-    if !is_any_needed(marked, needed, values, r) {
-        return false;
-    }
-    copy_needed(marked, needed, values, r, other);
-    spare.copy_from_slice(other);
-    and_into(spare, set);
-    if is_same(other, spare) {
-        return false;
-    }
-    put_needed(marked, needed, values, r, spare);
-    true
-}
-
-/// Vertices that were counted together, and the row of all values but theirs.
-#[derive(Clone, Copy)]
-struct Apart<'a> {
-    q: &'a Problem,
-    vertices: &'a [u16],
-    row: &'a [u64],
-}
-
-/// The same, unless the vertex is one of these.
-fn take_other(
-    apart: &Apart<'_>,
-    r: u16,
-    marked: &mut [bool],
-    needed: &mut [u64],
-    spare: &mut [u64],
-    other: &mut [u64],
-) -> bool
-    requires held { AreRows (size apart.now.q.now.target) marked.old needed.old }
-    requires r_in { r < length marked.old }
-    requires row { length apart.now.row.now ≡ words_for (size apart.now.q.now.target) }
-    requires spare { length spare.old ≡ words_for (size apart.now.q.now.target) }
-    requires other { length other.old ≡ words_for (size apart.now.q.now.target) }
-    ensures inside { result ≡ false → is_among r apart.now.vertices.now ≡ false → (u : ℕ)
-        → u < size apart.now.q.now.target
-        → needs (size apart.now.q.now.target) marked.old needed.old r u ≡ true
-        → has apart.now.row.now u ≡ true }
-    ensures stays { result ≡ false → StaysNeeded (size apart.now.q.now.target)
-        (needs (size apart.now.q.now.target) marked.old needed.old)
-        (needs (size apart.now.q.now.target) marked.new needed.new) }
-    ensures left { AreLeft (size apart.now.q.now.target) apart.now.vertices.now apart.now.row.now
-        (needs (size apart.now.q.now.target) marked.old needed.old)
-        (needs (size apart.now.q.now.target) marked.new needed.new) }
-{
-    if holds(apart.vertices, usize::from(r)) {
-        return false;
-    }
-    take_row(apart.q, r, apart.row, marked, needed, spare, other)
-}
-
-/// Keeps of the needed values of all vertices but these those that the row has, and tells whether there were others.
-fn take_others(
-    apart: &Apart<'_>,
-    marked: &mut [bool],
-    needed: &mut [u64],
-    spare: &mut [u64],
-    other: &mut [u64],
-) -> bool
-    requires held { AreRows (size apart.now.q.now.target) marked.old needed.old }
-    requires row { length apart.now.row.now ≡ words_for (size apart.now.q.now.target) }
-    requires spare { length spare.old ≡ words_for (size apart.now.q.now.target) }
-    requires other { length other.old ≡ words_for (size apart.now.q.now.target) }
-    ensures inside { result ≡ false
-        → AreInside (size apart.now.q.now.target) apart.now.vertices.now apart.now.row.now
-        (needs (size apart.now.q.now.target) marked.old needed.old) }
-    ensures stays { result ≡ false → StaysNeeded (size apart.now.q.now.target)
-        (needs (size apart.now.q.now.target) marked.old needed.old)
-        (needs (size apart.now.q.now.target) marked.new needed.new) }
-    ensures left { AreLeft (size apart.now.q.now.target) apart.now.vertices.now apart.now.row.now
-        (needs (size apart.now.q.now.target) marked.old needed.old)
-        (needs (size apart.now.q.now.target) marked.new needed.new) }
-{
-    let mut taken = false;
-    for r in 0..marked.len() {
-        let here = take_other(apart, r as u16, marked, needed, spare, other);
-        taken = taken || here;
-    }
-    taken
-}
-
-/// A set of vertices, the first of the two, takes its values, the second, from all others.
-fn by_set(
-    q: &Problem,
-    counted: (&[u16], &[u16]),
-    marked: &mut [bool],
-    needed: &mut [u64],
-    set: &mut [u64],
-    spare: &mut [u64],
-    other: &mut [u64],
-) -> bool
-    requires held { AreRows (size q.now.target) marked.old needed.old }
-    requires size { length marked.old ≡ size q.now.pattern }
-    requires in_problem { IsInProblem q.now (LeftOthers counted.0.now counted.1.now 0) }
-    requires set { length set.old ≡ words_for (size q.now.target) }
-    requires spare { length spare.old ≡ words_for (size q.now.target) }
-    requires other { length other.old ≡ words_for (size q.now.target) }
-    ensures { (rows : List TheRow) (path : List (ℕ × ℕ)) (from : ℕ)
-        → IsStep result q.now rows path
-        (LeftOthers counted.entry.0.now counted.entry.1.now from)
-        (values_of (size q.now.target) marked.old needed.old)
-        (values_of (size q.now.target) marked.new needed.new) }
-{
-    let (vertices, values) = counted;
-    fill_without(q, values, set);
-    let apart = Apart {
-        q,
-        vertices,
-        row: set,
-    };
-    if !take_others(&apart, marked, needed, spare, other) {
-        return false;
-    }
-    need_each(q, vertices, set, marked, needed, spare);
-    true
-}
-
 /// One step back from a change. It is chosen where it may have taken a needed value; then what it takes by itself is needed no more, and what
 /// it rests on is. Cost: for a change of one vertex a few steps for each word of a row, and what `are_all_consistent` and `keep_consistent`
 /// cost; for a value taken by an edge or a crowd one step where it is not needed; for a set the words of each marked vertex's row, with a look
@@ -479,17 +335,19 @@ pub(crate) fn go_back(
     room: &mut Room,
 ) -> Result<Choice, AllocError>
     requires sound { Sound walk.now.q.now walk.now.rows.now }
+    requires sharers { walk.now.sharers.now ≡ walk.now.q.now }
     requires in_problem { IsInProblem walk.now.q.now (change_of walk.now.numbers.now entry.now) }
     requires held { AreRows (size walk.now.q.now.target) marked.old needed.old }
     requires size { length marked.old ≡ size walk.now.q.now.pattern }
-    ensures { (path : List (ℕ × ℕ)) → AreAt walk.now.at.now path
+    requires fit { IsFit (size walk.now.q.now.target) room.old }
+    ensures step { (path : List (ℕ × ℕ)) → AreAt walk.now.at.now path
         → IfOk result (λ b. IsMade b walk.now.q.now walk.now.rows.now path
         (change_of walk.now.numbers.now entry.now)
         (values_of (size walk.now.q.now.target) marked.old needed.old)
         (values_of (size walk.now.q.now.target) marked.new needed.new)) }
+    ensures fit { OnOk result (IsFit (size walk.now.q.now.target) room.new) }
 {
     let values = count_values(walk.q);
-    room.fit(values)?;
     match entry.what {
         What::One(r, cause) => match cause {
             Cause::First => Ok(told_if(is_any_needed(marked, needed, values, r))),

@@ -7,6 +7,7 @@ ghost use Rattle.propagation.specs.Recording.{Change, change_of, changes_of};
 ghost use Rattle.needed_values.specs.Needed.{AreRows};
 ghost use Rattle.dead_theory.specs.Changes.{IsInProblem, AreInProblem};
 ghost use Rattle.dead_theory.specs.Walks.{IsChoice};
+ghost use Rattle.dead_paths.specs.Rooms.{IsFit};
 ghost use Rattle.dead_paths.specs.Choosing.{values_of, AreAt, chosen_in, AreNameable, HasCome};
 
 use crate::needs::Walk;
@@ -34,10 +35,12 @@ fn step_back(
     chosen: &mut Vec<ChosenEntry>,
 ) -> Result<(), AllocError>
     requires sound { Sound walk.now.q.now walk.now.rows.now }
+    requires sharers { walk.now.sharers.now ≡ walk.now.q.now }
     requires in_problem { IsInProblem walk.now.q.now (change_of walk.now.numbers.now entry.now) }
     requires held { AreRows (size walk.now.q.now.target) marked.old needed.old }
     requires size { length marked.old ≡ size walk.now.q.now.pattern }
-    ensures { (path : List (ℕ × ℕ)) (seen : List Change) (first : ℕ → ℕ → Bool)
+    requires fit { IsFit (size walk.now.q.now.target) room.old }
+    ensures come { (path : List (ℕ × ℕ)) (seen : List Change) (first : ℕ → ℕ → Bool)
         → AreAt walk.now.at.now path
         → HasCome walk.now.q.now walk.now.rows.now path seen (chosen_in walk.now.numbers.now
         chosen.old.items)
@@ -46,6 +49,7 @@ fn step_back(
         (seen ++ change_of walk.now.numbers.now entry.now ∷ [])
         (chosen_in walk.now.numbers.now chosen.new.items) first
         (values_of (size walk.now.q.now.target) marked.new needed.new)) }
+    ensures fit { OnOk result (IsFit (size walk.now.q.now.target) room.new) }
 {
     let choice = go_back(walk, entry, marked, needed, room)?;
     match choice {
@@ -65,10 +69,12 @@ pub(crate) fn choose(
     chosen: &mut Vec<ChosenEntry>,
 ) -> Result<(), AllocError>
     requires sound { Sound walk.now.q.now walk.now.rows.now }
+    requires sharers { walk.now.sharers.now ≡ walk.now.q.now }
     requires in_problem { AreInProblem walk.now.q.now (changes_of walk.now.numbers.now
         entries.now) }
     requires held { AreRows (size walk.now.q.now.target) marked.old needed.old }
     requires size { length marked.old ≡ size walk.now.q.now.pattern }
+    requires fit { IsFit (size walk.now.q.now.target) room.old }
     ensures choice { (path : List (ℕ × ℕ)) → AreAt walk.now.at.now path
         → OnOk result (IsChoice walk.now.q.now walk.now.rows.now path
         (changes_of walk.now.numbers.now entries.now) (chosen_in walk.now.numbers.now

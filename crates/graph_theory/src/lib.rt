@@ -16,9 +16,5 @@ pub mod path;
 pub mod plain;
 pub mod plain_lad;
 pub mod plain_mapping;
-#[cfg(test)]
-mod problem_tests;
-#[cfg(test)]
-mod text_tests;
 pub mod text_words;
 pub mod trial;

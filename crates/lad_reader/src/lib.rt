@@ -9,8 +9,6 @@
 mod labelled;
 pub mod parts;
 pub mod reader;
-#[cfg(test)]
-mod tests;
 mod words_left;
 
 pub use graph_theory::lad_text::{LadCause, LadFault, LadKind};

@@ -3,6 +3,7 @@
 ghost use Rattle.std.specs.Prelude.{IfSome};
 ghost use Rattle.graph_theory.specs.Plain.{ArePlain};
 
+use dead_paths::Ground;
 use graph_rows::Problem;
 use pb_encoding::Encoding;
 use proof_logger::ProofLogger;
@@ -40,7 +41,8 @@ fn a_log_begins_with_no_line(rt: HostRuntime) -> Result<(), Fail> {
     let alloc = rt.alloc();
     let q = edge_into_edge(alloc).ok_or("no problem")?;
     let encoding = Encoding::new(alloc, &q)?;
-    let maker = KeepsLines::new(&q, &encoding);
+    let ground = Ground::new(alloc, &encoding);
+    let maker = KeepsLines::new(&q, &ground);
     let journal = log_of(alloc, &maker)?.into_journal();
     assert!(rt; journal.text().is_empty() && journal.notes().is_empty());
     Ok(())

@@ -2,7 +2,7 @@
 
 use crate::checked::{Dead, Ended, explain_in};
 use crate::logs::{Log, Sample, is_log};
-use dead_paths::{Basis, LineMaker, RowNames};
+use dead_paths::{Basis, Ground, LineMaker, RowNames};
 use graph_rows::Problem;
 use graph_theory::direction::Direction;
 use journals::Journal;
@@ -40,7 +40,7 @@ struct Deaths {
 /// Gives the lines of the dead paths.
 fn add<M: LineMaker>(
     alloc: Global,
-    lines: &Encoding<'_>,
+    lines: &Ground<'_>,
     case: &Deaths,
     maker: &mut M,
     journal: &mut Journal,
@@ -63,7 +63,8 @@ fn are_explained(alloc: Global, q: &Problem, case: &Deaths) -> Result<bool, Allo
     let lines = Encoding::new(alloc, q)?;
     let mut journal = Journal::new(alloc, 1);
     let mut maker = MadeLines::new(alloc, q, &lines)?;
-    add(alloc, &lines, case, &mut maker, &mut journal)?;
+    let ground = Ground::new(alloc, &lines);
+    add(alloc, &ground, case, &mut maker, &mut journal)?;
     is_log(alloc, &lines, &journal, &case.log)
 }
 

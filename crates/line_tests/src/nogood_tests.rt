@@ -8,7 +8,7 @@ ghost use Rattle.line_tests.specs.Shared.{shared_rows};
 
 use crate::checked::{Dead, Ended, explain_in};
 use crate::logs::{Log, is_accepted};
-use dead_paths::{Basis, LineMaker, RowNames};
+use dead_paths::{Basis, Ground, LineMaker, RowNames};
 use graph_rows::Problem;
 use journals::Journal;
 use log_theory::{Name, Ref};
@@ -90,7 +90,7 @@ impl RowNames for ByOwner1 {
 /// Gives the lines of dead paths.
 fn add<M: LineMaker>(
     alloc: Global,
-    lines: &Encoding<'_>,
+    lines: &Ground<'_>,
     paths: &[Dead],
     maker: &mut M,
     journal: &mut Journal,
@@ -117,7 +117,7 @@ fn add<M: LineMaker>(
 fn lines_of(
     alloc: Global,
     q: &Problem,
-    lines: &Encoding<'_>,
+    lines: &Ground<'_>,
     owner: u8,
     paths: &[Dead],
 ) -> Result<Journal, AllocError>
@@ -127,7 +127,7 @@ fn lines_of(
     requires target { size q.now.target ≡ 2 }
 {
     let mut journal = Journal::new(alloc, owner);
-    let mut maker = MadeLines::new(alloc, q, lines)?;
+    let mut maker = MadeLines::new(alloc, q, lines.encoding())?;
     add(alloc, lines, paths, &mut maker, &mut journal)?;
     Ok(journal)
 }
@@ -199,8 +199,9 @@ fn is_refuted(alloc: Global, q: &Problem) -> Result<bool, AllocError>
     requires target { size q.now.target ≡ 2 }
 {
     let lines = Encoding::new(alloc, q)?;
-    let of_2 = lines_of(alloc, q, &lines, 2, &OF_2)?;
-    let of_1 = lines_of(alloc, q, &lines, 1, &OF_1)?;
+    let ground = Ground::new(alloc, &lines);
+    let of_2 = lines_of(alloc, q, &ground, 2, &OF_2)?;
+    let of_1 = lines_of(alloc, q, &ground, 1, &OF_1)?;
     let are_these = of_2.text() == LINES_OF_2 && of_1.text() == LINES_OF_1;
     Ok(are_these && is_accepted(alloc, &lines, &BOTH)?)
 }

@@ -11,8 +11,6 @@ mod bundle;
 mod seat;
 mod shared;
 mod shelf;
-#[cfg(test)]
-mod tests;
 
 pub use seat::ShelfSeat;
 pub use shelf::LockedShelf;

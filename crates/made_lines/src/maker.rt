@@ -8,7 +8,7 @@ ghost use Rattle.made_lines.specs.Made.{IsMade, made_last, made_wider};
 
 use crate::set_lines::set_line;
 use crate::set_names::SetNames;
-use dead_paths::LineMaker;
+use dead_paths::{Ground, LineMaker};
 use first_lines::{FirstLines, Units};
 use graph_rows::Problem;
 use journals::Keeper;
@@ -60,7 +60,7 @@ impl<'a> LineMaker for MadeLines<'a> {
     fn first<K: Keeper>(
         &mut self,
         alloc: Global,
-        lines: &Encoding<'_>,
+        lines: &Ground<'_>,
         keeper: &mut K,
         p: u16,
     ) -> Result<Ref, AllocError> {
@@ -82,7 +82,7 @@ impl<'a> LineMaker for MadeLines<'a> {
     fn row<K: Keeper>(
         &mut self,
         alloc: Global,
-        lines: &Encoding<'_>,
+        lines: &Ground<'_>,
         keeper: &mut K,
         p: u16,
         t: u16,
@@ -90,13 +90,13 @@ impl<'a> LineMaker for MadeLines<'a> {
     ) -> Result<Ref, AllocError> {
         let q = lines.problem();
         self.rows
-            .row(alloc, q, lines, keeper, PlacedPair { p, t, r })
+            .row(alloc, q, lines.encoding(), keeper, PlacedPair { p, t, r })
     }
 
     fn edge_row<K: Keeper>(
         &mut self,
         alloc: Global,
-        lines: &Encoding<'_>,
+        lines: &Ground<'_>,
         keeper: &mut K,
         p: u16,
         t: u16,
@@ -104,13 +104,13 @@ impl<'a> LineMaker for MadeLines<'a> {
     ) -> Result<Ref, AllocError> {
         let q = lines.problem();
         self.rows
-            .edge_row(alloc, q, lines, keeper, PlacedPair { p, t, r })
+            .edge_row(alloc, q, lines.encoding(), keeper, PlacedPair { p, t, r })
     }
 
     fn set<K: Keeper>(
         &mut self,
         alloc: Global,
-        lines: &Encoding<'_>,
+        lines: &Ground<'_>,
         keeper: &mut K,
         vertices: &[u16],
         values: &[u16],

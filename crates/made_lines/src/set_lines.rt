@@ -8,16 +8,15 @@ ghost use Rattle.dead_paths.specs.Explaining.{IsLimited};
 ghost use Rattle.made_lines.specs.Sets.{AreSets, IsKnownSet};
 
 use crate::set_names::SetNames;
-use dead_paths::keep_set;
+use dead_paths::{Ground, keep_set};
 use journals::Keeper;
 use log_theory::Name;
-use pb_encoding::Encoding;
 use std::alloc::{AllocError, Global};
 
 /// The name of the line of a set, which is made if the set is not found. Cost: of one that is found, that of the search for it.
 pub(crate) fn set_line<K: Keeper>(
     alloc: Global,
-    lines: &Encoding<'_>,
+    lines: &Ground<'_>,
     sets: &mut SetNames,
     keeper: &mut K,
     vertices: &[u16],

@@ -1,7 +1,7 @@
 -- What a vertex at its place leaves to another.
 
-use Rattle.std.specs.Prelude.{◌≡◌, ℕ, ◌≤◌, Bool, true, false, not, ◌||◌, is_some, List}
-use Rattle.graph_theory.specs.Graph.{Graph, edge}
+use Rattle.std.specs.Prelude.{◌≡◌, ℕ, ◌≤◌, ◌&&◌, nat_lt, Bool, true, false, not, ◌||◌, is_some, List}
+use Rattle.graph_theory.specs.Graph.{Graph, size, edge}
 use Rattle.graph_theory.specs.Embedding.{Problem, Compatible}
 use Rattle.graph_theory.specs.Neighbours.{common}
 use Rattle.search_theory.specs.Consistency.{AreConsistent}
@@ -35,6 +35,13 @@ pub record Goes (q : Problem) (p t r : ℕ) (old new : List ℕ) : Type 0 where
 -- Each value of the row does.
 abbrev pub AllGo : Problem → ℕ → ℕ → ℕ → List ℕ → Type 0
 AllGo q p t r row = (u : ℕ) → has row u ≡ true → Compatible q p t r u
+
+-- Of a row of values of r the target's own, and those of them that go together with p at t: where the answer is true these are all.
+pub record IsParted (q : Problem) (p t r : ℕ) (row own left : List ℕ) (whole : Bool) : Type 0 where
+  pub bits : (u : ℕ) → has own u ≡ (has row u && nat_lt u (size q.target))
+  pub goes : Goes q p t r own left
+  pub all : AllGo q p t r left
+  pub same : whole ≡ true → (u : ℕ) → has own u ≡ true → has left u ≡ true
 
 -- Of a row of values of r some are left, and with p at t none of the others is consistent.
 pub record Leaves (q : Problem) (p t r : ℕ) (old new : List ℕ) : Type 0 where

@@ -7,6 +7,7 @@ ghost use Rattle.graph_theory.specs.Reversed.{turned, turned_problem, reversed_p
 ghost use Rattle.bit_rows.specs.BitRows.{has, words_for};
 ghost use Rattle.needed_values.specs.Consistent.{edges_agree, are_joined, HaveZeroLabels, Leaves, AllConsistent, Goes, AllGo, Shares, AllShare};
 
+use crate::sharers::{Sharers, is_within};
 use bit_rows::{and_into, and_not_into, count_both, has_bit, keep_counted, next_member, unset_bit};
 use common_neighbour::Counts;
 use graph_rows::{Graph, Problem};
@@ -82,7 +83,7 @@ fn are_joined_by(q: &Problem, p: u16, r: u16) -> bool
 
 /// Whether labels of edges may tell values of `r` apart: an edge joins it to `p`, and one of the graphs keeps labels. Cost: at most four
 /// words.
-fn asks_labels(q: &Problem, p: u16, r: u16) -> bool
+pub(crate) fn asks_labels(q: &Problem, p: u16, r: u16) -> bool
     requires p_in { p < size q.now.pattern }
     requires r_in { r < size q.now.pattern }
     ensures { result ≡ false → (are_joined q.now p r ≡ false) ⊎ HaveZeroLabels q.now }
@@ -92,7 +93,7 @@ fn asks_labels(q: &Problem, p: u16, r: u16) -> bool
 
 /// Keeps of a row of values of `r` those that go together with `p` at `t`. Cost: two steps for each word, and where a graph keeps labels of
 /// edges and one joins `p` and `r` four words for each value that these leave.
-pub fn keep_compatible(q: &Problem, p: u16, t: u16, r: u16, row: &mut [u64])
+pub(crate) fn keep_compatible(q: &Problem, p: u16, t: u16, r: u16, row: &mut [u64])
     requires p_in { p < size q.now.pattern }
     requires t_in { t < size q.now.target }
     requires r_in { r < size q.now.pattern }
@@ -168,14 +169,14 @@ fn keep_sharing_both(
     row: &mut [u64],
     counts: &mut [u16],
 ) -> Result<bool, AllocError>
+    requires go { AllGo q.now p t r row.old }
+    requires counts { length counts.old ≡ size q.now.target }
+    requires long { length row.old ≡ words_for (size q.now.target) }
+    requires within { (u : ℕ) → has row.old u ≡ true → u < size q.now.target }
     requires p_in { p < size q.now.pattern }
     requires t_in { t < size q.now.target }
     requires r_in { r < size q.now.pattern }
     requires apart { p ≡ r → ⊥ }
-    requires long { length row.old ≡ words_for (size q.now.target) }
-    requires within { (u : ℕ) → has row.old u ≡ true → u < size q.now.target }
-    requires go { AllGo q.now p t r row.old }
-    requires counts { length counts.old ≡ size q.now.target }
     ensures leaves { OnOk result (Leaves q.now p t r row.old row.new) }
     ensures all { IfOk result (λ b. AllConsistent b q.now p t r row.new) }
 {
@@ -279,34 +280,65 @@ fn all_share(target: &Graph, direction: Direction, t: u16, shared: u16, row: &[u
     true
 }
 
+/// The same along edges, by the row that is kept of those that do; where none is kept they are counted. Cost: where none need be shared, or a row is
+/// kept, one step for each word of a row; else that of `all_share`.
+#[inline(always)]
+fn all_share_along(sharers: &Sharers, t: u16, shared: u16, row: &[u64]) -> bool
+    requires t_in { t < size sharers.now.target }
+    requires long { length row.now ≡ words_for (size sharers.now.target) }
+    requires within { (u : ℕ) → has row.now u ≡ true → u < size sharers.now.target }
+    requires other { has row.now t ≡ false }
+    ensures { AllShare result sharers.now.target t shared row.now }
+{
+    match sharers.row(t, shared) {
+        Some(others) => is_within(row, others),
+        None => all_share(sharers.problem().target(), Direction::Out, t, shared, row),
+    }
+}
+
+/// How many neighbours two pattern vertices share along edges. Cost: a few steps where that is kept, else that of `shared_by`.
+#[inline(always)]
+fn shared_along(alloc: Global, sharers: &Sharers, p: u16, r: u16) -> Result<u16, AllocError>
+    requires p_in { p < size sharers.now.pattern }
+    requires r_in { r < size sharers.now.pattern }
+    requires apart { p ≡ r → ⊥ }
+    ensures { IfOk result (λ n. n ≡ common sharers.now.pattern p r) }
+{
+    match sharers.count(p, r) {
+        Some(count) => Ok(count),
+        None => shared_by(alloc, sharers.problem().pattern(), Direction::Out, p, r),
+    }
+}
+
 /// Whether each value of a row of `r`, all of which go together with `p` at `t`, is consistent with it. Where edges are known to stand both ways
-/// one direction is enough. Cost: that of counting what `p` and `r` share, and of `all_share`, once or twice.
+/// one direction is enough. Cost: that of counting what `p` and `r` share, and of `all_share`, once or twice; along edges one step for each word
+/// where a row of those that share as many is kept.
 pub fn are_all_consistent(
     alloc: Global,
-    q: &Problem,
+    sharers: &Sharers,
     p: u16,
     t: u16,
     r: u16,
     row: &[u64],
 ) -> Result<bool, AllocError>
-    requires p_in { p < size q.now.pattern }
-    requires t_in { t < size q.now.target }
-    requires r_in { r < size q.now.pattern }
+    requires p_in { p < size sharers.now.pattern }
+    requires t_in { t < size sharers.now.target }
+    requires r_in { r < size sharers.now.pattern }
     requires apart { p ≡ r → ⊥ }
-    requires long { length row.now ≡ words_for (size q.now.target) }
-    requires within { (u : ℕ) → has row.now u ≡ true → u < size q.now.target }
-    requires go { AllGo q.now p t r row.now }
-    ensures { IfOk result (λ b. AllConsistent b q.now p t r row.now) }
+    requires long { length row.now ≡ words_for (size sharers.now.target) }
+    requires within { (u : ℕ) → has row.now u ≡ true → u < size sharers.now.target }
+    requires go { AllGo sharers.now p t r row.now }
+    ensures { IfOk result (λ b. AllConsistent b sharers.now p t r row.now) }
 {
-    let (pattern, target) = (q.pattern(), q.target());
-    let out = shared_by(alloc, pattern, Direction::Out, p, r)?;
-    let along = all_share(target, Direction::Out, t, out, row);
+    let q = sharers.problem();
+    let out = shared_along(alloc, sharers, p, r)?;
+    let along = all_share_along(sharers, t, out, row);
     if q.is_mutual() {
         return Ok(along);
     }
     if !along {
         return Ok(false);
     }
-    let back = shared_by(alloc, pattern, Direction::In, p, r)?;
-    Ok(all_share(target, Direction::In, t, back, row))
+    let back = shared_by(alloc, q.pattern(), Direction::In, p, r)?;
+    Ok(all_share(q.target(), Direction::In, t, back, row))
 }

@@ -1,6 +1,6 @@
 //! The rows of needed values.
 
-ghost use Rattle.std.specs.Prelude.{◌≡◌, ℕ, ◌*◌, ◌+◌, ◌<◌, ◌≤◌, true, false, get_or, length, drop};
+ghost use Rattle.std.specs.Prelude.{◌≡◌, ℕ, ◌*◌, ◌+◌, ◌<◌, ◌≤◌, true, false, get_or, length, drop, IfNone, IfSome};
 ghost use Rattle.bit_rows.specs.BitRows.{has, words_for};
 ghost use Rattle.needed_values.specs.Needed.{needs, AreRows, StaysNeeded, AreOthers};
 
@@ -44,11 +44,27 @@ pub fn is_any_needed(marked: &[bool], rows: &[u64], values: usize, r: u16) -> bo
     requires r_in { r < length marked.now }
     ensures { result ≡ false → (u : ℕ) → u < values → needs values marked.now rows.now r u ≡ false }
 {
+    needed_row(marked, rows, values, r).is_some()
+}
+
+/// The row of a vertex that has a mark, and a value in its row; it may have values past the last. Cost: one step for each word up to the first value.
+#[inline(always)]
+pub fn needed_row<'a>(marked: &[bool], rows: &'a [u64], values: usize, r: u16) -> Option<&'a [u64]>
+    requires held { AreRows values marked.now rows.now }
+    requires r_in { r < length marked.now }
+    ensures none { IfNone result ((u : ℕ) → u < values → needs values marked.now rows.now r u ≡ false) }
+    ensures long { IfSome result (λ row. length row.now ≡ words_for values) }
+    ensures bits { IfSome result (λ row. (u : ℕ) → u < values
+        → has row.now u ≡ needs values marked.now rows.now r u) }
+{
     if !marked[usize::from(r)] {
-        return false;
+        return None;
     }
     let row = row_of(rows, values, r);
-    next_member(row, 0) < 64 * row.len()
+    if next_member(row, 0) >= 64 * row.len() {
+        return None;
+    }
+    Some(row)
 }
 
 /// Writes the needed values of a vertex. Cost: two steps for each word of a row.

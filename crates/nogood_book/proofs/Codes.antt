@@ -38,3 +38,16 @@ row_back r h =
 
 pub word_some : (r : Row) → (word_of r == 0) ≡ false
 word_some r = grind (arith, nat_tests)
+
+-- worked words, to the bit: a step below row 5, and three nogoods with no parent
+worked_step : word_of (record { kind = Step; owner = 3; parent = Some 5; vertex = 2; value = 7 }) ≡ 36451009534377991
+worked_step = refl
+
+worked_nogood : word_of (record { kind = Nogood; owner = 1; parent = None; vertex = 0; value = 0 }) ≡ 54183933016801280
+worked_nogood = refl
+
+worked_value : word_of (record { kind = Nogood; owner = 1; parent = None; vertex = 0; value = 3 }) ≡ 54183933016801283
+worked_value = refl
+
+worked_owner : word_of (record { kind = Nogood; owner = 2; parent = None; vertex = 0; value = 1 }) ≡ 54324670505156609
+worked_owner = refl

@@ -210,6 +210,3 @@ impl Book for RowBook {
         Published::Full
     }
 }
-
-#[cfg(test)]
-mod tests;

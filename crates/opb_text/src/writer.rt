@@ -1,6 +1,6 @@
 //! The text of a model, put piece by piece.
 
-ghost use Rattle.std.specs.Prelude.{◌≡◌, ◌++◌, OnOk};
+ghost use Rattle.std.specs.Prelude.{◌≡◌, ◌++◌, OnOk, IfSome, codes};
 ghost use Rattle.std.specs.Fmt.{signed_decimal};
 ghost use Rattle.std.specs.List.{flat_map};
 ghost use Rattle.outer_io.specs.KnownText.{Wrote};
@@ -105,17 +105,42 @@ fn write_lines<S: Sink>(constraints: &[Constraint], sink: &mut S) -> Result<(), 
     Ok(())
 }
 
+/// What stands in front of a term's variable, for the two coefficients that nearly all terms have.
+fn unit_front(coefficient: i128) -> Option<&'static [u8]>
+    ensures { IfSome result (λ front. front.now ≡ coefficient_word coefficient ++ codes " x") }
+{
+    if coefficient == 1 {
+        return Some(b"+1 x");
+    }
+    if coefficient == -1 {
+        return Some(b"-1 x");
+    }
+    None
+}
+
+/// Appends what stands in front of a term's variable.
+fn append_front(coefficient: i128, text: &mut Vec<u8>) -> Result<(), AllocError>
+    ensures { OnOk result
+        (text.new.items ≡ text.old.items ++ (coefficient_word coefficient ++ codes " x")) }
+{
+    if let Some(front) = unit_front(coefficient) {
+        return text.extend_from_slice(front);
+    }
+    let mut digits = Buffer::new();
+    text.extend_from_slice(sign_of(coefficient))?;
+    text.extend_from_slice(digits.format(coefficient).as_bytes())?;
+    text.extend_from_slice(b" x")
+}
+
 /// Appends a term and a blank to a text.
 fn append_term(variable: u32, coefficient: i128, text: &mut Vec<u8>) -> Result<(), AllocError>
     ensures { OnOk result (text.new.items ≡ text.old.items ++ term_text (variable, coefficient)) }
 {
+    append_front(coefficient, text)?;
     let mut digits = Buffer::new();
-    let mut variable_digits = Buffer::new();
-    text.extend_from_slice(sign_of(coefficient))?;
-    text.extend_from_slice(digits.format(coefficient).as_bytes())?;
-    text.extend_from_slice(b" x")?;
-    text.extend_from_slice(variable_digits.format(variable).as_bytes())?;
-    text.extend_from_slice(b" ")
+    text.extend_from_slice(digits.format(variable).as_bytes())?;
+    text.push(b' ')?;
+    Ok(())
 }
 
 /// Appends the terms, each with a blank behind it.

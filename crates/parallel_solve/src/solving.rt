@@ -14,6 +14,7 @@ ghost use Rattle.parallel_solve.specs.Solving.{IsSolved};
 use crate::answers::{Settings, Solved};
 use crate::tally::conclude;
 use crate::team::{Root, make_jobs, run_team};
+use dead_paths::Ground;
 use domain_bits::{Domains, WordTrail};
 use fail_account::Account;
 use graph_rows::Problem;
@@ -30,7 +31,8 @@ use worker_gate::{Gate, OpenGate};
 
 /// Decides a problem by the workers that the settings ask for, which search beside each other and share what they refute. The root is taken
 /// once for all of them. Memory: beside the target's own, for each worker its domains, the watches of its nogoods, 16 bytes for
-/// each row of the book, and its part of 64 MiB for rows of pairs; where a log is kept, also the encoding and the lines of each dead path.
+/// each row of the book, and its part of 64 MiB for rows of pairs; where a log is kept, also the encoding, the rows
+/// of values that share neighbours, and the lines of each dead path.
 pub fn solve<R: Threads + Sync>(rt: &R, alloc: Global, q: &Problem, s: &Settings) -> Solved
     requires some { 1 ≤ s.now.threads }
     requires few { s.now.threads ≤ 64 }
@@ -79,7 +81,8 @@ fn solve_logged<R: Threads + Sync, G: Gate + Sync>(
     let Ok(lines) = Encoding::new(alloc, q) else {
         return Solved::NoMemory;
     };
-    let maker = KeepsLines::new(q, &lines);
+    let ground = Ground::new(alloc, &lines);
+    let maker = KeepsLines::new(q, &ground);
     let told = Causes::new(alloc);
     solve_by::<R, G, OwnerLog, KeepsLines>(rt, alloc, q, s, gate, &maker, told)
 }

@@ -17,13 +17,12 @@ ghost use Rattle.path_journal.specs.Ends.{end_as};
 use crate::entries::{count_above, entry_of, refs_of};
 use crate::refuted::Refuted;
 use crate::row_numbers::{OwnNames, RowNumbers};
-use dead_paths::{Basis, DeadPath, LineMaker, PathEnd, Scratch, explain};
+use dead_paths::{Basis, DeadPath, Ground, LineMaker, PathEnd, Scratch, explain};
 use fail_account::Account;
 use graph_rows::Problem;
 use journals::{Journal, Keeper};
 use log_theory::{Name, Ref};
 use nogood_book::Row;
-use pb_encoding::Encoding;
 use proof_logger::{DeadEnd, ProofLogger};
 use propagation::{Causes, KeptChanges};
 use std::alloc::{AllocError, Global};
@@ -58,7 +57,7 @@ fn last_pair(path: &[(u16, u16)]) -> Option<(u16, u16)>
 /// its line. Cost beside the lines: an entry for each of these values, and a number for each row that was noted.
 #[derive(Drop)]
 pub struct PathJournal<'a, M: LineMaker> {
-    lines: &'a Encoding<'a>,
+    lines: &'a Ground<'a>,
     journal: Journal,
     numbers: RowNumbers,
     entries: Vec<Refuted>,
@@ -68,7 +67,7 @@ pub struct PathJournal<'a, M: LineMaker> {
 
 impl<'a, M: LineMaker> PathJournal<'a, M> {
     /// No line yet. It takes no memory.
-    pub fn new(alloc: Global, lines: &'a Encoding<'a>, owner: u8, maker: M) -> PathJournal<'a, M>
+    pub fn new(alloc: Global, lines: &'a Ground<'a>, owner: u8, maker: M) -> PathJournal<'a, M>
         requires owner { owner ≤ 64 }
         requires knows { (w : Frame) → IsFrameOf lines.now owner w → M.knows maker lines.now w [] }
         ensures owner { result.journal.owner ≡ owner }

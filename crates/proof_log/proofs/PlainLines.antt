@@ -8,7 +8,7 @@ use Rattle.log_theory.specs.declared.step.Step.TheVariants.{Head, U}
 use Rattle.proof_log.specs.declared.fault.StepFault.{StepFault}
 use Rattle.log_theory.specs.Words.{same_word}
 use Rattle.log_theory.specs.LogText.{literal_of, name_of, all_of, part, closed, when_closed, u_from, step_behind, step_of_words, IsStep}
-use Rattle.log_theory.specs.Profiles.{plain, plain_u, plain_head, plain_step, IsStepIn}
+use Rattle.log_theory.specs.Profiles.{plain_u, plain_head, plain_step, IsStepIn}
 use Rattle.log_theory.proofs.Dropping.{other_plain, lone_plain, same_word_is}
 use Rattle.proof_log.specs.Pieces.{none_left}
 use Rattle.proof_log.specs.Reading.{Listed, items_told, closed_items, IsTold}

@@ -15,6 +15,7 @@ pub(crate) mod items;
 pub(crate) mod lists;
 pub(crate) mod pieces;
 pub mod reading;
+pub(crate) mod word_buffer;
 pub mod writing;
 
 pub use dropping::plain;

@@ -11,9 +11,10 @@ ghost use Rattle.log_theory.specs.declared.profile.Profile.TheVariants.{Plain};
 ghost use Rattle.proof_log.specs.Writing.{op_text, spaced_ref, spaced_literal, spaced_one};
 
 use crate::gathering::put_gathered;
+use crate::word_buffer::{name_word, ref_word};
 use itoa::Buffer;
 use log_theory::{Name, Op, Profile, Ref, Step, profile_laws};
-use outer_io::{Failed, Sink};
+use outer_io::{Failed, Sink, put_all};
 use proof_theory::Literal;
 
 /// Puts a text and a name.
@@ -22,17 +23,8 @@ fn write_name<S: Sink>(front: &[u8], name: Name, sink: &mut S) -> Result<(), Fai
         (front.now ++ name_text name) }
     ensures cause { HasBlame S.spot S.rest S.faults S.blamed sink.old sink.new result }
 {
-    let mut owner = Buffer::new();
-    let mut number = Buffer::new();
-    put_gathered(
-        &[
-            front,
-            owner.format(name.owner).as_bytes(),
-            b".",
-            number.format(name.number).as_bytes(),
-        ],
-        sink,
-    )
+    let word = name_word(name);
+    put_all(&[front, word.as_slice()], sink)
 }
 
 /// Puts a text and a reference.
@@ -41,12 +33,19 @@ fn write_ref<S: Sink>(front: &[u8], reference: Ref, sink: &mut S) -> Result<(), 
         (front.now ++ ref_text reference) }
     ensures cause { HasBlame S.spot S.rest S.faults S.blamed sink.old sink.new result }
 {
-    let mut digits = Buffer::new();
-    match reference {
-        Ref::Line(number) => put_gathered(&[front, digits.format(number).as_bytes()], sink),
-        Ref::Made(name) => write_name(front, name, sink),
-        Ref::Shared(row) => put_gathered(&[front, b"#", digits.format(row).as_bytes()], sink),
-    }
+    let word = ref_word(reference);
+    put_all(&[front, word.as_slice()], sink)
+}
+
+/// Puts a blank and a reference.
+fn write_spaced_ref<S: Sink>(reference: Ref, sink: &mut S) -> Result<(), Failed>
+    ensures text { Wrote (S.spot sink.old).steady (S.contents sink.old) (S.contents sink.new) result
+        (spaced_ref reference) }
+    ensures cause { HasBlame S.spot S.rest S.faults S.blamed sink.old sink.new result }
+{
+    let mut word = ref_word(reference);
+    word.byte(b' ');
+    sink.put(word.as_slice())
 }
 
 /// Puts a blank and a literal.
@@ -82,7 +81,7 @@ fn write_op<S: Sink>(op: Op, sink: &mut S) -> Result<(), Failed>
 {
     let mut digits = Buffer::new();
     match op {
-        Op::Push(reference) => write_ref(b" ", reference, sink),
+        Op::Push(reference) => write_spaced_ref(reference, sink),
         Op::Axiom(literal) => write_literal(literal, sink),
         Op::Add => sink.put(b" +"),
         Op::Times(number) => put_gathered(&[b" ", digits.format(number).as_bytes(), b" *"], sink),
@@ -122,7 +121,7 @@ fn write_refs<S: Sink>(refs: &[Ref], sink: &mut S) -> Result<(), Failed>
     ensures cause { HasBlame S.spot S.rest S.faults S.blamed sink.old sink.new result }
 {
     for reference in refs {
-        write_ref(b" ", *reference, sink)?;
+        write_spaced_ref(*reference, sink)?;
     }
     Ok(())
 }
@@ -335,8 +334,8 @@ fn write_plain<S: Sink>(step: &Step, sink: &mut S) -> Result<(), Failed>
 /// Puts the line of a step in a log of a profile, with its line feed; what was put is read as that step, without hints where the profile
 /// has none.
 ///
-/// Each number is a call of the sink, and so is each text between two of them: up to four calls for each word. It takes no
-/// memory. The condition is that of `read_step`'s answers: numbers in the ranges that a line may write.
+/// A word is put with the blank before it by one call of the sink, an operand and its sign too, and a line's first two words by two calls.
+/// It takes no memory. The condition is that of `read_step`'s answers: numbers in the ranges that a line may write.
 pub fn write_step<S: Sink>(profile: Profile, step: &Step, sink: &mut S) -> Result<(), Failed>
     requires { IsStep step.now }
     ensures text { Wrote (S.spot sink.old).steady (S.contents sink.old) (S.contents sink.new) result

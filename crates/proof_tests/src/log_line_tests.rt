@@ -206,7 +206,7 @@ fn stops_at(alloc: Global, call: u64) -> Result<bool, AllocError> {
     Ok(write_step(Profile::Hinted, &step, &mut sink).is_err() && LINE.starts_with(sink.bytes()))
 }
 
-/// The first call, from 1, whose fault does not stop it so, or 12. A name, a number or a literal goes to the sink by one call.
+/// The first call, from 1, whose fault does not stop it so, or 12. The line's kind, a name, a reference or a literal goes to the sink by one call.
 fn first_not_stopped(alloc: Global) -> Result<u64, AllocError> {
     for call in 1u64..12 {
         if !stops_at(alloc, call)? {
@@ -218,7 +218,7 @@ fn first_not_stopped(alloc: Global) -> Result<u64, AllocError> {
 
 #[test]
 fn stops_where_the_sink_fails(rt: HostRuntime) -> Result<(), Fail> {
-    assert!(rt; first_not_stopped(rt.alloc())? == 6);
+    assert!(rt; first_not_stopped(rt.alloc())? == 7);
     Ok(())
 }
 

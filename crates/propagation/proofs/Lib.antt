@@ -16,3 +16,4 @@ pub mod Entries
 pub mod Guesses
 pub mod Supporting
 pub mod Gathering
+pub mod Takes

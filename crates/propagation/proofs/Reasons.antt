@@ -26,10 +26,11 @@ use Rattle.nogood_watch.specs.Nogoods as watched
 use Rattle.nogood_watch.specs.Nogoods.{literal, partner, nogood_of, AreWatches}
 use Rattle.nogood_watch.specs.Watching.{IsAssigned, Follows, AllFollow, IsWhole, forced_at}
 use Rattle.nogood_watch.proofs.Visits.{partner_half, partner_in}
+use Rattle.propagation.specs.declared.change.Cause.{Cause}
 use Rattle.propagation.specs.declared.change.Cause.TheVariants as cause
 use Rattle.propagation.specs.Propagation.{IsOf, Sweeps}
 use Rattle.propagation.specs.Recording.{Change, LeftOne, LeftOthers, LeftOver, CountedSet, members_of, KeepsShort}
-use Rattle.propagation.specs.Telling.{HasFirst, HasAtMost, NamesUnit, IsForbidden, AreForbidden, IsUnsupported, IsCrowded, AreDistinct, HaveOnly, Leaves, IsDecided, IsShown}
+use Rattle.propagation.specs.Telling.{HasFirst, HasAtMost, NamesUnit, RefusesBy, StandsBy, IsForbidden, AreForbidden, IsCrowded, AreDistinct, HaveOnly, Leaves, IsDecided, IsShown}
 use Rattle.propagation.proofs.Visits.{gone_kept}
 use Rattle.propagation.proofs.Forcing.{half_in}
 
@@ -56,34 +57,19 @@ only_taken u v out = by (v == u) refl out
     by true is out = eqb-true v u is
     by false is out = cc
 
--- what is taken as a nogood asks
-pub leaves_forced : (q : Problem) (s : Option watched.State) (old new : State) (r u name from : ℕ) → r < size q.pattern → changes.Keeps old new r (λ v. not (v == u)) → IsForbidden s old name r u
-    → from ≡ length old.removed → Leaves q s old new (LeftOne r (cause.Nogood name) from)
-leaves_forced q s old new r u name from r_in k forbidden is = record {
+-- what is taken of one value by a cause that refuses it
+pub leaves_by : (q : Problem) (s : Option watched.State) (old new : State) (r u from : ℕ) (why : Cause) → changes.Keeps old new r (λ v. not (v == u)) → StandsBy why q old r
+    → RefusesBy why q s old r u → from ≡ length old.removed → Leaves q s old new (LeftOne r why from)
+leaves_by q s old new r u from why k stands refuses is = record {
   vertices_same = k.shrinks.vertices_same;
   values_same = k.shrinks.values_same;
   rest = k.shrinks.rest;
   front = k.shrinks.front;
   from_is = is;
-  stands = r_in;
+  stands = stands;
   refused = λ x v here gone.
       let left = gone_kept old new r (λ w. not (w == u)) k x v here gone in
-      (left.0, subst (λ (w : ℕ). IsForbidden s old name r w) (sym (only_taken u v left.1)) forbidden);
-}
-
--- what is taken where an edge has no support
-pub leaves_unsupported : (q : Problem) (s : Option watched.State) (old new : State) (p r u from : ℕ) (direction : Direction) → changes.Keeps old new r (λ v. not (v == u))
-    → IsUnsupported q old direction p r u → from ≡ length old.removed → Leaves q s old new (LeftOne r (cause.Edge p u direction) from)
-leaves_unsupported q s old new p r u from direction k unsupported is = record {
-  vertices_same = k.shrinks.vertices_same;
-  values_same = k.shrinks.values_same;
-  rest = k.shrinks.rest;
-  front = k.shrinks.front;
-  from_is = is;
-  stands = unsupported;
-  refused = λ x v here gone.
-      let left = gone_kept old new r (λ w. not (w == u)) k x v here gone in
-      (left.0, only_taken u v left.1);
+      (left.0, subst (λ (w : ℕ). RefusesBy why q s old r w) (sym (only_taken u v left.1)) refuses);
 }
 
 -- what is taken where neighbours would be crowded

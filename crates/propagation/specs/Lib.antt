@@ -6,3 +6,4 @@ pub mod Recording
 pub mod Telling
 pub mod Edges
 pub mod Crowding
+pub mod Taking

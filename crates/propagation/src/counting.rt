@@ -1,23 +1,21 @@
 //! Domains counted together, and the flags of the vertices that this decides.
 
-ghost use Rattle.std.specs.Prelude.{◌≡◌, ℕ, ◌*◌, ◌<◌, ◌≤◌, false, length, Option, IfErr};
+ghost use Rattle.std.specs.Prelude.{◌≡◌, ℕ, ◌*◌, ◌<◌, ◌≤◌, false, length, IfErr};
 ghost use Rattle.std.specs.Result.{is_ok};
 ghost use Rattle.graph_theory.specs.Graph.{size};
 ghost use Rattle.graph_theory.specs.Embedding.{Problem};
-ghost use Rattle.nogood_watch.specs.Nogoods as watched;
 ghost use Rattle.propagation.specs.Edges.{IsRoomFor};
-ghost use Rattle.propagation.specs.Recording.{NoNewGuess};
-ghost use Rattle.propagation.specs.Telling.{IsEmptied, Fails, TellsOn};
+ghost use Rattle.propagation.specs.Taking.{Prunes};
+ghost use Rattle.propagation.specs.Telling.{IsEmptied};
 ghost use Rattle.domain_bits.specs.Removals.{in_domain, size_of};
 ghost use Rattle.search_theory.specs.Claims.{Quiet};
 ghost use Rattle.propagation.specs.Learning.{DecidedWait};
 ghost use Rattle.sparse_set.specs.Removals.{has as is_member};
-ghost use Rattle.propagation.specs.Propagation.{IsOf, IsFor, LeavesPast, UndecidedWait, NotesDecided, Notes, PrunesFor};
+ghost use Rattle.propagation.specs.Propagation.{IsOf, IsFor, LeavesPast, UndecidedWait, NotesDecided, Notes};
 
+use crate::along_edges::prune_along_edges;
 use crate::change::Failure;
 use crate::edge_room::EdgeRoom;
-use crate::edges::support_edges;
-use crate::matching::match_neighbours;
 use crate::recorder::Recorder;
 use crate::removal::prune;
 use all_different::Scratch;
@@ -105,11 +103,8 @@ pub(crate) fn prune_noting<T: Trail, R: Recorder>(
     requires is_for { IsFor problem.now scratch.old }
     requires quiet { Quiet problem.now (in_domain d.old) }
     requires long { length waiting.old ≡ size problem.now.pattern }
-    ensures pruned { PrunesFor result problem.now d.old d.new waiting.new }
-    ensures fails { (s : Option watched.State)
-        → IfErr result (Fails problem.now s d.new (R.changes told.new) (R.short told.new)) }
-    ensures told { TellsOn problem.now d.old (R.changes told.old) d.new (R.changes told.new) }
-    ensures guesses { NoNewGuess (R.changes told.old) (R.changes told.new) }
+    ensures prunes { Prunes result problem.now d.old (R.changes told.old) d.new waiting.new
+        (R.changes told.new) (R.short told.new) }
     ensures is_for { IsFor problem.now scratch.new }
     ensures bounded { length d.new.removed ≤ d.new.vertices * d.new.values }
 {
@@ -125,8 +120,8 @@ pub(crate) fn prune_noting<T: Trail, R: Recorder>(
     Ok(true)
 }
 
-/// Counts the values of the first domains together, and where none leave so, takes those that edges leave without support; says whether any
-/// have left. Where values do, the vertices that this decides wait. Cost: that of `prune_noting`, and of `support_edges`.
+/// Counts the values of the first domains together, and where none leave so, takes those that edges do not leave room for; says whether any
+/// have left. Where values do, the vertices that this decides wait. Cost: that of `prune_noting`, and of `prune_along_edges`.
 pub(crate) fn filter_more<T: Trail, R: Recorder>(
     d: &mut Domains<T>,
     waiting: &mut [bool],
@@ -142,11 +137,8 @@ pub(crate) fn filter_more<T: Trail, R: Recorder>(
     requires room { IsRoomFor problem.now room.old }
     requires quiet { Quiet problem.now (in_domain d.old) }
     requires long { length waiting.old ≡ size problem.now.pattern }
-    ensures pruned { PrunesFor result problem.now d.old d.new waiting.new }
-    ensures fails { (s : Option watched.State)
-        → IfErr result (Fails problem.now s d.new (R.changes told.new) (R.short told.new)) }
-    ensures told { TellsOn problem.now d.old (R.changes told.old) d.new (R.changes told.new) }
-    ensures guesses { NoNewGuess (R.changes told.old) (R.changes told.new) }
+    ensures prunes { Prunes result problem.now d.old (R.changes told.old) d.new waiting.new
+        (R.changes told.new) (R.short told.new) }
     ensures is_for { IsFor problem.now scratch.new }
     ensures room { IsRoomFor problem.now room.new }
     ensures bounded { length d.new.removed ≤ d.new.vertices * d.new.values }
@@ -155,9 +147,5 @@ pub(crate) fn filter_more<T: Trail, R: Recorder>(
     if have_left {
         return Ok(true);
     }
-    let unsupported = support_edges(d, waiting, undecided, room, told, problem)?;
-    if unsupported {
-        return Ok(true);
-    }
-    match_neighbours(d, waiting, undecided, room, told, problem)
+    prune_along_edges(d, waiting, undecided, room, told, problem)
 }

@@ -3,7 +3,7 @@
 
 ghost use Rattle.std.specs.Prelude.{◌≡◌, ℕ, ◌*◌, ◌<◌, ◌≤◌, true, length};
 ghost use Rattle.bit_rows.specs.BitRows.{has, words_for};
-ghost use Rattle.propagation.specs.Crowding.{Gathers, IsShort};
+ghost use Rattle.propagation.specs.Crowding.{AreRowsOf, Gathers, IsShort, LooksAt};
 
 use bit_rows::{and_into, clear, count_both, count_ones, next_member, or_into, set_bit, unset_bit};
 use domain_bits::{Domains, Trail};
@@ -107,9 +107,7 @@ fn add_one<T: Trail>(
     requires apart { look.now.p ≡ r → ⊥ }
     requires t_in { look.now.t < d.now.values }
     requires images { length look.now.images.now ≡ words_for d.now.values }
-    requires row { length row.old ≡ words_for d.now.values }
-    requires chosen { length chosen.old ≡ words_for d.now.vertices }
-    requires union { length union.old ≡ words_for d.now.values }
+    requires rows { AreRowsOf d.now row.old chosen.old union.old }
     ensures { Gathers d.now look.now.p look.now.t look.now.near.now look.now.images.now chosen.old
         union.old → Gathers d.now look.now.p look.now.t look.now.near.now look.now.images.now
         chosen.new union.new }
@@ -140,14 +138,9 @@ fn add_level<T: Trail>(
     chosen: &mut [u64],
     union: &mut [u64],
 ) -> bool
-    requires short { length look.now.near.now ≤ 1024 }
-    requires near_in { (r : ℕ) → has look.now.near.now r ≡ true → r < d.now.vertices }
-    requires counts { length look.now.counts.now ≡ d.now.vertices }
-    requires t_in { look.now.t < d.now.values }
-    requires images { length look.now.images.now ≡ words_for d.now.values }
-    requires row { length row.old ≡ words_for d.now.values }
-    requires chosen { length chosen.old ≡ words_for d.now.vertices }
-    requires union { length union.old ≡ words_for d.now.values }
+    requires look { LooksAt d.now look.now.t look.now.near.now look.now.images.now
+        look.now.counts.now }
+    requires rows { AreRowsOf d.now row.old chosen.old union.old }
     ensures gathers { Gathers d.now look.now.p look.now.t look.now.near.now look.now.images.now
         chosen.old union.old → Gathers d.now look.now.p look.now.t look.now.near.now
         look.now.images.now chosen.new union.new }
@@ -179,14 +172,9 @@ pub(crate) fn gather<T: Trail>(
     chosen: &mut [u64],
     union: &mut [u64],
 ) -> bool
-    requires short { length look.now.near.now ≤ 1024 }
-    requires near_in { (r : ℕ) → has look.now.near.now r ≡ true → r < d.now.vertices }
-    requires counts { length look.now.counts.now ≡ d.now.vertices }
-    requires t_in { look.now.t < d.now.values }
-    requires images { length look.now.images.now ≡ words_for d.now.values }
-    requires row { length row.old ≡ words_for d.now.values }
-    requires chosen { length chosen.old ≡ words_for d.now.vertices }
-    requires union { length union.old ≡ words_for d.now.values }
+    requires look { LooksAt d.now look.now.t look.now.near.now look.now.images.now
+        look.now.counts.now }
+    requires rows { AreRowsOf d.now row.old chosen.old union.old }
     ensures gathers { Gathers d.now look.now.p look.now.t look.now.near.now look.now.images.now
         chosen.new union.new }
     ensures short { result ≡ true → IsShort chosen.new union.new }

@@ -42,8 +42,9 @@ pub(crate) struct EdgeRoom {
     /// Whether a run has begun, and whether another has after it.
     begun: bool,
     on: bool,
-    /// How many guesses stood when the last was made.
+    /// How many guesses stood when the last was made, and how many vertices were not past then.
     depth: usize,
+    members: usize,
     /// The steps at the last first guess, whether its path is still searched, and whether edges were looked at since.
     entered: u64,
     open: bool,
@@ -98,6 +99,7 @@ impl EdgeRoom {
             begun: false,
             on: false,
             depth: 0,
+            members: 0,
             entered: 0,
             open: false,
             looked: false,
@@ -142,14 +144,19 @@ impl EdgeRoom {
         true
     }
 
-    /// Counts what it cost that so many vertices became past while so many are not: a visit of each, and one more. Cost: a few steps.
-    pub(crate) fn count(&mut self, past: usize, left: usize)
+    /// After the last guess so many vertices are not past, and it was refuted or not: what this cost is counted, a visit of each vertex that became past,
+    /// and one more. Where the guess was the first and edges were looked at, a refutation saves what such a path costs otherwise. Cost: a few steps.
+    pub(crate) fn count(&mut self, left: usize, refuted: bool)
         ensures { self.new ≡ self.old }
     {
-        let visits = (past as u64).saturating_add(1);
+        let past = self.members.saturating_sub(left) as u64;
+        let visits = past.saturating_add(1);
         self.steps = self
             .steps
             .saturating_add(visits.saturating_mul(self.visit(left)));
+        if refuted {
+            self.gain();
+        }
     }
 
     /// What a visit costs while so many vertices are not past. Cost: a few steps.
@@ -185,11 +192,13 @@ impl EdgeRoom {
         self.root.copy_from_slice(&self.seen);
     }
 
-    /// So many guesses stand, the last of them new. Cost: one step for the first guess for each pattern vertex, and else one.
-    pub(crate) fn enter(&mut self, depth: usize)
+    /// So many guesses stand, the last of them new, and so many vertices are not past. Cost: one step for the first guess for each pattern vertex, and
+    /// else one.
+    pub(crate) fn enter(&mut self, depth: usize, members: usize)
         ensures { self.new ≡ self.old }
     {
         self.depth = depth;
+        self.members = members;
         if depth != 1 {
             return;
         }
@@ -223,9 +232,8 @@ impl EdgeRoom {
         }
     }
 
-    /// The last guess was refuted at once: where it was the first and edges were looked at, this saves what such a path costs otherwise. Cost: a
-    /// few steps.
-    pub(crate) fn gain(&mut self)
+    /// The last guess was refuted at once. Cost: a few steps.
+    fn gain(&mut self)
         ensures { self.new ≡ self.old }
     {
         if self.depth != 1 {

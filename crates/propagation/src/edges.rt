@@ -2,25 +2,18 @@
 //! edge leads to it. What has none leaves. (Arc consistency is that of A. Mackworth 1977; the union of the rows of all values that are left makes
 //! it one operation on rows for each neighbour, after J. R. Ullmann 2010.)
 
-ghost use Rattle.std.specs.Prelude.{◌≡◌, ℕ, Option, ◌*◌, ◌<◌, ◌≤◌, true, false, is_some, length, slice_index, IfErr};
-ghost use Rattle.std.specs.Result.{is_ok};
+ghost use Rattle.std.specs.Prelude.{◌≡◌, ℕ, ◌*◌, ◌<◌, ◌≤◌, true, false, is_some, length, slice_index};
 ghost use Rattle.graph_theory.specs.Graph.{size, edge};
 ghost use Rattle.graph_theory.specs.Reversed.{turned};
 ghost use Rattle.bit_rows.specs.BitRows.{has, words_for};
-ghost use Rattle.domain_bits.specs.Removals.{in_domain};
-ghost use Rattle.all_different.specs.Prefixes.{Balanced};
-ghost use Rattle.nogood_watch.specs.Nogoods as watched;
-ghost use Rattle.search_theory.specs.Claims.{Quiet};
 ghost use Rattle.propagation.specs.Edges.{AreUnsupported, IsRoomFor, Unites, UnitesBefore};
-ghost use Rattle.propagation.specs.Learning.{Forces};
-ghost use Rattle.propagation.specs.Propagation.{IsOf, PrunesFor};
-ghost use Rattle.propagation.specs.Recording.{NoNewGuess};
-ghost use Rattle.propagation.specs.Telling.{Fails, IsEmptied, Joins, TellsOn};
+ghost use Rattle.propagation.specs.Taking.{AreFlagged, Takes};
+ghost use Rattle.propagation.specs.Telling.{Joins};
 
-use crate::change::Failure;
+use crate::change::{Cause, Failure};
 use crate::edge_room::EdgeRoom;
 use crate::recorder::Recorder;
-use crate::removal::take_unsupported;
+use crate::removal::take_by;
 use bit_rows::{and_not_into, has_bit, next_member, or_into};
 use domain_bits::{Domains, Trail};
 use graph_rows::{Graph, Problem};
@@ -50,6 +43,13 @@ fn covers(row: &[u64], wanted: &[u64]) -> bool
     true
 }
 
+/// What it costs to unite a row of so many words with others: two steps for each word, and more where a graph's rows are so long that they are not in
+/// the cache.
+fn row_cost(words: usize) -> u64 {
+    let words = words as u64;
+    words.saturating_mul(2 + words / 16)
+}
+
 /// Makes the row that of all values to which an edge leads, in the direction, from one that is left for `p`; stops where all wanted ones are there
 /// before, and is true then. Cost: one step for each word of the row and for each value of `p`, up to there.
 fn unite<T: Trail>(
@@ -71,7 +71,7 @@ fn unite<T: Trail>(
     let domain = d.row(p);
     let mut w = next_member(domain, 0);
     while w < 64 * domain.len() {
-        *steps = steps.wrapping_add(2 * union.len() as u64);
+        *steps = steps.wrapping_add(row_cost(union.len()));
         or_into(union, target.row_by(direction, w as u16));
         if covers(union, wanted) {
             return true;
@@ -91,20 +91,17 @@ fn take_row<T: Trail, R: Recorder>(
     link: Link,
     row: &[u64],
 ) -> Result<(), Failure>
-    requires is_of { IsOf q.now d.old }
-    requires long { length waiting.old ≡ size q.now.pattern }
-    requires bounded { length d.old.removed ≤ d.old.vertices * d.old.values }
+    requires flagged { AreFlagged q.now d.old waiting.old }
     requires short { length row.now ≤ 1024 }
     requires joins { Joins q.now link.direction link.p link.r }
     requires unsupported { AreUnsupported q.now d.old link.direction link.p link.r row.now }
-    ensures forces { Forces (is_ok result) q.now d.old waiting.old d.new waiting.new }
-    ensures none { IfErr result (IsEmptied q.now d.new) }
-    ensures told { TellsOn q.now d.old (R.changes told.old) d.new (R.changes told.new) }
-    ensures guesses { NoNewGuess (R.changes told.old) (R.changes told.new) }
+    ensures takes { Takes result q.now d.old waiting.old (R.changes told.old)
+        d.new waiting.new (R.changes told.new) }
 {
     let mut u = next_member(row, 0);
     while u < 64 * row.len() {
-        if !take_unsupported(d, waiting, told, link.p, link.r, u as u16, link.direction) {
+        let cause = Cause::Edge(link.p, u as u16, link.direction);
+        if !take_by(d, waiting, told, link.r, u as u16, cause) {
             return Err(Failure::Empty(link.r));
         }
         u = next_member(row, u + 1);
@@ -123,17 +120,13 @@ fn support_at<T: Trail, R: Recorder>(
     union: &[u64],
     gone: &mut [u64],
 ) -> Result<(), Failure>
-    requires is_of { IsOf q.now d.old }
-    requires long { length waiting.old ≡ size q.now.pattern }
-    requires bounded { length d.old.removed ≤ d.old.vertices * d.old.values }
+    requires flagged { AreFlagged q.now d.old waiting.old }
     requires joins { Joins q.now link.direction link.p link.r }
     requires union { length union.now ≡ words_for (size q.now.target) }
     requires gone { length gone.old ≡ words_for (size q.now.target) }
     requires unites { Unites q.now.target d.old link.direction link.p union.now }
-    ensures forces { Forces (is_ok result) q.now d.old waiting.old d.new waiting.new }
-    ensures none { IfErr result (IsEmptied q.now d.new) }
-    ensures told { TellsOn q.now d.old (R.changes told.old) d.new (R.changes told.new) }
-    ensures guesses { NoNewGuess (R.changes told.old) (R.changes told.new) }
+    ensures takes { Takes result q.now d.old waiting.old (R.changes told.old)
+        d.new waiting.new (R.changes told.new) }
     ensures gone { length gone.new ≡ words_for (size q.now.target) }
 {
     gone.copy_from_slice(d.row(link.r));
@@ -193,9 +186,7 @@ fn support_near<T: Trail, R: Recorder>(
     union: &[u64],
     gone: &mut [u64],
 ) -> Result<(), Failure>
-    requires is_of { IsOf q.now d.old }
-    requires long { length waiting.old ≡ size q.now.pattern }
-    requires bounded { length d.old.removed ≤ d.old.vertices * d.old.values }
+    requires flagged { AreFlagged q.now d.old waiting.old }
     requires p_in { source.now.p < size q.now.pattern }
     requires members { (k : ℕ) → k < length source.now.members.now
         → slice_index source.now.members.now k < size q.now.pattern }
@@ -205,10 +196,8 @@ fn support_near<T: Trail, R: Recorder>(
     requires union { length union.now ≡ words_for (size q.now.target) }
     requires gone { length gone.old ≡ words_for (size q.now.target) }
     requires unites { Unites q.now.target d.old source.now.direction source.now.p union.now }
-    ensures forces { Forces (is_ok result) q.now d.old waiting.old d.new waiting.new }
-    ensures none { IfErr result (IsEmptied q.now d.new) }
-    ensures told { TellsOn q.now d.old (R.changes told.old) d.new (R.changes told.new) }
-    ensures guesses { NoNewGuess (R.changes told.old) (R.changes told.new) }
+    ensures takes { Takes result q.now d.old waiting.old (R.changes told.old)
+        d.new waiting.new (R.changes told.new) }
     ensures gone { length gone.new ≡ words_for (size q.now.target) }
 {
     let members = source.members;
@@ -235,16 +224,12 @@ fn support_from<T: Trail, R: Recorder>(
     told: &mut R,
     from: (u16, Direction),
 ) -> Result<(), Failure>
-    requires is_of { IsOf q.now d.old }
-    requires long { length waiting.old ≡ size q.now.pattern }
-    requires bounded { length d.old.removed ≤ d.old.vertices * d.old.values }
+    requires flagged { AreFlagged q.now d.old waiting.old }
     requires count { undecided.now.count ≡ size q.now.pattern }
     requires p_in { from.0 < size q.now.pattern }
     requires room { IsRoomFor q.now room.old }
-    ensures forces { Forces (is_ok result) q.now d.old waiting.old d.new waiting.new }
-    ensures none { IfErr result (IsEmptied q.now d.new) }
-    ensures told { TellsOn q.now d.old (R.changes told.old) d.new (R.changes told.new) }
-    ensures guesses { NoNewGuess (R.changes told.old) (R.changes told.new) }
+    ensures takes { Takes result q.now d.old waiting.old (R.changes told.old)
+        d.new waiting.new (R.changes told.new) }
     ensures room { IsRoomFor q.now room.new }
 {
     let (p, direction) = from;
@@ -282,16 +267,12 @@ fn support_vertex<T: Trail, R: Recorder>(
     told: &mut R,
     p: u16,
 ) -> Result<(), Failure>
-    requires is_of { IsOf q.now d.old }
-    requires long { length waiting.old ≡ size q.now.pattern }
-    requires bounded { length d.old.removed ≤ d.old.vertices * d.old.values }
+    requires flagged { AreFlagged q.now d.old waiting.old }
     requires count { undecided.now.count ≡ size q.now.pattern }
     requires p_in { p < size q.now.pattern }
     requires room { IsRoomFor q.now room.old }
-    ensures forces { Forces (is_ok result) q.now d.old waiting.old d.new waiting.new }
-    ensures none { IfErr result (IsEmptied q.now d.new) }
-    ensures told { TellsOn q.now d.old (R.changes told.old) d.new (R.changes told.new) }
-    ensures guesses { NoNewGuess (R.changes told.old) (R.changes told.new) }
+    ensures takes { Takes result q.now d.old waiting.old (R.changes told.old)
+        d.new waiting.new (R.changes told.new) }
     ensures room { IsRoomFor q.now room.new }
 {
     support_from(q, d, waiting, undecided, room, told, (p, Direction::Out))?;
@@ -303,7 +284,7 @@ fn support_vertex<T: Trail, R: Recorder>(
 
 /// Looks once at each vertex that is not past and whose domain has changed since the last look, while there is credit, and says whether there was
 /// one. Cost: one step for each vertex that is not past, and that of `support_vertex` for each that is looked at.
-fn support_all<T: Trail, R: Recorder>(
+pub(crate) fn support_all<T: Trail, R: Recorder>(
     q: &Problem,
     d: &mut Domains<T>,
     waiting: &mut [bool],
@@ -311,15 +292,11 @@ fn support_all<T: Trail, R: Recorder>(
     room: &mut EdgeRoom,
     told: &mut R,
 ) -> Result<bool, Failure>
-    requires is_of { IsOf q.now d.old }
-    requires long { length waiting.old ≡ size q.now.pattern }
-    requires bounded { length d.old.removed ≤ d.old.vertices * d.old.values }
+    requires flagged { AreFlagged q.now d.old waiting.old }
     requires count { undecided.now.count ≡ size q.now.pattern }
     requires room { IsRoomFor q.now room.old }
-    ensures forces { Forces (is_ok result) q.now d.old waiting.old d.new waiting.new }
-    ensures none { IfErr result (IsEmptied q.now d.new) }
-    ensures told { TellsOn q.now d.old (R.changes told.old) d.new (R.changes told.new) }
-    ensures guesses { NoNewGuess (R.changes told.old) (R.changes told.new) }
+    ensures takes { Takes result q.now d.old waiting.old (R.changes told.old)
+        d.new waiting.new (R.changes told.new) }
     ensures room { IsRoomFor q.now room.new }
 {
     let members = undecided.members();
@@ -333,66 +310,4 @@ fn support_all<T: Trail, R: Recorder>(
         any = true;
     }
     Ok(any)
-}
-
-/// Whether one of these vertices waits. Cost: one step for each of them.
-pub(crate) fn any_waits(waiting: &[bool], members: &[u16]) -> bool
-    requires { (k : ℕ) → k < length members.now
-        → slice_index members.now k < length waiting.now }
-{
-    for k in 0..members.len() {
-        if waiting[usize::from(members[k])] {
-            return true;
-        }
-    }
-    false
-}
-
-/// How much credit is left for another look: less than before, and none where there is to be none. Cost: a few steps.
-fn left_after(room: &EdgeRoom, left: u64, goes_on: bool) -> u64
-    requires { 0 < left }
-    ensures { result < left }
-{
-    if !goes_on {
-        return 0;
-    }
-    room.left().min(left - 1)
-}
-
-/// Takes values without support, until each that is left has some, or a vertex waits, or the credit is spent, and says whether any have left.
-/// Cost: at most the credit, and what one vertex costs.
-pub(crate) fn support_edges<T: Trail, R: Recorder>(
-    d: &mut Domains<T>,
-    waiting: &mut [bool],
-    undecided: &SparseSet,
-    room: &mut EdgeRoom,
-    told: &mut R,
-    q: &Problem,
-) -> Result<bool, Failure>
-    requires is_of { IsOf q.now d.old }
-    requires count { undecided.now.count ≡ size q.now.pattern }
-    requires room { IsRoomFor q.now room.old }
-    requires quiet { Quiet q.now (in_domain d.old) }
-    requires balanced { Balanced d.old }
-    requires long { length waiting.old ≡ size q.now.pattern }
-    requires bounded { length d.old.removed ≤ d.old.vertices * d.old.values }
-    ensures pruned { PrunesFor result q.now d.old d.new waiting.new }
-    ensures fails { (s : Option watched.State)
-        → IfErr result (Fails q.now s d.new (R.changes told.new) (R.short told.new)) }
-    ensures told { TellsOn q.now d.old (R.changes told.old) d.new (R.changes told.new) }
-    ensures guesses { NoNewGuess (R.changes told.old) (R.changes told.new) }
-    ensures room { IsRoomFor q.now room.new }
-    ensures bounded { length d.new.removed ≤ d.new.vertices * d.new.values }
-{
-    let from = d.mark();
-    let mut left = room.left();
-    while left > 0 {
-        let answer = support_all(q, d, waiting, undecided, room, told);
-        let _removed = d.mark();
-        let any = answer?;
-        let goes_on = any && !any_waits(waiting, undecided.members());
-        left = left_after(room, left, goes_on);
-    }
-    room.keep_root();
-    Ok(from.is_before(d.mark()))
 }

@@ -46,7 +46,7 @@ impl<'a> Model for Filters<'a> {
 
 impl<'a> Filters<'a> {
     /// No rows and no nogoods yet, with memory for counting and for at most so many words of rows, which the kinds of the problem's
-    /// pairs are shared for. Cost: that of `PairRows::new`, and two steps for each two pattern vertices.
+    /// pairs are shared for. Cost: that of `PairRows::new`, and 128 steps at most for each pattern vertex.
     pub fn new(
         alloc: Global,
         q: &Problem,
@@ -98,22 +98,19 @@ impl<'a> Filters<'a> {
         self.edges.begin_run();
     }
 
-    /// So many guesses stand, the last of them new. Cost: one step for the first guess for each pattern vertex, and else one.
-    pub(crate) fn enter(&mut self, depth: usize)
+    /// Counts a guess, before its consequences are taken: so many stand, the last of them new, and so many vertices are not past. By what is counted, edges
+    /// are looked at or not. Cost: one step for the first guess for each pattern vertex, and else one.
+    pub fn enter(&mut self, depth: usize, members: usize)
         ensures { self.new ≡ self.old }
     {
-        self.edges.enter(depth);
+        self.edges.enter(depth, members);
     }
 
-    /// After the last guess so many vertices became past, and so many are not, and domains stay or, where it was refuted, none do: this is counted.
-    /// Cost: a few steps.
-    pub(crate) fn count(&mut self, past: usize, left: usize, refuted: bool)
+    /// Counts what this guess cost, and whether it was refuted, after its consequences are taken, when so many vertices are not past. Cost: a few steps.
+    pub fn count(&mut self, members: usize, refuted: bool)
         ensures { self.new ≡ self.old }
     {
-        self.edges.count(past, left);
-        if refuted {
-            self.edges.gain();
-        }
+        self.edges.count(members, refuted);
     }
 
     /// Takes the nogoods of one pair out of the domains; fails where a domain becomes empty. Cost: one step for each.
@@ -142,18 +139,27 @@ impl<'a> Filters<'a> {
     }
 }
 
-/// What a pair of pattern vertices costs a visit of one of them, in sixteenths of a step, the mean of all pairs and of a vertex with itself, which
-/// costs nothing. Cost: two steps for each two pattern vertices.
+/// At most so many pattern vertices are asked what a visit costs, evenly by number.
+const MOST_ASKED: u16 = 64;
+
+/// What a pair of pattern vertices costs a visit of one of them, in sixteenths of a step, the mean of all pairs of the vertices that are asked and of
+/// a vertex with itself, which costs nothing. Cost: two steps for each pattern vertex and for each one that is asked.
 fn pair_cost(q: &Problem, kinds: &PairKinds<'_>) -> u64
     requires { kinds.now.problem ≡ q.now }
 {
     let row = words_for(usize::from(q.target().size())) as u64 + 4;
     let vertices = q.pattern().size();
+    let apart = vertices / MOST_ASKED + 1;
     let mut sum: u64 = 0;
+    let mut asked: u64 = 0;
     for p in 0..vertices {
+        if p % apart != 0 {
+            continue;
+        }
         sum = sum.saturating_add(visit_cost(q, kinds, p, row));
+        asked = asked.saturating_add(1);
     }
-    let pairs = u64::from(vertices) * u64::from(vertices);
+    let pairs = asked.saturating_mul(u64::from(vertices));
     if pairs == 0 {
         return 16;
     }

@@ -6,6 +6,7 @@
 //! It undoes the domains itself; nothing here has to be undone with them but what a recorder keeps.
 #![tactic(auto)]
 
+mod along_edges;
 mod causes;
 mod change;
 mod counting;
@@ -25,7 +26,7 @@ mod shared;
 // What follows from domains.
 pub use filters::Filters;
 pub use nogoods::Nogoods;
-pub use propagation::{propagate, propagate_again, propagate_guess};
+pub use propagation::{propagate, propagate_again};
 
 // Single steps of the layer above.
 pub use counting::lower;

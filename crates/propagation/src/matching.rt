@@ -3,23 +3,14 @@
 //! all neighbours. Here they are taken up in order of how many values each has, and each time those so far are counted: this finds less, costs less,
 //! and needs no proof of how it was found.)
 
-ghost use Rattle.std.specs.Prelude.{◌≡◌, ℕ, Option, ◌*◌, ◌<◌, ◌≤◌, length, slice_index, IfErr, IfSome};
-ghost use Rattle.std.specs.Result.{is_ok};
+ghost use Rattle.std.specs.Prelude.{◌≡◌, ℕ, ◌<◌, ◌≤◌, length, slice_index, IfSome};
 ghost use Rattle.graph_theory.specs.Graph.{size};
-ghost use Rattle.domain_bits.specs.Removals.{in_domain};
-ghost use Rattle.all_different.specs.Prefixes.{Balanced};
-ghost use Rattle.nogood_watch.specs.Nogoods as watched;
-ghost use Rattle.search_theory.specs.Claims.{Quiet};
 ghost use Rattle.propagation.specs.Edges.{IsRoomFor};
-ghost use Rattle.propagation.specs.Learning.{Forces};
-ghost use Rattle.propagation.specs.Propagation.{IsOf, PrunesFor};
-ghost use Rattle.propagation.specs.Recording.{NoNewGuess};
-ghost use Rattle.propagation.specs.Telling.{Fails, IsEmptied, TellsOn};
+ghost use Rattle.propagation.specs.Propagation.{IsOf};
+ghost use Rattle.propagation.specs.Taking.{AreFlagged, Takes};
 
 use crate::change::Failure;
 use crate::crowding::{Look, count_near, gather};
-use crate::edge_room::EdgeRoom;
-use crate::edges::any_waits;
 use crate::match_room::{LAST, MatchRoom};
 use crate::recorder::Recorder;
 use crate::removal::{Crowd, take_crowded};
@@ -47,16 +38,12 @@ fn match_spot<T: Trail, R: Recorder>(
     told: &mut R,
     spot: Spot,
 ) -> Result<(), Failure>
-    requires is_of { IsOf q.now d.old }
-    requires long { length waiting.old ≡ size q.now.pattern }
-    requires bounded { length d.old.removed ≤ d.old.vertices * d.old.values }
+    requires flagged { AreFlagged q.now d.old waiting.old }
     requires p_in { spot.p < size q.now.pattern }
     requires t_in { spot.t < size q.now.target }
     requires room { IsRoomFor q.now room.old }
-    ensures forces { Forces (is_ok result) q.now d.old waiting.old d.new waiting.new }
-    ensures none { IfErr result (IsEmptied q.now d.new) }
-    ensures told { TellsOn q.now d.old (R.changes told.old) d.new (R.changes told.new) }
-    ensures guesses { NoNewGuess (R.changes told.old) (R.changes told.new) }
+    ensures takes { Takes result q.now d.old waiting.old (R.changes told.old)
+        d.new waiting.new (R.changes told.new) }
     ensures room { IsRoomFor q.now room.new }
 {
     let p = spot.p;
@@ -109,16 +96,12 @@ fn match_value<T: Trail, R: Recorder>(
     p: u16,
     t: u16,
 ) -> Result<(), Failure>
-    requires is_of { IsOf q.now d.old }
-    requires long { length waiting.old ≡ size q.now.pattern }
-    requires bounded { length d.old.removed ≤ d.old.vertices * d.old.values }
+    requires flagged { AreFlagged q.now d.old waiting.old }
     requires p_in { p < size q.now.pattern }
     requires t_in { t < size q.now.target }
     requires room { IsRoomFor q.now room.old }
-    ensures forces { Forces (is_ok result) q.now d.old waiting.old d.new waiting.new }
-    ensures none { IfErr result (IsEmptied q.now d.new) }
-    ensures told { TellsOn q.now d.old (R.changes told.old) d.new (R.changes told.new) }
-    ensures guesses { NoNewGuess (R.changes told.old) (R.changes told.new) }
+    ensures takes { Takes result q.now d.old waiting.old (R.changes told.old)
+        d.new waiting.new (R.changes told.new) }
     ensures room { IsRoomFor q.now room.new }
 {
     let out = Spot {
@@ -157,15 +140,11 @@ fn match_vertex<T: Trail, R: Recorder>(
     told: &mut R,
     p: u16,
 ) -> Result<(), Failure>
-    requires is_of { IsOf q.now d.old }
-    requires long { length waiting.old ≡ size q.now.pattern }
-    requires bounded { length d.old.removed ≤ d.old.vertices * d.old.values }
+    requires flagged { AreFlagged q.now d.old waiting.old }
     requires p_in { p < size q.now.pattern }
     requires room { IsRoomFor q.now room.old }
-    ensures forces { Forces (is_ok result) q.now d.old waiting.old d.new waiting.new }
-    ensures none { IfErr result (IsEmptied q.now d.new) }
-    ensures told { TellsOn q.now d.old (R.changes told.old) d.new (R.changes told.new) }
-    ensures guesses { NoNewGuess (R.changes told.old) (R.changes told.new) }
+    ensures takes { Takes result q.now d.old waiting.old (R.changes told.old)
+        d.new waiting.new (R.changes told.new) }
     ensures room { IsRoomFor q.now room.new }
 {
     let values = d.values();
@@ -242,7 +221,7 @@ fn choose<T: Trail>(
 }
 
 /// Looks at one vertex, as far as credit goes, and says whether there was one. Cost: that of `choose` and of `match_vertex`.
-fn match_one<T: Trail, R: Recorder>(
+pub(crate) fn match_one<T: Trail, R: Recorder>(
     q: &Problem,
     d: &mut Domains<T>,
     waiting: &mut [bool],
@@ -250,15 +229,11 @@ fn match_one<T: Trail, R: Recorder>(
     room: &mut MatchRoom,
     told: &mut R,
 ) -> Result<bool, Failure>
-    requires is_of { IsOf q.now d.old }
-    requires long { length waiting.old ≡ size q.now.pattern }
-    requires bounded { length d.old.removed ≤ d.old.vertices * d.old.values }
+    requires flagged { AreFlagged q.now d.old waiting.old }
     requires count { undecided.now.count ≡ size q.now.pattern }
     requires room { IsRoomFor q.now room.old }
-    ensures forces { Forces (is_ok result) q.now d.old waiting.old d.new waiting.new }
-    ensures none { IfErr result (IsEmptied q.now d.new) }
-    ensures told { TellsOn q.now d.old (R.changes told.old) d.new (R.changes told.new) }
-    ensures guesses { NoNewGuess (R.changes told.old) (R.changes told.new) }
+    ensures takes { Takes result q.now d.old waiting.old (R.changes told.old)
+        d.new waiting.new (R.changes told.new) }
     ensures room { IsRoomFor q.now room.new }
 {
     match choose(q, d, undecided, room) {
@@ -268,76 +243,4 @@ fn match_one<T: Trail, R: Recorder>(
             Ok(true)
         }
     }
-}
-
-/// How much credit is left for another vertex: less than before, and none where there is to be none. Cost: a few steps.
-fn left_after(room: &MatchRoom, left: u64, goes_on: bool) -> u64
-    requires { 0 < left }
-    ensures { result < left }
-{
-    if !goes_on {
-        return 0;
-    }
-    room.left().min(left - 1)
-}
-
-/// Looks at vertices until a round is over, or a vertex waits, or the credit is spent. Cost: at most the credit, and what one vertex costs.
-fn match_all<T: Trail, R: Recorder>(
-    q: &Problem,
-    d: &mut Domains<T>,
-    waiting: &mut [bool],
-    undecided: &SparseSet,
-    room: &mut MatchRoom,
-    told: &mut R,
-) -> Result<(), Failure>
-    requires is_of { IsOf q.now d.old }
-    requires long { length waiting.old ≡ size q.now.pattern }
-    requires bounded { length d.old.removed ≤ d.old.vertices * d.old.values }
-    requires count { undecided.now.count ≡ size q.now.pattern }
-    requires room { IsRoomFor q.now room.old }
-    ensures forces { Forces (is_ok result) q.now d.old waiting.old d.new waiting.new }
-    ensures none { IfErr result (IsEmptied q.now d.new) }
-    ensures told { TellsOn q.now d.old (R.changes told.old) d.new (R.changes told.new) }
-    ensures guesses { NoNewGuess (R.changes told.old) (R.changes told.new) }
-    ensures room { IsRoomFor q.now room.new }
-{
-    let mut left = room.left();
-    while left > 0 {
-        let any = match_one(q, d, waiting, undecided, room, told)?;
-        let goes_on = any && !any_waits(waiting, undecided.members());
-        left = left_after(room, left, goes_on);
-    }
-    Ok(())
-}
-
-/// Takes values beside which neighbours would be crowded, as far as credit goes, and says whether any have left. Cost: that of `match_all`.
-pub(crate) fn match_neighbours<T: Trail, R: Recorder>(
-    d: &mut Domains<T>,
-    waiting: &mut [bool],
-    undecided: &SparseSet,
-    room: &mut EdgeRoom,
-    told: &mut R,
-    q: &Problem,
-) -> Result<bool, Failure>
-    requires is_of { IsOf q.now d.old }
-    requires count { undecided.now.count ≡ size q.now.pattern }
-    requires room { IsRoomFor q.now room.old }
-    requires quiet { Quiet q.now (in_domain d.old) }
-    requires balanced { Balanced d.old }
-    requires long { length waiting.old ≡ size q.now.pattern }
-    requires bounded { length d.old.removed ≤ d.old.vertices * d.old.values }
-    ensures pruned { PrunesFor result q.now d.old d.new waiting.new }
-    ensures fails { (s : Option watched.State)
-        → IfErr result (Fails q.now s d.new (R.changes told.new) (R.short told.new)) }
-    ensures told { TellsOn q.now d.old (R.changes told.old) d.new (R.changes told.new) }
-    ensures guesses { NoNewGuess (R.changes told.old) (R.changes told.new) }
-    ensures room { IsRoomFor q.now room.new }
-    ensures bounded { length d.new.removed ≤ d.new.vertices * d.new.values }
-{
-    let from = d.mark();
-    room.allow_matching();
-    let answer = match_all(q, d, waiting, undecided, &mut room.matching, told);
-    let _removed = d.mark();
-    answer?;
-    Ok(from.is_before(d.mark()))
 }

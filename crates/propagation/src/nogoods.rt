@@ -21,9 +21,9 @@ ghost use Rattle.propagation.specs.Recording.{NoNewGuess};
 ghost use Rattle.propagation.specs.Telling.{AreForbidden, Fails, IsEmptied, Tells};
 ghost use Rattle.propagation.specs.Acting.{Move, OutAfter, WaitAfter, WatchesWaitBut};
 
-use crate::change::Failure;
+use crate::change::{Cause, Failure};
 use crate::recorder::Recorder;
-use crate::removal::take_forced;
+use crate::removal::take_by;
 use domain_bits::{Domains, Trail};
 use graph_rows::Problem;
 use nogood_book::{Row, RowKind, push_path};
@@ -192,7 +192,7 @@ fn take_out<T: Trail, R: Recorder>(
 {
     for k in 0..pairs.len() {
         let (r, u, name) = pairs[k];
-        if !take_forced(d, waiting, told, r, u, name) {
+        if !take_by(d, waiting, told, r, u, Cause::Nogood(name)) {
             return Err(Failure::Empty(r));
         }
     }

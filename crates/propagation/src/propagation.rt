@@ -320,43 +320,6 @@ pub fn propagate<T: Trail, R: Recorder>(
     }
 }
 
-/// Takes all consequences of a guess, the last of so many, as `propagate` does. What it costs is counted, and how it ends, by which edges are looked at
-/// or not. Cost: that of `propagate`, and after the first guess one step for each pattern vertex.
-pub fn propagate_guess<T: Trail, R: Recorder>(
-    q: &Problem,
-    filters: &mut Filters,
-    d: &mut Domains<T>,
-    waiting: &mut [bool],
-    undecided: &mut SparseSet,
-    told: &mut R,
-    depth: usize,
-) -> Result<(), Failure>
-    requires problem { filters.old.problem ≡ q.now }
-    requires is_of { IsOf q.now d.old }
-    requires ready { Ready q.now d.old waiting.old }
-    requires left { LeavesPast q.now d.old undecided.old }
-    requires first { First q.now (in_domain d.old) }
-    requires wait { IfSome filters.old.nogoods (WatchesWait d.old waiting.old) }
-    ensures problem { filters.new.problem ≡ q.now }
-    ensures propagated { Propagates (is_ok result) q.now d.old d.new }
-    ensures fails { IfErr result (Fails q.now filters.new.nogoods d.new (R.changes told.new)
-        (R.short told.new)) }
-    ensures in_force { InForceAfter (is_ok result) d.new filters.new.nogoods }
-    ensures moved { HaveMoved d.old filters.old.nogoods filters.new.nogoods }
-    ensures told { Tells q.now filters.old.nogoods d.old (R.changes told.old)
-        → Tells q.now filters.new.nogoods d.new (R.changes told.new) }
-    ensures guesses { NoNewGuess (R.changes told.old) (R.changes told.new) }
-    ensures left { LeavesPast q.now d.new undecided.new }
-    ensures fewer { Fewer undecided.old undecided.new }
-{
-    filters.enter(depth);
-    let before = undecided.members().len();
-    let answer = propagate(q, filters, d, waiting, undecided, told);
-    let left = undecided.members().len();
-    filters.count(before.saturating_sub(left), left, answer.is_err());
-    answer
-}
-
 /// Takes the nogoods of one pair out of domains at rest, and all consequences of them and of the other nogoods, for which each vertex
 /// that is decided is looked at again; or finds why no embedding is within the domains. A run begins with it. Cost: that of `propagate`.
 pub fn propagate_again<T: Trail, R: Recorder>(
@@ -385,35 +348,6 @@ pub fn propagate_again<T: Trail, R: Recorder>(
     ensures fewer { Fewer undecided.old undecided.new }
 {
     filters.begin_run();
-    take_all_again(q, filters, d, waiting, undecided, told)
-}
-
-/// The same without a word to who counts what a run costs.
-fn take_all_again<T: Trail, R: Recorder>(
-    q: &Problem,
-    filters: &mut Filters,
-    d: &mut Domains<T>,
-    waiting: &mut [bool],
-    undecided: &mut SparseSet,
-    told: &mut R,
-) -> Result<(), Failure>
-    requires problem { filters.old.problem ≡ q.now }
-    requires is_of { IsOf q.now d.old }
-    requires left { LeavesPast q.now d.old undecided.old }
-    requires long { length waiting.old ≡ size q.now.pattern }
-    requires quiet { Quiet q.now (in_domain d.old) }
-    ensures problem { filters.new.problem ≡ q.now }
-    ensures propagated { Propagates (is_ok result) q.now d.old d.new }
-    ensures fails { IfErr result (Fails q.now filters.new.nogoods d.new (R.changes told.new)
-        (R.short told.new)) }
-    ensures acted { ActedAfter (is_ok result) d.new filters.new.nogoods }
-    ensures moved { HaveMoved d.old filters.old.nogoods filters.new.nogoods }
-    ensures told { Tells q.now filters.old.nogoods d.old (R.changes told.old)
-        → Tells q.now filters.new.nogoods d.new (R.changes told.new) }
-    ensures guesses { NoNewGuess (R.changes told.old) (R.changes told.new) }
-    ensures left { LeavesPast q.now d.new undecided.new }
-    ensures fewer { Fewer undecided.old undecided.new }
-{
     raise_decided(d, waiting);
     let _removed = d.mark();
     filters.take_units(d, waiting, told)?;

@@ -19,7 +19,8 @@ ghost use Rattle.nogood_watch.specs.Nogoods as watched;
 ghost use Rattle.propagation.specs.Propagation.{IsOf, IsFor, waits_at, NotesSize, NotesTaken, Sweeps, pruned_of};
 ghost use Rattle.propagation.specs.declared.change.Cause.TheVariants as cause;
 ghost use Rattle.propagation.specs.Recording.{LeftOne, LeftOver, MayTake, NoNewGuess, members_of};
-ghost use Rattle.propagation.specs.Telling.{HasFirst, IsCrowded, Leaves, Tells, TellsOn, IsForbidden, IsUnsupported, Fails};
+ghost use Rattle.propagation.specs.Taking.{AreFlagged, Meets};
+ghost use Rattle.propagation.specs.Telling.{HasFirst, IsCrowded, Leaves, RefusesBy, StandsBy, Tells, TellsOn, Fails};
 
 use crate::change::{Cause, Failure};
 use crate::recorder::Recorder;
@@ -199,17 +200,9 @@ fn take_inconsistent<T: Trail>(
     t: u16,
     r: u16,
 ) -> bool
-    requires is_of { IsOf rows.now.problem d.old }
-    requires long { length waiting.old ≡ size rows.now.problem.pattern }
-    requires p_in { p < size rows.now.problem.pattern }
-    requires t_in { t < size rows.now.problem.target }
-    requires r_in { r < size rows.now.problem.pattern }
-    requires apart { p ≡ r → ⊥ }
+    requires flagged { AreFlagged rows.now.problem d.old waiting.old }
+    requires meets { Meets rows.now.problem d.old waiting.old p t r }
     requires made { IsMade rows.now t }
-    requires single { Single (in_domain d.old) p t }
-    requires undecided { (waits_at waiting.old r ≡ true)
-        ⊎ ((v : ℕ) → Single (in_domain d.old) r v → ⊥) }
-    requires bounded { length d.old.removed ≤ d.old.vertices * d.old.values }
     ensures { Sweeps result rows.now.problem d.old waiting.old d.new waiting.new p t r }
 {
     match near_alone(rows, p, t, r) {
@@ -230,17 +223,9 @@ pub(crate) fn keep_consistent<T: Trail, R: Recorder>(
     t: u16,
     r: u16,
 ) -> bool
-    requires is_of { IsOf rows.now.problem d.old }
-    requires long { length waiting.old ≡ size rows.now.problem.pattern }
-    requires p_in { p < size rows.now.problem.pattern }
-    requires t_in { t < size rows.now.problem.target }
-    requires r_in { r < size rows.now.problem.pattern }
-    requires apart { p ≡ r → ⊥ }
+    requires flagged { AreFlagged rows.now.problem d.old waiting.old }
+    requires meets { Meets rows.now.problem d.old waiting.old p t r }
     requires made { IsMade rows.now t }
-    requires single { Single (in_domain d.old) p t }
-    requires undecided { (waits_at waiting.old r ≡ true)
-        ⊎ ((v : ℕ) → Single (in_domain d.old) r v → ⊥) }
-    requires bounded { length d.old.removed ≤ d.old.vertices * d.old.values }
     ensures sweeps { Sweeps result rows.now.problem d.old waiting.old d.new waiting.new p t r }
     ensures told { TellsOn rows.now.problem d.old (R.changes told.old) d.new (R.changes told.new) }
     ensures guesses { NoNewGuess (R.changes told.old) (R.changes told.new) }
@@ -257,15 +242,15 @@ pub(crate) fn keep_consistent<T: Trail, R: Recorder>(
     some
 }
 
-/// Takes `u` from the domain of `r`, as the nogood of this name asks, and tells it. Where one value is left, `r` waits; where none is,
-/// the answer is false. Cost: one step.
-pub(crate) fn take_forced<T: Trail, R: Recorder>(
+/// Takes `u` from the domain of `r` by this cause, which refuses it, and tells it. Where one value is left, `r` waits; where none is, the answer is false.
+/// Cost: one step.
+pub(crate) fn take_by<T: Trail, R: Recorder>(
     d: &mut Domains<T>,
     waiting: &mut [bool],
     told: &mut R,
     r: u16,
     u: u16,
-    name: u32,
+    cause: Cause,
 ) -> bool
     requires r_in { r < d.old.vertices }
     requires u_in { u < d.old.values }
@@ -274,43 +259,15 @@ pub(crate) fn take_forced<T: Trail, R: Recorder>(
     ensures keeps { Keeps d.old d.new r (λ v. not (v == u)) }
     ensures taken { NotesTaken result d.old waiting.old d.new waiting.new r u }
     ensures bounded { length d.new.removed ≤ d.new.vertices * d.new.values }
-    ensures told { (q : Problem) (s : Option watched.State) → r < size q.pattern
-        → IsForbidden s d.old name r u
+    ensures told { (q : Problem) (s : Option watched.State) → StandsBy cause q d.old r
+        → RefusesBy cause q s d.old r u
         → Tells q s d.old (R.changes told.old) → Tells q s d.new (R.changes told.new) }
-    ensures guesses { NoNewGuess (R.changes told.old) (R.changes told.new) }
+    ensures took { MayTake (R.changes told.old) (R.changes told.new)
+        (LeftOne r cause (length d.old.removed)) }
 {
     let from = d.mark();
     let some = take_value(d, waiting, r, u);
-    tell(d, told, r, Cause::Nogood(name), from);
-    some
-}
-
-/// Takes `u` from the domain of `r`, to which no value left for `p` has an edge as `p` has to `r` in this direction, and tells it. Where one
-/// value is left, `r` waits; where none is, the answer is false. Cost: one step.
-pub(crate) fn take_unsupported<T: Trail, R: Recorder>(
-    d: &mut Domains<T>,
-    waiting: &mut [bool],
-    told: &mut R,
-    p: u16,
-    r: u16,
-    u: u16,
-    direction: Direction,
-) -> bool
-    requires r_in { r < d.old.vertices }
-    requires u_in { u < d.old.values }
-    requires flags { r < length waiting.old }
-    requires bounded { length d.old.removed ≤ d.old.vertices * d.old.values }
-    ensures keeps { Keeps d.old d.new r (λ v. not (v == u)) }
-    ensures taken { NotesTaken result d.old waiting.old d.new waiting.new r u }
-    ensures bounded { length d.new.removed ≤ d.new.vertices * d.new.values }
-    ensures told { (q : Problem) (s : Option watched.State)
-        → IsUnsupported q d.old direction p r u
-        → Tells q s d.old (R.changes told.old) → Tells q s d.new (R.changes told.new) }
-    ensures guesses { NoNewGuess (R.changes told.old) (R.changes told.new) }
-{
-    let from = d.mark();
-    let some = take_value(d, waiting, r, u);
-    tell(d, told, r, Cause::Edge(p, u, direction), from);
+    tell(d, told, r, cause, from);
     some
 }
 

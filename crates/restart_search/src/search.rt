@@ -26,7 +26,7 @@ use domain_bits::{Domains, Trail};
 use graph_rows::Problem;
 use nogood_book::{Book, Row, RowSeat};
 use proof_logger::{DeadEnd, ProofLogger};
-use propagation::{Recorder, give, lower, propagate_guess};
+use propagation::{Recorder, give, lower, propagate};
 use std::alloc::{AllocError, Global};
 use worker_gate::{AnswerCell, Gate, Note, Point};
 
@@ -103,17 +103,25 @@ fn guess<T: Trail, L: ProofLogger>(
     position.marks.push_reserved(moment);
     give(&mut position.domains, &mut position.told, p, t);
     propagator.waiting[usize::from(p)] = true;
-    match propagate_guess(
+    let depth = position.account.path().len();
+    let members = position.undecided.members();
+    propagator.filters.enter(depth, members.len());
+    match propagate(
         q,
         &mut propagator.filters,
         &mut position.domains,
         &mut propagator.waiting,
         &mut position.undecided,
         &mut position.told,
-        position.account.path().len(),
     ) {
-        Ok(()) => Ok(()),
+        Ok(()) => {
+            let members = position.undecided.members();
+            propagator.filters.count(members.len(), false);
+            Ok(())
+        }
         Err(failure) => {
+            let members = position.undecided.members();
+            propagator.filters.count(members.len(), true);
             lower(&mut propagator.waiting);
             let end = DeadEnd::Failed(failure);
             log.close(alloc, q, rows, &position.told, &position.account, end)?;

@@ -9,26 +9,26 @@ ghost use Rattle.search_proof.specs.Proofs.{IsProven};
 use crate::maker::ProofMaker;
 use crate::owner_log::OwnerLog;
 use crate::proof::{Logged, Proof};
+use dead_paths::Ground;
 use graph_rows::Problem;
 use journals::Journal;
 use made_lines::MadeLines;
 use merged_log::may_be_merged;
 use nogood_book::Row;
 use path_journal::PathJournal;
-use pb_encoding::Encoding;
 use std::alloc::{AllocError, Global};
 
-/// Makes loggers that keep the lines of a log over the encoding of a problem.
+/// Makes loggers that keep the lines of a log over the encoding of a problem, all with the same rows of values that share neighbours.
 #[derive(Drop)]
 pub struct KeepsLines<'a> {
     problem: &'a Problem,
-    lines: &'a Encoding<'a>,
+    lines: &'a Ground<'a>,
     ghost same: { lines.now ≡ problem.now },
 }
 
 impl<'a> KeepsLines<'a> {
-    /// For this problem and its encoding.
-    pub fn new(problem: &'a Problem, lines: &'a Encoding<'a>) -> KeepsLines<'a>
+    /// For this problem, and its encoding with its rows.
+    pub fn new(problem: &'a Problem, lines: &'a Ground<'a>) -> KeepsLines<'a>
         requires encoding { lines.now ≡ problem.now }
         ensures { result.problem.now ≡ problem.now }
     {
@@ -67,7 +67,7 @@ impl<'a> ProofMaker<OwnerLog<'a>> for KeepsLines<'a> {
     ghost logged = { λ m. true };
 
     fn logger(&self, alloc: Global, owner: u8) -> Result<OwnerLog<'a>, AllocError> {
-        let maker = MadeLines::new(alloc, self.problem, self.lines)?;
+        let maker = MadeLines::new(alloc, self.problem, self.lines.encoding())?;
         let kept = PathJournal::new(alloc, self.lines, owner, maker);
         Ok(OwnerLog { kept })
     }

@@ -43,11 +43,11 @@ fn are_same(parts: &GraphParts, vertices: &[ListedVertex]) -> bool {
     parts.neighbours.len() == vertices.len()
 }
 
-/// Whether both readers read the same in a text, or find the same fault in it.
-fn agree(alloc: Global, text: &[u8], kind: LadKind) -> bool {
+/// Whether both readers read the same in a text of at most so many vertices, or find the same fault in it.
+pub(crate) fn agree(alloc: Global, text: &[u8], kind: LadKind, most: u32) -> bool {
     match (
-        read_lad(alloc, text, kind, MOST),
-        vertices_in(alloc, text, kind, MOST),
+        read_lad(alloc, text, kind, most),
+        vertices_in(alloc, text, kind, most),
     ) {
         (Ok(parts), Ok(vertices)) => are_same(&parts, &vertices),
         (Err(fault), Err(plain)) => fault == plain && fault != LadFault::NoMemory,
@@ -63,7 +63,7 @@ fn first_difference(
 ) -> Result<Option<u64>, AllocError> {
     for number in 0..TEXTS {
         let text = spoilt(alloc, &mut Random::new(number), texts, &NUMBERS)?;
-        if !agree(alloc, &text, kind) {
+        if !agree(alloc, &text, kind, MOST) {
             return Ok(Some(number));
         }
     }

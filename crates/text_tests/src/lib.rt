@@ -1,4 +1,4 @@
-//! Tests of the readers on texts that are spoilt at random, each reading held against that of a plain reader.
+//! Tests of the readers on worked texts, and on texts that are spoilt at random, each reading held against that of a plain reader.
 //!
 //! Both readers are proved to read exactly what is defined; what only these tests show is that no text of many takes them anywhere
 //! else. A text comes of the seed and its number alone.
@@ -24,5 +24,9 @@ mod plain_rows;
 mod plain_values;
 #[cfg(test)]
 mod plain_words;
+#[cfg(test)]
+mod problem_tests;
+#[cfg(test)]
+mod reading_tests;
 #[cfg(test)]
 mod spoiling;

@@ -17,4 +17,4 @@ choose-requires-clause-held c =
 pub returns-clause-choice : goal.returns-clause-choice
 returns-clause-choice c = λ path here.
     choice_is c.args.walk.now.q.now c.args.walk.now.rows.now path (changes_of c.args.walk.now.numbers.now c.args.entries.now) (chosen_in c.args.walk.now.numbers.now c.choose.new.chosen.items) (end_by c.args.end.0 (set_at c.args.walk.now.numbers.now c.args.end.1) [])
-    (values_of (size c.args.walk.now.q.now.target) c.mark_end.new.marked c.mark_end.new.needed) c.choose.result (c.in_ok-mark_end.ensures path here) (c.choose.ensures.choice path here)
+    (values_of (size c.args.walk.now.q.now.target) c.mark_end.new.marked c.mark_end.new.needed) c.choose.result (c.in_ok-mark_end.ensures.needs path here) (c.choose.ensures.choice path here)

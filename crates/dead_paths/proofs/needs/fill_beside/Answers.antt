@@ -1,5 +1,5 @@
-use Rattle.std.proofs.Common.{◌≡◌, ◌==◌, ◌&&◌, ◌∙◌, ℕ, not, is_some, subst, sym}
-use Rattle.graph_theory.specs.Graph.{Graph, size, edge}
+use Rattle.std.proofs.Common.{◌≡◌, ◌==◌, ◌&&◌, ◌∙◌, ℕ, not, is_some, subst}
+use Rattle.graph_theory.specs.Graph.{Graph, edge}
 use Rattle.graph_theory.specs.Reversed.{turned}
 use Rattle.bit_rows.specs.BitRows.{has}
 use Rattle.dead_paths.proofs.Resting.{beside_left}

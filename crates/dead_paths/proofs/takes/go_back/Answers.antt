@@ -7,43 +7,43 @@ use Rattle.dead_paths.specs.Choosing.{values_of, IsStep}
 use Rattle.dead_paths.proofs.Resting.{step_first, step_one, made_one_ok, told_made}
 use Rattle.dead_paths.proofs.takes.go_back.Goals as goal
 
-pub returns-in-First : goal.returns-in-First
-returns-in-First c = λ path here.
+pub returns-in-First-clause-step : goal.returns-in-First-clause-step
+returns-in-First-clause-step c = λ path here.
     told_made c.args.walk.now.q.now c.args.walk.now.rows.now path (change_of c.args.walk.now.numbers.now c.args.entry.now) (values_of (size c.args.walk.now.q.now.target) c.args.marked.now c.args.needed.now) (values_of (size c.args.walk.now.q.now.target) c.args.marked.now c.args.needed.now) c.is_any_needed.result c.told_if.result c.told_if.ensures.yes c.told_if.ensures.no
     (step_first c.args.walk.now.q.now c.args.walk.now.rows.now path (size c.args.walk.now.q.now.target) c.count_values-values.result c.args.marked.now c.args.needed.now c.is_any_needed.result c.args.walk.now.numbers.now c.args.entry.now.what c.in-One.r c.in-One.cause c.args.entry.now.from refl
     c.count_values-values.ensures.is c.in-One.is c.in-First.is c.is_any_needed.ensures)
 
-pub returns-in-Guess : goal.returns-in-Guess
-returns-in-Guess c = λ path here.
+pub returns-in-Guess-clause-step : goal.returns-in-Guess-clause-step
+returns-in-Guess-clause-step c = λ path here.
     told_made c.args.walk.now.q.now c.args.walk.now.rows.now path (change_of c.args.walk.now.numbers.now c.args.entry.now) (values_of (size c.args.walk.now.q.now.target) c.args.marked.now c.args.needed.now) (values_of (size c.args.walk.now.q.now.target) c.by_guess.new.marked c.args.needed.now) c.by_guess.result c.told_if-in-Guess.result c.told_if-in-Guess.ensures.yes c.told_if-in-Guess.ensures.no
     (step_one c.args.walk.now.q.now c.args.walk.now.rows.now path c.args.walk.now.numbers.now c.args.entry.now.what c.args.entry.now.from (values_of (size c.args.walk.now.q.now.target) c.args.marked.now c.args.needed.now) (values_of (size c.args.walk.now.q.now.target) c.by_guess.new.marked c.args.needed.now)
     c.by_guess.result c.in-One.r c.in-One.cause (cause.Guess c.in-Guess.t) c.in-One.is c.in-Guess.is (c.by_guess.ensures c.args.walk.now.rows.now path c.args.entry.now.from))
 
-pub returns-in-Vertex : goal.returns-in-Vertex
-returns-in-Vertex c = λ path here.
+pub returns-in-Vertex-clause-step : goal.returns-in-Vertex-clause-step
+returns-in-Vertex-clause-step c = λ path here.
     made_one_ok c.args.walk.now.q.now c.args.walk.now.rows.now path c.args.walk.now.numbers.now c.args.entry.now.what c.args.entry.now.from (values_of (size c.args.walk.now.q.now.target) c.args.marked.now c.args.needed.now) (values_of (size c.args.walk.now.q.now.target) c.by_vertex.new.marked c.by_vertex.new.needed)
     c.by_vertex.result c.in-One.r c.in-One.cause (cause.Vertex c.in-Vertex.p c.in-Vertex.t) c.in-One.is c.in-Vertex.is (c.by_vertex.ensures path c.args.entry.now.from here)
 
-pub returns-in_ok-chosen-in-Nogood : goal.returns-in_ok-chosen-in-Nogood
-returns-in_ok-chosen-in-Nogood c = λ path here.
+pub returns-in_ok-chosen-in-Nogood-clause-step : goal.returns-in_ok-chosen-in-Nogood-clause-step
+returns-in_ok-chosen-in-Nogood-clause-step c = λ path here.
     told_made c.args.walk.now.q.now c.args.walk.now.rows.now path (change_of c.args.walk.now.numbers.now c.args.entry.now) (values_of (size c.args.walk.now.q.now.target) c.args.marked.now c.args.needed.now) (values_of (size c.args.walk.now.q.now.target) c.by_nogood.new.marked c.by_nogood.new.needed) c.in_ok-chosen-in-Nogood.chosen c.told_if-in-Nogood.result c.told_if-in-Nogood.ensures.yes c.told_if-in-Nogood.ensures.no
     (step_one c.args.walk.now.q.now c.args.walk.now.rows.now path c.args.walk.now.numbers.now c.args.entry.now.what c.args.entry.now.from (values_of (size c.args.walk.now.q.now.target) c.args.marked.now c.args.needed.now) (values_of (size c.args.walk.now.q.now.target) c.by_nogood.new.marked c.by_nogood.new.needed)
     c.in_ok-chosen-in-Nogood.chosen c.in-One.r c.in-One.cause (cause.Nogood c.in-Nogood.name) c.in-One.is c.in-Nogood.is (c.in_ok-chosen-in-Nogood.ensures path c.args.entry.now.from here))
 
-pub returns-in-Edge : goal.returns-in-Edge
-returns-in-Edge c = λ path here.
+pub returns-in-Edge-clause-step : goal.returns-in-Edge-clause-step
+returns-in-Edge-clause-step c = λ path here.
     told_made c.args.walk.now.q.now c.args.walk.now.rows.now path (change_of c.args.walk.now.numbers.now c.args.entry.now) (values_of (size c.args.walk.now.q.now.target) c.args.marked.now c.args.needed.now) (values_of (size c.args.walk.now.q.now.target) c.by_edge.new.marked c.by_edge.new.needed) c.by_edge.result c.told_if-in-Edge.result c.told_if-in-Edge.ensures.yes c.told_if-in-Edge.ensures.no
     (step_one c.args.walk.now.q.now c.args.walk.now.rows.now path c.args.walk.now.numbers.now c.args.entry.now.what c.args.entry.now.from (values_of (size c.args.walk.now.q.now.target) c.args.marked.now c.args.needed.now) (values_of (size c.args.walk.now.q.now.target) c.by_edge.new.marked c.by_edge.new.needed)
     c.by_edge.result c.in-One.r c.in-One.cause (cause.Edge c.in-Edge.p c.in-Edge.u c.in-Edge.direction) c.in-One.is c.in-Edge.is (c.by_edge.ensures c.args.walk.now.rows.now path c.args.entry.now.from))
 
-pub returns-in-Over : goal.returns-in-Over
-returns-in-Over c = λ path here.
+pub returns-in-Over-clause-step : goal.returns-in-Over-clause-step
+returns-in-Over-clause-step c = λ path here.
     told_made c.args.walk.now.q.now c.args.walk.now.rows.now path (change_of c.args.walk.now.numbers.now c.args.entry.now) (values_of (size c.args.walk.now.q.now.target) c.args.marked.now c.args.needed.now) (values_of (size c.args.walk.now.q.now.target) c.by_crowd.new.marked c.by_crowd.new.needed) c.by_crowd.result c.told_if-in-Over.result c.told_if-in-Over.ensures.yes c.told_if-in-Over.ensures.no
     (subst (λ (x : What). IsStep c.by_crowd.result c.args.walk.now.q.now c.args.walk.now.rows.now path (change_by c.args.walk.now.numbers.now x c.args.entry.now.from) (values_of (size c.args.walk.now.q.now.target) c.args.marked.now c.args.needed.now) (values_of (size c.args.walk.now.q.now.target) c.by_crowd.new.marked c.by_crowd.new.needed))
     (sym c.in-Over.is) (rw (c.part-in-Over.ensures, c.part-in-Over-2.ensures) at c.by_crowd.ensures c.args.walk.now.rows.now path c.args.entry.now.from))
 
-pub returns-in-Others : goal.returns-in-Others
-returns-in-Others c = λ path here.
+pub returns-in-Others-clause-step : goal.returns-in-Others-clause-step
+returns-in-Others-clause-step c = λ path here.
     told_made c.args.walk.now.q.now c.args.walk.now.rows.now path (change_of c.args.walk.now.numbers.now c.args.entry.now) (values_of (size c.args.walk.now.q.now.target) c.args.marked.now c.args.needed.now) (values_of (size c.args.walk.now.q.now.target) c.by_set.new.marked c.by_set.new.needed) c.by_set.result c.told_if-in-Others.result c.told_if-in-Others.ensures.yes c.told_if-in-Others.ensures.no
     (subst (λ (x : What). IsStep c.by_set.result c.args.walk.now.q.now c.args.walk.now.rows.now path (change_by c.args.walk.now.numbers.now x c.args.entry.now.from) (values_of (size c.args.walk.now.q.now.target) c.args.marked.now c.args.needed.now) (values_of (size c.args.walk.now.q.now.target) c.by_set.new.marked c.by_set.new.needed))
     (sym c.in-Others.is) (rw (c.part.ensures, c.part-in-Others.ensures) at c.by_set.ensures c.args.walk.now.rows.now path c.args.entry.now.from))

@@ -1,4 +1,4 @@
-use Rattle.std.proofs.Common.{◌≡◌, ◌==◌, ◌&&◌, ◌∙◌, ℕ, not, false, sym, ap, subst, inl, rules}
+use Rattle.std.proofs.Common.{◌≡◌, ◌==◌, ◌&&◌, ◌∙◌, ℕ, not, false, sym, ap, subst, rules}
 use Rattle.bit_rows.specs.BitRows.{has, words_for}
 use Rattle.needed_values.specs.Needed.{needs, AreRows}
 use Rattle.graph_theory.specs.Graph.{size}

@@ -1,4 +1,3 @@
-use Rattle.std.proofs.Common.{Result, Ok, Err, IfOk, refl}
 use Rattle.proof_log.proofs.Ranges.{answer_within}
 use Rattle.proof_log.proofs.PlainLines.{hinted_is}
 use Rattle.proof_log.proofs.reading.read_hinted.Goals as goal

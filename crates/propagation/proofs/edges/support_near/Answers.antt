@@ -1,38 +1,27 @@
-use Rattle.std.proofs.Common.{◌∙◌}
-use Rattle.std.proofs.lemmas.Result.{err_from_is_err_and}
-use Rattle.propagation.proofs.Forcing.{forces_none}
 use Rattle.propagation.proofs.Supporting.{unites_on}
-use Rattle.propagation.proofs.Waiting.{shrinks_more}
-use Rattle.propagation.proofs.Guesses.{guesses_more}
+use Rattle.propagation.proofs.Takes.{flagged_on, takes_none, takes_as, takes_more, takes_failed}
 use Rattle.propagation.proofs.edges.support_near.Goals as goal
 
-pub support_at-requires-clause-is_of : goal.support_at-requires-clause-is_of
-support_at-requires-clause-is_of g c = record {
-  vertices_is = c.loop-k.invariant.shrinks.narrows.vertices_same ∙ c.requires.is_of.vertices_is;
-  values_is = c.loop-k.invariant.shrinks.narrows.values_same ∙ c.requires.is_of.values_is;
-}
-
-pub support_at-requires-clause-bounded : goal.support_at-requires-clause-bounded
-support_at-requires-clause-bounded g c = c.loop-k.invariant.shrinks.bounded
+pub support_at-requires-clause-flagged : goal.support_at-requires-clause-flagged
+support_at-requires-clause-flagged g c = flagged_on tt _ _ _ _ _ _ _ c.requires.flagged c.loop-k.invariant.takes
 
 pub support_at-requires-clause-unites : goal.support_at-requires-clause-unites
-support_at-requires-clause-unites g c = unites_on c.args.q.now.target c.args.d.now c.loop-k.d _ _ _ c.loop-k.invariant.shrinks.narrows.less c.requires.unites
+support_at-requires-clause-unites g c = unites_on c.args.q.now.target c.args.d.now c.loop-k.d _ _ _ c.loop-k.invariant.takes.forces.narrows.less c.requires.unites
 
-pub returns-in_err-support_at-clause-forces : goal.returns-in_err-support_at-clause-forces
-returns-in_err-support_at-clause-forces g c =
-    let p = err_from_is_err_and c.from_residual.result c.from_residual.ensures.1 in
-    rw p.1 (forces_none _ _ _ _ _ _ c.loop-k.invariant.shrinks c.in_err-support_at.ensures.forces)
+pub returns-in_err-support_at-clause-takes : goal.returns-in_err-support_at-clause-takes
+returns-in_err-support_at-clause-takes g c = takes_failed tt _ c.from_residual.result _ _ _ _ _ _ _ _ _ _ c.from_residual.ensures.1 c.loop-k.invariant.takes c.in_err-support_at.ensures.takes
 
-pub returns-in_err-support_at-clause-told : goal.returns-in_err-support_at-clause-told
-returns-in_err-support_at-clause-told g c s t = c.in_err-support_at.ensures.told s (c.loop-k.invariant.told s t)
+pub returns-clause-takes : goal.returns-clause-takes
+returns-clause-takes g c = takes_as tt _ _ _ _ _ _ _ _ c.loop-k.invariant.takes
 
-pub returns-in_err-support_at-clause-guesses : goal.returns-in_err-support_at-clause-guesses
-returns-in_err-support_at-clause-guesses g c = guesses_more _ _ _ c.loop-k.invariant.guesses c.in_err-support_at.ensures.guesses
+pub loop-k-init : goal.loop-k-init
+loop-k-init g c = record {
+  takes = takes_none tt _ _ _ _ c.requires.flagged;
+  gone = c.requires.gone;
+}
 
 pub loop-k-preserved : goal.loop-k-preserved
 loop-k-preserved g c = record {
-  shrinks = shrinks_more _ _ _ _ _ _ _ c.loop-k.invariant.shrinks c.in_ok-support_at.ensures.forces;
-  told = λ s t. c.in_ok-support_at.ensures.told s (c.loop-k.invariant.told s t);
-  guesses = guesses_more _ _ _ c.loop-k.invariant.guesses c.in_ok-support_at.ensures.guesses;
+  takes = takes_more tt _ _ _ _ _ _ _ _ _ _ _ c.loop-k.invariant.takes c.in_ok-support_at.ensures.takes;
   gone = c.in_ok-support_at.ensures.gone;
 }

@@ -1,15 +1,11 @@
 use Rattle.std.proofs.Common.{◌≡◌, length}
 use Rattle.bit_rows.specs.BitRows.{words_for}
 use Rattle.graph_theory.specs.Graph.{size}
-use Rattle.propagation.specs.Propagation.{Shrinks}
-use Rattle.propagation.specs.Recording.{NoNewGuess}
-use Rattle.propagation.specs.Telling.{TellsOn}
+use Rattle.propagation.proofs.Takes.{HaveTaken}
 use Rattle.propagation.proofs.edges.support_near.Given as goal
 
 abbrev pub invariant-loop-k : goal.invariant-loop-k
 invariant-loop-k g l = record {
-  shrinks : Shrinks l.q l.fn.d l.fn.waiting l.d l.waiting;
-  told : TellsOn l.q l.fn.d (g.R.Recorder.changes l.fn.told) l.d (g.R.Recorder.changes l.told);
-  guesses : NoNewGuess (g.R.Recorder.changes l.fn.told) (g.R.Recorder.changes l.told);
+  takes : HaveTaken l.q l.fn.d l.fn.waiting (g.R.Recorder.changes l.fn.told) l.d l.waiting (g.R.Recorder.changes l.told);
   gone : length l.gone ≡ words_for (size l.q.target);
 }

@@ -1,34 +1,39 @@
-use Rattle.std.proofs.Common.{◌<◌, arith}
-use Rattle.propagation.proofs.Forcing.{unused_on, shrinks_taken, none_taken, forces_none}
+use Rattle.std.proofs.Common.{true, false, refl}
 use Rattle.propagation.proofs.Supporting.{unused_unsupported, unsupported_on}
-use Rattle.propagation.proofs.Waiting.{shrinks_more}
-use Rattle.propagation.proofs.Guesses.{guesses_more}
+use Rattle.propagation.proofs.Guesses.{guesses_may}
+use Rattle.propagation.proofs.Takes.{takes_none, takes_value}
 use Rattle.propagation.proofs.edges.take_row.Goals as goal
 
-pub returns-then-not-take_unsupported-clause-forces : goal.returns-then-not-take_unsupported-clause-forces
-returns-then-not-take_unsupported-clause-forces g c =
-    let unsupported = c.requires.unsupported c.loop-u.u (c.loop-u.invariant.member c.loop-u-test.true) in
-    let unused = unused_on _ c.args.d.now c.loop-u.d (c.args.link.r, c.loop-u.u, 0) c.loop-u.invariant.shrinks.narrows (unused_unsupported c.args.q.now c.args.d.now c.args.link.direction c.args.link.p c.args.link.r c.loop-u.u unsupported) in
-    forces_none _ _ _ _ _ _ c.loop-u.invariant.shrinks
-    (none_taken _ c.loop-u.d _ c.loop-u.waiting _ (c.args.link.r, c.loop-u.u, 0) unused c.if-not-take_unsupported.ensures.keeps c.if-not-take_unsupported.ensures.taken)
+pub returns-then-not-take_by : goal.returns-then-not-take_by
+returns-then-not-take_by g c =
+    let link = c.args.link in
+    let gone = unsupported_on c.args.q.now c.args.d.now c.loop-u.d link.direction link.p link.r c.loop-u.u c.loop-u.invariant.takes.forces.narrows.less
+    (c.requires.unsupported c.loop-u.u (c.loop-u.invariant.member c.loop-u-test.true)) in
+    record {
+      takes = takes_value false _ _ c.loop-u.d _ _ _ _ _ _ _ link.r c.loop-u.u c.requires.flagged c.loop-u.invariant.takes (unused_unsupported c.args.q.now c.loop-u.d link.direction link.p link.r c.loop-u.u gone)
+          c.if-not-take_by.ensures.keeps c.if-not-take_by.ensures.taken c.if-not-take_by.ensures.bounded (λ s. c.if-not-take_by.ensures.told c.args.q.now s gone refl)
+          (guesses_may _ _ _ (λ is. is) c.if-not-take_by.ensures.took);
+    }
 
-pub returns-then-not-take_unsupported-clause-told : goal.returns-then-not-take_unsupported-clause-told
-returns-then-not-take_unsupported-clause-told g c s t =
-    let unsupported = c.requires.unsupported c.loop-u.u (c.loop-u.invariant.member c.loop-u-test.true) in
-    c.if-not-take_unsupported.ensures.told c.args.q.now s
-    (unsupported_on c.args.q.now c.args.d.now c.loop-u.d c.args.link.direction c.args.link.p c.args.link.r c.loop-u.u c.loop-u.invariant.shrinks.narrows.less unsupported) (c.loop-u.invariant.told s t)
+pub returns : goal.returns
+returns g c = record { takes = c.loop-u.invariant.takes }
+
+pub loop-u-init : goal.loop-u-init
+loop-u-init g c = record {
+  takes = takes_none tt _ _ _ _ c.requires.flagged;
+  within = c.next_member-u.ensures.high;
+  member = c.next_member-u.ensures.member;
+}
 
 pub loop-u-preserved : goal.loop-u-preserved
 loop-u-preserved g c =
-    let unsupported = c.requires.unsupported c.loop-u.u (c.loop-u.invariant.member c.loop-u-test.true) in
-    let unused = unused_on _ c.args.d.now c.loop-u.d (c.args.link.r, c.loop-u.u, 0) c.loop-u.invariant.shrinks.narrows (unused_unsupported c.args.q.now c.args.d.now c.args.link.direction c.args.link.p c.args.link.r c.loop-u.u unsupported) in
-    let flag : c.args.link.r < _ = omega (arith, unsupported.joins.other_in, c.loop-u.invariant.shrinks.long, c.requires.long) in
-    let taken = shrinks_taken _ c.loop-u.d _ c.loop-u.waiting _ (c.args.link.r, c.loop-u.u, 0) unused c.if-not-take_unsupported.ensures.keeps flag c.if-not-take_unsupported.ensures.bounded c.if-not-take_unsupported.ensures.taken in
+    let link = c.args.link in
+    let gone = unsupported_on c.args.q.now c.args.d.now c.loop-u.d link.direction link.p link.r c.loop-u.u c.loop-u.invariant.takes.forces.narrows.less
+    (c.requires.unsupported c.loop-u.u (c.loop-u.invariant.member c.loop-u-test.true)) in
     record {
-      shrinks = shrinks_more _ _ _ _ _ _ _ c.loop-u.invariant.shrinks taken;
-      told = λ s t. c.if-not-take_unsupported.ensures.told c.args.q.now s
-          (unsupported_on c.args.q.now c.args.d.now c.loop-u.d c.args.link.direction c.args.link.p c.args.link.r c.loop-u.u c.loop-u.invariant.shrinks.narrows.less unsupported) (c.loop-u.invariant.told s t);
-      guesses = guesses_more _ _ _ c.loop-u.invariant.guesses c.if-not-take_unsupported.ensures.guesses;
+      takes = takes_value true _ _ c.loop-u.d _ _ _ _ _ _ _ link.r c.loop-u.u c.requires.flagged c.loop-u.invariant.takes (unused_unsupported c.args.q.now c.loop-u.d link.direction link.p link.r c.loop-u.u gone)
+          c.if-not-take_by.ensures.keeps c.if-not-take_by.ensures.taken c.if-not-take_by.ensures.bounded (λ s. c.if-not-take_by.ensures.told c.args.q.now s gone refl)
+          (guesses_may _ _ _ (λ is. is) c.if-not-take_by.ensures.took);
       within = c.next_member-u-in-loop-u.ensures.high;
       member = c.next_member-u-in-loop-u.ensures.member;
     }

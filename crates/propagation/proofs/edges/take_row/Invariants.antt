@@ -1,15 +1,11 @@
 use Rattle.std.proofs.Common.{◌≡◌, ◌-◌, ◌*◌, ◌<◌, ◌≤◌, true, length}
 use Rattle.bit_rows.specs.BitRows.{has}
-use Rattle.propagation.specs.Propagation.{Shrinks}
-use Rattle.propagation.specs.Recording.{NoNewGuess}
-use Rattle.propagation.specs.Telling.{TellsOn}
+use Rattle.propagation.proofs.Takes.{HaveTaken}
 use Rattle.propagation.proofs.edges.take_row.Given as goal
 
 abbrev pub invariant-loop-u : goal.invariant-loop-u
 invariant-loop-u g l = record {
-  shrinks : Shrinks l.q l.fn.d l.fn.waiting l.d l.waiting;
-  told : TellsOn l.q l.fn.d (g.R.Recorder.changes l.fn.told) l.d (g.R.Recorder.changes l.told);
-  guesses : NoNewGuess (g.R.Recorder.changes l.fn.told) (g.R.Recorder.changes l.told);
+  takes : HaveTaken l.q l.fn.d l.fn.waiting (g.R.Recorder.changes l.fn.told) l.d l.waiting (g.R.Recorder.changes l.told);
   within : l.u ≤ 64 * length l.row;
   member : l.u < 64 * length l.row → has l.row l.u ≡ true;
 }

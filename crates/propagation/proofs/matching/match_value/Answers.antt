@@ -1,8 +1,8 @@
-use Rattle.propagation.proofs.Supporting.{forces_more}
+use Rattle.propagation.proofs.Takes.{flagged_on, takes_more}
 use Rattle.propagation.proofs.matching.match_value.Goals as goal
 
-pub returns-clause-forces : goal.returns-clause-forces
-returns-clause-forces g c = forces_more _ _ _ _ _ _ _ _ c.in_ok-match_spot.ensures.forces c.match_spot-2.ensures.forces
+pub match_spot-requires-2-clause-flagged : goal.match_spot-requires-2-clause-flagged
+match_spot-requires-2-clause-flagged g c = flagged_on _ _ _ _ _ _ _ _ c.requires.flagged c.in_ok-match_spot.ensures.takes
 
-pub returns-clause-told : goal.returns-clause-told
-returns-clause-told g c s t = c.match_spot-2.ensures.told s (c.in_ok-match_spot.ensures.told s t)
+pub returns-clause-takes : goal.returns-clause-takes
+returns-clause-takes g c = takes_more _ _ _ _ _ _ _ _ _ _ _ _ c.in_ok-match_spot.ensures.takes c.match_spot-2.ensures.takes

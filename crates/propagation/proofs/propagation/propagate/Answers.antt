@@ -32,11 +32,11 @@ returns-in_err-have_left-clause-propagated g c =
     let taken = subst (λ (q : Problem). TakenUp true q c.loop-d.d c.take_up.new.d) c.loop-d.invariant.problem c.in_ok-take_up.ensures.taken in
     let n = narrows_more _ _ _ _ c.loop-d.invariant.narrows taken.0 in
     let p = err_from_is_err_and c.from_residual-in_err-have_left.result c.from_residual-in_err-have_left.ensures.1 in
-    rw p.1 (narrows_more _ _ _ _ n c.in_err-have_left.ensures.pruned.0, none_narrowed _ _ _ n c.in_err-have_left.ensures.pruned.1)
+    rw p.1 (narrows_more _ _ _ _ n c.in_err-have_left.ensures.prunes.pruned.0, none_narrowed _ _ _ n c.in_err-have_left.ensures.prunes.pruned.1)
 
 pub loop-d-preserved : goal.loop-d-preserved
 loop-d-preserved g c =
-    let pruned = rw c.if-not-have_left.false at c.in_ok-have_left.ensures.pruned in
+    let pruned = rw c.if-not-have_left.false at c.in_ok-have_left.ensures.prunes.pruned in
     let taken = subst (λ (q : Problem). TakenUp true q c.loop-d.d c.take_up.new.d) c.loop-d.invariant.problem c.in_ok-take_up.ensures.taken in
     let kept = subst (λ (q : Problem). AreKept q c.take_up.new.nogoods) c.loop-d.invariant.problem c.in_ok-take_up.ensures.kept in
     record {
@@ -51,8 +51,8 @@ loop-d-preserved g c =
       wait = kept_then _ c.take_up.new.nogoods (λ s. InForce c.take_up.new.d s.watches) (WatchesWait c.filter_more.new.d c.filter_more.new.waiting) kept
           (λ s are force. wait_pruned _ c.take_up.new.d c.filter_more.new.d c.filter_more.new.waiting s pruned.0.less pruned.3 are force) c.in_ok-take_up.ensures.in_force;
       moved = moved_more _ c.loop-d.d _ _ c.take_up.new.nogoods c.loop-d.invariant.narrows.less c.loop-d.invariant.moved c.in_ok-take_up.ensures.moved;
-      told = λ t. c.in_ok-have_left.ensures.told c.take_up.new.nogoods (told_on _ _ _ _ _ _ _ _ c.loop-d.invariant.problem c.in_ok-take_up.ensures.told (c.loop-d.invariant.told t));
-      guesses = guesses_more _ _ _ c.loop-d.invariant.guesses (guesses_more _ _ _ c.in_ok-take_up.ensures.guesses c.in_ok-have_left.ensures.guesses);
+      told = λ t. c.in_ok-have_left.ensures.prunes.told_on c.take_up.new.nogoods (told_on _ _ _ _ _ _ _ _ c.loop-d.invariant.problem c.in_ok-take_up.ensures.told (c.loop-d.invariant.told t));
+      guesses = guesses_more _ _ _ c.loop-d.invariant.guesses (guesses_more _ _ _ c.in_ok-take_up.ensures.guesses c.in_ok-have_left.ensures.prunes.guesses);
     }
 
 pub returns-in_err-take_up-clause-told : goal.returns-in_err-take_up-clause-told
@@ -60,11 +60,11 @@ returns-in_err-take_up-clause-told g c t = told_on _ _ _ _ _ _ _ _ c.loop-d.inva
 
 pub returns-in_err-have_left-clause-told : goal.returns-in_err-have_left-clause-told
 returns-in_err-have_left-clause-told g c t =
-    c.in_err-have_left.ensures.told c.take_up.new.nogoods (told_on _ _ _ _ _ _ _ _ c.loop-d.invariant.problem c.in_ok-take_up.ensures.told (c.loop-d.invariant.told t))
+    c.in_err-have_left.ensures.prunes.told_on c.take_up.new.nogoods (told_on _ _ _ _ _ _ _ _ c.loop-d.invariant.problem c.in_ok-take_up.ensures.told (c.loop-d.invariant.told t))
 
 pub returns-then-not-have_left-clause-told : goal.returns-then-not-have_left-clause-told
 returns-then-not-have_left-clause-told g c t =
-    c.in_ok-have_left.ensures.told c.take_up.new.nogoods (told_on _ _ _ _ _ _ _ _ c.loop-d.invariant.problem c.in_ok-take_up.ensures.told (c.loop-d.invariant.told t))
+    c.in_ok-have_left.ensures.prunes.told_on c.take_up.new.nogoods (told_on _ _ _ _ _ _ _ _ c.loop-d.invariant.problem c.in_ok-take_up.ensures.told (c.loop-d.invariant.told t))
 
 pub returns-in_err-take_up-clause-moved : goal.returns-in_err-take_up-clause-moved
 returns-in_err-take_up-clause-moved g c =
@@ -80,20 +80,20 @@ returns-in_err-have_left-clause-moved g c =
 
 pub returns-in_err-have_left-clause-left : goal.returns-in_err-have_left-clause-left
 returns-in_err-have_left-clause-left g c =
-    leaves_on _ c.take_up.new.d c.filter_more.new.d _ c.in_err-have_left.ensures.pruned.0.less (subst (λ (q : Problem). LeavesPast q c.take_up.new.d c.take_up.new.undecided) c.loop-d.invariant.problem c.in_ok-take_up.ensures.left)
+    leaves_on _ c.take_up.new.d c.filter_more.new.d _ c.in_err-have_left.ensures.prunes.pruned.0.less (subst (λ (q : Problem). LeavesPast q c.take_up.new.d c.take_up.new.undecided) c.loop-d.invariant.problem c.in_ok-take_up.ensures.left)
 
 pub returns-in_err-have_left-clause-fails : goal.returns-in_err-have_left-clause-fails
 returns-in_err-have_left-clause-fails g c =
     let p = err_from_is_err_and c.from_residual-in_err-have_left.result c.from_residual-in_err-have_left.ensures.1 in
-    rw (p.1, p.2) (c.in_err-have_left.ensures.fails c.take_up.new.nogoods)
+    rw (p.1, p.2) (c.in_err-have_left.ensures.prunes.fails c.take_up.new.nogoods)
 
 pub returns-in_err-take_up-clause-guesses : goal.returns-in_err-take_up-clause-guesses
 returns-in_err-take_up-clause-guesses g c = guesses_more _ _ _ c.loop-d.invariant.guesses c.in_err-take_up.ensures.guesses
 
 pub returns-in_err-have_left-clause-guesses : goal.returns-in_err-have_left-clause-guesses
 returns-in_err-have_left-clause-guesses g c =
-    guesses_more _ _ _ c.loop-d.invariant.guesses (guesses_more _ _ _ c.in_ok-take_up.ensures.guesses c.in_err-have_left.ensures.guesses)
+    guesses_more _ _ _ c.loop-d.invariant.guesses (guesses_more _ _ _ c.in_ok-take_up.ensures.guesses c.in_err-have_left.ensures.prunes.guesses)
 
 pub returns-then-not-have_left-clause-guesses : goal.returns-then-not-have_left-clause-guesses
 returns-then-not-have_left-clause-guesses g c =
-    guesses_more _ _ _ c.loop-d.invariant.guesses (guesses_more _ _ _ c.in_ok-take_up.ensures.guesses c.in_ok-have_left.ensures.guesses)
+    guesses_more _ _ _ c.loop-d.invariant.guesses (guesses_more _ _ _ c.in_ok-take_up.ensures.guesses c.in_ok-have_left.ensures.prunes.guesses)

@@ -8,11 +8,31 @@ use Rattle.propagation.proofs.propagation.settle_at.Goals as goal
 other : (p r : ℕ) → (r ≡ p → ⊥) → p ≡ r → ⊥
 other p r apart same = apart (sym same)
 
-pub keep_consistent-requires-clause-undecided : goal.keep_consistent-requires-clause-undecided
-keep_consistent-requires-clause-undecided g c = inl (sym (ap (waits_at c.args.waiting.now) c.from.ensures) ∙ c.if-waiting-from.true)
+pub keep_consistent-requires-clause-flagged : goal.keep_consistent-requires-clause-flagged
+keep_consistent-requires-clause-flagged g c = record { is_of = c.requires.is_of; long = c.requires.ready.long; bounded = c.requires.bounded }
 
-pub keep_consistent-requires-2-clause-undecided : goal.keep_consistent-requires-2-clause-undecided
-keep_consistent-requires-2-clause-undecided g c = inr (not_one_by_size c.args.d.now c.args.r (λ one. c.if-size-eq1.false (c.size.ensures.size ∙ one)))
+pub keep_consistent-requires-clause-meets : goal.keep_consistent-requires-clause-meets
+keep_consistent-requires-clause-meets g c = record {
+  p_in = c.requires.p_in;
+  t_in = c.requires.t_in;
+  r_in = c.requires.r_in;
+  apart = other _ _ c.if-r-p.false;
+  single = c.requires.single;
+  undecided = inl (sym (ap (waits_at c.args.waiting.now) c.from.ensures) ∙ c.if-waiting-from.true);
+}
+
+pub keep_consistent-requires-2-clause-flagged : goal.keep_consistent-requires-2-clause-flagged
+keep_consistent-requires-2-clause-flagged g c = record { is_of = c.requires.is_of; long = c.requires.ready.long; bounded = c.requires.bounded }
+
+pub keep_consistent-requires-2-clause-meets : goal.keep_consistent-requires-2-clause-meets
+keep_consistent-requires-2-clause-meets g c = record {
+  p_in = c.requires.p_in;
+  t_in = c.requires.t_in;
+  r_in = c.requires.r_in;
+  apart = other _ _ c.if-r-p.false;
+  single = c.requires.single;
+  undecided = inr (not_one_by_size c.args.d.now c.args.r (λ one. c.if-size-eq1.false (c.size.ensures.size ∙ one)));
+}
 
 pub returns-then-r-p-clause-sweeps : goal.returns-then-r-p-clause-sweeps
 returns-then-r-p-clause-sweeps g c = sweeps_own _ c.args.d.now c.args.waiting.now c.args.p c.args.t c.args.r c.if-r-p.true c.requires.bounded

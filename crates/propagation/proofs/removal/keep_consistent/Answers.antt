@@ -6,15 +6,15 @@ use Rattle.propagation.proofs.removal.keep_consistent.Goals as goal
 
 pub returns-then-is_free-clause-sweeps : goal.returns-then-is_free-clause-sweeps
 returns-then-is_free-clause-sweeps g c =
-    sweeps_taken _ _ _ _ _ _ _ _ _ c.requires.is_of.values_is c.requires.p_in c.requires.r_in c.requires.apart (omega (arith, c.requires.long, c.requires.r_in)) c.requires.single
-    c.take_value-some.ensures.keeps c.take_value-some.ensures.taken c.take_value-some.ensures.bounded (c.is_free.ensures c.if-is_free.true) c.requires.undecided
+    sweeps_taken _ _ _ _ _ _ _ _ _ c.requires.flagged.is_of.values_is c.requires.meets.p_in c.requires.meets.r_in c.requires.meets.apart (omega (arith, c.requires.flagged.long, c.requires.meets.r_in)) c.requires.meets.single
+    c.take_value-some.ensures.keeps c.take_value-some.ensures.taken c.take_value-some.ensures.bounded (c.is_free.ensures c.if-is_free.true) c.requires.meets.undecided
 
 pub returns-then-is_free-clause-told : goal.returns-then-is_free-clause-told
 returns-then-is_free-clause-told g c s t =
     c.tell.ensures.told _ s c.args.d.now
-    (leaves_swept _ _ s c.args.d.now _ _ _ c.args.p c.args.t c.args.r _ c.requires.p_in c.requires.t_in c.requires.r_in c.requires.apart c.requires.single c.mark-from.ensures.length
-    (sweeps_taken _ _ _ _ _ _ _ _ _ c.requires.is_of.values_is c.requires.p_in c.requires.r_in c.requires.apart (omega (arith, c.requires.long, c.requires.r_in)) c.requires.single
-    c.take_value-some.ensures.keeps c.take_value-some.ensures.taken c.take_value-some.ensures.bounded (c.is_free.ensures c.if-is_free.true) c.requires.undecided))
+    (leaves_swept _ _ s c.args.d.now _ _ _ c.args.p c.args.t c.args.r _ c.requires.meets.p_in c.requires.meets.t_in c.requires.meets.r_in c.requires.meets.apart c.requires.meets.single c.mark-from.ensures.length
+    (sweeps_taken _ _ _ _ _ _ _ _ _ c.requires.flagged.is_of.values_is c.requires.meets.p_in c.requires.meets.r_in c.requires.meets.apart (omega (arith, c.requires.flagged.long, c.requires.meets.r_in)) c.requires.meets.single
+    c.take_value-some.ensures.keeps c.take_value-some.ensures.taken c.take_value-some.ensures.bounded (c.is_free.ensures c.if-is_free.true) c.requires.meets.undecided))
     t
 
 pub returns-then-is_free-clause-guesses : goal.returns-then-is_free-clause-guesses
@@ -23,7 +23,7 @@ returns-then-is_free-clause-guesses g c = guesses_may _ _ _ (λ is. is) c.tell.e
 pub returns-clause-told : goal.returns-clause-told
 returns-clause-told g c s t =
     c.tell-2.ensures.told _ s c.args.d.now
-    (leaves_swept _ _ s c.args.d.now _ _ _ c.args.p c.args.t c.args.r _ c.requires.p_in c.requires.t_in c.requires.r_in c.requires.apart c.requires.single c.mark-from.ensures.length
+    (leaves_swept _ _ s c.args.d.now _ _ _ c.args.p c.args.t c.args.r _ c.requires.meets.p_in c.requires.meets.t_in c.requires.meets.r_in c.requires.meets.apart c.requires.meets.single c.mark-from.ensures.length
     c.take_inconsistent-some.ensures)
     t
 

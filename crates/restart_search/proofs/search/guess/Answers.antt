@@ -23,18 +23,18 @@ push_reserved-requires g c =
     let room = guessed_room c.args.q.now c.args.position.now.domains c.args.position.now.undecided c.args.position.now.account c.args.position.now.marks.items c.args.position.now.root _ c.requires.sound.based.levels c.deepen.ensures.few c.requires.sound.based.honest.pattern_is c.requires.room in
     omega (arith, room, c.args.position.now.marks.ok.0)
 
-pub propagate_guess-requires-clause-ready : goal.propagate_guess-requires-clause-ready
-propagate_guess-requires-clause-ready g c =
+pub propagate-requires-clause-ready : goal.propagate-requires-clause-ready
+propagate-requires-clause-ready g c =
     let p_in = subst (λ (n : ℕ). c.args.pair.0 < n) c.requires.sound.based.honest.pattern_is c.requires.may.vertex_in in
     subst (λ (ws : List Bool). Ready c.args.q.now c.give.new.d ws) (sym c.deref_mut.ensures.value)
     (subst (λ (i : ℕ). Ready c.args.q.now c.give.new.d (slice_set c.args.propagator.now.waiting.items i true)) (sym c.from.ensures)
     (ready_assigned _ _ _ _ _ _ _ c.requires.sound.here.quiet c.give.ensures.keeps c.give.ensures.single.here c.requires.long p_in))
 
-pub propagate_guess-requires-clause-left : goal.propagate_guess-requires-clause-left
-propagate_guess-requires-clause-left g c = leaves_on _ c.args.position.now.domains c.give.new.d _ c.give.ensures.keeps.shrinks.less c.requires.sound.left
+pub propagate-requires-clause-left : goal.propagate-requires-clause-left
+propagate-requires-clause-left g c = leaves_on _ c.args.position.now.domains c.give.new.d _ c.give.ensures.keeps.shrinks.less c.requires.sound.left
 
-pub propagate_guess-requires-clause-first : goal.propagate_guess-requires-clause-first
-propagate_guess-requires-clause-first g c =
+pub propagate-requires-clause-first : goal.propagate-requires-clause-first
+propagate-requires-clause-first g c =
     first_on _ c.args.position.now.domains c.give.new.d c.give.ensures.keeps.shrinks.less c.requires.sound.here.quiet.first
 
 pub take_back-requires-clause-based : goal.take_back-requires-clause-based
@@ -60,34 +60,44 @@ returns-in-Ok-clause-sound g c =
     (subst (λ (n : ℕ). c.args.pair.0 < n) c.requires.sound.based.honest.pattern_is c.requires.may.vertex_in) c.in-Ok.ensures.fewer c.in-Ok.ensures.left c.present-moment.ensures
     (subst (λ (a : Account). Honest c.args.q.now a) c.deepen.ensures.deepened c.deepen.ensures.honest))
 
-pub propagate_guess-requires-clause-wait : goal.propagate_guess-requires-clause-wait
-propagate_guess-requires-clause-wait g c =
+pub propagate-requires-clause-wait : goal.propagate-requires-clause-wait
+propagate-requires-clause-wait g c =
     let p_in = subst (λ (n : ℕ). c.args.pair.0 < n) c.requires.sound.based.honest.pattern_is c.requires.may.vertex_in in
-    subst (λ (ws : List Bool). IfSome c.args.propagator.now.filters.nogoods (WatchesWait c.give.new.d ws)) (sym c.deref_mut.ensures.value)
+    rw (c.enter.ensures)
+    (subst (λ (ws : List Bool). IfSome c.args.propagator.now.filters.nogoods (WatchesWait c.give.new.d ws)) (sym c.deref_mut.ensures.value)
     (subst (λ (i : ℕ). IfSome c.args.propagator.now.filters.nogoods (WatchesWait c.give.new.d (slice_set c.args.propagator.now.waiting.items i true))) (sym c.from.ensures)
     (kept_assigned c.args.position.now.domains c.give.new.d c.args.pair.0 _ c.args.propagator.now.waiting.items c.args.propagator.now.filters.nogoods c.give.ensures.keeps (subst (λ (n : ℕ). c.args.pair.0 < n) (sym c.requires.long) p_in)
-    c.requires.acting.here))
+    c.requires.acting.here)))
 
 pub returns-in_ok-close-in-Err-clause-acting : goal.returns-in_ok-close-in-Err-clause-acting
 returns-in_ok-close-in-Err-clause-acting g c =
-    c.take_back.ensures.acting c.propagate_guess.new.filters.nogoods
-    (subst (λ (ks : List Moment). WereActedOn c.propagate_guess.new.d c.propagate_guess.new.filters.nogoods ks c.args.position.now.root) (sym c.push_reserved.ensures.items)
-    (were_guessed c.args.q.now c.args.position.now.domains c.give.new.d c.propagate_guess.new.d c.args.position.now.undecided (path c.args.position.now.account) c.args.position.now.marks.items c.args.position.now.root c.present-moment.result c.args.pair.0 _
-    c.args.propagator.now.filters.nogoods c.propagate_guess.new.filters.nogoods c.requires.sound.based.levels c.present-moment.ensures.domains_is c.give.ensures.keeps c.in-Err.ensures.propagated.0
-    c.propagate_guess.ensures.moved c.requires.acting))
+    let moved = rw (c.enter.ensures) at c.propagate.ensures.moved in
+    rw (c.count-in-Err.ensures)
+    (c.take_back.ensures.acting c.propagate.new.filters.nogoods
+    (subst (λ (ks : List Moment). WereActedOn c.propagate.new.d c.propagate.new.filters.nogoods ks c.args.position.now.root) (sym c.push_reserved.ensures.items)
+    (were_guessed c.args.q.now c.args.position.now.domains c.give.new.d c.propagate.new.d c.args.position.now.undecided (path c.args.position.now.account) c.args.position.now.marks.items c.args.position.now.root c.present-moment.result c.args.pair.0 _
+    c.args.propagator.now.filters.nogoods c.propagate.new.filters.nogoods c.requires.sound.based.levels c.present-moment.ensures.domains_is c.give.ensures.keeps c.in-Err.ensures.propagated.0
+    moved c.requires.acting)))
 
 pub returns-in-Ok-clause-acting : goal.returns-in-Ok-clause-acting
 returns-in-Ok-clause-acting g c =
-    rw (c.push_reserved.ensures.items)
-    (acting_guessed c.args.q.now c.args.position.now.domains c.give.new.d c.propagate_guess.new.d c.args.position.now.undecided (path c.args.position.now.account) c.args.position.now.marks.items c.args.position.now.root c.present-moment.result c.args.pair.0 _
-    c.args.propagator.now.filters.nogoods c.propagate_guess.new.filters.nogoods c.requires.sound.based.levels c.present-moment.ensures.domains_is c.give.ensures.keeps c.in-Ok.ensures.propagated.0
-    c.propagate_guess.ensures.moved c.requires.acting c.in-Ok.ensures.in_force)
+    let moved = rw (c.enter.ensures) at c.propagate.ensures.moved in
+    rw (c.push_reserved.ensures.items, c.count.ensures)
+    (acting_guessed c.args.q.now c.args.position.now.domains c.give.new.d c.propagate.new.d c.args.position.now.undecided (path c.args.position.now.account) c.args.position.now.marks.items c.args.position.now.root c.present-moment.result c.args.pair.0 _
+    c.args.propagator.now.filters.nogoods c.propagate.new.filters.nogoods c.requires.sound.based.levels c.present-moment.ensures.domains_is c.give.ensures.keeps c.in-Ok.ensures.propagated.0
+    moved c.requires.acting c.in-Ok.ensures.in_force)
 
 pub returns-in_ok-close-in-Err-clause-kept : goal.returns-in_ok-close-in-Err-clause-kept
-returns-in_ok-close-in-Err-clause-kept g c = same_moved c.give.new.d c.args.propagator.now.filters.nogoods c.propagate_guess.new.filters.nogoods c.propagate_guess.ensures.moved
+returns-in_ok-close-in-Err-clause-kept g c =
+    let moved = rw (c.enter.ensures) at c.propagate.ensures.moved in
+    rw (c.count-in-Err.ensures)
+    (same_moved c.give.new.d c.args.propagator.now.filters.nogoods c.propagate.new.filters.nogoods moved)
 
 pub returns-in-Ok-clause-kept : goal.returns-in-Ok-clause-kept
-returns-in-Ok-clause-kept g c = same_moved c.give.new.d c.args.propagator.now.filters.nogoods c.propagate_guess.new.filters.nogoods c.propagate_guess.ensures.moved
+returns-in-Ok-clause-kept g c =
+    let moved = rw (c.enter.ensures) at c.propagate.ensures.moved in
+    rw (c.count.ensures)
+    (same_moved c.give.new.d c.args.propagator.now.filters.nogoods c.propagate.new.filters.nogoods moved)
 
 pub returns-in_ok-close-in-Err-clause-run : goal.returns-in_ok-close-in-Err-clause-run
 returns-in_ok-close-in-Err-clause-run g c = c.take_back.ensures.run ∙ ap (λ (a : Account). a.run) c.deepen.ensures.deepened
@@ -96,7 +106,10 @@ pub returns-in-Ok-clause-run : goal.returns-in-Ok-clause-run
 returns-in-Ok-clause-run g c = ap (λ (a : Account). a.run) c.deepen.ensures.deepened
 
 pub returns-in_err-close-in-Err-clause-kept : goal.returns-in_err-close-in-Err-clause-kept
-returns-in_err-close-in-Err-clause-kept g c = same_moved c.give.new.d c.args.propagator.now.filters.nogoods c.propagate_guess.new.filters.nogoods c.propagate_guess.ensures.moved
+returns-in_err-close-in-Err-clause-kept g c =
+    let moved = rw (c.enter.ensures) at c.propagate.ensures.moved in
+    rw (c.count-in-Err.ensures)
+    (same_moved c.give.new.d c.args.propagator.now.filters.nogoods c.propagate.new.filters.nogoods moved)
 
 pub returns-in_err-close-in-Err-clause-run : goal.returns-in_err-close-in-Err-clause-run
 returns-in_err-close-in-Err-clause-run g c = ap (λ (a : Account). a.run) c.deepen.ensures.deepened
@@ -106,32 +119,38 @@ close-requires-clause-writes g c = rw (c.deepen.ensures.deepened) (c.stays.ensur
 
 pub close-requires-clause-ends : goal.close-requires-clause-ends
 close-requires-clause-ends g c =
+    let moved = rw (c.enter.ensures) at c.propagate.ensures.moved in
+    let told = rw (c.enter.ensures) at c.propagate.ensures.told in
     let mid : IsOf c.args.q.now c.give.new.d = record { vertices_is = c.give.ensures.keeps.shrinks.vertices_same ∙ c.requires.sound.based.is_of.vertices_is; values_is = c.give.ensures.keeps.shrinks.values_same ∙ c.requires.sound.based.is_of.values_is } in
-    ends_path c.args.q.now c.args.rows.now c.propagate_guess.new.filters.nogoods c.propagate_guess.new.d _ _ _ _ _ (is_of_narrowed c.args.q.now c.give.new.d c.propagate_guess.new.d c.in-Err.ensures.propagated.0 mid)
-    (holds_same c.args.rows.now c.args.propagator.now.filters.nogoods c.propagate_guess.new.filters.nogoods (same_moved c.give.new.d c.args.propagator.now.filters.nogoods c.propagate_guess.new.filters.nogoods c.propagate_guess.ensures.moved) c.requires.holds)
-    (told_guessed c.args.q.now c.args.propagator.now.filters.nogoods c.propagate_guess.new.filters.nogoods c.args.position.now.domains c.give.new.d c.propagate_guess.new.d c.args.position.now.undecided c.args.position.now.account _ c.args.position.now.marks.items _ c.args.position.now.root
+    ends_path c.args.q.now c.args.rows.now c.propagate.new.filters.nogoods c.propagate.new.d _ _ _ _ _ (is_of_narrowed c.args.q.now c.give.new.d c.propagate.new.d c.in-Err.ensures.propagated.0 mid)
+    (holds_same c.args.rows.now c.args.propagator.now.filters.nogoods c.propagate.new.filters.nogoods (same_moved c.give.new.d c.args.propagator.now.filters.nogoods c.propagate.new.filters.nogoods moved) c.requires.holds)
+    (told_guessed c.args.q.now c.args.propagator.now.filters.nogoods c.propagate.new.filters.nogoods c.args.position.now.domains c.give.new.d c.propagate.new.d c.args.position.now.undecided c.args.position.now.account _ c.args.position.now.marks.items _ c.args.position.now.root
     c.present-moment.result c.args.pair.0 c.args.pair.1 _ _ _ c.requires.sound.based c.deepen.ensures.deepened c.push_reserved.ensures.items c.present-moment.ensures.domains_is
-    (c.give.ensures.told c.args.q.now c.args.propagator.now.filters.nogoods c.requires.sound.based.is_of) c.give.ensures.guesses c.propagate_guess.ensures.told c.propagate_guess.ensures.guesses c.requires.logged.told)
+    (c.give.ensures.told c.args.q.now c.args.propagator.now.filters.nogoods c.requires.sound.based.is_of) c.give.ensures.guesses told c.propagate.ensures.guesses c.requires.logged.told)
     c.in-Err.ensures.fails
 
 pub returns-in-Ok-clause-logged : goal.returns-in-Ok-clause-logged
-returns-in-Ok-clause-logged g c = record {
-  told = (told_guessed c.args.q.now c.args.propagator.now.filters.nogoods c.propagate_guess.new.filters.nogoods c.args.position.now.domains c.give.new.d c.propagate_guess.new.d c.args.position.now.undecided c.args.position.now.account _ c.args.position.now.marks.items _ c.args.position.now.root
-      c.present-moment.result c.args.pair.0 c.args.pair.1 _ _ _ c.requires.sound.based c.deepen.ensures.deepened c.push_reserved.ensures.items c.present-moment.ensures.domains_is
-      (c.give.ensures.told c.args.q.now c.args.propagator.now.filters.nogoods c.requires.sound.based.is_of) c.give.ensures.guesses c.propagate_guess.ensures.told c.propagate_guess.ensures.guesses c.requires.logged.told);
-  writes = rw (c.deepen.ensures.deepened) (c.stays.ensures.guess c.args.q.now c.args.rows.now c.args.position.now.account c.args.pair.0 c.args.pair.1 c.requires.may.level c.requires.logged.writes);
-}
+returns-in-Ok-clause-logged g c =
+    let told = rw (c.enter.ensures) at c.propagate.ensures.told in
+    record {
+      told = rw (c.count.ensures) ((told_guessed c.args.q.now c.args.propagator.now.filters.nogoods c.propagate.new.filters.nogoods c.args.position.now.domains c.give.new.d c.propagate.new.d c.args.position.now.undecided c.args.position.now.account _ c.args.position.now.marks.items _ c.args.position.now.root
+          c.present-moment.result c.args.pair.0 c.args.pair.1 _ _ _ c.requires.sound.based c.deepen.ensures.deepened c.push_reserved.ensures.items c.present-moment.ensures.domains_is
+          (c.give.ensures.told c.args.q.now c.args.propagator.now.filters.nogoods c.requires.sound.based.is_of) c.give.ensures.guesses told c.propagate.ensures.guesses c.requires.logged.told));
+      writes = rw (c.deepen.ensures.deepened) (c.stays.ensures.guess c.args.q.now c.args.rows.now c.args.position.now.account c.args.pair.0 c.args.pair.1 c.requires.may.level c.requires.logged.writes);
+    }
 
 pub returns-in-Ok-clause-steps : goal.returns-in-Ok-clause-steps
 returns-in-Ok-clause-steps g c = c.stays.ensures.steps c.args.q.now c.args.rows.now c.args.position.now.account c.requires.logged.writes
 
 pub returns-in_ok-close-in-Err-clause-logged : goal.returns-in_ok-close-in-Err-clause-logged
-returns-in_ok-close-in-Err-clause-logged g c = record {
-  told = c.take_back.ensures.told c.propagate_guess.new.filters.nogoods (told_guessed c.args.q.now c.args.propagator.now.filters.nogoods c.propagate_guess.new.filters.nogoods c.args.position.now.domains c.give.new.d c.propagate_guess.new.d c.args.position.now.undecided c.args.position.now.account _ c.args.position.now.marks.items _ c.args.position.now.root
-      c.present-moment.result c.args.pair.0 c.args.pair.1 _ _ _ c.requires.sound.based c.deepen.ensures.deepened c.push_reserved.ensures.items c.present-moment.ensures.domains_is
-      (c.give.ensures.told c.args.q.now c.args.propagator.now.filters.nogoods c.requires.sound.based.is_of) c.give.ensures.guesses c.propagate_guess.ensures.told c.propagate_guess.ensures.guesses c.requires.logged.told);
-  writes = c.in_ok-close-in-Err.ensures.closed.failed _ c.take_back.ensures.failed;
-}
+returns-in_ok-close-in-Err-clause-logged g c =
+    let told = rw (c.enter.ensures) at c.propagate.ensures.told in
+    record {
+      told = rw (c.count-in-Err.ensures) (c.take_back.ensures.told c.propagate.new.filters.nogoods (told_guessed c.args.q.now c.args.propagator.now.filters.nogoods c.propagate.new.filters.nogoods c.args.position.now.domains c.give.new.d c.propagate.new.d c.args.position.now.undecided c.args.position.now.account _ c.args.position.now.marks.items _ c.args.position.now.root
+          c.present-moment.result c.args.pair.0 c.args.pair.1 _ _ _ c.requires.sound.based c.deepen.ensures.deepened c.push_reserved.ensures.items c.present-moment.ensures.domains_is
+          (c.give.ensures.told c.args.q.now c.args.propagator.now.filters.nogoods c.requires.sound.based.is_of) c.give.ensures.guesses told c.propagate.ensures.guesses c.requires.logged.told));
+      writes = c.in_ok-close-in-Err.ensures.closed.failed _ c.take_back.ensures.failed;
+    }
 
 pub returns-in-Ok-clause-went : goal.returns-in-Ok-clause-went
 returns-in-Ok-clause-went g c = within_guess c.args.q.now _ _ c.args.pair.0 c.args.pair.1 c.requires.unspent c.requires.before_cutoff c.requires.may c.deepen.ensures.deepened

@@ -1,0 +1,269 @@
+//! Readers on worked texts of graphs and mappings.
+
+use crate::graph_tests::agree;
+use graph_theory::lad_text::{LadCause, LadFault, LadKind};
+use graph_theory::mapping_text::MapFault;
+use graph_theory::plain_lad::{ListedVertex, vertices_in};
+use graph_theory::plain_mapping::mapping_in;
+use lad_reader::{EdgeLabels, GraphParts, Labels, NeighbourLists, read_lad};
+use std::alloc::{AllocError, Global};
+use std::test::Fail;
+use worked_examples::{Example, all_hold};
+
+const LAD: LadKind = LadKind::Lad;
+
+const LABELLED: LadKind = LadKind::VertexLabelledLad;
+
+const DIRECTED: LadKind = LadKind::DirectedLad;
+
+const EDGES: LadKind = LadKind::LabelledLad;
+
+/// A reading as one line: for each vertex its label and its listed neighbours, or the fault.
+fn shown_vertices(
+    alloc: Global,
+    reading: Result<Vec<ListedVertex>, LadFault>,
+) -> Result<String, AllocError> {
+    match reading {
+        Ok(vertices) => {
+            let mut text = String::new(alloc);
+            for v in &vertices {
+                let label = v.label();
+                let listed = v.listed();
+                text.push_str(format!(in alloc; "{label}{listed:?} ")?.as_str())?;
+            }
+            Ok(text)
+        }
+        Err(LadFault::Word { word, cause }) => format!(in alloc; "word {word}: {cause:?}"),
+        Err(LadFault::NoMemory) => format!(in alloc; "memory"),
+    }
+}
+
+/// A mapping as one line, or the fault.
+fn shown_mapping(alloc: Global, reading: Result<Vec<u32>, MapFault>) -> Result<String, AllocError> {
+    match reading {
+        Ok(images) => {
+            let listed = images.as_slice();
+            format!(in alloc; "{listed:?}")
+        }
+        Err(MapFault::Line { line }) => format!(in alloc; "line {line}"),
+        Err(MapFault::NoMemory) => format!(in alloc; "memory"),
+    }
+}
+
+/// A text of a format, with the most vertices that are allowed, and what both readers come to.
+struct Read(LadKind, u32, &'static [u8], &'static str);
+
+impl<R> Example<R> for Read {
+    fn holds(&self, _rt: &R, alloc: Global) -> Result<bool, AllocError> {
+        let Read(kind, limit, text, expected) = *self;
+        let shown = shown_vertices(alloc, vertices_in(alloc, text, kind, limit))?;
+        Ok(shown.as_str() == expected && agree(alloc, text, kind, limit))
+    }
+}
+
+static READ: [Read; 42] = [
+    // one end lists the edge
+    Read(LAD, 1024, b"2\n1 1\n0\n", "0[(1, 0)] 0[] "),
+    // a triangle
+    Read(
+        LAD,
+        1024,
+        b"3\n2 1 2\n2 0 2\n2 0 1\n",
+        "0[(1, 0), (2, 0)] 0[(0, 0), (2, 0)] 0[(0, 0), (1, 0)] ",
+    ),
+    // no vertices
+    Read(LAD, 1024, b"0\n", ""),
+    // a loop, listed twice
+    Read(LAD, 1024, b"1 2 0 0", "0[(0, 0), (0, 0)] "),
+    // any blanks between words
+    Read(LAD, 1024, b"\t2\r\n1 1\r\n\n 0 ", "0[(1, 0)] 0[] "),
+    // leading zeros
+    Read(LAD, 1024, b"002 01 00000000000001 0", "0[(1, 0)] 0[] "),
+    // at the limit
+    Read(LAD, 1, b"1 0", "0[] "),
+    // labels
+    Read(LABELLED, 1024, b"2\n1 1 1\n2 1 0\n", "1[(1, 0)] 2[(0, 0)] "),
+    // labels of a target
+    Read(
+        LABELLED,
+        8192,
+        b"3\n2 1 1\n1 2 0 2\n3 1 1\n",
+        "2[(1, 0)] 1[(0, 0), (2, 0)] 3[(1, 0)] ",
+    ),
+    // the greatest label
+    Read(LABELLED, 1024, b"1\n4294967295 0\n", "4294967295[] "),
+    // a label too large
+    Read(LABELLED, 1024, b"1\n4294967296 0\n", "word 2: NotNumber"),
+    // a label without its number of neighbours
+    Read(LABELLED, 1024, b"1\n5\n", "word 3: EndsEarly"),
+    // a neighbour that is none
+    Read(LAD, 1024, b"2\n1 2\n0\n", "word 3: NoSuchVertex"),
+    // too few words
+    Read(LAD, 1024, b"3\n2 1\n", "word 4: EndsEarly"),
+    // no word
+    Read(LAD, 1024, b"", "word 1: EndsEarly"),
+    // blanks alone
+    Read(LAD, 1024, b" \t\r\n", "word 1: EndsEarly"),
+    // a letter
+    Read(LAD, 1024, b"1\nx\n", "word 2: NotNumber"),
+    // a word too many
+    Read(LAD, 1024, b"1\n0 7\n", "word 3: WordsLeft"),
+    // a word too many that is no number
+    Read(LAD, 1024, b"0 x", "word 2: WordsLeft"),
+    // above the limit
+    Read(LAD, 1024, b"1025\n", "word 1: TooMany"),
+    // 2^32 vertices
+    Read(LAD, 1024, b"4294967296", "word 1: NotNumber"),
+    // 2^32 as a neighbour
+    Read(LAD, 1024, b"1 1 4294967296", "word 3: NotNumber"),
+    // 2^32 - 1 neighbours of which one is there
+    Read(LAD, 1024, b"1\n4294967295 0\n", "word 4: EndsEarly"),
+    // the byte 255
+    Read(LAD, 1024, b"1 \xff", "word 2: NotNumber"),
+    // a vertical tab
+    Read(LAD, 1024, b"1\x0b0", "word 1: NotNumber"),
+    // a sign
+    Read(LAD, 1024, b"+1 0", "word 1: NotNumber"),
+    // a digit of another script
+    Read(LAD, 1024, b"\xd9\xa1 0", "word 1: NotNumber"),
+    // a list in one direction
+    Read(DIRECTED, 1024, b"2\n1 1\n0\n", "0[(1, 0)] 0[] "),
+    // a neighbour that is none, with directions
+    Read(DIRECTED, 1024, b"2\n1 2\n0\n", "word 3: NoSuchVertex"),
+    // labels of vertices and edges
+    Read(EDGES, 1024, b"2\n5 1 1 7\n6 0\n", "5[(1, 7)] 6[] "),
+    // the edge back has another label
+    Read(EDGES, 1024, b"2 0 1 1 7 0 1 0 8", "0[(1, 7)] 0[(0, 8)] "),
+    // a pair again with its label
+    Read(EDGES, 1024, b"2 0 2 1 7 1 07 0 0", "0[(1, 7), (1, 7)] 0[] "),
+    // a pair again with another label
+    Read(EDGES, 1024, b"2\n0 2 1 7 1 8\n0 0\n", "word 7: LabelClash"),
+    // again after other neighbours
+    Read(
+        EDGES,
+        1024,
+        b"3 0 3 1 7 2 8 1 8 0 0 0 0",
+        "word 9: LabelClash",
+    ),
+    // a loop again with another label
+    Read(EDGES, 1024, b"1 0 2 0 1 0 2", "word 7: LabelClash"),
+    // the greatest label of an edge
+    Read(EDGES, 1024, b"1 0 1 0 4294967295", "0[(0, 4294967295)] "),
+    // a label of an edge too large
+    Read(EDGES, 1024, b"1 0 1 0 4294967296", "word 5: NotNumber"),
+    // no label of an edge
+    Read(EDGES, 1024, b"2 0 1 1", "word 5: EndsEarly"),
+    // no vertex before its label is looked at
+    Read(EDGES, 1024, b"1 0 1 1 x", "word 4: NoSuchVertex"),
+    // any blanks, leading zeros
+    Read(LAD, 2, b"\t02\r\n1 001\r\n\n 0 ", "0[(1, 0)] 0[] "),
+    // 2^32 - 1 vertices of which one is there
+    Read(LAD, 4294967295, b"4294967295\n0\n", "word 3: EndsEarly"),
+    // another vertex lists the same one with another label
+    Read(
+        EDGES,
+        1024,
+        b"2 0 2 1 7 0 8 0 2 1 9 1 9",
+        "0[(1, 7), (0, 8)] 0[(1, 9), (1, 9)] ",
+    ),
+];
+
+#[test]
+fn reads_graphs(rt: HostRuntime) -> Result<(), Fail> {
+    all_hold(&rt, rt.alloc(), &READ)
+}
+
+/// A text of a mapping, and what it is read as.
+struct Mapped(&'static [u8], &'static str);
+
+impl<R> Example<R> for Mapped {
+    fn holds(&self, _rt: &R, alloc: Global) -> Result<bool, AllocError> {
+        let Mapped(text, expected) = *self;
+        Ok(shown_mapping(alloc, mapping_in(alloc, text))?.as_str() == expected)
+    }
+}
+
+static MAPPED: [Mapped; 20] = [
+    // a mapping
+    Mapped(b"yes\n0 -> 1\n1 -> 0\n", "[1, 0]"),
+    // two vertices at one
+    Mapped(b"yes\n0 -> 0\n1 -> 0\n", "[0, 0]"),
+    // fewer vertices
+    Mapped(b"yes\n0 -> 0\n", "[0]"),
+    // no such target vertex
+    Mapped(b"yes\n0 -> 2\n1 -> 0\n", "[2, 0]"),
+    // no vertices
+    Mapped(b"yes\n", "[]"),
+    // the greatest image
+    Mapped(b"yes\n0 -> 4294967295\n", "[4294967295]"),
+    // the line `yes` is missing
+    Mapped(b"0 -> 1\n", "line 1"),
+    // the empty text
+    Mapped(b"", "line 1"),
+    // no line feed after `yes`
+    Mapped(b"yes", "line 1"),
+    // a carriage return
+    Mapped(b"yes\r\n", "line 1"),
+    // another answer
+    Mapped(b"none\n", "line 1"),
+    // vertices out of order
+    Mapped(b"yes\n1 -> 0\n", "line 2"),
+    // a vertex twice
+    Mapped(b"yes\n0 -> 0\n0 -> 1\n", "line 3"),
+    // no last line feed
+    Mapped(b"yes\n0 -> 1", "line 2"),
+    // an empty line more
+    Mapped(b"yes\n0 -> 1\n\n", "line 3"),
+    // a leading zero of an image
+    Mapped(b"yes\n0 -> 01\n", "line 2"),
+    // a leading zero of a vertex
+    Mapped(b"yes\n00 -> 1\n", "line 2"),
+    // an image too large
+    Mapped(b"yes\n0 -> 4294967296\n", "line 2"),
+    // a blank at the end
+    Mapped(b"yes\n0 -> 1 \n", "line 2"),
+    // a sign
+    Mapped(b"yes\n0 -> +1\n", "line 2"),
+];
+
+#[test]
+fn reads_mappings(rt: HostRuntime) -> Result<(), Fail> {
+    all_hold(&rt, rt.alloc(), &MAPPED)
+}
+
+/// Whether each front of a text of one digit words, but the whole, ends too early after its last word.
+fn fronts_end_early(alloc: Global, text: &[u8]) -> bool {
+    for at in 0..text.len() / 2 {
+        let early = LadFault::Word {
+            word: at as u64 + 1,
+            cause: LadCause::EndsEarly,
+        };
+        if read_lad(alloc, &text[..2 * at], LAD, 8192).err() != Some(early) {
+            return false;
+        }
+    }
+    read_lad(alloc, text, LAD, 8192).is_ok()
+}
+
+#[test]
+fn fronts_of_a_graph(rt: HostRuntime) {
+    assert!(rt; fronts_end_early(rt.alloc(), b"4 2 1 3 2 0 2 2 1 3 2 0 2"));
+}
+
+#[test]
+fn keeps_parts(rt: HostRuntime) -> Result<(), Fail> {
+    let alloc = rt.alloc();
+    let parts = GraphParts {
+        kind: LABELLED,
+        labels: Labels::from_vec(Vec::from_slice(alloc, &[7, 0])?),
+        neighbours: NeighbourLists::from_vec(vec![in alloc;
+            Vec::from_slice(alloc, &[1, 1])?,
+            Vec::new(alloc),
+        ]?),
+        edge_labels: EdgeLabels::none(alloc),
+    };
+    assert!(rt;
+        parts.labels.as_slice() == [7, 0].as_slice() && parts.neighbours.of(0) == [1, 1].as_slice()
+    );
+    Ok(())
+}
