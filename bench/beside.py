@@ -5,8 +5,8 @@ usage: python3 bench/beside.py PROGRAM FOLDER [--families NAME,..] [--sizes S,M,
        python3 bench/beside.py PROGRAM FOLDER --test N
 
 FOLDER gets the pairs (`pairs.py`) and the other programs, compiled where they are not there: `reference`, LAD and VF2 of igraph, VF2 of Boost, and
-for molecules RDKit's substructure match. What is not installed is told and left out (Debian: g++, libigraph-dev, libboost-graph-dev, and python3-rdkit
-with rdkit-data for its own Python). --also names programs more. `compare.py` runs them one after another; its status is this one's.
+for molecules RDKit's substructure match; clasp and CaDiCaL get the program's encoding (`on_encoding.py`). What is not installed is told and left out
+(Debian: g++, libigraph-dev, libboost-graph-dev, clasp, cadical, and python3-rdkit with rdkit-data for its own Python). --also names programs more. `compare.py` runs them one after another; its status is this one's.
 With --test all of them answer N small random problems in all formats, with loops and labels, which brute force decides; the status is 1 where one is wrong.
 """
 import argparse
@@ -14,6 +14,7 @@ import importlib.util
 import json
 import os
 import random
+import shutil
 import subprocess
 import sys
 
@@ -51,9 +52,22 @@ def compiled(folder, source, with_igraph):
     return path
 
 
-def programs(folder):
+def on_encoding(program, folder):
+    """Solvers that get the program's encoding, by name: each a command."""
+    opb_cnf = compiled(folder, "opb_cnf.cpp", False)
+    found = {}
+    for name, solver in (("clasp", "clasp"), ("CaDiCaL", "cadical")):
+        if opb_cnf and shutil.which(solver):
+            found[name] = f"{sys.executable} {os.path.join(HERE, 'on_encoding.py')} {solver} {program} {opb_cnf}"
+        else:
+            print(f"there is no {solver}, or no clauses for it, and it is left out", file=sys.stderr)
+    return found
+
+
+def programs(program, folder):
     """The other programs by name: each a command."""
     found = {name: compiled(folder, *how) for name, how in SOURCES.items()}
+    found.update(on_encoding(program, folder))
     if importlib.util.find_spec("rdkit"):
         found["RDKit"] = f"{sys.executable} {os.path.join(HERE, 'rdkit_match.py')}"
     else:
@@ -102,7 +116,7 @@ def main():
     words.add_argument("--test", type=int, default=0, help="how many small problems are answered instead")
     asked = words.parse_args()
     os.makedirs(asked.folder, exist_ok=True)
-    found = programs(asked.folder)
+    found = programs(asked.program, asked.folder)
     if asked.test:
         sys.exit(test({"subgraph": f"{asked.program} solve", **found}, asked.test, asked.folder))
     pairs = os.path.join(asked.folder, "pairs")
