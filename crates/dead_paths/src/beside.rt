@@ -4,10 +4,10 @@ use graph_theory::direction::Direction;
 
 /// The first vertex, its value, and the other vertex.
 #[derive(Clone, Copy)]
-pub(crate) struct Beside {
-    pub(crate) p: u16,
-    pub(crate) t: u16,
-    pub(crate) r: u16,
+pub struct Beside {
+    pub p: u16,
+    pub t: u16,
+    pub r: u16,
 }
 
 /// A vertex and its value, with vertices to which edges lead from it in the direction, and the values that are left for these beside it.

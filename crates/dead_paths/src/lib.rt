@@ -23,6 +23,7 @@ mod shared;
 mod takes;
 mod walk;
 
+pub use beside::Beside;
 pub use dead_line::{DeadPath, PathEnd, explain};
 pub use ground::Ground;
 pub use lines::keep_set;

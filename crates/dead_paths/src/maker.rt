@@ -1,6 +1,6 @@
 //! Who makes lines for first domains, for pairs of vertices and for sets, and who knows the names of rows.
 
-ghost use Rattle.std.specs.Prelude.{◌≡◌, ℕ, ◌^◌, ◌<◌, true, false, List, length, IfOk};
+ghost use Rattle.std.specs.Prelude.{◌≡◌, ℕ, ◌^◌, ◌<◌, List, length, IfOk};
 ghost use Rattle.graph_theory.specs.Graph.{size};
 ghost use Rattle.graph_theory.specs.Embedding.{Problem as TheProblem};
 ghost use Rattle.proof_theory.specs.Forms.{Form};
@@ -11,6 +11,7 @@ ghost use Rattle.dead_paths.specs.Lines.{AreVertices, AreValues};
 ghost use Rattle.dead_paths.specs.Making.{GivesFirst, GivesRow, GivesSet};
 ghost use Rattle.dead_paths.specs.Explaining.{IsLimited};
 
+use crate::beside::Beside;
 use crate::ground::Ground;
 use journals::Keeper;
 use log_theory::{Name, Ref};
@@ -46,46 +47,24 @@ pub trait LineMaker: Drop {
         ensures notes { K.notes keeper.new ≡ K.notes keeper.old }
         ensures spare { K.spare keeper.new ≡ K.spare keeper.old };
 
-    /// A line that, where `p` is at `t`, takes from `r` whatever is not consistent with this.
+    /// A line that, where `beside.p` is at `beside.t`, takes from `beside.r` whatever is not consistent with this; or, by edges alone, what edges, and
+    /// their labels, do not let go together with this.
     fn row<K: Keeper>(
         &mut self,
         alloc: Global,
         lines: &Ground<'_>,
         keeper: &mut K,
-        p: u16,
-        t: u16,
-        r: u16,
+        by_edges: bool,
+        beside: Beside,
     ) -> Result<Ref, AllocError>
-        requires p_in { p < size lines.now.pattern }
-        requires t_in { t < size lines.now.target }
-        requires r_in { r < size lines.now.pattern }
-        requires apart { p ≡ r → ⊥ }
+        requires p_in { beside.p < size lines.now.pattern }
+        requires t_in { beside.t < size lines.now.target }
+        requires r_in { beside.r < size lines.now.pattern }
+        requires apart { beside.p ≡ beside.r → ⊥ }
         ensures goes { (w : Frame) → IsFrameOf lines.now (K.owner keeper.old) w
             → Goes w (K.kept keeper.old) (K.kept keeper.new)
-            (knows self.old lines.now w) (GivesRow false lines.now w p t r result
-            (knows self.new lines.now w)) }
-        ensures fits { IfOk result IsRef }
-        ensures owner { K.owner keeper.new ≡ K.owner keeper.old }
-        ensures notes { K.notes keeper.new ≡ K.notes keeper.old }
-        ensures spare { K.spare keeper.new ≡ K.spare keeper.old };
-
-    /// A line that, where `p` is at `t`, takes from `r` what edges, and their labels, do not let go together with this.
-    fn edge_row<K: Keeper>(
-        &mut self,
-        alloc: Global,
-        lines: &Ground<'_>,
-        keeper: &mut K,
-        p: u16,
-        t: u16,
-        r: u16,
-    ) -> Result<Ref, AllocError>
-        requires p_in { p < size lines.now.pattern }
-        requires t_in { t < size lines.now.target }
-        requires r_in { r < size lines.now.pattern }
-        requires apart { p ≡ r → ⊥ }
-        ensures goes { (w : Frame) → IsFrameOf lines.now (K.owner keeper.old) w
-            → Goes w (K.kept keeper.old) (K.kept keeper.new)
-            (knows self.old lines.now w) (GivesRow true lines.now w p t r result
+            (knows self.old lines.now w)
+            (GivesRow by_edges lines.now w beside.p beside.t beside.r result
             (knows self.new lines.now w)) }
         ensures fits { IfOk result IsRef }
         ensures owner { K.owner keeper.new ≡ K.owner keeper.old }

@@ -9,7 +9,7 @@ ghost use Rattle.propagation.specs.Recording.{LeftOver, change_of};
 ghost use Rattle.dead_theory.specs.Changes.{shown_of, IsInProblem};
 ghost use Rattle.kept_lines.specs.Frames.{Frame, IsFrameOf, AnyForms, Goes};
 ghost use Rattle.dead_paths.specs.Lines.{AreVertices, AreValues};
-ghost use Rattle.dead_paths.specs.Making.{AreRowsNamed, GivesRow};
+ghost use Rattle.dead_paths.specs.Making.{AreRowsNamed};
 ghost use Rattle.dead_paths.specs.Choosing.{AreAt, IsOfRow, chosen_of};
 ghost use Rattle.dead_paths.specs.Explaining.{IsLimited, Knowing, AddsNogood, IsSetPushed, IsCrowdPushed, IsChangePushed};
 
@@ -113,47 +113,6 @@ fn push_crowd<K: Keeper>(
     Ok(())
 }
 
-/// The line for a vertex at its value and another one: of all that is not consistent, or of what edges refuse alone.
-fn line_beside<M: LineMaker, N: RowNames, K: Keeper>(
-    basis: &Basis<'_, N>,
-    maker: &mut M,
-    keeper: &mut K,
-    by_edges: bool,
-    beside: Beside,
-) -> Result<Ref, AllocError>
-    requires p_in { beside.p < size basis.now.lines.now.pattern }
-    requires t_in { beside.t < size basis.now.lines.now.target }
-    requires r_in { beside.r < size basis.now.lines.now.pattern }
-    requires apart { beside.p ≡ beside.r → ⊥ }
-    ensures goes { (w : Frame) → IsFrameOf basis.now.lines.now (K.owner keeper.old) w
-        → Goes w (K.kept keeper.old) (K.kept keeper.new) (M.knows maker.old basis.now.lines.now w)
-        (GivesRow by_edges basis.now.lines.now w beside.p beside.t beside.r result
-        (M.knows maker.new basis.now.lines.now w)) }
-    ensures fits { IfOk result IsRef }
-    ensures owner { K.owner keeper.new ≡ K.owner keeper.old }
-    ensures notes { K.notes keeper.new ≡ K.notes keeper.old }
-    ensures spare { K.spare keeper.new ≡ K.spare keeper.old }
-{
-    if by_edges {
-        return maker.edge_row(
-            basis.alloc,
-            basis.lines,
-            keeper,
-            beside.p,
-            beside.t,
-            beside.r,
-        );
-    }
-    maker.row(
-        basis.alloc,
-        basis.lines,
-        keeper,
-        beside.p,
-        beside.t,
-        beside.r,
-    )
-}
-
 /// Puts references to forms that explain a change, after lines were kept that it needs.
 pub(crate) fn push_change<M: LineMaker, N: RowNames, K: Keeper>(
     basis: &Basis<'_, N>,
@@ -201,7 +160,8 @@ pub(crate) fn push_change<M: LineMaker, N: RowNames, K: Keeper>(
             }
             Cause::Vertex(p, t) => {
                 push_decided(basis.lines, at, p, t, refs)?;
-                let line = line_beside(basis, maker, keeper, chosen.by_edges, Beside { p, t, r })?;
+                let (alloc, lines, by_edges) = (basis.alloc, basis.lines, chosen.by_edges);
+                let line = maker.row(alloc, lines, keeper, by_edges, Beside { p, t, r })?;
                 refs.push(line)?;
                 Ok(())
             }

@@ -77,34 +77,6 @@ impl<'a> FirstLines<'a> {
         Ok(FirstLines { problem, out, back })
     }
 
-    /// The clause against a value that passes all tests along the edges, or none where it passes those against them too.
-    fn back_ref<K: Keeper>(
-        &self,
-        alloc: Global,
-        keeper: &mut K,
-        units: &mut Units,
-        p: u16,
-        u: u16,
-    ) -> Result<Option<Ref>, AllocError>
-        requires p_in { p < size self.now.pattern }
-        requires u_in { u < size self.now.target }
-        requires large { IsLarge self.now p u }
-        ensures goes { (w : Frame) → IsFrameOf self.now (K.owner keeper.old) w
-            → Goes w (K.kept keeper.old) (K.kept keeper.new) (AreUnits w units.old)
-            (IsSeen w self.now p u result units.new) }
-        ensures large { IfOk result (λ found. IfNone found (IsLarge
-            (reversed_problem self.now) p u)) }
-        ensures fits { IfOk result (λ found. IfSome found IsRef) }
-        ensures owner { K.owner keeper.new ≡ K.owner keeper.old }
-        ensures notes { K.notes keeper.new ≡ K.notes keeper.old }
-        ensures spare { K.spare keeper.new ≡ K.spare keeper.old }
-    {
-        match &self.back {
-            Some(back) => back.large_ref(alloc, keeper, units, p, u),
-            None => Ok(None),
-        }
-    }
-
     /// The clause against a value, made where it is not there, or none where the value is in the first domain of `p`.
     fn value_ref<K: Keeper>(
         &self,
@@ -131,7 +103,10 @@ impl<'a> FirstLines<'a> {
         if let Some(made) = self.out.large_ref(alloc, keeper, units, p, u)? {
             return Ok(Some(made));
         }
-        self.back_ref(alloc, keeper, units, p, u)
+        match &self.back {
+            Some(back) => back.large_ref(alloc, keeper, units, p, u),
+            None => Ok(None),
+        }
     }
 
     /// Refers to the clause against `u` where that is not in the first domain of `p`.

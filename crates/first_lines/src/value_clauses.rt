@@ -395,37 +395,6 @@ impl<'a> ValueClauses<'a> {
         self.crowd_line(alloc, keeper, p, u, d, clauses)
     }
 
-    /// The clause against a value whose degree is large enough, or none where the degrees of its neighbours are too.
-    fn sequence_ref<K: Keeper>(
-        &self,
-        alloc: Global,
-        keeper: &mut K,
-        units: &mut Units,
-        p: u16,
-        u: u16,
-    ) -> Result<Option<Ref>, AllocError>
-        requires p_in { p < size self.now.pattern }
-        requires u_in { u < size self.now.target }
-        ensures goes { (w : Frame) → IsFrameFor self.now (K.owner keeper.old) w
-            → Goes w (K.kept keeper.old) (K.kept keeper.new) (AreUnits w units.old)
-            (IsSeen w self.now p u result units.new) }
-        ensures large { IfOk result
-            (λ found. IfNone found
-            (IsKeptBy (sequence self.now.pattern p) (sequence self.now.target u))) }
-        ensures fits { IfOk result (λ found. IfSome found IsRef) }
-        ensures owner { K.owner keeper.new ≡ K.owner keeper.old }
-        ensures notes { K.notes keeper.new ≡ K.notes keeper.old }
-        ensures spare { K.spare keeper.new ≡ K.spare keeper.old }
-    {
-        match self.compared(p, u) {
-            SequenceAnswer::Kept => Ok(None),
-            SequenceAnswer::FailsAt(place) => {
-                let name = self.nds_line(alloc, keeper, units, p, u, place)?;
-                Ok(Some(remember(units, self.variable(p, u), name)?))
-            }
-        }
-    }
-
     /// The clause against a value whose degree is too small, or the degrees of its neighbours, or none where neither are. The caller has
     /// looked for one that is there.
     pub(crate) fn large_ref<K: Keeper>(
@@ -447,9 +416,15 @@ impl<'a> ValueClauses<'a> {
         ensures notes { K.notes keeper.new ≡ K.notes keeper.old }
         ensures spare { K.spare keeper.new ≡ K.spare keeper.old }
     {
-        if self.turned.keeps_degree(p, u) {
-            return self.sequence_ref(alloc, keeper, units, p, u);
+        if !self.turned.keeps_degree(p, u) {
+            return Ok(Some(self.lower_ref(alloc, keeper, units, p, u)?));
         }
-        Ok(Some(self.lower_ref(alloc, keeper, units, p, u)?))
+        match self.compared(p, u) {
+            SequenceAnswer::Kept => Ok(None),
+            SequenceAnswer::FailsAt(place) => {
+                let name = self.nds_line(alloc, keeper, units, p, u, place)?;
+                Ok(Some(remember(units, self.variable(p, u), name)?))
+            }
+        }
     }
 }

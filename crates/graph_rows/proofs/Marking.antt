@@ -1,14 +1,15 @@
 -- Marks that are added one after another.
 
-use Rattle.std.proofs.Common.{◌≡◌, ℕ, ◌+◌, ◌*◌, ◌<◌, ◌≤◌, Bool, true, false, not, eqb, ◌&&◌, ◌||◌, List, [], ◌∷◌, ◌++◌, length, get_or, take, refl, sym, ap, ◌∙◌, arith, inl, inr, ◌⊎◌}
+use Rattle.std.proofs.Common.{◌≡◌, ℕ, ◌+◌, ◌*◌, ◌<◌, ◌≤◌, Bool, true, false, not, eqb, ◌&&◌, ◌||◌, List, [], ◌∷◌, ◌++◌, length, get_or, take, refl, sym, ap, subst, ◌∙◌, arith, inl, inr, ◌⊎◌}
 use Rattle.std.proofs.Math.ListN.{set, replicate}
 use Rattle.std.proofs.lemmas.Bool.{cases_eq, cases_order, eq-eqb, ne_eqb}
 use Rattle.std.proofs.lemmas.List.{get_or-set_same, get_or-set_other, length-set, get_or-take, get_or_past, take_more, length-replicate, get_or-replicate, length-take-le}
 use Rattle.std.proofs.lemmas.Grind.{common_steps}
+use Rattle.lad_reader.specs.Parts.{AllBelow}
 use Rattle.bit_rows.specs.BitRows.{has, words_for}
 use Rattle.graph_theory.specs.Neighbours.{count}
 use Rattle.graph_theory.proofs.Counts.{count-same}
-use Rattle.graph_rows.specs.Held.{marked, marks_other, AreMarks, AddsMark, AddsListed, AddsOut, AddsIn, stands_in, said, either_said}
+use Rattle.graph_rows.specs.Held.{marked, marks_other, AreMarks, AreUnmarked, AddsMark, AddsListed, AddsOut, AddsIn, stands_in, said, either_said}
 use Rattle.bit_rows.proofs.Writing.{has-zeros}
 use Rattle.graph_rows.proofs.Counting.{count_more}
 use Rattle.bit_rows.proofs.Passing.{count_none}
@@ -50,6 +51,18 @@ pub no_marks_made : (size width : ℕ) (words degrees ws ds : List ℕ) → size
 no_marks_made size width words degrees ws ds few width_is words_are zeros degrees_are nones =
     let long : length degrees ≡ size = rw (degrees_are, nones) (length-replicate {A = ℕ} size 0) in
     rw long (no_marks size width words degrees few width_is (words_are ∙ zeros) (degrees_are ∙ nones))
+
+-- and lists of neighbours can be marked in it
+pub unmarked_made : (size width : ℕ) (words degrees ws ds : List ℕ) (lists : List (List ℕ)) → size ≤ 8192 → width ≡ words_for size → words ≡ ws → ws ≡ replicate (size * width) 0
+    → degrees ≡ ds → ds ≡ replicate size 0 → length lists ≡ size → AllBelow size lists → AreUnmarked (length degrees) width words degrees lists
+unmarked_made size width words degrees ws ds lists few width_is words_are zeros degrees_are nones all to =
+    let long : length degrees ≡ size = rw (degrees_are, nones) (length-replicate {A = ℕ} size 0) in
+    record {
+      marks = no_marks_made size width words degrees ws ds few width_is words_are zeros degrees_are nones;
+      empty = λ x y. ap (λ (us : List ℕ). has us (x * (64 * width) + y)) (words_are ∙ zeros) ∙ has-zeros (size * width) (x * (64 * width) + y);
+      all = all ∙ sym long;
+      to = subst (λ (n : ℕ). AllBelow n lists) (sym long) to;
+    }
 
 or_false : (b : Bool) → (b || false) ≡ b
 or_false true = refl

@@ -5,7 +5,7 @@ use Rattle.std.specs.Prelude.{◌≡◌, ℕ, ◌+◌, ◌*◌, ◌<◌, ◌≤�
 use Rattle.graph_theory.specs.Graph.{Graph, tabulate}
 use Rattle.bit_rows.specs.BitRows.{has, words_for}
 use Rattle.graph_theory.specs.Neighbours.{count}
-use Rattle.lad_reader.specs.Parts.{with_labels}
+use Rattle.lad_reader.specs.Parts.{AllBelow, with_labels}
 
 -- Whether b is marked in the row of a, where a row has so many words.
 abbrev pub marked : List ℕ → ℕ → ℕ → ℕ → Bool
@@ -45,6 +45,13 @@ pub record AreMarks (n width : ℕ) (words degrees : List ℕ) : Type 0 where
   pub degrees_are : length degrees ≡ n
   pub padded : (a b : ℕ) → a < n → n ≤ b → b < 64 * width → marked words width a b ≡ false
   pub counted : (a : ℕ) → a < n → slice_index degrees a ≡ count (marks_other words width a) n
+
+-- Rows of n vertices without marks, and lists of neighbours, one for each of them, by which they can be marked.
+pub record AreUnmarked (n width : ℕ) (words degrees : List ℕ) (lists : List (List ℕ)) : Type 0 where
+  pub marks : AreMarks n width words degrees
+  pub empty : (x y : ℕ) → marked words width x y ≡ false
+  pub all : length lists ≡ n
+  pub to : AllBelow n lists
 
 -- Of n vertices, b is marked in the row of a where a is marked in the row of b.
 pub record AreMutual (n width : ℕ) (words : List ℕ) : Type 0 where

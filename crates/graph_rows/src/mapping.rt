@@ -1,40 +1,18 @@
 //! The text of a mapping: the line `yes`, then for each pattern vertex a line with its target vertex. It is read and
 //! written in one pass; each number is held against the number's own text, so that none is read that is not written.
 
-ghost use Rattle.std.specs.Prelude.{◌≡◌, ◌≢◌, ℕ, ◌+◌, ◌<◌, ◌^◌, List, ◌∷◌, ◌++◌, length, IfOk, IfErr, MatchOption, MatchResult};
+ghost use Rattle.std.specs.Prelude.{◌≡◌, ◌≢◌, ℕ, ◌+◌, ◌<◌, ◌^◌, List, ◌++◌, length, IfOk, IfErr, MatchOption, MatchResult};
 ghost use Rattle.std.specs.Fmt.{decimal};
-ghost use Rattle.graph_theory.specs.Mapping.{mapping_line, yes_text, HasNoLine, HasNoLineFeed, IsMapping, FaultyLine, OnLine};
+ghost use Rattle.graph_theory.specs.Mapping.{mapping_line, yes_text, HasNoLine, IsMapping, FaultyLine, OnLine};
 ghost use Rattle.outer_io.specs.KnownText.{Wrote};
 ghost use Rattle.outer_io.specs.Sinks.{HasBlame};
 
+use graph_theory::mapping_lines::{after, first_line};
 use graph_theory::mapping_text::{MapFault, mapping_laws};
 use graph_theory::text_words::number_in;
 use itoa::Buffer;
 use outer_io::{Failed, Sink, put_all};
 use std::alloc::Global;
-
-/// What follows the front of a text, where it has this front.
-fn after<'a>(bytes: &'a [u8], front: &[u8]) -> Option<&'a [u8]>
-    ensures { MatchOption result ((more : List ℕ) → bytes.now ≢ front.now ++ more)
-        (λ rest. bytes.now ≡ front.now ++ rest.now) }
-{
-    bytes.strip_prefix(front)
-}
-
-/// The first line of a text and what follows its line feed.
-fn first_line(bytes: &[u8]) -> Option<(&[u8], &[u8])>
-    ensures split { MatchOption result (HasNoLineFeed bytes.now)
-        (λ parts. bytes.now ≡ parts.0.now ++ 10 ∷ parts.1.now) }
-    ensures first { MatchOption result (HasNoLineFeed bytes.now)
-        (λ parts. HasNoLineFeed parts.0.now) }
-{
-    for (i, b) in bytes.iter().enumerate() {
-        if *b == b'\n' {
-            return Some((&bytes[..i], &bytes[i + 1..]));
-        }
-    }
-    None
-}
 
 /// The number below 2^32 whose text this is.
 fn image_in(word: &[u8]) -> Option<u32>

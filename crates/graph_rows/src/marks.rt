@@ -1,9 +1,9 @@
 //! Marks in bit rows: how the rows of a graph are written from the lists of a text.
 
 ghost use Rattle.std.specs.Prelude.{◌≡◌, ℕ, ◌+◌, ◌*◌, ◌<◌, ◌≤◌, false, length};
-ghost use Rattle.lad_reader.specs.Parts.{AreBelow, AllBelow};
+ghost use Rattle.lad_reader.specs.Parts.{AreBelow};
 ghost use Rattle.bit_rows.specs.BitRows.{has, words_for};
-ghost use Rattle.graph_rows.specs.Held.{marked, AreMarks, AreLoops, AddsMark, AddsListed, AddsOut, AddsIn, said, either_said};
+ghost use Rattle.graph_rows.specs.Held.{marked, AreMarks, AreUnmarked, AreLoops, AddsMark, AddsListed, AddsOut, AddsIn, said, either_said};
 
 use bit_rows::{has_bit, set_bit};
 use lad_reader::NeighbourLists;
@@ -56,10 +56,7 @@ pub(crate) fn mark_all(
     width: usize,
     neighbours: &NeighbourLists,
 )
-    requires marks { AreMarks (length degrees.old) width words.old degrees.old }
-    requires empty { (x y : ℕ) → marked words.old width x y ≡ false }
-    requires all { length neighbours.now ≡ length degrees.old }
-    requires to { AllBelow (length degrees.old) neighbours.now }
+    requires { AreUnmarked (length degrees.old) width words.old degrees.old neighbours.now }
     ensures marks { AreMarks (length degrees.old) width words.new degrees.new }
     ensures said { (x y : ℕ) → x < 64 * width → y < 64 * width
         → marked words.new width x y ≡ either_said neighbours.now x y }
@@ -102,10 +99,7 @@ pub(crate) fn mark_all_out(
     width: usize,
     neighbours: &NeighbourLists,
 )
-    requires marks { AreMarks (length degrees.old) width words.old degrees.old }
-    requires empty { (x y : ℕ) → marked words.old width x y ≡ false }
-    requires all { length neighbours.now ≡ length degrees.old }
-    requires to { AllBelow (length degrees.old) neighbours.now }
+    requires { AreUnmarked (length degrees.old) width words.old degrees.old neighbours.now }
     ensures marks { AreMarks (length degrees.old) width words.new degrees.new }
     ensures said { (x y : ℕ) → x < 64 * width → y < 64 * width
         → marked words.new width x y ≡ said neighbours.now x y }
@@ -122,10 +116,7 @@ pub(crate) fn mark_all_in(
     width: usize,
     neighbours: &NeighbourLists,
 )
-    requires marks { AreMarks (length degrees.old) width words.old degrees.old }
-    requires empty { (x y : ℕ) → marked words.old width x y ≡ false }
-    requires all { length neighbours.now ≡ length degrees.old }
-    requires to { AllBelow (length degrees.old) neighbours.now }
+    requires { AreUnmarked (length degrees.old) width words.old degrees.old neighbours.now }
     ensures marks { AreMarks (length degrees.old) width words.new degrees.new }
     ensures said { (x y : ℕ) → x < 64 * width → y < 64 * width
         → marked words.new width x y ≡ said neighbours.now y x }

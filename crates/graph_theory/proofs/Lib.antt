@@ -11,7 +11,6 @@ pub mod Walk
 pub mod OneReading
 pub mod Descent
 pub mod MappingLines
-pub mod WordEnds
 pub mod NumberWords
 pub mod Steps
 pub mod OneAnswer

@@ -10,6 +10,7 @@ pub mod direction;
 pub mod embedding;
 pub mod lad_text;
 pub mod listed_graph;
+pub mod mapping_lines;
 pub mod mapping_text;
 pub mod neighbours;
 pub mod path;

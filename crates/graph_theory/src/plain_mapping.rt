@@ -1,34 +1,12 @@
 //! A mapping's text read plainly, for reference: line by line, each number of a line against the number's own text.
-ghost use Rattle.std.specs.Prelude.{◌≡◌, ◌≢◌, ℕ, ◌+◌, ◌<◌, ◌^◌, List, ◌∷◌, ◌++◌, length, IfOk, IfErr, MatchOption, MatchResult};
+ghost use Rattle.std.specs.Prelude.{◌≡◌, ◌≢◌, ℕ, ◌+◌, ◌<◌, ◌^◌, List, ◌++◌, length, IfOk, IfErr, MatchOption, MatchResult};
 ghost use Rattle.std.specs.Fmt.{decimal};
-ghost use Rattle.graph_theory.specs.Mapping.{mapping_line, yes_line, HasNoLine, HasNoLineFeed, IsMapping, FaultyLine, OnLine};
+ghost use Rattle.graph_theory.specs.Mapping.{mapping_line, yes_line, HasNoLine, IsMapping, FaultyLine, OnLine};
 
+use crate::mapping_lines::{after, first_line};
 use crate::mapping_text::{MapFault, mapping_laws};
 use crate::text_words::number_in;
 use std::alloc::{AllocError, Global};
-
-/// What follows the front of a text, where it has this front.
-fn after<'a>(bytes: &'a [u8], front: &[u8]) -> Option<&'a [u8]>
-    ensures { MatchOption result ((more : List ℕ) → bytes.now ≢ front.now ++ more)
-        (λ rest. bytes.now ≡ front.now ++ rest.now) }
-{
-    bytes.strip_prefix(front)
-}
-
-/// The first line of a text and what follows its line feed.
-fn first_line(bytes: &[u8]) -> Option<(&[u8], &[u8])>
-    ensures split { MatchOption result (HasNoLineFeed bytes.now)
-        (λ parts. bytes.now ≡ parts.0.now ++ 10 ∷ parts.1.now) }
-    ensures first { MatchOption result (HasNoLineFeed bytes.now)
-        (λ parts. HasNoLineFeed parts.0.now) }
-{
-    for (i, b) in bytes.iter().enumerate() {
-        if *b == b'\n' {
-            return Some((&bytes[..i], &bytes[i + 1..]));
-        }
-    }
-    None
-}
 
 /// The number below 2^32 whose text this is.
 fn image_in(alloc: Global, word: &[u8]) -> Result<Option<u32>, AllocError>

@@ -1,44 +1,22 @@
 //! The words of a text and the numbers that they write: the first word alone, for a reader that goes on from there, and
 //! the list of all of them, for a plain one.
-ghost use Rattle.std.specs.Prelude.{◌≡◌, ℕ, ◌+◌, ◌<◌, ◌≤◌, ◌^◌, List, [], ◌∷◌, ◌++◌, length, map, take, drop, true, IfOk, IfSome, MatchOption};
-ghost use Rattle.graph_theory.specs.Text.{is_blank, begins_word, words, number_of};
+ghost use Rattle.std.specs.Prelude.{◌≡◌, ℕ, ◌+◌, ◌<◌, ◌≤◌, ◌^◌, List, [], ◌∷◌, ◌++◌, length, map, IfOk, IfSome, MatchOption};
+ghost use Rattle.graph_theory.specs.Text.{words, number_of};
 
+use byte_words::Blanks;
 use std::alloc::{AllocError, Global};
 
-/// Whether a byte stands between words.
-fn is_blank(byte: u8) -> bool
-    ensures { result ≡ is_blank byte }
-{
-    byte == b' ' || byte == b'\t' || byte == b'\r' || byte == b'\n'
-}
+/// The blanks of a text.
+enum TextBlanks {}
 
-/// The text from its first word on.
-fn without_blanks(bytes: &[u8]) -> &[u8]
-    ensures same { words result.now ≡ words bytes.now }
-    ensures begins { 0 < length result.now → begins_word result.now ≡ true }
-    ensures shorter { length result.now ≤ length bytes.now }
-{
-    for (i, b) in bytes.iter().enumerate() {
-        if !is_blank(*b) {
-            return &bytes[i..];
-        }
-    }
-    &bytes[bytes.len()..]
-}
+impl Blanks for TextBlanks {
+    ghost use Rattle.graph_theory.specs.Text.{is_blank as is_text_blank};
 
-/// Where the word ends with which a text begins.
-fn word_end(text: &[u8]) -> usize
-    requires { begins_word text.now ≡ true }
-    ensures some { 0 < result }
-    ensures within { result ≤ length text.now }
-    ensures word { words text.now ≡ take result text.now ∷ words (drop result text.now) }
-{
-    for (i, b) in text.iter().enumerate() {
-        if is_blank(*b) {
-            return i;
-        }
+    ghost blank = { is_text_blank };
+
+    fn is_blank(byte: u8) -> bool {
+        byte == b' ' || byte == b'\t' || byte == b'\r' || byte == b'\n'
     }
-    text.len()
 }
 
 /// The first word of a text and what follows it, in time linear in the bytes up to the word's end.
@@ -47,11 +25,7 @@ pub fn first_word(bytes: &[u8]) -> Option<(&[u8], &[u8])>
         (λ parts. words bytes.now ≡ parts.0.now ∷ words parts.1.now) }
     ensures shorter { IfSome result (λ parts. length parts.1.now < length bytes.now) }
 {
-    let text = without_blanks(bytes);
-    if text.is_empty() {
-        return None;
-    }
-    Some(text.split_at(word_end(text)))
+    byte_words::first_word::<TextBlanks>(bytes)
 }
 
 /// The words of a text, in order.

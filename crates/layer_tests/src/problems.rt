@@ -17,9 +17,15 @@ pub fn problem(alloc: Global, pattern: &[u8], target: &[u8], induced: bool) -> O
     Some(Problem::new(pattern, target, induced))
 }
 
-/// The problem of two texts with directions.
-pub fn directed(alloc: Global, pattern: &[u8], target: &[u8], induced: bool) -> Option<Problem> {
-    let pattern = graph_in(alloc, pattern, LadKind::DirectedLad)?;
-    let target = graph_in(alloc, target, LadKind::DirectedLad)?;
+/// The problem of two texts of this format.
+pub fn problem_of(
+    alloc: Global,
+    kind: LadKind,
+    pattern: &[u8],
+    target: &[u8],
+    induced: bool,
+) -> Option<Problem> {
+    let pattern = graph_in(alloc, pattern, kind)?;
+    let target = graph_in(alloc, target, kind)?;
     Some(Problem::new(pattern, target, induced))
 }

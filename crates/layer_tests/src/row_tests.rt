@@ -3,13 +3,18 @@
 ghost use Rattle.std.specs.Prelude.{◌≡◌, ◌<◌, IsTrue};
 ghost use Rattle.graph_theory.specs.Graph.{size};
 
-use crate::problems::{directed, problem};
+use crate::problems::{problem, problem_of};
 use graph_rows::Problem;
+use lad_reader::LadKind;
 use pair_rows::{MOST_WORDS, PairKinds, PairRows};
 use sample_graphs::{APART, EDGE, FOUR_CYCLE, PATH, TRIANGLE};
 use std::alloc::{AllocError, Global};
 use std::test::Fail;
 use worked_examples::{Example, all_hold};
+
+const LAD: LadKind = LadKind::Lad;
+
+const DIRECTED: LadKind = LadKind::DirectedLad;
 
 /// Two neighbours, of which the first has a loop, and a vertex apart.
 const LOOP: &[u8] = b"3 2 0 1 1 0 0";
@@ -22,15 +27,17 @@ fn are_two(q: &Problem, p: u16, r: u16) -> bool
     p < vertices && r < vertices && p != r
 }
 
-/// A problem, two vertices of its pattern and a value of the first, and the values of the second that go together with it, as one word.
-struct Worked {
-    pattern: &'static [u8],
-    target: &'static [u8],
-    induced: bool,
-    vertices: (u16, u16),
-    value: u16,
-    word: u64,
-}
+/// The texts of a pattern and a target of this format, whether the copy is to be induced, two vertices of the pattern and a value of the first,
+/// and the values of the second that go together with it, as one word.
+struct Worked(
+    LadKind,
+    &'static [u8],
+    &'static [u8],
+    bool,
+    (u16, u16),
+    u16,
+    u64,
+);
 
 /// The values of `r` that go together with `t` of `p`, as one word, where rows were made at another vertex before.
 fn row(alloc: Global, q: &Problem, p: u16, r: u16, t: u16) -> Option<u64> {
@@ -47,90 +54,27 @@ fn row(alloc: Global, q: &Problem, p: u16, r: u16, t: u16) -> Option<u64> {
 
 impl<R> Example<R> for Worked {
     fn holds(&self, _rt: &R, alloc: Global) -> Result<bool, AllocError> {
-        let (p, r) = self.vertices;
-        match problem(alloc, self.pattern, self.target, self.induced) {
-            Some(q) => Ok(row(alloc, &q, p, r, self.value) == Some(self.word)),
+        let Worked(kind, pattern, target, induced, (p, r), t, word) = *self;
+        match problem_of(alloc, kind, pattern, target, induced) {
+            Some(q) => Ok(row(alloc, &q, p, r, t) == Some(word)),
             None => Ok(false),
         }
     }
 }
 
 static WORKED: [Worked; 7] = [
-    Worked {
-        pattern: EDGE,
-        target: FOUR_CYCLE,
-        induced: false,
-        vertices: (0, 1),
-        value: 0,
-        word: 0b1010,
-    },
-    Worked {
-        pattern: EDGE,
-        target: FOUR_CYCLE,
-        induced: true,
-        vertices: (1, 0),
-        value: 1,
-        word: 0b0101,
-    },
-    Worked {
-        pattern: TRIANGLE,
-        target: FOUR_CYCLE,
-        induced: false,
-        vertices: (0, 1),
-        value: 3,
-        word: 0,
-    },
-    Worked {
-        pattern: APART,
-        target: FOUR_CYCLE,
-        induced: false,
-        vertices: (0, 1),
-        value: 2,
-        word: 0b1011,
-    },
-    Worked {
-        pattern: APART,
-        target: FOUR_CYCLE,
-        induced: true,
-        vertices: (0, 1),
-        value: 2,
-        word: 0b0001,
-    },
-    Worked {
-        pattern: PATH,
-        target: FOUR_CYCLE,
-        induced: false,
-        vertices: (0, 2),
-        value: 0,
-        word: 0b0100,
-    },
-    Worked {
-        pattern: PATH,
-        target: FOUR_CYCLE,
-        induced: false,
-        vertices: (1, 2),
-        value: 3,
-        word: 0b0101,
-    },
+    Worked(LAD, EDGE, FOUR_CYCLE, false, (0, 1), 0, 0b1010),
+    Worked(LAD, EDGE, FOUR_CYCLE, true, (1, 0), 1, 0b0101),
+    Worked(LAD, TRIANGLE, FOUR_CYCLE, false, (0, 1), 3, 0),
+    Worked(LAD, APART, FOUR_CYCLE, false, (0, 1), 2, 0b1011),
+    Worked(LAD, APART, FOUR_CYCLE, true, (0, 1), 2, 0b0001),
+    Worked(LAD, PATH, FOUR_CYCLE, false, (0, 2), 0, 0b0100),
+    Worked(LAD, PATH, FOUR_CYCLE, false, (1, 2), 3, 0b0101),
 ];
 
 #[test]
 fn rows_hold_what_goes_together(rt: HostRuntime) -> Result<(), Fail> {
     all_hold(&rt, rt.alloc(), &WORKED)
-}
-
-/// The same of texts with directions.
-struct Directed(Worked);
-
-impl<R> Example<R> for Directed {
-    fn holds(&self, _rt: &R, alloc: Global) -> Result<bool, AllocError> {
-        let worked = &self.0;
-        let (p, r) = worked.vertices;
-        match directed(alloc, worked.pattern, worked.target, worked.induced) {
-            Some(q) => Ok(row(alloc, &q, p, r, worked.value) == Some(worked.word)),
-            None => Ok(false),
-        }
-    }
 }
 
 /// An edge from the first vertex to the second.
@@ -145,69 +89,20 @@ const FORK: &[u8] = b"4 2 1 2 0 0 0";
 /// Edges from two vertices to the first, and a vertex apart.
 const MEET: &[u8] = b"4 0 1 0 1 0 0";
 
-static DIRECTED: [Directed; 7] = [
-    Directed(Worked {
-        pattern: ARC,
-        target: ROUND,
-        induced: false,
-        vertices: (0, 1),
-        value: 0,
-        word: 0b0010,
-    }),
-    Directed(Worked {
-        pattern: ARC,
-        target: ROUND,
-        induced: false,
-        vertices: (1, 0),
-        value: 0,
-        word: 0b0100,
-    }),
-    Directed(Worked {
-        pattern: APART,
-        target: ROUND,
-        induced: true,
-        vertices: (0, 1),
-        value: 0,
-        word: 0b1000,
-    }),
+static ALONG_EDGES: [Worked; 7] = [
+    Worked(DIRECTED, ARC, ROUND, false, (0, 1), 0, 0b0010),
+    Worked(DIRECTED, ARC, ROUND, false, (1, 0), 0, 0b0100),
+    Worked(DIRECTED, APART, ROUND, true, (0, 1), 0, 0b1000),
     // the two ends of a fork share an in-neighbour, and no neighbour
-    Directed(Worked {
-        pattern: FORK,
-        target: FORK,
-        induced: false,
-        vertices: (1, 2),
-        value: 1,
-        word: 0b0100,
-    }),
-    Directed(Worked {
-        pattern: FORK,
-        target: MEET,
-        induced: false,
-        vertices: (1, 2),
-        value: 1,
-        word: 0,
-    }),
-    Directed(Worked {
-        pattern: MEET,
-        target: MEET,
-        induced: false,
-        vertices: (1, 2),
-        value: 1,
-        word: 0b0100,
-    }),
-    Directed(Worked {
-        pattern: MEET,
-        target: FORK,
-        induced: false,
-        vertices: (1, 2),
-        value: 1,
-        word: 0,
-    }),
+    Worked(DIRECTED, FORK, FORK, false, (1, 2), 1, 0b0100),
+    Worked(DIRECTED, FORK, MEET, false, (1, 2), 1, 0),
+    Worked(DIRECTED, MEET, MEET, false, (1, 2), 1, 0b0100),
+    Worked(DIRECTED, MEET, FORK, false, (1, 2), 1, 0),
 ];
 
 #[test]
 fn rows_hold_what_goes_together_along_edges(rt: HostRuntime) -> Result<(), Fail> {
-    all_hold(&rt, rt.alloc(), &DIRECTED)
+    all_hold(&rt, rt.alloc(), &ALONG_EDGES)
 }
 
 /// Whether `p` and `r` are asked nothing but distinct images in a cycle.

@@ -5,9 +5,10 @@ ghost use Rattle.nogood_book.specs.Seats.{IsSeatOf};
 ghost use Rattle.propagation.specs.Propagation.{IsOf};
 ghost use Rattle.restart_search.specs.Searching.{AtRest};
 
-use crate::problems::{directed, problem};
+use crate::problems::{problem, problem_of};
 use domain_bits::{Domains, WordTrail};
 use graph_rows::Problem;
+use lad_reader::LadKind;
 use nogood_book::{BookSeat, RowBook, RowSeat};
 use pair_rows::PairKinds;
 use proof_logger::Unlogged;
@@ -78,7 +79,7 @@ struct Along(Searched);
 impl<R> Example<R> for Along {
     fn holds(&self, _rt: &R, alloc: Global) -> Result<bool, AllocError> {
         let Searched(pattern, target, induced, budget, rows, end) = self.0;
-        match directed(alloc, pattern, target, induced) {
+        match problem_of(alloc, LadKind::DirectedLad, pattern, target, induced) {
             Some(q) => Ok(search_for(alloc, &q, budget, rows) == Ok(end)),
             None => Ok(false),
         }

@@ -77,6 +77,16 @@ impl<R> Example<R> for Deaths {
     }
 }
 
+/// The first vertex at the first value leaves none for the second.
+const FIRST_GUESS: Dead = Dead(
+    &[(0, 0)],
+    &[
+        What::One(0, Cause::Guess(0)),
+        What::One(1, Cause::Vertex(0, 0)),
+    ],
+    Ended::Empty(1),
+);
+
 static DEATHS: [Deaths; 14] = [
     // The end rests on two changes of three, and the one between, whose vertex the path has, is not named.
     Deaths {
@@ -103,14 +113,7 @@ static DEATHS: [Deaths; 14] = [
     Deaths {
         sample: Sample(APART, b"1 0", LadKind::Lad, false),
         numbers: &[],
-        paths: &[Dead(
-            &[(0, 0)],
-            &[
-                What::One(0, Cause::Guess(0)),
-                What::One(1, Cause::Vertex(0, 0)),
-            ],
-            Ended::Empty(1),
-        )],
+        paths: &[FIRST_GUESS],
         log: Log {
             head: b"embedding proof 1\nm 5\n",
             lines: b"u 1.1 ~x1 ; 5 3 ;\n",
@@ -304,14 +307,7 @@ u 1.4 ~x13 ; 9 9 9 1.1 1.2 1.3 1 ;
                 ],
                 Ended::Empty(1),
             ),
-            Dead(
-                &[(0, 0)],
-                &[
-                    What::One(0, Cause::Guess(0)),
-                    What::One(1, Cause::Vertex(0, 0)),
-                ],
-                Ended::Empty(1),
-            ),
+            FIRST_GUESS,
             Dead(
                 &[(0, 3)],
                 &[
@@ -384,14 +380,7 @@ u 1.9 ; 1.2 1.4 1.6 1.8 1 ;
     Deaths {
         sample: Sample(b"2 1 0 0", b"2 2 0 1 1 0", LadKind::Lad, true),
         numbers: &[],
-        paths: &[Dead(
-            &[(0, 0)],
-            &[
-                What::One(0, Cause::Guess(0)),
-                What::One(1, Cause::Vertex(0, 0)),
-            ],
-            Ended::Empty(1),
-        )],
+        paths: &[FIRST_GUESS],
         log: Log {
             head: b"embedding proof 1\nm 12\n",
             lines: b"p 1.1 9 4 + ;\nu 1.2 ~x1 ; 1.1 3 ;\n",
@@ -403,14 +392,7 @@ u 1.9 ; 1.2 1.4 1.6 1.8 1 ;
         sample: Sample(b"2 1 1 0", b"2 0 1 0", LadKind::DirectedLad, false),
         numbers: &[],
         paths: &[
-            Dead(
-                &[(0, 0)],
-                &[
-                    What::One(0, Cause::Guess(0)),
-                    What::One(1, Cause::Vertex(0, 0)),
-                ],
-                Ended::Empty(1),
-            ),
+            FIRST_GUESS,
             Dead(
                 &[(1, 1)],
                 &[
@@ -435,14 +417,7 @@ u 1.9 ; 1.2 1.4 1.6 1.8 1 ;
             false,
         ),
         numbers: &[],
-        paths: &[Dead(
-            &[(0, 0)],
-            &[
-                What::One(0, Cause::Guess(0)),
-                What::One(1, Cause::Vertex(0, 0)),
-            ],
-            Ended::Empty(1),
-        )],
+        paths: &[FIRST_GUESS],
         log: Log {
             head: b"embedding proof 1\nm 10\n",
             lines: b"p 1.1 7 4 + ;\nu 1.2 ~x1 ; 1.1 3 ;\n",

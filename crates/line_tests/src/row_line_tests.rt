@@ -47,7 +47,7 @@ fn ask(
     requires lines { lines.now ≡ q.now }
 {
     if is_pair(q, pair) {
-        made.row(alloc, q, lines, journal, pair)
+        made.row(alloc, q, lines, journal, false, pair)
     } else {
         Err(AllocError)
     }

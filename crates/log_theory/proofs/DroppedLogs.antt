@@ -264,7 +264,8 @@ fed : (ls : List (List ℕ)) → flat_map (λ m. 10 ∷ m) (ls ++ [] ∷ []) ≡
 fed [] = refl
 fed (l ∷ ls) = ap (λ (bs : List ℕ). (10 ∷ l) ++ bs) (fed ls) ∙ ap (λ (bs : List ℕ). 10 ∷ bs) (sym (append_assoc l (10 ∷ []) (lines_text ls)))
 
-text_dropped : (l : List ℕ) (ls : List (List ℕ)) → AreLines (l ∷ ls) → dropped_log (lines_text (l ∷ ls)) ≡ lines_text (head_of Plain ∷ map dropped_line ls)
+-- Lines with their hints dropped, of which the first is the head, are the text with its hints dropped.
+pub text_dropped : (l : List ℕ) (ls : List (List ℕ)) → AreLines (l ∷ ls) → dropped_log (lines_text (l ∷ ls)) ≡ lines_text (head_of Plain ∷ map dropped_line ls)
 text_dropped l ls h =
     ap (λ (ps : List (List ℕ)). with_feeds (dropped_lines ps)) (lines_cut (l ∷ ls) h)
     ∙ ap (λ (ps : List (List ℕ)). with_feeds (head_of Plain ∷ ps)) (mapped ls)

@@ -19,11 +19,11 @@ use Rattle.kept_lines.specs.Frames.{Frame, IsFrameOf, IsNamed, After, Goes}
 use Rattle.kept_lines.specs.Rows.{frame_of}
 use Rattle.kept_lines.proofs.Naming.{line_named}
 use Rattle.kept_lines.proofs.Rows.{frame_is}
-use Rattle.dead_paths.specs.Making.{GivesFirst, GivesRow, GivesSet}
+use Rattle.dead_paths.specs.Making.{IsRowLine, GivesFirst, GivesRow, GivesSet}
 use Rattle.first_lines.specs.Named.{name_at}
 use Rattle.first_lines.specs.Given.{IsFirstLine as IsGiven}
 use Rattle.row_lines.specs.declared.row_lines.RowLines.{RowLines}
-use Rattle.row_lines.specs.Claims.{IsKnownRow, IsKnownEdgeRow}
+use Rattle.row_lines.specs.Claims.{IsRowNamed, IsKnownRow}
 use Rattle.made_lines.specs.Sets.{IsKnownSet}
 use Rattle.made_lines.specs.Made.{IsMade, made_last}
 use Rattle.made_lines.proofs.Known.{kept_same}
@@ -102,23 +102,18 @@ first_whole q made_for owner w units more_units firsts lines sets p k forms more
 
 -- ---- pairs of vertices
 
-pub row_given : (q made_for : Problem) (w : Frame) (units firsts : List (ℕ × Name)) (lines more_lines : RowLines) (sets : List (CountedSet × Name)) (p t r : ℕ) (result : Result Ref AllocError) (forms more : List Form)
-    → IsMade q made_for w units firsts lines sets forms → IsKnownRow w q p t r more_lines result (forms ++ more) → GivesRow false q w p t r result (IsMade q made_for w units firsts more_lines sets) (forms ++ more)
-row_given q made_for w units firsts lines more_lines sets p t r (Ok ref) forms more h known =
+pub row_given : (by_edges : Bool) (q made_for : Problem) (w : Frame) (units firsts : List (ℕ × Name)) (lines more_lines : RowLines) (sets : List (CountedSet × Name)) (p t r : ℕ) (result : Result Ref AllocError) (forms more : List Form)
+    → IsMade q made_for w units firsts lines sets forms → IsKnownRow by_edges w q p t r more_lines result (forms ++ more) → GivesRow by_edges q w p t r result (IsMade q made_for w units firsts more_lines sets) (forms ++ more)
+row_given by_edges q made_for w units firsts lines more_lines sets p t r (Err e) forms more h known = tt
+row_given by_edges q made_for w units firsts lines more_lines sets p t r (Ok ref) forms more h known =
     let old = made_last q made_for w units firsts lines sets forms more h in (
       record { problem_is = h.problem_is; units_are = old.units_are; firsts_are = old.firsts_are; rows_are = known.0; sets_are = old.sets_are },
-      record { line = known.1.0; forces = known.1.2; named = known.1.1 },
+      by by_edges known.1,
     )
-row_given q made_for w units firsts lines more_lines sets p t r (Err e) forms more h known = tt
-
-pub edge_row_given : (q made_for : Problem) (w : Frame) (units firsts : List (ℕ × Name)) (lines more_lines : RowLines) (sets : List (CountedSet × Name)) (p t r : ℕ) (result : Result Ref AllocError) (forms more : List Form)
-    → IsMade q made_for w units firsts lines sets forms → IsKnownEdgeRow w q p t r more_lines result (forms ++ more) → GivesRow true q w p t r result (IsMade q made_for w units firsts more_lines sets) (forms ++ more)
-edge_row_given q made_for w units firsts lines more_lines sets p t r (Ok ref) forms more h known =
-    let old = made_last q made_for w units firsts lines sets forms more h in (
-      record { problem_is = h.problem_is; units_are = old.units_are; firsts_are = old.firsts_are; rows_are = known.0; sets_are = old.sets_are },
-      record { line = known.1.0; forces = known.1.2; named = known.1.1 },
-    )
-edge_row_given q made_for w units firsts lines more_lines sets p t r (Err e) forms more h known = tt
+  where
+    by : (b : Bool) → IsRowNamed b w q p t r ref (forms ++ more) → IsRowLine b q w p t r ref (forms ++ more)
+    by false named = record { line = named.0; forces = named.2; named = named.1 }
+    by true named = record { line = named.0; forces = named.2; named = named.1 }
 
 -- ---- sets
 

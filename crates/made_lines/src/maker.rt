@@ -8,7 +8,7 @@ ghost use Rattle.made_lines.specs.Made.{IsMade, made_last, made_wider};
 
 use crate::set_lines::set_line;
 use crate::set_names::SetNames;
-use dead_paths::{Ground, LineMaker};
+use dead_paths::{Beside, Ground, LineMaker};
 use first_lines::{FirstLines, Units};
 use graph_rows::Problem;
 use journals::Keeper;
@@ -84,27 +84,17 @@ impl<'a> LineMaker for MadeLines<'a> {
         alloc: Global,
         lines: &Ground<'_>,
         keeper: &mut K,
-        p: u16,
-        t: u16,
-        r: u16,
+        by_edges: bool,
+        beside: Beside,
     ) -> Result<Ref, AllocError> {
         let q = lines.problem();
+        let pair = PlacedPair {
+            p: beside.p,
+            t: beside.t,
+            r: beside.r,
+        };
         self.rows
-            .row(alloc, q, lines.encoding(), keeper, PlacedPair { p, t, r })
-    }
-
-    fn edge_row<K: Keeper>(
-        &mut self,
-        alloc: Global,
-        lines: &Ground<'_>,
-        keeper: &mut K,
-        p: u16,
-        t: u16,
-        r: u16,
-    ) -> Result<Ref, AllocError> {
-        let q = lines.problem();
-        self.rows
-            .edge_row(alloc, q, lines.encoding(), keeper, PlacedPair { p, t, r })
+            .row(alloc, q, lines.encoding(), keeper, by_edges, pair)
     }
 
     fn set<K: Keeper>(

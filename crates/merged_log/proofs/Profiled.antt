@@ -14,11 +14,11 @@ use Rattle.log_theory.specs.declared.step.Step.TheVariants.{Head, Model, P, U, N
 use Rattle.log_theory.specs.declared.step.Verdict.{Verdict}
 use Rattle.log_theory.specs.Words.{pieces, line_text}
 use Rattle.log_theory.specs.LogText.{name_text, step_words, AreLiterals, IsName, IsStep}
-use Rattle.log_theory.specs.Profiles.{words_in, head_of, dropped_line, dropped_lines, with_feeds, dropped_log, log_profile}
-use Rattle.log_theory.specs.Acceptance.{NoFeed, AreLines, lines_text, Accepts}
+use Rattle.log_theory.specs.Profiles.{words_in, head_of, dropped_line, with_feeds, log_profile}
+use Rattle.log_theory.specs.Acceptance.{AreLines, lines_text, Accepts}
 use Rattle.log_theory.proofs.Splitting.{AllBetween, decimal_bytes}
-use Rattle.log_theory.proofs.Dropping.{Lacks, Lacks-append, cut, pieces_glued}
-use Rattle.log_theory.proofs.DroppedLogs.{log_dropped}
+use Rattle.log_theory.proofs.Dropping.{Lacks, Lacks-append, cut}
+use Rattle.log_theory.proofs.DroppedLogs.{log_dropped, text_dropped}
 use Rattle.log_theory.proofs.PlainReadBack.{line_without}
 use Rattle.proof_log.specs.Writing.{spaced_ref, spaced_literal}
 use Rattle.proof_log.proofs.PutLines.{u_text, plain_u_text}
@@ -111,35 +111,9 @@ lines_cut [] h = refl
 lines_cut (s ∷ ss) h =
     ap (λ (t : List ℕ). t ++ text_in Plain ss) (line_cut s h.0) ∙ ap (λ (t : List ℕ). (dropped_line (step_line s) ++ 10 ∷ []) ++ t) (lines_cut ss h.1)
 
-no_feed_lacks : (bs : List ℕ) → NoFeed bs → Lacks 10 bs
-no_feed_lacks [] h = tt
-no_feed_lacks (b ∷ bs) h = (h.0, no_feed_lacks bs h.1)
-
 are_lines : NoFeedLaw → (ss : List Step) → AreSteps ss → AreLines (map step_line ss)
 are_lines law [] h = tt
 are_lines law (s ∷ ss) h = (law s h.0, are_lines law ss h.1)
-
-text_cut : (lines : List (List ℕ)) → AreLines lines → pieces (cut 10) (lines_text lines) ≡ lines ++ [] ∷ []
-text_cut [] h = refl
-text_cut (l ∷ ls) h =
-    ap (pieces (cut 10)) (append_assoc l (10 ∷ []) (lines_text ls))
-    ∙ pieces_glued 10 l (lines_text ls) (no_feed_lacks l h.0)
-    ∙ ap (λ (ps : List (List ℕ)). l ∷ ps) (text_cut ls h.1)
-
-mapped : (ls : List (List ℕ)) → map dropped_line (ls ++ [] ∷ []) ≡ map dropped_line ls ++ [] ∷ []
-mapped [] = refl
-mapped (l ∷ ls) = ap (λ (ps : List (List ℕ)). dropped_line l ∷ ps) (mapped ls)
-
-fed : (ls : List (List ℕ)) → flat_map (λ m. 10 ∷ m) (ls ++ [] ∷ []) ≡ 10 ∷ lines_text ls
-fed [] = refl
-fed (l ∷ ls) = ap (λ (bs : List ℕ). (10 ∷ l) ++ bs) (fed ls) ∙ ap (λ (bs : List ℕ). 10 ∷ bs) (sym (append_assoc l (10 ∷ []) (lines_text ls)))
-
-text_dropped : (l : List ℕ) (ls : List (List ℕ)) → AreLines (l ∷ ls) → dropped_log (lines_text (l ∷ ls)) ≡ lines_text (head_of Plain ∷ map dropped_line ls)
-text_dropped l ls h =
-    ap (λ (ps : List (List ℕ)). with_feeds (dropped_lines ps)) (text_cut (l ∷ ls) h)
-    ∙ ap (λ (ps : List (List ℕ)). with_feeds (head_of Plain ∷ ps)) (mapped ls)
-    ∙ ap (λ (bs : List ℕ). head_of Plain ++ bs) (fed (map dropped_line ls))
-    ∙ sym (append_assoc (head_of Plain) (10 ∷ []) (lines_text (map dropped_line ls)))
 
 pub whole_text : NoFeedLaw → (profile : Profile) (lines : ℕ) (ss : List Step) → lines < 2 ^ 63 → AreSteps ss → head_text profile lines ++ text_in profile ss ≡ in_profile profile (log_text (Head ∷ Model lines ∷ ss))
 whole_text law Hinted lines ss fits h = append_assoc (line_text (step_words Head)) (line_text (step_words (Model lines))) (text_of ss) ∙ lines_same (Head ∷ Model lines ∷ ss)

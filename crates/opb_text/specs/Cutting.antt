@@ -1,5 +1,5 @@
 -- How a text is cut into lines and a line into words, from the left.
-use Rattle.std.specs.Prelude.{◌≢◌, ℕ, Bool, false, not, ◌==◌, ◌||◌, List, [], ◌∷◌}
+use Rattle.std.specs.Prelude.{◌≢◌, ℕ, Bool, ◌==◌, ◌||◌, List, [], ◌∷◌}
 
 -- No byte of the text is this one.
 abbrev pub HasNo : ℕ → List ℕ → Type 0
@@ -9,8 +9,3 @@ HasNo byte (b ∷ bs) = (b ≢ byte) × HasNo byte bs
 -- Whether a byte stands between words.
 abbrev pub is_blank : ℕ → Bool
 is_blank b = (b == 32) || (b == 9)
-
--- Whether the line begins inside a word.
-abbrev pub begins_word : List ℕ → Bool
-begins_word [] = false
-begins_word (b ∷ bs) = not (is_blank b)

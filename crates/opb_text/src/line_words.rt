@@ -3,7 +3,9 @@
 ghost use Rattle.std.specs.Prelude.{◌≡◌, ◌<◌, ◌≤◌, ◌∷◌, ◌++◌, [], List, ℕ, length, take, drop, true, IfSome, MatchOption};
 ghost use Rattle.log_theory.specs.Words.{begins_with, same_word};
 ghost use Rattle.log_theory.specs.OpbReading.{without_returns, opb_lines, opb_words};
-ghost use Rattle.opb_text.specs.Cutting.{HasNo, is_blank, begins_word};
+ghost use Rattle.opb_text.specs.Cutting.{HasNo};
+
+use byte_words::Blanks;
 
 /// What stands before the first of these bytes and what follows it, where there is one.
 pub fn cut(bytes: &[u8], end: u8) -> Option<(&[u8], &[u8])>
@@ -47,40 +49,17 @@ pub fn first_line(text: &[u8]) -> Option<(&[u8], &[u8])>
     }
 }
 
-/// Whether a byte stands between words.
-fn is_blank(byte: u8) -> bool
-    ensures { result ≡ is_blank byte }
-{
-    byte == b' ' || byte == b'\t'
-}
+/// The blanks of a line.
+enum LineBlanks {}
 
-/// The line from its first word on.
-fn without_blanks(line: &[u8]) -> &[u8]
-    ensures same { opb_words result.now ≡ opb_words line.now }
-    ensures begins { 0 < length result.now → begins_word result.now ≡ true }
-    ensures shorter { length result.now ≤ length line.now }
-{
-    for (i, b) in line.iter().enumerate() {
-        if !is_blank(*b) {
-            return &line[i..];
-        }
-    }
-    &line[line.len()..]
-}
+impl Blanks for LineBlanks {
+    ghost use Rattle.opb_text.specs.Cutting.{is_blank as is_line_blank};
 
-/// Where the word ends with which a line begins.
-fn word_end(line: &[u8]) -> usize
-    requires { begins_word line.now ≡ true }
-    ensures some { 0 < result }
-    ensures within { result ≤ length line.now }
-    ensures word { opb_words line.now ≡ take result line.now ∷ opb_words (drop result line.now) }
-{
-    for (i, b) in line.iter().enumerate() {
-        if is_blank(*b) {
-            return i;
-        }
+    ghost blank = { is_line_blank };
+
+    fn is_blank(byte: u8) -> bool {
+        byte == b' ' || byte == b'\t'
     }
-    line.len()
 }
 
 /// The first word of a line and what follows it, in time linear in the bytes up to the word's end.
@@ -89,11 +68,7 @@ pub fn first_word(line: &[u8]) -> Option<(&[u8], &[u8])>
         (λ parts. opb_words line.now ≡ parts.0.now ∷ opb_words parts.1.now) }
     ensures shorter { IfSome result (λ parts. length parts.1.now < length line.now) }
 {
-    let words = without_blanks(line);
-    if words.is_empty() {
-        return None;
-    }
-    Some(words.split_at(word_end(words)))
+    byte_words::first_word::<LineBlanks>(line)
 }
 
 /// Whether two words are the same.

@@ -36,17 +36,27 @@ impl<'a, F: Files> Pieces<'a, F> {
         ensures same { result.files.ghost_name ≡ files.entry.ghost_name }
         ensures empty { result.held.now ≡ [] }
     {
-        held.clear();
-        Pieces {
-            files,
-            name,
-            held,
-            is_headed: false,
-        }
+        Pieces::over(files, name, held, false)
     }
 
     /// The same for a text that has a head: what is put first goes out at once.
     pub fn headed(files: &'a mut F, name: &'a str, held: &'a mut PieceRoom) -> Pieces<'a, F>
+        requires { F.begun files.now ≡ Some name.now }
+        ensures files { result.files.now ≡ files.entry.now }
+        ensures name { result.name.now ≡ name.entry.now }
+        ensures same { result.files.ghost_name ≡ files.entry.ghost_name }
+        ensures empty { result.held.now ≡ [] }
+    {
+        Pieces::over(files, name, held, true)
+    }
+
+    /// A sink over the file with nothing kept back.
+    fn over(
+        files: &'a mut F,
+        name: &'a str,
+        held: &'a mut PieceRoom,
+        is_headed: bool,
+    ) -> Pieces<'a, F>
         requires { F.begun files.now ≡ Some name.now }
         ensures files { result.files.now ≡ files.entry.now }
         ensures name { result.name.now ≡ name.entry.now }
@@ -58,7 +68,7 @@ impl<'a, F: Files> Pieces<'a, F> {
             files,
             name,
             held,
-            is_headed: true,
+            is_headed,
         }
     }
 

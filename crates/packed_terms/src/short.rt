@@ -7,6 +7,7 @@ ghost use Rattle.proof_theory.specs.Rules.{negatives};
 ghost use Rattle.proof_theory.specs.Slack.{setting, open_sum};
 ghost use Rattle.pb_terms.specs.Forcing.{greatest_at};
 
+use pb_terms::{is_one, value_of};
 use std::alloc::{AllocError, Global};
 
 /// The least weight, and the least size of a bound, that is too great for short terms.
@@ -62,16 +63,6 @@ pub fn weight_of(terms: &[(u32, i32)]) -> u32
     sum
 }
 
-/// The value of a variable, if it is set.
-fn value_of(values: &[Option<bool>], variable: u32) -> Option<bool>
-    ensures { result ≡ setting values.now variable }
-{
-    match values.get(variable as usize) {
-        Some(&value) => value,
-        None => None,
-    }
-}
-
 /// The greatest that a term can still add to the sum. It takes no branch.
 pub fn greatest(value: Option<bool>, coefficient: i32) -> i64
     ensures { result ≡ greatest_at value coefficient }
@@ -95,19 +86,6 @@ pub fn greatest_of(values: &[Option<bool>], terms: &[(u32, i32)]) -> i64
         sum += greatest(value_of(values, variable), coefficient);
     }
     sum
-}
-
-/// Whether a variable is one in a 0/1 list.
-fn is_one(values: &[bool], variable: u32) -> bool
-    ensures { result ≡ assignment values.now variable }
-{
-    if variable == 0 {
-        return false;
-    }
-    match values.get(variable as usize - 1) {
-        Some(&value) => value,
-        None => false,
-    }
 }
 
 /// A coefficient where its variable is one, else 0.

@@ -1,5 +1,5 @@
 -- What was told at a dead end, and what is named there, as the line of the dead path asks for it.
-use Rattle.std.proofs.Common.{inl, inr, ◌⊎◌, ◌≡◌, ℕ, suc, ◌+◌, ◌<◌, ◌≤◌, ◌==◌, Bool, true, false, cond, List, [], ◌∷◌, ◌++◌, length, take, drop, Contains, Option, Some, None, Result, Ok, refl, sym, ap, subst, ◌∙◌, length-append, arith}
+use Rattle.std.proofs.Common.{inl, inr, ◌⊎◌, ◌≡◌, ℕ, suc, ◌+◌, ◌<◌, ◌≤◌, ◌==◌, Bool, true, false, cond, List, [], ◌∷◌, ◌++◌, length, take, drop, Contains, Option, Some, None, IfSome, Result, Ok, refl, sym, ap, subst, ◌∙◌, length-append, arith}
 use Rattle.std.specs.Prelude.{slice_get}
 use Rattle.std.proofs.lemmas.Bool.{eq-eqb, ne_eqb, cases_eq}
 use Rattle.std.specs.declared.alloc.AllocError.{AllocError}
@@ -33,7 +33,7 @@ use Rattle.proof_logger.specs.declared.logger.DeadEnd.TheVariants as told
 use Rattle.proof_logger.specs.Logging.{IsExhausted, EndsPath, AreGuessed as AreTold, Closed}
 use Rattle.dead_paths.specs.declared.dead_line.PathEnd.{PathEnd}
 use Rattle.dead_paths.specs.Making.{AreRowsNamed}
-use Rattle.dead_paths.specs.Explaining.{end_by, IsEndIn, AreRefuted, Knowing, IsBegun, IsDeadName}
+use Rattle.dead_paths.specs.Explaining.{end_by, IsEndIn, AreRefuted, Knowing, IsBegun, IsDeadName, IsLastOf}
 use Rattle.path_journal.specs.declared.refuted.Refuted.{Refuted}
 use Rattle.path_journal.specs.Ends.{end_as}
 use Rattle.path_journal.specs.Closing.{IsLined}
@@ -338,6 +338,25 @@ pub counted_line : (knows later : Problem → Frame → List Form → Type 0) (l
 counted_line knows later lines old new owner numbers entries q rows a k answer n is c done =
     subst (λ (o : Option Name). IsLined knows later lines old new owner numbers entries q rows a k (Ok o)) is
     (lined_for knows later lines q old new owner numbers entries rows a k (Ok answer) c.writes.problem_is done) c.writes c.from c.below
+
+-- What was counted, the line that was added for the path, and that it is the last one.
+pub record Named (knows later : Problem → Frame → List Form → Type 0) (lines : Problem) (old new : Keeping) (owner : ℕ) (numbers : List (ℕ × ℕ)) (entries : List Refuted) (q : Problem) (rows : List Row) (a : Account) (k : ℕ)
+    (n : Name) : Type 0 where
+  pub count : Counted knows lines old owner numbers entries q rows a k
+  pub line : After (row_frame q rows old.owner) old.steps new.steps count.writes.forms (IsDeadName q (path a) (row_frame q rows old.owner) (later q (row_frame q rows old.owner)) (Ok (Some n)))
+  pub last : IsLastOf (Some new.steps) n
+
+pub named : (knows later : Problem → Frame → List Form → Type 0) (lines : Problem) (old new : Keeping) (owner : ℕ) (numbers : List (ℕ × ℕ)) (held entries seen : List Refuted) (q : Problem) (rows : List Row) (a : Account) (k : ℕ)
+    (xs : List (ℕ × ℕ)) (answer : Option Name) (n : Name) → answer ≡ Some n → entries ≡ held → seen ≡ entries → xs ≡ path a → Writes knows lines old owner numbers held q rows a → AreFrom (length xs) (drop k seen)
+    → (AreRising seen → AreBelow (length xs) (take k seen)) → IsLined knows later lines old new owner numbers entries lines rows a k (Ok answer) → IfSome answer (IsLastOf (Some new.steps))
+    → Named knows later lines old new owner numbers entries q rows a k n
+named knows later lines old new owner numbers held entries seen q rows a k xs answer n is same seen_is xs_is w from below done last =
+    let c = counted knows lines old owner numbers held entries seen q rows a k xs same seen_is xs_is w from below in
+    record {
+      count = c;
+      line = counted_line knows later lines old new owner numbers entries q rows a k answer n is c done;
+      last = subst (λ (o : Option Name). IfSome o (IsLastOf (Some new.steps))) is last;
+    }
 
 -- ---- closed
 

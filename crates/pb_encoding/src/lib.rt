@@ -18,3 +18,4 @@ mod terms;
 mod writer;
 
 pub use encoding::Encoding;
+pub use pair_tests::{is_edge_pair, is_non_edge_pair};

@@ -32,7 +32,7 @@ pub(crate) fn is_compatible(q: &Problem, p: u16, t: u16, r: u16, u: u16) -> bool
 }
 
 /// Whether the two vertices have an edge between them, in either direction. Cost: two words.
-pub(crate) fn is_edge_pair(q: &Problem, p: u16, r: u16) -> bool
+pub fn is_edge_pair(q: &Problem, p: u16, r: u16) -> bool
     requires p_in { p < size q.now.pattern }
     requires r_in { r < size q.now.pattern }
     ensures { result ≡ is_edge q.now p r }
@@ -42,7 +42,7 @@ pub(crate) fn is_edge_pair(q: &Problem, p: u16, r: u16) -> bool
 }
 
 /// Whether they have none, and are to have none between their images. Cost: two words.
-pub(crate) fn is_non_edge_pair(q: &Problem, p: u16, r: u16) -> bool
+pub fn is_non_edge_pair(q: &Problem, p: u16, r: u16) -> bool
     requires p_in { p < size q.now.pattern }
     requires r_in { r < size q.now.pattern }
     ensures { result ≡ is_non_edge q.now p r }

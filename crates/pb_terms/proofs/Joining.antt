@@ -38,6 +38,10 @@ pub size-append : (xs ys : List (ℕ × ℤ)) → size (xs ++ ys) ≡ size xs + 
 size-append [] ys = omega arith
 size-append (t ∷ xs) ys = let h = size-append xs ys in omega arith
 
+-- The same where the second list is lent.
+pub size_joined : (xs ys zs made : List (ℕ × ℤ)) → made ≡ xs ++ ys → ys ≡ zs → size made ≡ size xs + size zs
+size_joined xs ys zs made e f = ap size e ∙ size-append xs ys ∙ ap (λ (ts : List (ℕ × ℤ)). size xs + size ts) f
+
 -- A copy of terms that rise, with their bound in i128, is the form of these terms.
 pub copied : (vs ts us : List (ℕ × ℤ)) (b d : ℤ) → vs ≡ ts → ts ≡ us → b ≡ d → Rises 0 ts → IsNarrow ts b → let f : Form = record { terms = us; bound = d } in form_of vs (to_z w128 (of_z w128 b)) ≡ f
 copied vs ts us b d e k l r n =

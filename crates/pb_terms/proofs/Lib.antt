@@ -6,3 +6,4 @@ pub mod Trails
 pub mod Ruled
 pub mod Forcing
 pub mod Joining
+pub mod Reaching

@@ -144,6 +144,10 @@ pub sorted_permuted : (xs ys : List (ℕ × ℤ)) → IsPermutation xs ys → so
 sorted_permuted xs ys h =
     same_terms 0 (sorted ys) (sorted xs) (Rises-sorted ys) (Rises-sorted xs) (λ v. coefficient-sorted ys v ∙ coefficient_permuted xs ys h v ∙ sym (coefficient-sorted xs v))
 
+-- Terms in another order, as they are lent: they weigh as much, and sort to the same list.
+pub in_order : (ts us lent : List (ℕ × ℤ)) → IsPermutation ts us → lent ≡ us → (size lent ≡ size ts) × (sorted lent ≡ sorted ts)
+in_order ts us lent h e = (ap size e ∙ size_permuted ts us h, ap sorted e ∙ sorted_permuted ts us h)
+
 -- Forms with the same terms and the same bound are the same.
 pub same_form : (ts us : List (ℕ × ℤ)) (b d : ℤ) → ts ≡ us → b ≡ d → let f : Form = record { terms = ts; bound = b } in let g : Form = record { terms = us; bound = d } in f ≡ g
 same_form ts us b d e k = ap (λ (x : List (ℕ × ℤ)). let f : Form = record { terms = x; bound = b } in f) e ∙ ap (λ (x : ℤ). let f : Form = record { terms = us; bound = x } in f) k

@@ -18,5 +18,5 @@ pub use constraint::Constraint;
 pub use fault::PbFault;
 pub use literals::Literals;
 pub use proof_theory::Literal;
-pub use slack::forcing_law;
+pub use slack::{forcing_law, is_one, value_of};
 pub use sum::Sum;

@@ -42,7 +42,7 @@ pub fn greatest_of(values: &[Option<bool>], terms: &[(u32, i128)]) -> i128
 }
 
 /// Whether a variable is one in a 0/1 list.
-fn is_one(values: &[bool], variable: u32) -> bool
+pub fn is_one(values: &[bool], variable: u32) -> bool
     ensures { result ≡ assignment values.now variable }
 {
     if variable == 0 {

@@ -4,41 +4,8 @@ use memory_runs::{EDGE, run_pair};
 use std::alloc::{AllocError, Global};
 use std::test::Fail;
 use std::thread::Threads;
+use worked_examples::models::{EDGE_INTO_EDGE, LOOP_INTO_TWO, ONE_WAY};
 use worked_examples::none_wrong;
-
-const EDGE_INTO_EDGE: &str = "* #variable= 4 #constraint= 10
-+1 x1 +1 x2 >= 1 ;
--1 x1 -1 x2 >= -1 ;
-+1 x3 +1 x4 >= 1 ;
--1 x3 -1 x4 >= -1 ;
--1 x1 -1 x3 >= -1 ;
--1 x2 -1 x4 >= -1 ;
--1 x1 +1 x4 >= 0 ;
--1 x2 +1 x3 >= 0 ;
-+1 x2 -1 x3 >= 0 ;
-+1 x1 -1 x4 >= 0 ;
-";
-
-const ONE_WAY: &str = "* #variable= 4 #constraint= 10
-+1 x1 +1 x2 >= 1 ;
--1 x1 -1 x2 >= -1 ;
-+1 x3 +1 x4 >= 1 ;
--1 x3 -1 x4 >= -1 ;
--1 x1 -1 x3 >= -1 ;
--1 x2 -1 x4 >= -1 ;
--1 x1 +1 x4 >= 0 ;
--1 x2 >= 0 ;
--1 x3 >= 0 ;
-+1 x1 -1 x4 >= 0 ;
-";
-
-const LOOP_INTO_TWO: &str = "* #variable= 2 #constraint= 5
-+1 x1 +1 x2 >= 1 ;
--1 x1 -1 x2 >= -1 ;
--1 x1 >= -1 ;
--1 x2 >= -1 ;
--1 x1 >= 0 ;
-";
 
 /// Words, the graphs in the files `p` and `t`, and what a run ends with.
 struct Encoded {
@@ -46,14 +13,14 @@ struct Encoded {
     pattern: &'static str,
     target: &'static str,
     status: u8,
-    out: &'static str,
+    out: &'static [u8],
     err: &'static str,
 }
 
 /// Whether the runs of a row end so.
 fn holds<R: Threads + Sync>(rt: &R, alloc: Global, row: &Encoded) -> Result<bool, AllocError> {
     let ran = run_pair(rt, alloc, row.line, row.pattern, row.target)?;
-    Ok(ran.gave(row.status, row.out, row.err))
+    Ok(ran.ended(row.status, row.err) && ran.out.bytes() == row.out)
 }
 
 /// The place, from 0, of the first row that does not hold.
@@ -76,7 +43,7 @@ static ENCODED: [Encoded; 11] = [
         pattern: "0\n",
         target: "0\n",
         status: 0,
-        out: "* #variable= 0 #constraint= 0\n",
+        out: b"* #variable= 0 #constraint= 0\n",
         err: "",
     },
     Encoded {
@@ -84,7 +51,7 @@ static ENCODED: [Encoded; 11] = [
         pattern: "1\n0\n",
         target: "0\n",
         status: 0,
-        out: "* #variable= 0 #constraint= 2\n>= 1 ;\n>= -1 ;\n",
+        out: b"* #variable= 0 #constraint= 2\n>= 1 ;\n>= -1 ;\n",
         err: "",
     },
     Encoded {
@@ -108,7 +75,7 @@ static ENCODED: [Encoded; 11] = [
         pattern: "1\n1 0\n",
         target: "1\n1 0\n",
         status: 0,
-        out: "* #variable= 1 #constraint= 3\n+1 x1 >= 1 ;\n-1 x1 >= -1 ;\n-1 x1 >= -1 ;\n",
+        out: b"* #variable= 1 #constraint= 3\n+1 x1 >= 1 ;\n-1 x1 >= -1 ;\n-1 x1 >= -1 ;\n",
         err: "",
     },
     Encoded {
@@ -124,7 +91,7 @@ static ENCODED: [Encoded; 11] = [
         pattern: "1\n5 1 0 7\n",
         target: "1\n5 1 0 8\n",
         status: 0,
-        out: "* #variable= 1 #constraint= 4\n+1 x1 >= 1 ;\n-1 x1 >= -1 ;\n-1 x1 >= -1 ;\n-1 x1 >= 0 ;\n",
+        out: b"* #variable= 1 #constraint= 4\n+1 x1 >= 1 ;\n-1 x1 >= -1 ;\n-1 x1 >= -1 ;\n-1 x1 >= 0 ;\n",
         err: "",
     },
     Encoded {
@@ -132,7 +99,7 @@ static ENCODED: [Encoded; 11] = [
         pattern: "2\n0 2 1 7 1 8\n0 0\n",
         target: EDGE,
         status: 4,
-        out: "",
+        out: b"",
         err: "pattern: word 7: LabelClash\n",
     },
     Encoded {
@@ -140,7 +107,7 @@ static ENCODED: [Encoded; 11] = [
         pattern: "1\nx\n",
         target: "1\nx\n",
         status: 4,
-        out: "",
+        out: b"",
         err: "pattern: word 2: NotNumber\n",
     },
     Encoded {
@@ -148,7 +115,7 @@ static ENCODED: [Encoded; 11] = [
         pattern: EDGE,
         target: "1\nx\n",
         status: 4,
-        out: "",
+        out: b"",
         err: "target: word 2: NotNumber\n",
     },
     Encoded {
@@ -156,7 +123,7 @@ static ENCODED: [Encoded; 11] = [
         pattern: EDGE,
         target: EDGE,
         status: 5,
-        out: "",
+        out: b"",
         err: "files: fault\n",
     },
 ];

@@ -3,7 +3,6 @@ pub mod SharedRows
 pub mod Propagation
 pub mod Passing
 pub mod Led
-pub mod Greatest
 pub mod Rooted
 pub mod Claims
 pub mod Leading

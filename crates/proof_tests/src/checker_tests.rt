@@ -2,13 +2,13 @@
 
 ghost use Rattle.std.specs.Prelude.{◌<◌};
 
-use crate::worked_models::{THREE_INTO_TWO, TRIANGLE_INTO_CYCLE, TWO_LINES};
 use Expected::{Is, Stops};
 use log_theory::{Cause, Verdict};
 use opb_text::{Model, read_opb};
 use proof_checker::{Checked, Checker, check, check_file};
 use std::alloc::{AllocError, Global};
 use std::test::Fail;
+use worked_examples::models::{NO_TRIANGLE, NOT_BOTH, THREE_INTO_TWO, TRIANGLE_INTO_CYCLE};
 use worked_examples::{Example, InMemory, all_hold, files_in_memory};
 
 /// What is expected of a log.
@@ -28,12 +28,12 @@ pub fn is_expected(verdict: Verdict, expected: Expected) -> bool {
     }
 }
 
-/// What is behind the first two lines of a log over `TWO_LINES`, and what is expected.
+/// What is behind the first two lines of a log over `NOT_BOTH`, and what is expected.
 struct Shows(&'static str, Expected);
 
 impl<R> Example<R> for Shows {
     fn holds(&self, _rt: &R, alloc: Global) -> Result<bool, AllocError> {
-        let Ok(model) = read_opb(alloc, TWO_LINES) else {
+        let Ok(model) = read_opb(alloc, NOT_BOTH) else {
             return Ok(false);
         };
         let mut log = String::from_str(alloc, "embedding proof 1\nm 2\n")?;
@@ -98,14 +98,14 @@ fn logs_over_two_lines(rt: HostRuntime) -> Result<(), Fail> {
 /// A model's text, a whole log, and its verdict.
 pub struct Whole {
     pub model: &'static [u8],
-    pub log: &'static str,
+    pub log: &'static [u8],
     pub verdict: Expected,
 }
 
 impl<R> Example<R> for Whole {
     fn holds(&self, _rt: &R, alloc: Global) -> Result<bool, AllocError> {
         match read_opb(alloc, self.model) {
-            Ok(model) => Ok(is_expected(check(alloc, &model, self.log.as_bytes()), self.verdict)),
+            Ok(model) => Ok(is_expected(check(alloc, &model, self.log), self.verdict)),
             Err(_) => Ok(false),
         }
     }
@@ -123,43 +123,43 @@ const ALL_VARIABLES: &[u8] =
 
 static SMALL_MODELS: [Whole; 8] = [
     Whole {
-        model: TWO_LINES,
-        log: "",
+        model: NOT_BOTH,
+        log: b"",
         verdict: Stops(1, Cause::EndsEarly),
     },
     Whole {
-        model: TWO_LINES,
-        log: "embedding proof 3\n",
+        model: NOT_BOTH,
+        log: b"embedding proof 3\n",
         verdict: Stops(1, Cause::Form),
     },
     Whole {
-        model: TWO_LINES,
-        log: "embedding proof 2\n",
+        model: NOT_BOTH,
+        log: b"embedding proof 2\n",
         verdict: Stops(2, Cause::EndsEarly),
     },
     Whole {
-        model: TWO_LINES,
-        log: "embedding proof 1\nm 3\n",
+        model: NOT_BOTH,
+        log: b"embedding proof 1\nm 3\n",
         verdict: Stops(2, Cause::Form),
     },
     Whole {
         model: NOTHING,
-        log: "embedding proof 1\nm 0\ny\n",
+        log: b"embedding proof 1\nm 0\ny\n",
         verdict: Is(Verdict::Satisfiable),
     },
     Whole {
         model: NEVER,
-        log: "embedding proof 1\nm 2\ne 1\n",
+        log: b"embedding proof 1\nm 2\ne 1\n",
         verdict: Is(Verdict::Unsatisfiable),
     },
     Whole {
         model: NEVER,
-        log: "embedding proof 1\nm 2\ne 2\n",
+        log: b"embedding proof 1\nm 2\ne 2\n",
         verdict: Stops(3, Cause::NotFalse),
     },
     Whole {
         model: ALL_VARIABLES,
-        log: "embedding proof 1\nm 2\nu 0.1 ; 1 2 ;\nu 0.2 x9 ; 0.1 ;\ne 0.1\n",
+        log: b"embedding proof 1\nm 2\nu 0.1 ; 1 2 ;\nu 0.2 x9 ; 0.1 ;\ne 0.1\n",
         verdict: Is(Verdict::Unsatisfiable),
     },
 ];
@@ -172,7 +172,7 @@ fn head_lines_and_small_models(rt: HostRuntime) -> Result<(), Fail> {
 /// Three vertices go to two: the sum of all constraints, divided by three.
 static COUNTED: [Whole; 1] = [Whole {
     model: THREE_INTO_TWO,
-    log: "embedding proof 1\nm 8\np 0.1 1 3 + 5 + 7 + 8 + 3 d ;\ne 0.1\n",
+    log: b"embedding proof 1\nm 8\np 0.1 1 3 + 5 + 7 + 8 + 3 d ;\ne 0.1\n",
     verdict: Is(Verdict::Unsatisfiable),
 }];
 
@@ -192,32 +192,32 @@ const HEAVY: &[u8] = b"* #variable= 2 #constraint= 3
 static AROUND_2_31: [Whole; 6] = [
     Whole {
         model: HEAVY,
-        log: "embedding proof 1\nm 3\nu 0.1 ; 1 2 ;\ne 0.1\n",
+        log: b"embedding proof 1\nm 3\nu 0.1 ; 1 2 ;\ne 0.1\n",
         verdict: Is(Verdict::Unsatisfiable),
     },
     Whole {
         model: HEAVY,
-        log: "embedding proof 2\nm 3\nu 0.1 ;\ne 0.1\n",
+        log: b"embedding proof 2\nm 3\nu 0.1 ;\ne 0.1\n",
         verdict: Is(Verdict::Unsatisfiable),
     },
     Whole {
         model: HEAVY,
-        log: "embedding proof 1\nm 3\nu 0.1 ; 2 3 ;\n",
+        log: b"embedding proof 1\nm 3\nu 0.1 ; 2 3 ;\n",
         verdict: Stops(3, Cause::NoConflict),
     },
     Whole {
         model: HEAVY,
-        log: "embedding proof 1\nm 3\ny x1 x2\n",
+        log: b"embedding proof 1\nm 3\ny x1 x2\n",
         verdict: Stops(3, Cause::NotSolution),
     },
     Whole {
-        model: TWO_LINES,
-        log: "embedding proof 1\nm 2\np 0.1 1 2147483647 * ;\np 0.2 0.1 1 + ;\np 0.3 2 2147483648 * 0.2 + ;\ne 0.3\n",
+        model: NOT_BOTH,
+        log: b"embedding proof 1\nm 2\np 0.1 1 2147483647 * ;\np 0.2 0.1 1 + ;\np 0.3 2 2147483648 * 0.2 + ;\ne 0.3\n",
         verdict: Is(Verdict::Unsatisfiable),
     },
     Whole {
-        model: TWO_LINES,
-        log: "embedding proof 1\nm 2\np 0.1 1 4294967296 * 4294967296 d 2 + ;\ne 0.1\n",
+        model: NOT_BOTH,
+        log: b"embedding proof 1\nm 2\np 0.1 1 4294967296 * 4294967296 d 2 + ;\ne 0.1\n",
         verdict: Is(Verdict::Unsatisfiable),
     },
 ];
@@ -226,24 +226,6 @@ static AROUND_2_31: [Whole; 6] = [
 fn coefficients_around_2_31(rt: HostRuntime) -> Result<(), Fail> {
     all_hold(&rt, rt.alloc(), &AROUND_2_31)
 }
-
-const WHOLE_LOG: &[u8] = b"embedding proof 1
-m 34
-p 0.1 15 24 + 6 + ;
-p 0.2 15 26 + 6 + ;
-u 0.3 ~x1 ; 0.1 0.2 11 ;
-p 0.4 16 23 + 6 + ;
-p 0.5 16 25 + 6 + ;
-u 0.6 ~x2 ; 0.4 0.5 12 ;
-p 0.7 17 24 + 6 + ;
-p 0.8 17 26 + 6 + ;
-u 0.9 ~x3 ; 0.7 0.8 13 ;
-p 0.10 18 23 + 6 + ;
-p 0.11 18 25 + 6 + ;
-u 0.12 ~x4 ; 0.10 0.11 14 ;
-u 0.13 ; 0.3 0.6 0.9 0.12 1 ;
-e 0.13
-";
 
 /// How many bytes the first front of a log has that does not end early, at the line after its last whole one.
 fn first_front_that_ends(alloc: Global, model: &Model, log: &[u8]) -> usize {
@@ -264,22 +246,22 @@ fn first_front_that_ends(alloc: Global, model: &Model, log: &[u8]) -> usize {
 fn each_front_of_an_accepted_log_ends_early(rt: HostRuntime) -> Result<(), Fail> {
     let alloc = rt.alloc();
     let model = read_opb(alloc, TRIANGLE_INTO_CYCLE).ok().ok_or("no model")?;
-    let is_accepted = check(alloc, &model, WHOLE_LOG) == Verdict::Unsatisfiable;
-    let front = first_front_that_ends(alloc, &model, WHOLE_LOG);
-    assert!(rt; is_accepted && front == WHOLE_LOG.len());
+    let is_accepted = check(alloc, &model, NO_TRIANGLE) == Verdict::Unsatisfiable;
+    let front = first_front_that_ends(alloc, &model, NO_TRIANGLE);
+    assert!(rt; is_accepted && front == NO_TRIANGLE.len());
     Ok(())
 }
 
 /// Two logs over two constraints, whole.
 static FROM_TEXTS: [Whole; 2] = [
     Whole {
-        model: TWO_LINES,
-        log: "embedding proof 1\nm 2\nu 0.1 ; 1 2 ;\ne 0.1\n",
+        model: NOT_BOTH,
+        log: b"embedding proof 1\nm 2\nu 0.1 ; 1 2 ;\ne 0.1\n",
         verdict: Is(Verdict::Unsatisfiable),
     },
     Whole {
-        model: TWO_LINES,
-        log: "embedding proof 1\nm 2\nu 0.1 ; 2 ;\ne 0.1\n",
+        model: NOT_BOTH,
+        log: b"embedding proof 1\nm 2\nu 0.1 ; 2 ;\ne 0.1\n",
         verdict: Stops(3, Cause::NoConflict),
     },
 ];
@@ -320,7 +302,7 @@ fn shows_however_cut(
 fn a_log_is_accepted_however_it_is_cut(rt: HostRuntime) -> Result<(), Fail> {
     let alloc = rt.alloc();
     let model = read_opb(alloc, TRIANGLE_INTO_CYCLE).ok().ok_or("no model")?;
-    let same = shows_however_cut(alloc, &model, WHOLE_LOG, Is(Verdict::Unsatisfiable))?;
+    let same = shows_however_cut(alloc, &model, NO_TRIANGLE, Is(Verdict::Unsatisfiable))?;
     assert!(rt; same);
     Ok(())
 }
@@ -328,7 +310,7 @@ fn a_log_is_accepted_however_it_is_cut(rt: HostRuntime) -> Result<(), Fail> {
 #[test]
 fn text_behind_a_claim_is_refused_however_it_is_cut(rt: HostRuntime) -> Result<(), Fail> {
     let alloc = rt.alloc();
-    let model = read_opb(alloc, TWO_LINES).ok().ok_or("no model")?;
+    let model = read_opb(alloc, NOT_BOTH).ok().ok_or("no model")?;
     let log = b"embedding proof 1\nm 2\nq\nq\nx";
     let same = shows_however_cut(alloc, &model, log, Stops(4, Cause::Form))?;
     assert!(rt; same);
@@ -403,7 +385,7 @@ static IN_FILES: [InFile; 8] = [
 
 impl<R> Example<R> for InFile {
     fn holds(&self, _rt: &R, alloc: Global) -> Result<bool, AllocError> {
-        let Ok(model) = read_opb(alloc, TWO_LINES) else {
+        let Ok(model) = read_opb(alloc, NOT_BOTH) else {
             return Ok(false);
         };
         let file = InMemory("l", Some(self.log.as_bytes()), 0);

@@ -1,16 +1,15 @@
 //! Worked problems and the texts of their encodings.
 
-ghost use Rattle.std.specs.Prelude.{◌≡◌, ◌<◌};
-ghost use Rattle.graph_theory.specs.Graph.{size};
-ghost use Rattle.encoding_theory.specs.Pairs.{is_edge_pair as is_edge, is_non_edge_pair as is_non_edge};
+ghost use Rattle.std.specs.Prelude.{◌≡◌};
 
 use graph_rows::Problem;
 use lad_reader::LadKind;
 use outer_io::MemorySink;
-use pb_encoding::Encoding;
+use pb_encoding::{Encoding, is_edge_pair, is_non_edge_pair};
 use sample_graphs::{EDGE, FOUR_CYCLE, TRIANGLE, graph_in};
 use std::alloc::{AllocError, Global};
 use std::test::Fail;
+use worked_examples::models::{EDGE_INTO_EDGE, LOOP_INTO_TWO, ONE_WAY, THREE_INTO_TWO};
 use worked_examples::{Example, all_hold};
 
 const SECOND_WITH_LOOP: &[u8] = b"2 0 1 1";
@@ -28,142 +27,55 @@ fn problem(
     Some(Problem::new(pattern, target, induced))
 }
 
-/// Whether this is the text of the encoding of a problem.
-fn is_text(alloc: Global, q: &Problem, text: &str) -> Result<bool, AllocError> {
-    let encoding = Encoding::new(alloc, q)?;
-    let mut sink = MemorySink::new(alloc, 4096, Vec::new(alloc))?;
-    Ok(encoding.write(alloc, &mut sink).is_ok() && sink.bytes() == text.as_bytes())
+/// The text that these pieces make.
+fn joined(alloc: Global, pieces: &[&[u8]]) -> Result<Vec<u8>, AllocError> {
+    let mut text = Vec::new(alloc);
+    for piece in pieces {
+        text.extend_from_slice(piece)?;
+    }
+    Ok(text)
 }
 
-const EDGE_INTO_EDGE: &str = "* #variable= 4 #constraint= 10
-+1 x1 +1 x2 >= 1 ;
+/// Whether this is the text of the encoding of a problem.
+fn is_text(alloc: Global, q: &Problem, text: &[u8]) -> Result<bool, AllocError> {
+    let encoding = Encoding::new(alloc, q)?;
+    let mut sink = MemorySink::new(alloc, 4096, Vec::new(alloc))?;
+    Ok(encoding.write(alloc, &mut sink).is_ok() && sink.bytes() == text)
+}
+
+/// That two vertices go to two.
+const TWO_TO_TWO: &[u8] = b"+1 x1 +1 x2 >= 1 ;
 -1 x1 -1 x2 >= -1 ;
 +1 x3 +1 x4 >= 1 ;
 -1 x3 -1 x4 >= -1 ;
 -1 x1 -1 x3 >= -1 ;
 -1 x2 -1 x4 >= -1 ;
--1 x1 +1 x4 >= 0 ;
--1 x2 +1 x3 >= 0 ;
-+1 x2 -1 x3 >= 0 ;
-+1 x1 -1 x4 >= 0 ;
 ";
 
-const THREE_INTO_TWO: &str = "* #variable= 6 #constraint= 8
-+1 x1 +1 x2 >= 1 ;
--1 x1 -1 x2 >= -1 ;
-+1 x3 +1 x4 >= 1 ;
--1 x3 -1 x4 >= -1 ;
-+1 x5 +1 x6 >= 1 ;
--1 x5 -1 x6 >= -1 ;
--1 x1 -1 x3 -1 x5 >= -1 ;
--1 x2 -1 x4 -1 x6 >= -1 ;
-";
-
-const LOOP_INTO_TWO: &str = "* #variable= 2 #constraint= 5
-+1 x1 +1 x2 >= 1 ;
--1 x1 -1 x2 >= -1 ;
--1 x1 >= -1 ;
--1 x2 >= -1 ;
--1 x1 >= 0 ;
-";
-
-const VERTEX_INTO_TWO: &str = "* #variable= 2 #constraint= 5
-+1 x1 +1 x2 >= 1 ;
--1 x1 -1 x2 >= -1 ;
--1 x1 >= -1 ;
--1 x2 >= -1 ;
--1 x2 >= 0 ;
-";
-
-const TWO_INTO_EDGE: &str = "* #variable= 4 #constraint= 10
-+1 x1 +1 x2 >= 1 ;
--1 x1 -1 x2 >= -1 ;
-+1 x3 +1 x4 >= 1 ;
--1 x3 -1 x4 >= -1 ;
--1 x1 -1 x3 >= -1 ;
--1 x2 -1 x4 >= -1 ;
--1 x1 >= 0 ;
--1 x2 >= 0 ;
--1 x3 >= 0 ;
--1 x4 >= 0 ;
-";
-
-const ONE_WAY: &str = "* #variable= 4 #constraint= 10
-+1 x1 +1 x2 >= 1 ;
--1 x1 -1 x2 >= -1 ;
-+1 x3 +1 x4 >= 1 ;
--1 x3 -1 x4 >= -1 ;
--1 x1 -1 x3 >= -1 ;
--1 x2 -1 x4 >= -1 ;
--1 x1 +1 x4 >= 0 ;
--1 x2 >= 0 ;
--1 x3 >= 0 ;
-+1 x1 -1 x4 >= 0 ;
-";
-
-const INDUCED_ONE_WAY: &str = "* #variable= 6 #constraint= 13
-+1 x1 +1 x2 +1 x3 >= 1 ;
+/// That two vertices go to three.
+const TWO_TO_THREE: &[u8] = b"+1 x1 +1 x2 +1 x3 >= 1 ;
 -1 x1 -1 x2 -1 x3 >= -1 ;
 +1 x4 +1 x5 +1 x6 >= 1 ;
 -1 x4 -1 x5 -1 x6 >= -1 ;
 -1 x1 -1 x4 >= -1 ;
 -1 x2 -1 x5 >= -1 ;
 -1 x3 -1 x6 >= -1 ;
--1 x1 +1 x6 >= 0 ;
--1 x2 >= 0 ;
--1 x3 >= 0 ;
--1 x4 >= 0 ;
--1 x5 >= 0 ;
-+1 x1 -1 x6 >= 0 ;
 ";
 
-const INDUCED_APART: &str = "* #variable= 6 #constraint= 13
-+1 x1 +1 x2 +1 x3 >= 1 ;
--1 x1 -1 x2 -1 x3 >= -1 ;
-+1 x4 +1 x5 +1 x6 >= 1 ;
--1 x4 -1 x5 -1 x6 >= -1 ;
--1 x1 -1 x4 >= -1 ;
--1 x2 -1 x5 >= -1 ;
--1 x3 -1 x6 >= -1 ;
--1 x1 +1 x6 >= 0 ;
--1 x2 +1 x6 >= 0 ;
--1 x3 +1 x4 +1 x5 >= 0 ;
-+1 x3 -1 x4 >= 0 ;
-+1 x3 -1 x5 >= 0 ;
-+1 x1 +1 x2 -1 x6 >= 0 ;
-";
-
-const LABELS_OF_EDGES: &str = "* #variable= 6 #constraint= 15
-+1 x1 +1 x2 +1 x3 >= 1 ;
--1 x1 -1 x2 -1 x3 >= -1 ;
-+1 x4 +1 x5 +1 x6 >= 1 ;
--1 x4 -1 x5 -1 x6 >= -1 ;
--1 x1 -1 x4 >= -1 ;
--1 x2 -1 x5 >= -1 ;
--1 x3 -1 x6 >= -1 ;
--1 x2 >= 0 ;
--1 x3 >= 0 ;
--1 x1 +1 x5 >= 0 ;
--1 x2 >= 0 ;
--1 x3 +1 x5 >= 0 ;
--1 x4 >= 0 ;
-+1 x1 +1 x3 -1 x5 >= 0 ;
--1 x6 >= 0 ;
-";
-
-/// The format of two graphs, the graphs, whether the copy is to be induced, and the text of the encoding.
+/// The format of two graphs, the graphs, whether the copy is to be induced, and the text of the encoding in pieces.
 struct Encoded {
     kind: LadKind,
     pattern: &'static [u8],
     target: &'static [u8],
     induced: bool,
-    text: &'static str,
+    text: &'static [&'static [u8]],
 }
 
 impl<R> Example<R> for Encoded {
     fn holds(&self, _rt: &R, alloc: Global) -> Result<bool, AllocError> {
+        let text = joined(alloc, self.text)?;
         match problem(alloc, self.pattern, self.target, self.kind, self.induced) {
-            Some(q) => is_text(alloc, &q, self.text),
+            Some(q) => is_text(alloc, &q, &text),
             None => Ok(false),
         }
     }
@@ -176,7 +88,7 @@ static ENCODED: [Encoded; 11] = [
         pattern: EDGE,
         target: EDGE,
         induced: false,
-        text: EDGE_INTO_EDGE,
+        text: &[EDGE_INTO_EDGE],
     },
     // nothing into nothing
     Encoded {
@@ -184,7 +96,7 @@ static ENCODED: [Encoded; 11] = [
         pattern: b"0",
         target: b"0",
         induced: false,
-        text: "* #variable= 0 #constraint= 0\n",
+        text: &[b"* #variable= 0 #constraint= 0\n"],
     },
     // a vertex into nothing
     Encoded {
@@ -192,7 +104,7 @@ static ENCODED: [Encoded; 11] = [
         pattern: b"1 0",
         target: b"0",
         induced: false,
-        text: "* #variable= 0 #constraint= 2\n>= 1 ;\n>= -1 ;\n",
+        text: &[b"* #variable= 0 #constraint= 2\n>= 1 ;\n>= -1 ;\n"],
     },
     // three vertices into two
     Encoded {
@@ -200,7 +112,7 @@ static ENCODED: [Encoded; 11] = [
         pattern: b"3 0 0 0",
         target: b"2 0 0",
         induced: false,
-        text: THREE_INTO_TWO,
+        text: &[THREE_INTO_TWO],
     },
     // a loop into two vertices
     Encoded {
@@ -208,7 +120,7 @@ static ENCODED: [Encoded; 11] = [
         pattern: b"1 1 0",
         target: SECOND_WITH_LOOP,
         induced: false,
-        text: LOOP_INTO_TWO,
+        text: &[LOOP_INTO_TWO],
     },
     // a vertex into the same, induced
     Encoded {
@@ -216,7 +128,10 @@ static ENCODED: [Encoded; 11] = [
         pattern: b"1 0",
         target: SECOND_WITH_LOOP,
         induced: true,
-        text: VERTEX_INTO_TWO,
+        text: &[
+            b"* #variable= 2 #constraint= 5\n+1 x1 +1 x2 >= 1 ;\n-1 x1 -1 x2 >= -1 ;\n\
+                -1 x1 >= -1 ;\n-1 x2 >= -1 ;\n-1 x2 >= 0 ;\n",
+        ],
     },
     // two vertices into an edge, induced
     Encoded {
@@ -224,7 +139,11 @@ static ENCODED: [Encoded; 11] = [
         pattern: b"2 0 0",
         target: EDGE,
         induced: true,
-        text: TWO_INTO_EDGE,
+        text: &[
+            b"* #variable= 4 #constraint= 10\n",
+            TWO_TO_TWO,
+            b"-1 x1 >= 0 ;\n-1 x2 >= 0 ;\n-1 x3 >= 0 ;\n-1 x4 >= 0 ;\n",
+        ],
     },
     // an edge one way into the same
     Encoded {
@@ -232,7 +151,7 @@ static ENCODED: [Encoded; 11] = [
         pattern: b"2 1 1 0",
         target: b"2 1 1 0",
         induced: false,
-        text: ONE_WAY,
+        text: &[ONE_WAY],
     },
     // an edge one way into two vertices with an edge both ways and a third with one from the first, induced
     Encoded {
@@ -240,7 +159,12 @@ static ENCODED: [Encoded; 11] = [
         pattern: b"2 1 1 0",
         target: b"3 2 1 2 1 0 0",
         induced: true,
-        text: INDUCED_ONE_WAY,
+        text: &[
+            b"* #variable= 6 #constraint= 13\n",
+            TWO_TO_THREE,
+            b"-1 x1 +1 x6 >= 0 ;\n-1 x2 >= 0 ;\n-1 x3 >= 0 ;\n-1 x4 >= 0 ;\n-1 x5 >= 0 ;\n\
+                +1 x1 -1 x6 >= 0 ;\n",
+        ],
     },
     // two vertices into an edge one way and a third vertex, induced
     Encoded {
@@ -248,7 +172,12 @@ static ENCODED: [Encoded; 11] = [
         pattern: b"2 0 0",
         target: b"3 1 1 0 0",
         induced: true,
-        text: INDUCED_APART,
+        text: &[
+            b"* #variable= 6 #constraint= 13\n",
+            TWO_TO_THREE,
+            b"-1 x1 +1 x6 >= 0 ;\n-1 x2 +1 x6 >= 0 ;\n-1 x3 +1 x4 +1 x5 >= 0 ;\n\
+                +1 x3 -1 x4 >= 0 ;\n+1 x3 -1 x5 >= 0 ;\n+1 x1 +1 x2 -1 x6 >= 0 ;\n",
+        ],
     },
     // a loop and an edge with labels into two such loops and three such edges
     Encoded {
@@ -256,7 +185,12 @@ static ENCODED: [Encoded; 11] = [
         pattern: b"2 0 2 0 3 1 7 0 0",
         target: b"3 0 3 0 3 1 7 2 8 0 0 0 2 1 7 2 4",
         induced: false,
-        text: LABELS_OF_EDGES,
+        text: &[
+            b"* #variable= 6 #constraint= 15\n",
+            TWO_TO_THREE,
+            b"-1 x2 >= 0 ;\n-1 x3 >= 0 ;\n-1 x1 +1 x5 >= 0 ;\n-1 x2 >= 0 ;\n\
+                -1 x3 +1 x5 >= 0 ;\n-1 x4 >= 0 ;\n+1 x1 +1 x3 -1 x5 >= 0 ;\n-1 x6 >= 0 ;\n",
+        ],
     },
 ];
 
@@ -265,48 +199,23 @@ fn makes_each_line(rt: HostRuntime) -> Result<(), Fail> {
     all_hold(&rt, rt.alloc(), &ENCODED)
 }
 
-const LABELLED_EDGE: &str = "* #variable= 4 #constraint= 12
-+1 x1 +1 x2 >= 1 ;
--1 x1 -1 x2 >= -1 ;
-+1 x3 +1 x4 >= 1 ;
--1 x3 -1 x4 >= -1 ;
--1 x1 -1 x3 >= -1 ;
--1 x2 -1 x4 >= -1 ;
--1 x2 >= 0 ;
--1 x3 >= 0 ;
--1 x1 +1 x4 >= 0 ;
--1 x2 +1 x3 >= 0 ;
-+1 x2 -1 x3 >= 0 ;
-+1 x1 -1 x4 >= 0 ;
-";
+/// An edge into the same, where each end has a label of its own.
+static OTHER_LABELS: [Encoded; 1] = [Encoded {
+    kind: LadKind::VertexLabelledLad,
+    pattern: b"2 1 1 1 2 1 0",
+    target: b"2 1 1 1 2 1 0",
+    induced: false,
+    text: &[
+        b"* #variable= 4 #constraint= 12\n",
+        TWO_TO_TWO,
+        b"-1 x2 >= 0 ;\n-1 x3 >= 0 ;\n-1 x1 +1 x4 >= 0 ;\n-1 x2 +1 x3 >= 0 ;\n\
+            +1 x2 -1 x3 >= 0 ;\n+1 x1 -1 x4 >= 0 ;\n",
+    ],
+}];
 
 #[test]
 fn refuses_other_labels(rt: HostRuntime) -> Result<(), Fail> {
-    let edge = b"2 1 1 1 2 1 0";
-    let q = problem(rt.alloc(), edge, edge, LadKind::VertexLabelledLad, false);
-    let q = q.ok_or("no problem")?;
-    assert!(rt; is_text(rt.alloc(), &q, LABELLED_EDGE)?);
-    Ok(())
-}
-
-/// Whether the two vertices have an edge between them.
-fn is_edge_pair(q: &Problem, p: u16, r: u16) -> bool
-    requires p_in { p < size q.now.pattern }
-    requires r_in { r < size q.now.pattern }
-    ensures { result ≡ is_edge q.now p r }
-{
-    let pattern = q.pattern();
-    p != r && (pattern.has_edge(p, r) || pattern.has_edge(r, p))
-}
-
-/// Whether they have none, and are to have none between their images.
-fn is_non_edge_pair(q: &Problem, p: u16, r: u16) -> bool
-    requires p_in { p < size q.now.pattern }
-    requires r_in { r < size q.now.pattern }
-    ensures { result ≡ is_non_edge q.now p r }
-{
-    let pattern = q.pattern();
-    q.induced() && p != r && !pattern.has_edge(p, r) && !pattern.has_edge(r, p)
+    all_hold(&rt, rt.alloc(), &OTHER_LABELS)
 }
 
 /// The number of the line of a pair with an edge, where there is one.

@@ -24,5 +24,3 @@ mod model_tests;
 mod plain_tests;
 #[cfg(test)]
 mod sum_tests;
-#[cfg(test)]
-mod worked_models;

@@ -2,7 +2,6 @@
 
 ghost use Rattle.std.specs.Prelude.{◌≡◌, ◌+◌, ◌≤◌, [], ◌∷◌, length, IfOk, OnOk};
 
-use crate::worked_models::TRIANGLE_INTO_CYCLE;
 use journals::{Journal, Keeper};
 use log_theory::{Cause, Name, Profile, Step, Variables, Verdict};
 use merged_log::{write_refutation, write_solution, write_undecided};
@@ -13,6 +12,7 @@ use proof_checker::check;
 use proof_log::read_step;
 use std::alloc::{AllocError, Global};
 use std::test::Fail;
+use worked_examples::models::TRIANGLE_INTO_CYCLE;
 use worked_examples::{Example, all_hold};
 
 /// Keeps the line that a text tells.

@@ -4,6 +4,7 @@ use opb_text::{Model, OpbFault, read_opb, write_opb};
 use outer_io::MemorySink;
 use std::alloc::{AllocError, Global};
 use std::test::Fail;
+use worked_examples::models::{EDGE_INTO_EDGE, THREE_INTO_TWO};
 use worked_examples::{Example, all_hold};
 
 /// The text that a model is written as.
@@ -171,19 +172,6 @@ fn tells_the_first_fault(rt: HostRuntime) -> Result<(), Fail> {
     all_hold(&rt, rt.alloc(), &FAULTY)
 }
 
-const EDGE_INTO_EDGE: &[u8] = b"* #variable= 4 #constraint= 10
-+1 x1 +1 x2 >= 1 ;
--1 x1 -1 x2 >= -1 ;
-+1 x3 +1 x4 >= 1 ;
--1 x3 -1 x4 >= -1 ;
--1 x1 -1 x3 >= -1 ;
--1 x2 -1 x4 >= -1 ;
--1 x1 +1 x4 >= 0 ;
--1 x2 +1 x3 >= 0 ;
-+1 x2 -1 x3 >= 0 ;
-+1 x1 -1 x4 >= 0 ;
-";
-
 /// A text, and what then is written, or the fault.
 struct Read(&'static [u8], &'static str);
 
@@ -253,18 +241,7 @@ static WRITTEN: [Written; 5] = [
     Written(b"* #variable= 0 #constraint= 0\n"),
     Written(b"* #variable= 0 #constraint= 2\n>= 1 ;\n>= -1 ;\n"),
     Written(EDGE_INTO_EDGE),
-    Written(
-        b"* #variable= 6 #constraint= 8
-+1 x1 +1 x2 >= 1 ;
--1 x1 -1 x2 >= -1 ;
-+1 x3 +1 x4 >= 1 ;
--1 x3 -1 x4 >= -1 ;
-+1 x5 +1 x6 >= 1 ;
--1 x5 -1 x6 >= -1 ;
--1 x1 -1 x3 -1 x5 >= -1 ;
--1 x2 -1 x4 -1 x6 >= -1 ;
-",
-    ),
+    Written(THREE_INTO_TWO),
     Written(
         b"* #variable= 2 #constraint= 3\n+3 x1 -2 x2 >= 1 ;\n+5 x1 +1 x2 >= 2 ;\n+2 x1 -1 x2 >= 1 ;\n",
     ),

@@ -2,12 +2,14 @@
 
 use crate::checker_tests::Expected::{self, Is, Stops};
 use crate::checker_tests::{Whole, is_expected};
-use crate::worked_models::{THREE_INTO_TWO, TRIANGLE_INTO_CYCLE, TWO_LINES};
 use log_theory::{Cause, Verdict};
 use opb_text::read_opb;
 use proof_checker::check;
 use std::alloc::{AllocError, Global};
 use std::test::Fail;
+use worked_examples::models::{
+    NO_TRIANGLE_WITHOUT_HINTS, NOT_BOTH, OPEN, THREE_INTO_TWO, TRIANGLE_INTO_CYCLE,
+};
 use worked_examples::{Example, all_hold};
 
 /// A model of two constraints, what is behind the first two lines of a log over it, and what is expected.
@@ -24,29 +26,26 @@ impl<R> Example<R> for Behind {
     }
 }
 
-/// That one of two variables is one, and that it is `x1` where `x2` is.
-const OPEN: &[u8] = b"* #variable= 2 #constraint= 2\n+1 x1 +1 x2 >= 1 ;\n+1 x1 -1 x2 >= 0 ;\n";
-
 static SHORT: [Behind; 16] = [
-    Behind(TWO_LINES, "u 0.1 ;\ne 0.1\n", Is(Verdict::Unsatisfiable)),
+    Behind(NOT_BOTH, "u 0.1 ;\ne 0.1\n", Is(Verdict::Unsatisfiable)),
     Behind(
-        TWO_LINES,
+        NOT_BOTH,
         "p 0.1 1 2 + ;\ne 0.1\n",
         Is(Verdict::Unsatisfiable),
     ),
     Behind(
-        TWO_LINES,
+        NOT_BOTH,
         "u 0.1 ~x1 ;\nu 0.2 x1 ;\nq\n",
         Is(Verdict::Undecided),
     ),
-    Behind(TWO_LINES, "u 0.1 ; 2 ;\n", Stops(3, Cause::Form)),
-    Behind(TWO_LINES, "u 0.1 ; ;\n", Stops(3, Cause::Form)),
-    Behind(TWO_LINES, "u 0.1 x1\n", Stops(3, Cause::Form)),
-    Behind(TWO_LINES, "u 0.1 x2 ;\n", Stops(3, Cause::Form)),
-    Behind(TWO_LINES, "u 0.1 ;\nu 0.1 ;\n", Stops(4, Cause::NameUsed)),
-    Behind(TWO_LINES, "u 0.2 x1 x1 ;\n", Stops(3, Cause::Order)),
-    Behind(TWO_LINES, "u 0.1 x1 ~x1 ;\n", Stops(3, Cause::Twice)),
-    Behind(TWO_LINES, "embedding proof 2\n", Stops(3, Cause::Form)),
+    Behind(NOT_BOTH, "u 0.1 ; 2 ;\n", Stops(3, Cause::Form)),
+    Behind(NOT_BOTH, "u 0.1 ; ;\n", Stops(3, Cause::Form)),
+    Behind(NOT_BOTH, "u 0.1 x1\n", Stops(3, Cause::Form)),
+    Behind(NOT_BOTH, "u 0.1 x2 ;\n", Stops(3, Cause::Form)),
+    Behind(NOT_BOTH, "u 0.1 ;\nu 0.1 ;\n", Stops(4, Cause::NameUsed)),
+    Behind(NOT_BOTH, "u 0.2 x1 x1 ;\n", Stops(3, Cause::Order)),
+    Behind(NOT_BOTH, "u 0.1 x1 ~x1 ;\n", Stops(3, Cause::Twice)),
+    Behind(NOT_BOTH, "embedding proof 2\n", Stops(3, Cause::Form)),
     Behind(OPEN, "u 0.1 ;\n", Stops(3, Cause::NoConflict)),
     Behind(OPEN, "u 0.1 x1 ;\nq\n", Is(Verdict::Undecided)),
     // What a line made is there for the next one, and what it assumed is not.
@@ -76,25 +75,22 @@ fn short_logs_without_hints(rt: HostRuntime) -> Result<(), Fail> {
 static WHOLE: [Whole; 4] = [
     Whole {
         model: THREE_INTO_TWO,
-        log: "embedding proof 2\nm 8\np 0.1 1 3 + 5 + 7 + 8 + 3 d ;\ne 0.1\n",
+        log: b"embedding proof 2\nm 8\np 0.1 1 3 + 5 + 7 + 8 + 3 d ;\ne 0.1\n",
         verdict: Is(Verdict::Unsatisfiable),
     },
     Whole {
         model: THREE_INTO_TWO,
-        log: "embedding proof 2\nm 8\nu 0.1 ~x1 ;\nu 0.2 ;\ne 0.2\n",
+        log: b"embedding proof 2\nm 8\nu 0.1 ~x1 ;\nu 0.2 ;\ne 0.2\n",
         verdict: Is(Verdict::Unsatisfiable),
     },
     Whole {
         model: THREE_INTO_TWO,
-        log: "embedding proof 2\nm 8\nu 0.1 ;\n",
+        log: b"embedding proof 2\nm 8\nu 0.1 ;\n",
         verdict: Stops(3, Cause::NoConflict),
     },
     Whole {
         model: TRIANGLE_INTO_CYCLE,
-        log: "embedding proof 2\nm 34\np 0.1 15 24 + 6 + ;\np 0.2 15 26 + 6 + ;\nu 0.3 ~x1 ;\n\
-            p 0.4 16 23 + 6 + ;\np 0.5 16 25 + 6 + ;\nu 0.6 ~x2 ;\np 0.7 17 24 + 6 + ;\n\
-            p 0.8 17 26 + 6 + ;\nu 0.9 ~x3 ;\np 0.10 18 23 + 6 + ;\np 0.11 18 25 + 6 + ;\n\
-            u 0.12 ~x4 ;\nu 0.13 ;\ne 0.13\n",
+        log: NO_TRIANGLE_WITHOUT_HINTS,
         verdict: Is(Verdict::Unsatisfiable),
     },
 ];

@@ -4,63 +4,25 @@ use memory_runs::{EDGE, FOUR_CYCLE, Ran, TRIANGLE, check_over, run_pair};
 use std::alloc::{AllocError, Global};
 use std::test::Fail;
 use std::thread::Threads;
+use worked_examples::models::{NO_TRIANGLE, NO_TRIANGLE_WITHOUT_HINTS};
 use worked_examples::none_wrong;
 
-/// A refutation of a triangle in a cycle of four vertices: each image of the first vertex leaves its neighbours two values
-/// that have no edge between them.
-const NO_TRIANGLE: &str = "embedding proof 1
-m 34
-p 0.1 15 24 + 6 + ;
-p 0.2 15 26 + 6 + ;
-u 0.3 ~x1 ; 0.1 0.2 11 ;
-p 0.4 16 23 + 6 + ;
-p 0.5 16 25 + 6 + ;
-u 0.6 ~x2 ; 0.4 0.5 12 ;
-p 0.7 17 24 + 6 + ;
-p 0.8 17 26 + 6 + ;
-u 0.9 ~x3 ; 0.7 0.8 13 ;
-p 0.10 18 23 + 6 + ;
-p 0.11 18 25 + 6 + ;
-u 0.12 ~x4 ; 0.10 0.11 14 ;
-u 0.13 ; 0.3 0.6 0.9 0.12 1 ;
-e 0.13
-";
-
-/// The same without hints.
-const WITHOUT_HINTS: &str = "embedding proof 2
-m 34
-p 0.1 15 24 + 6 + ;
-p 0.2 15 26 + 6 + ;
-u 0.3 ~x1 ;
-p 0.4 16 23 + 6 + ;
-p 0.5 16 25 + 6 + ;
-u 0.6 ~x2 ;
-p 0.7 17 24 + 6 + ;
-p 0.8 17 26 + 6 + ;
-u 0.9 ~x3 ;
-p 0.10 18 23 + 6 + ;
-p 0.11 18 25 + 6 + ;
-u 0.12 ~x4 ;
-u 0.13 ;
-e 0.13
-";
-
 /// A refutation of three vertices in two: each of the three has an image, and each of the two is the image of one.
-const NO_THIRD: &str = "embedding proof 1\nm 8\np 0.1 1 3 + 5 + 7 + 8 + 3 d ;\ne 0.1\n";
+const NO_THIRD: &[u8] = b"embedding proof 1\nm 8\np 0.1 1 3 + 5 + 7 + 8 + 3 d ;\ne 0.1\n";
 
 /// Words, two graphs, and what a check writes of a log over the encoding that the words come to.
 struct Accepted {
     line: &'static str,
     pattern: &'static str,
     target: &'static str,
-    log: &'static str,
+    log: &'static [u8],
     out: &'static str,
 }
 
 /// Whether the runs of a row end so.
 fn holds<R: Threads + Sync>(rt: &R, alloc: Global, row: &Accepted) -> Result<bool, AllocError> {
     let encoded = run_pair(rt, alloc, row.line, row.pattern, row.target)?;
-    let checked = check_of(rt, alloc, &encoded, row.log)?;
+    let checked = check_over(rt, alloc, encoded.out.bytes(), row.log)?;
     Ok(encoded.status == 0 && checked.gave(0, row.out, ""))
 }
 
@@ -78,29 +40,19 @@ fn first_wrong<R: Threads + Sync>(
     Ok(None)
 }
 
-/// Checks the log over the encoding that was written.
-fn check_of<R: Threads + Sync>(
-    rt: &R,
-    alloc: Global,
-    encoded: &Ran,
-    log: &str,
-) -> Result<Ran, AllocError> {
-    check_over(rt, alloc, encoded.out.bytes(), log.as_bytes())
-}
-
 static ACCEPTED: [Accepted; 7] = [
     Accepted {
         line: "subgraph encode p t",
         pattern: "0\n",
         target: "0\n",
-        log: "embedding proof 1\nm 0\ny\n",
+        log: b"embedding proof 1\nm 0\ny\n",
         out: "accepted satisfiable\n",
     },
     Accepted {
         line: "subgraph encode p t",
         pattern: "1\n0\n",
         target: "0\n",
-        log: "embedding proof 1\nm 2\ne 1\n",
+        log: b"embedding proof 1\nm 2\ne 1\n",
         out: "accepted unsatisfiable\n",
     },
     Accepted {
@@ -121,21 +73,21 @@ static ACCEPTED: [Accepted; 7] = [
         line: "subgraph encode p t",
         pattern: TRIANGLE,
         target: FOUR_CYCLE,
-        log: WITHOUT_HINTS,
+        log: NO_TRIANGLE_WITHOUT_HINTS,
         out: "accepted unsatisfiable\n",
     },
     Accepted {
         line: "subgraph encode p t",
         pattern: "1\n1 0\n",
         target: "2\n0\n1 1\n",
-        log: "embedding proof 1\nm 5\ny x2\n",
+        log: b"embedding proof 1\nm 5\ny x2\n",
         out: "accepted satisfiable\n",
     },
     Accepted {
         line: "subgraph encode p t --induced",
         pattern: "1\n0\n",
         target: "2\n0\n1 1\n",
-        log: "embedding proof 1\nm 5\ny x1\n",
+        log: b"embedding proof 1\nm 5\ny x1\n",
         out: "accepted satisfiable\n",
     },
 ];
@@ -148,8 +100,8 @@ fn each_log_is_accepted_over_the_encoding(rt: HostRuntime) -> Result<(), Fail> {
 #[test]
 fn a_log_that_misses_a_step_is_refused(rt: HostRuntime) -> Result<(), Fail> {
     let encoded = run_pair(&rt, rt.alloc(), "subgraph encode p t", EDGE, EDGE)?;
-    let log = "embedding proof 1\nm 10\nu 0.1 ; 1 ;\ne 0.1\n";
-    let checked = check_of(&rt, rt.alloc(), &encoded, log)?;
+    let log = b"embedding proof 1\nm 10\nu 0.1 ; 1 ;\ne 0.1\n";
+    let checked = check_over(&rt, rt.alloc(), encoded.out.bytes(), log)?;
     assert!(rt; checked.gave(7, "", "log: line 3: NoConflict\n"));
     Ok(())
 }
@@ -190,10 +142,10 @@ fn first_front_that_ends<R: Threads + Sync>(
 fn is_whole_at_last<R: Threads + Sync>(
     rt: &R,
     alloc: Global,
-    log: &str,
+    log: &[u8],
 ) -> Result<bool, AllocError> {
     let encoded = run_pair(rt, alloc, "subgraph encode p t", TRIANGLE, FOUR_CYCLE)?;
-    Ok(first_front_that_ends(rt, alloc, &encoded, log.as_bytes())? == log.len())
+    Ok(first_front_that_ends(rt, alloc, &encoded, log)? == log.len())
 }
 
 #[test]
@@ -204,6 +156,6 @@ fn each_front_of_a_log_ends_early(rt: HostRuntime) -> Result<(), Fail> {
 
 #[test]
 fn each_front_of_a_log_without_hints_ends_early(rt: HostRuntime) -> Result<(), Fail> {
-    assert!(rt; is_whole_at_last(&rt, rt.alloc(), WITHOUT_HINTS)?);
+    assert!(rt; is_whole_at_last(&rt, rt.alloc(), NO_TRIANGLE_WITHOUT_HINTS)?);
     Ok(())
 }

@@ -38,7 +38,7 @@ use Rattle.row_lines.specs.declared.sharing.Sharing.{Sharing}
 use Rattle.row_lines.specs.declared.sharing.Sharing.TheVariants.{Nothing, One, Many}
 use Rattle.row_lines.specs.Choices.{IsSharing, own_line, entry_at, pair_key, pair_name, name_or_none, spread_ref, row_ops, row_form}
 use Rattle.row_lines.specs.declared.turned_names.Spreads.{Spreads}
-use Rattle.row_lines.specs.Claims.{HasEncoding, AreSpreads, AreTurned, HasAround, IsSharedLine, IsSharedRow, IsRowLine, IsRow, IsLineOf, IsRowNamed, IsEdgeRowNamed, AreRows, Knows, IsKnownRow, IsKnownEdgeRow, IsThere}
+use Rattle.row_lines.specs.Claims.{HasEncoding, AreSpreads, AreTurned, HasAround, IsSharedLine, IsSharedRow, IsRowLine, IsRow, IsLineOf, IsRowNamed, AreRows, Knows, IsKnownRow, IsThere}
 use Rattle.row_lines.proofs.Spreading.{finds_encoding, good_follows, spreads_last, spreads_wider}
 use Rattle.row_lines.proofs.Turning.{frame_of, serve_out, turned_last}
 use Rattle.row_lines.proofs.Good.{good_ops, good_row_ops, good_beside}
@@ -203,9 +203,9 @@ row_refused w q p t r a b old new result same same_edges goes =
 -- The line was made, and its name was added.
 pub row_added : (w : Frame) (q : Problem) → InLimits q → (p t r : ℕ) (a b : Option (List Step)) (old new : RowLines) (n : Name) → p < size q.pattern → t < size q.target → r < size q.pattern
     → ((k : ℕ) → entry_at new.rows k ≡ cond (k == pair_key p r t) (Some n) (entry_at old.rows k)) → new.edge_rows ≡ old.edge_rows → Goes w a b (AreTurned w q old.spreads) (IsRow w q p t r new.spreads (Ok n))
-    → Goes w a b (Knows w q old) (IsKnownRow w q p t r new (Ok (Made n)))
+    → Goes w a b (Knows w q old) (IsKnownRow false w q p t r new (Ok (Made n)))
 row_added w q plain p t r a b old new n p_in t_in r_in added same goes =
-    goes_as w a b (λ forms. AreTurned w q old.spreads forms × RowsOf w q old.rows old.edge_rows forms) (λ forms. IsRow w q p t r new.spreads (Ok n) forms × RowsOf w q old.rows old.edge_rows forms) (Knows w q old) (IsKnownRow w q p t r new (Ok (Made n)))
+    goes_as w a b (λ forms. AreTurned w q old.spreads forms × RowsOf w q old.rows old.edge_rows forms) (λ forms. IsRow w q p t r new.spreads (Ok n) forms × RowsOf w q old.rows old.edge_rows forms) (Knows w q old) (IsKnownRow false w q p t r new (Ok (Made n)))
     (λ forms h. (h.0, (h.1, h.2)))
     (λ forms k. (
       (
@@ -217,7 +217,7 @@ row_added w q plain p t r a b old new n p_in t_in r_in added same goes =
     )) (rows_kept w q p t r a b old.spreads new.spreads old.rows old.edge_rows (Ok n) goes)
 
 -- A line of the encoding that serves.
-pub row_there : (q : Problem) → InLimits q → (owner : ℕ) (w : Frame) (p t r : ℕ) (ref : Ref) (forms : List Form) → IsFrameOf q owner w → IsPlace q p t r → IsThere q p t r (Some ref) → IsRowNamed w q p t r ref forms
+pub row_there : (q : Problem) → InLimits q → (owner : ℕ) (w : Frame) (p t r : ℕ) (ref : Ref) (forms : List Form) → IsFrameOf q owner w → IsPlace q p t r → IsThere q p t r (Some ref) → IsRowNamed false w q p t r ref forms
 row_there q plain owner w p t r ref forms frame place there = (
   at_most_target q t,
   record {
@@ -230,7 +230,7 @@ row_there q plain owner w p t r ref forms frame place there = (
     not_shared : (k : ℕ) → target_line q t ≡ Shared k → ⊥
     not_shared k e = cc
 
-pub row_there_of : (q k : Problem) → k ≡ q → InLimits k → (owner : ℕ) (w : Frame) (p t r : ℕ) (ref : Ref) (forms : List Form) → IsFrameOf q owner w → IsPlace q p t r → IsThere k p t r (Some ref) → IsRowNamed w q p t r ref forms
+pub row_there_of : (q k : Problem) → k ≡ q → InLimits k → (owner : ℕ) (w : Frame) (p t r : ℕ) (ref : Ref) (forms : List Form) → IsFrameOf q owner w → IsPlace q p t r → IsThere k p t r (Some ref) → IsRowNamed false w q p t r ref forms
 row_there_of q k same plain owner w p t r ref forms frame place there =
     row_there q (subst (λ (x : Problem). InLimits x) same plain) owner w p t r ref forms frame place (subst (λ (x : Problem). IsThere x p t r (Some ref)) same there)
 
@@ -277,19 +277,19 @@ module _ (q : Problem) (plain : InLimits q) (p t r : ℕ) (place : IsPlace q p t
 
 -- One that is found.
 pub edge_found : (w : Frame) (q : Problem) (lines : RowLines) (p t r : ℕ) (n : Name) (forms : List Form) → IsPlace q p t r → pair_name lines.edge_rows p r t ≡ Some n → Knows w q lines forms
-    → IsKnownEdgeRow w q p t r lines (Ok (Made n)) forms
+    → IsKnownRow true w q p t r lines (Ok (Made n)) forms
 edge_found w q lines p t r n forms place is k = (k, k.2.named p t r n place.first place.place place.second is)
 
 -- The place's own, where the two have none.
 pub edge_there : (q k : Problem) → k ≡ q → InLimits k → (owner : ℕ) (w : Frame) (p t r : ℕ) (ref : Ref) (forms : List Form) → IsFrameOf q owner w → IsPlace q p t r → own_line k p r t ≡ None → ref ≡ target_line k t
-    → IsEdgeRowNamed w q p t r ref forms
+    → IsRowNamed true w q p t r ref forms
 edge_there q k same plain owner w p t r ref forms frame place none is =
     here (subst (λ (x : Problem). InLimits x) same plain) (subst (λ (x : Problem). own_line x p r t ≡ None) same none) (subst (λ (x : Problem). ref ≡ target_line x t) same is)
   where
     not_shared : (j : ℕ) → target_line q t ≡ Shared j → ⊥
     not_shared j e = cc
 
-    here : InLimits q → own_line q p r t ≡ None → ref ≡ target_line q t → IsEdgeRowNamed w q p t r ref forms
+    here : InLimits q → own_line q p r t ≡ None → ref ≡ target_line q t → IsRowNamed true w q p t r ref forms
     here few free at = (
       at_most_target q t,
       record {
@@ -301,9 +301,9 @@ edge_there q k same plain owner w p t r ref forms frame place none is =
 
 -- The line was made.
 pub edge_kept : (w : Frame) (q k : Problem) → k ≡ q → InLimits k → (p t r : ℕ) (a b : Option (List Step)) (old new : RowLines) (n : Name) → IsPlace q p t r → new.spreads ≡ old.spreads → new.rows ≡ old.rows
-    → ((j : ℕ) → entry_at new.edge_rows j ≡ cond (j == pair_key p r t) (Some n) (entry_at old.edge_rows j)) → Goes w a b AnyForms (IsKept w (Ok n) (beside_form k p t r)) → Goes w a b (Knows w q old) (IsKnownEdgeRow w q p t r new (Ok (Made n)))
+    → ((j : ℕ) → entry_at new.edge_rows j ≡ cond (j == pair_key p r t) (Some n) (entry_at old.edge_rows j)) → Goes w a b AnyForms (IsKept w (Ok n) (beside_form k p t r)) → Goes w a b (Knows w q old) (IsKnownRow true w q p t r new (Ok (Made n)))
 edge_kept w q k same plain p t r a b old new n place spreads rows added goes =
-    goes_as w a b (λ forms. AnyForms forms × Knows w q old forms) (λ forms. IsKept w (Ok n) (beside_form k p t r) forms × Knows w q old forms) (Knows w q old) (IsKnownEdgeRow w q p t r new (Ok (Made n)))
+    goes_as w a b (λ forms. AnyForms forms × Knows w q old forms) (λ forms. IsKept w (Ok n) (beside_form k p t r) forms × Knows w q old forms) (Knows w q old) (IsKnownRow true w q p t r new (Ok (Made n)))
     (λ forms h. (tt, h))
     (λ forms h. (
       (
@@ -315,7 +315,7 @@ edge_kept w q k same plain p t r a b old new n place spreads rows added goes =
     ))
     (goes_beside w a b AnyForms (IsKept w (Ok n) (beside_form k p t r)) (Knows w q old) (λ forms more h. knows_last w q old forms more h) goes)
   where
-    line : (forms : List Form) → IsKept w (Ok n) (beside_form k p t r) forms → IsEdgeRowNamed w q p t r (Made n) forms
+    line : (forms : List Form) → IsKept w (Ok n) (beside_form k p t r) forms → IsRowNamed true w q p t r (Made n) forms
     line forms kept =
         (beside_form q p t r, subst (λ (x : Problem). IsKept w (Ok n) (beside_form x p t r) forms) same kept, (row_laws q (subst (λ (x : Problem). InLimits x) same plain)).edges.beside p t r place)
 

@@ -1,6 +1,6 @@
 -- What a table of names says of the forms of a log, and what the line for a pair of vertices is.
 
-use Rattle.std.specs.Prelude.{◌≡◌, ℕ, ◌<◌, true, false, List, Option, Some, None, Result, Ok, Err, IsSome}
+use Rattle.std.specs.Prelude.{◌≡◌, ℕ, ◌<◌, Bool, true, false, List, Option, Some, None, Result, Ok, Err, IsSome}
 use Rattle.std.specs.declared.alloc.AllocError.{AllocError}
 use Rattle.graph_theory.specs.Graph.{size}
 use Rattle.graph_theory.specs.Embedding.{Problem}
@@ -113,13 +113,11 @@ Force = Form → ℕ → ℕ → ℕ → Type 0
 abbrev pub IsLineOf : Frame → Force → ℕ → ℕ → ℕ → Ref → List Form → Type 0
 IsLineOf w force p t r ref forms = (f : Form) × IsNamed w forms ref f × force f p t r
 
--- The reference names a line which takes from r what is not consistent with p at t.
-abbrev pub IsRowNamed : Frame → Problem → ℕ → ℕ → ℕ → Ref → List Form → Type 0
-IsRowNamed w q p t r ref forms = IsLineOf w (ForcesBeside q) p t r ref forms
-
--- Or what edges, and their labels, do not let go together with p at t.
-abbrev pub IsEdgeRowNamed : Frame → Problem → ℕ → ℕ → ℕ → Ref → List Form → Type 0
-IsEdgeRowNamed w q p t r ref forms = IsLineOf w (ForcesByEdges q) p t r ref forms
+-- The reference names a line which takes from r what is not consistent with p at t; or, by edges alone, what edges, and their labels, do not let
+-- go together with p at t.
+abbrev pub IsRowNamed : Bool → Frame → Problem → ℕ → ℕ → ℕ → Ref → List Form → Type 0
+IsRowNamed false w q p t r ref forms = IsLineOf w (ForcesBeside q) p t r ref forms
+IsRowNamed true w q p t r ref forms = IsLineOf w (ForcesByEdges q) p t r ref forms
 
 -- Each name of the table is that of a line that forces this.
 pub record AreRows (w : Frame) (q : Problem) (force : Form → ℕ → ℕ → ℕ → Type 0) (names : Names)
@@ -134,16 +132,11 @@ Knows w q lines forms = AreTurned w q lines.spreads forms
     × AreRows w q (ForcesByEdges q) lines.edge_rows forms
 
 -- So they are, and the reference that is answered names a line for p at t and r.
-abbrev pub IsKnownRow : Frame → Problem → ℕ → ℕ → ℕ → RowLines → Result Ref AllocError
+abbrev pub IsKnownRow : Bool → Frame → Problem → ℕ → ℕ → ℕ → RowLines → Result Ref AllocError
     → List Form → Type 0
-IsKnownRow w q p t r lines (Ok ref) forms = Knows w q lines forms × IsRowNamed w q p t r ref forms
-IsKnownRow w q p t r lines (Err e) forms = Knows w q lines forms
-
-abbrev pub IsKnownEdgeRow : Frame → Problem → ℕ → ℕ → ℕ → RowLines → Result Ref AllocError
-    → List Form → Type 0
-IsKnownEdgeRow w q p t r lines (Ok ref) forms = Knows w q lines forms
-    × IsEdgeRowNamed w q p t r ref forms
-IsKnownEdgeRow w q p t r lines (Err e) forms = Knows w q lines forms
+IsKnownRow by_edges w q p t r lines (Ok ref) forms = Knows w q lines forms
+    × IsRowNamed by_edges w q p t r ref forms
+IsKnownRow by_edges w q p t r lines (Err e) forms = Knows w q lines forms
 
 -- A line of the encoding serves: nothing but the place itself is refused.
 abbrev pub IsThere : Problem → ℕ → ℕ → ℕ → Option Ref → Type 0

@@ -10,7 +10,7 @@ ghost use Rattle.log_theory.specs.LogText.{IsName};
 ghost use Rattle.encoding_theory.specs.Variables.{when};
 ghost use Rattle.row_theory.specs.Laws.{IsPlace};
 ghost use Rattle.row_theory.specs.Rows.{at_least_line, there as there_at, is_consistent as is_consistent_by, consistent_places, consistent_clause, beside_ops};
-ghost use Rattle.kept_lines.specs.Frames.{Frame, IsFrameOf, IsNamed, IsKept, Goes};
+ghost use Rattle.kept_lines.specs.Frames.{Frame, IsFrameOf, IsNamed, Goes};
 ghost use Rattle.row_lines.specs.Claims.{AreBothLines, IsRowLine};
 
 use crate::known::Known;
@@ -113,38 +113,6 @@ fn clause_refs(
     Ok(Refs::new(refs))
 }
 
-/// Keeps the clause.
-fn keep_clause<K: Keeper>(
-    alloc: Global,
-    q: &Problem,
-    known: &Known,
-    keeper: &mut K,
-    lines: (Name, Name),
-    pair: PlacedPair,
-) -> Result<Name, AllocError>
-    requires same { known.now ≡ q.now }
-    requires first { IsName lines.0 }
-    requires second { IsName lines.1 }
-    requires placed { IsPlace q.now pair.p pair.t pair.r }
-    ensures goes { (w : Frame) → IsFrameOf q.now (K.owner keeper.old) w
-        → Goes w (K.kept keeper.old) (K.kept keeper.new)
-        (AreBothLines w q.now pair.p pair.t pair.r lines.0 lines.1)
-        (IsKept w result (consistent_clause q.now pair.p pair.t pair.r)) }
-    ensures name { IfOk result IsName }
-    ensures owner { K.owner keeper.new ≡ K.owner keeper.old }
-    ensures notes { K.notes keeper.new ≡ K.notes keeper.old }
-    ensures spare { K.spare keeper.new ≡ K.spare keeper.old }
-{
-    known.in_limits();
-    let lits = places(alloc, q, known, pair)?;
-    let refs = clause_refs(alloc, known, lines, pair.r)?;
-    keeper.keep(Step::U {
-        name: NO_NAME,
-        lits,
-        refs,
-    })
-}
-
 /// The operations of the line that is made of it.
 fn clause_ops(alloc: Global, known: &Known, clause: Name, r: u16) -> Result<Ops, AllocError>
     requires { r < size known.now.pattern }
@@ -204,6 +172,13 @@ pub(crate) fn both_line<K: Keeper>(
     ensures notes { K.notes keeper.new ≡ K.notes keeper.old }
     ensures spare { K.spare keeper.new ≡ K.spare keeper.old }
 {
-    let clause = keep_clause(alloc, q, known, keeper, lines, pair)?;
+    known.in_limits();
+    let lits = places(alloc, q, known, pair)?;
+    let refs = clause_refs(alloc, known, lines, pair.r)?;
+    let clause = keeper.keep(Step::U {
+        name: NO_NAME,
+        lits,
+        refs,
+    })?;
     keep_of_clause(alloc, known, keeper, clause, pair)
 }

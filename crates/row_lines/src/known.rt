@@ -17,7 +17,7 @@ use common_neighbour::Counts;
 use graph_rows::{Graph, Problem};
 use graph_theory::direction::Direction;
 use log_theory::Ref;
-use pb_encoding::Encoding;
+use pb_encoding::{Encoding, is_edge_pair, is_non_edge_pair};
 use proof_theory::Literal;
 use std::alloc::{AllocError, Global};
 use std::marker::Model;
@@ -97,26 +97,6 @@ fn next_of_both(g: &Graph, direction: Direction, a: u16, b: u16, from: u16) -> u
         m = next_neighbour(g, direction, a, m + 1);
     }
     m
-}
-
-/// Whether an edge joins two pattern vertices, whichever way it leads.
-fn is_edge_pair(q: &Problem, p: u16, r: u16) -> bool
-    requires p_in { p < size q.now.pattern }
-    requires r_in { r < size q.now.pattern }
-    ensures { result ≡ is_edge q.now p r }
-{
-    let pattern = q.pattern();
-    p != r && (pattern.has_edge(p, r) || pattern.has_edge(r, p))
-}
-
-/// Whether in the induced kind none does.
-fn is_non_edge_pair(q: &Problem, p: u16, r: u16) -> bool
-    requires p_in { p < size q.now.pattern }
-    requires r_in { r < size q.now.pattern }
-    ensures { result ≡ is_non_edge q.now p r }
-{
-    let pattern = q.pattern();
-    q.induced() && p != r && !pattern.has_edge(p, r) && !pattern.has_edge(r, p)
 }
 
 impl<'a, 'b> Known<'a, 'b> {

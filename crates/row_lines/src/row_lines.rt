@@ -8,7 +8,7 @@ ghost use Rattle.row_theory.specs.Laws.{IsPlace};
 ghost use Rattle.row_theory.specs.Rows.{beside_form};
 ghost use Rattle.kept_lines.specs.Frames.{Frame, IsFrameOf, IsKept, Goes, AnyForms};
 ghost use Rattle.row_lines.specs.Choices.{IsAsked, own_line as own_line_of};
-ghost use Rattle.row_lines.specs.Claims.{HasEncoding, Knows, IsKnownRow, IsKnownEdgeRow, IsThere};
+ghost use Rattle.row_lines.specs.Claims.{HasEncoding, Knows, IsKnownRow, IsThere};
 
 use crate::known::Known;
 use crate::ops::{beside_ops, own_line};
@@ -93,73 +93,53 @@ impl RowLines {
         }
     }
 
-    /// A reference to a line that takes from `pair.r` each value that is not consistent with `pair.p` at `pair.t`. It is a line of the encoding
-    /// where one serves; else it is made when it is first asked for. Cost: where it was made, that of finding its name.
+    /// A reference to a line that takes from `pair.r` each value that is not consistent with `pair.p` at `pair.t`, or by edges alone those that
+    /// edges, and their labels, do not let go together with it. The first is a line of the encoding where one serves; the second is that of the
+    /// encoding for the two at the place and that of `pair.r` summed, or the place's own. A line is made when it is first asked for. Cost: where it
+    /// was made, that of finding its name.
     pub fn row<K: Keeper>(
         &mut self,
         alloc: Global,
         q: &Problem,
         lines: &Encoding<'_>,
         keeper: &mut K,
+        by_edges: bool,
         pair: PlacedPair,
     ) -> Result<Ref, AllocError>
         requires encoding { lines.now ≡ q.now }
         requires placed { IsPlace q.now pair.p pair.t pair.r }
         ensures goes { (w : Frame) → IsFrameOf q.now (K.owner keeper.old) w
             → Goes w (K.kept keeper.old) (K.kept keeper.new) (Knows w q.now self.old)
-            (IsKnownRow w q.now pair.p pair.t pair.r self.new result) }
+            (IsKnownRow by_edges w q.now pair.p pair.t pair.r self.new result) }
         ensures fits { IfOk result IsRef }
         ensures owner { K.owner keeper.new ≡ K.owner keeper.old }
         ensures notes { K.notes keeper.new ≡ K.notes keeper.old }
         ensures spare { K.spare keeper.new ≡ K.spare keeper.old }
     {
+        let known = Known::new(q, lines, Direction::Out);
+        known.in_limits();
+        if by_edges {
+            if let Some(name) = self.edge_rows.find(pair.p, pair.r, pair.t) {
+                return Ok(Ref::Made(name));
+            }
+            let own = match own_line(&known, pair.p, pair.r, pair.t) {
+                None => return Ok(known.target(pair.t)),
+                Some(own) => own,
+            };
+            let name = keep_edge_row(alloc, &known, keeper, own, pair)?;
+            self.edge_rows.add(pair.p, pair.r, pair.t, name)?;
+            return Ok(Ref::Made(name));
+        }
         if let Some(name) = self.rows.find(pair.p, pair.r, pair.t) {
             return Ok(Ref::Made(name));
         }
-        let known = Known::new(q, lines, Direction::Out);
         let back = Known::new(q, lines, Direction::In);
         let asked = asked_of(alloc, q, &known, &back, pair.p, pair.r)?;
-        known.in_limits();
         if let Some(line) = line_there(&known, asked, pair) {
             return Ok(line);
         }
         let name = row_line_with(alloc, q, lines, &mut self.spreads, keeper, pair)?;
         self.rows.add(pair.p, pair.r, pair.t, name)?;
-        Ok(Ref::Made(name))
-    }
-
-    /// A reference to a line that takes from `pair.r` each value that edges, and their labels, do not let go together with `pair.p` at `pair.t`:
-    /// that of the encoding for the two at the place and that of `pair.r` summed, or the place's own. It is made when it is first asked for.
-    /// Cost: where it was made, that of finding its name.
-    pub fn edge_row<K: Keeper>(
-        &mut self,
-        alloc: Global,
-        q: &Problem,
-        lines: &Encoding<'_>,
-        keeper: &mut K,
-        pair: PlacedPair,
-    ) -> Result<Ref, AllocError>
-        requires encoding { lines.now ≡ q.now }
-        requires placed { IsPlace q.now pair.p pair.t pair.r }
-        ensures goes { (w : Frame) → IsFrameOf q.now (K.owner keeper.old) w
-            → Goes w (K.kept keeper.old) (K.kept keeper.new) (Knows w q.now self.old)
-            (IsKnownEdgeRow w q.now pair.p pair.t pair.r self.new result) }
-        ensures fits { IfOk result IsRef }
-        ensures owner { K.owner keeper.new ≡ K.owner keeper.old }
-        ensures notes { K.notes keeper.new ≡ K.notes keeper.old }
-        ensures spare { K.spare keeper.new ≡ K.spare keeper.old }
-    {
-        if let Some(name) = self.edge_rows.find(pair.p, pair.r, pair.t) {
-            return Ok(Ref::Made(name));
-        }
-        let known = Known::new(q, lines, Direction::Out);
-        known.in_limits();
-        let own = match own_line(&known, pair.p, pair.r, pair.t) {
-            None => return Ok(known.target(pair.t)),
-            Some(own) => own,
-        };
-        let name = keep_edge_row(alloc, &known, keeper, own, pair)?;
-        self.edge_rows.add(pair.p, pair.r, pair.t, name)?;
         Ok(Ref::Made(name))
     }
 }

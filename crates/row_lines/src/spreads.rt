@@ -141,7 +141,7 @@ fn ops_at<K: Keeper>(
     }
 }
 
-/// Keeps the line that counts those shared at `w`.
+/// Keeps the line that counts those shared at `w`, unless it is there. Cost: where it is there, that of finding its name.
 fn keep_spread<K: Keeper>(
     alloc: Global,
     known: &Known,
@@ -161,36 +161,13 @@ fn keep_spread<K: Keeper>(
     ensures notes { K.notes keeper.new ≡ K.notes keeper.old }
     ensures spare { K.spare keeper.new ≡ K.spare keeper.old }
 {
+    if spreads.find(pair.p, pair.r, w).is_some() {
+        return Ok(());
+    }
     known.in_limits();
     let ops = ops_at(alloc, known, spreads, keeper, pair, w)?;
     let name = keeper.keep(Step::P { name: NO_NAME, ops })?;
     spreads.add(pair.p, pair.r, w, name)
-}
-
-/// Keeps it unless it is there. Cost: where it is there, that of finding its name.
-fn keep_spread_at<K: Keeper>(
-    alloc: Global,
-    known: &Known,
-    spreads: &mut PairNames,
-    keeper: &mut K,
-    pair: Sharers,
-    w: u16,
-) -> Result<(), AllocError>
-    requires pair { AreSharers known.now pair }
-    requires w_in { w < size known.now.target }
-    ensures goes { (f : Frame) → HasEncoding known.now (K.owner keeper.old) f
-        → Goes f (K.kept keeper.old) (K.kept keeper.new) (AreSpreads f known.now spreads.old)
-        (AreSpreads f known.now spreads.new) }
-    ensures there { OnOk result (IsSome (pair_name spreads.new pair.p pair.r w)) }
-    ensures stay { Stay spreads.old spreads.new }
-    ensures owner { K.owner keeper.new ≡ K.owner keeper.old }
-    ensures notes { K.notes keeper.new ≡ K.notes keeper.old }
-    ensures spare { K.spare keeper.new ≡ K.spare keeper.old }
-{
-    if spreads.find(pair.p, pair.r, w).is_none() {
-        keep_spread(alloc, known, spreads, keeper, pair, w)?;
-    }
-    Ok(())
 }
 
 /// Keeps it for each neighbour of `t`. Cost: that of finding a name for each of these, beside what is kept.
@@ -215,7 +192,7 @@ pub(crate) fn keep_around<K: Keeper>(
 {
     let mut w = known.next_near(t, 0);
     while w < known.targets() {
-        keep_spread_at(alloc, known, spreads, keeper, pair, w)?;
+        keep_spread(alloc, known, spreads, keeper, pair, w)?;
         w = known.next_near(t, w + 1);
     }
     Ok(())

@@ -91,11 +91,7 @@ fn are_apart(d: &Domains) -> bool
 }
 
 /// The rows of four domains, what counting them answers, and how many vertices it tells.
-struct Counted {
-    rows: [u64; 4],
-    answer: Pruned,
-    set: usize,
-}
+struct Counted([u64; 4], Pruned, usize);
 
 /// Whether both ways to count domains answer this, tell the same set of so many vertices, and leave the same domains.
 fn answer_alike(
@@ -126,52 +122,29 @@ fn answer_alike(
 
 impl<R> Example<R> for Counted {
     fn holds(&self, _rt: &R, alloc: Global) -> Result<bool, AllocError> {
-        let mut plain = domains_of(alloc, self.rows)?;
-        let mut undecided = domains_of(alloc, self.rows)?;
+        let Counted(rows, answer, set) = *self;
+        let mut plain = domains_of(alloc, rows)?;
+        let mut undecided = domains_of(alloc, rows)?;
         if !are_apart(&undecided) {
             return Ok(false);
         }
-        answer_alike(alloc, &mut plain, &mut undecided, self.answer, self.set)
+        answer_alike(alloc, &mut plain, &mut undecided, answer, set)
     }
 }
 
 static COUNTED: [Counted; 6] = [
     // no more than the decided
-    Counted {
-        rows: [0b1, 0b10, 0b111100, 0b111100],
-        answer: Pruned::Quiet,
-        set: 0,
-    },
+    Counted([0b1, 0b10, 0b111100, 0b111100], Pruned::Quiet, 0),
     // two that keep to themselves
-    Counted {
-        rows: [0b1, 0b110, 0b110, 0b111000],
-        answer: Pruned::Quiet,
-        set: 0,
-    },
+    Counted([0b1, 0b110, 0b110, 0b111000], Pruned::Quiet, 0),
     // two behind a decided one
-    Counted {
-        rows: [0b1, 0b110, 0b110, 0b1110],
-        answer: Pruned::Hall,
-        set: 3,
-    },
+    Counted([0b1, 0b110, 0b110, 0b1110], Pruned::Hall, 3),
     // one left by two
-    Counted {
-        rows: [0b111110, 0b1, 0b1010, 0b1010],
-        answer: Pruned::Hall,
-        set: 3,
-    },
+    Counted([0b111110, 0b1, 0b1010, 0b1010], Pruned::Hall, 3),
     // three of two values
-    Counted {
-        rows: [0b1, 0b110, 0b110, 0b110],
-        answer: Pruned::Fail,
-        set: 4,
-    },
+    Counted([0b1, 0b110, 0b110, 0b110], Pruned::Fail, 4),
     // an empty one
-    Counted {
-        rows: [0b1, 0b0, 0b111110, 0b111110],
-        answer: Pruned::Fail,
-        set: 1,
-    },
+    Counted([0b1, 0b0, 0b111110, 0b111110], Pruned::Fail, 1),
 ];
 
 #[test]

@@ -1,10 +1,12 @@
 //! Tables of worked examples, for tests: a row is a type of its own that tells whether it holds.
 //!
 //! One loop goes over the rows of every table, since a loop is the costly part of a test's proof; and one function tells which row does not
-//! hold, since an assertion that formats what it compares takes five seconds of each test's proof.
+//! hold, since an assertion that formats what it compares takes five seconds of each test's proof. Texts that several crates of tests need
+//! stand in `models`.
 #![tactic(auto)]
 
 mod files;
+pub mod models;
 
 pub use files::{InMemory, files_in_memory};
 use std::alloc::{AllocError, Global};

@@ -66,7 +66,7 @@ pub returns-in_ok-push-in-Vertex-clause-goes : goal.returns-in_ok-push-in-Vertex
 returns-in_ok-push-in-Vertex-clause-goes g c = λ w known here frame.
     let at : c.args.chosen.now.entry.what ≡ One c.in-One.r (cause.Vertex c.in-Vertex.p c.in-Vertex.t) = c.in-One.is ∙ ap (λ (y : Cause). let x : What = One c.in-One.r y in x) c.in-Vertex.is in
     let inside = subst (λ (x : What). IsInProblem c.args.basis.now.lines.now (change_by c.args.basis.now.numbers.now x c.args.chosen.now.entry.from)) at c.requires.in_problem in
-    row_goes c.args.basis.now.lines.now c.args.basis.now.rows.now known w (g.N.RowNames.names c.args.basis.now.names.now) (g.M.LineMaker.knows c.args.maker.now c.args.basis.now.lines.now w) (g.M.LineMaker.knows c.line_beside.new.maker c.args.basis.now.lines.now w) (g.K.Keeper.kept c.args.keeper.now) (g.K.Keeper.kept c.line_beside.new.keeper) c.args.basis.now.numbers.now c.args.chosen.now.entry.what c.args.chosen.now.entry.from c.args.chosen.now.by_edges
+    row_goes c.args.basis.now.lines.now c.args.basis.now.rows.now known w (g.N.RowNames.names c.args.basis.now.names.now) (g.M.LineMaker.knows c.args.maker.now c.args.basis.now.lines.now w) (g.M.LineMaker.knows c.row.new.self c.args.basis.now.lines.now w) (g.K.Keeper.kept c.args.keeper.now) (g.K.Keeper.kept c.row.new.keeper) c.args.basis.now.numbers.now c.args.chosen.now.entry.what c.args.chosen.now.entry.from c.args.chosen.now.by_edges
     (g.K.Keeper.owner c.args.keeper.now) c.in-Vertex.p c.in-Vertex.t c.in-One.r c.in-One.cause c.args.refs.now.items c.push_decided.new.refs.items c.push-in-Vertex.new.self.items c.in_ok-line-in-Vertex.line frame inside.0
     c.in-One.is c.in-Vertex.is (c.in_ok-push_decided-in-Vertex.ensures.added known here)
     c.in_ok-push-in-Vertex.ensures.items (c.in_ok-line-in-Vertex.ensures.goes w frame)

@@ -5,6 +5,9 @@ use Rattle.graph_rows.proofs.Parts.{all_below_at}
 use Rattle.graph_rows.proofs.Marking.{said_in_more}
 use Rattle.graph_rows.proofs.marks.mark_all_in.Goals as goal
 
+pub loop-a-init : goal.loop-a-init
+loop-a-init c = record { marks = c.requires.marks; said = λ x y x_in y_in. c.requires.empty x y }
+
 pub mark_in-requires-clause-to : goal.mark_in-requires-clause-to
 mark_in-requires-clause-to c =
     let same : length c.args.degrees.now ≡ length c.loop-a.degrees = omega arith in

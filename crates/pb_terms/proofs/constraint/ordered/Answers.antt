@@ -1,7 +1,6 @@
-use Rattle.std.proofs.Common.{rules, ℕ, ℤ, arith, ap, ◌∙◌}
+use Rattle.std.proofs.Common.{rules, ℕ, ℤ, arith, ◌∙◌}
 use Rattle.std.proofs.lemmas.List.Sorted.{IsNonDecreasingBy-from_sort_by_key}
-use Rattle.proof_theory.specs.Forms.{sorted, size}
-use Rattle.pb_terms.proofs.Ruled.{size_permuted, sorted_permuted}
+use Rattle.pb_terms.proofs.Ruled.{in_order}
 use Rattle.pb_terms.proofs.constraint.ordered.Goals as goal
 
 pub combine-requires-clause-order : goal.combine-requires-clause-order
@@ -10,10 +9,9 @@ combine-requires-clause-order c =
 
 pub combine-requires-clause-fits : goal.combine-requires-clause-fits
 combine-requires-clause-fits c =
-    let p = size_permuted c.args.terms.items _ c.sort_by_key.ensures.permutation in
-    let d = ap size c.deref.ensures.value in
+    let p = (in_order c.args.terms.items _ _ c.sort_by_key.ensures.permutation c.deref.ensures.value).0 in
     let k = c.requires in
     omega arith
 
 pub returns : goal.returns
-returns c = c.fitted.ensures ∙ c.in_ok-made.ensures ∙ ap sorted c.deref.ensures.value ∙ sorted_permuted c.args.terms.items _ c.sort_by_key.ensures.permutation
+returns c = c.fitted.ensures ∙ c.in_ok-made.ensures ∙ (in_order c.args.terms.items _ _ c.sort_by_key.ensures.permutation c.deref.ensures.value).1

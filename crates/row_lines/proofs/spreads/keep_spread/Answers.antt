@@ -3,10 +3,13 @@ use Rattle.std.specs.declared.alloc.AllocError.{AllocError}
 use Rattle.log_theory.specs.declared.step.Name.{Name}
 use Rattle.row_theory.specs.Rows.{spread_form}
 use Rattle.kept_lines.specs.Frames.{IsKept}
-use Rattle.kept_lines.proofs.Going.{goes_as}
+use Rattle.kept_lines.proofs.Going.{goes_as, goes_same}
 use Rattle.row_lines.specs.Claims.{AreSpreads, HasSpreadOps}
 use Rattle.row_lines.proofs.Spreading.{spread_goes, spreads_put}
 use Rattle.row_lines.proofs.spreads.keep_spread.Goals as goal
+
+pub returns-then-is_some-clause-goes : goal.returns-then-is_some-clause-goes
+returns-then-is_some-clause-goes g c = λ f frame. goes_same f (g.K.Keeper.kept c.args.keeper.now) (AreSpreads f c.args.known.now c.args.spreads.now)
 
 pub returns-in_err-ops-clause-goes : goal.returns-in_err-ops-clause-goes
 returns-in_err-ops-clause-goes g c = λ f frame.

@@ -9,6 +9,7 @@ use Rattle.domain_bits.proofs.Sizes.{count_some, in_below}
 use Rattle.domain_bits.proofs.Cutting.{Cut, part_is, part_length, cut_all, rows_after, sizes_after, one_leaves, one_left}
 use Rattle.domain_bits.proofs.Noting.{noted_cut}
 use Rattle.domain_bits.proofs.domains.Domains.remove.Goals as goal
+use Rattle.domain_bits.proofs.domains.Domains.remove.Goals.{After-from-2}
 
 -- the size of a domain that has a value
 some_size : (v n words : ℕ) (removed : List (ℕ × ℕ)) (rows sizes : List ℕ) (cap p t : ℕ)
@@ -35,31 +36,7 @@ lower_noting-requires-clause-enough g c =
     rw (c.deref_mut-2.ensures.value, c.from-2.ensures)
     (some_size f.vertices f.values f.words _ f.rows.items f.sizes.items _ c.args.p c.args.t c.self.invariant.kept in-range here).0
 
-cut-here : (g : _) (c : goal.After-from-2 g) → let f = c.self.inside in
-    Cut f.vertices f.values f.words (g.T.Trail.removed f.trail) (g.T.Trail.removed c.take_value.new.trail) f.rows.items f.sizes.items c.take_value.new.domain (g.T.Trail.capacity c.take_value.new.trail) c.args.p 1 (λ u. not (u == c.args.t))
-cut-here g c =
-    let f = c.self.inside in
-    let in-range : c.args.p < f.vertices = rw (← c.self.view_is) at c.requires.p_in in
-    let present : in_domain c.args.self.now c.args.p c.args.t ≡ true = sym c.has.ensures ∙ c.if-not-has.false in
-    let here = rw (← c.self.view_is) at present in
-    let part = part_is c.args.p c.from.result f.words f.rows.items c.deref_mut.result.now c.from.ensures c.deref_mut.ensures.value in
-    let start = take (c.from.result * f.words + f.words - c.from.result * f.words) (drop (c.from.result * f.words) c.deref_mut.result.now) in
-    let here-part : has start c.args.t ≡ true = ap (λ s. has s c.args.t) part ∙ start_bits f.vertices f.values f.words _ f.rows.items f.sizes.items _ c.args.p c.self.invariant.kept in-range c.args.t ∙ here in
-    let inside : c.args.t < 64 * length start =
-    omega (
-      arith,
-      part_length f.vertices f.values f.words _ f.rows.items f.sizes.items start _ c.args.p c.self.invariant.kept in-range part,
-      (values_fit f.vertices f.values f.words _ f.rows.items f.sizes.items _ c.self.invariant.kept).0,
-      in_below (state f.vertices f.values (g.T.Trail.removed f.trail)) c.args.p c.args.t here,
-    ) in
-    cut_all f.vertices f.values f.words _ _ f.rows.items f.sizes.items start c.take_value.new.domain _ _ c.args.p 1 (λ u. not (u == c.args.t)) c.self.invariant.kept in-range part
-    c.take_value.auto.domain c.take_value.ensures.row (one_left start c.args.t inside here-part)
-    (c.take_value.ensures.trail ∙ ap (λ us. g.T.Trail.removed f.trail ++ at_vertex c.args.p us) (sym (one_leaves start c.args.t inside here-part))) c.take_value.ensures.room
-
-pub lower_noting-requires-clause-left : goal.lower_noting-requires-clause-left
-lower_noting-requires-clause-left g c = rw (c.deref_mut-2.ensures.value, c.from-2.ensures) (cut-here g c).left
-
-cut : (g : _) (c : goal.After-self-3-1 g) → let f = c.self.inside in
+cut : (g : _) (c : After-from-2 g) → let f = c.self.inside in
     Cut f.vertices f.values f.words (g.T.Trail.removed f.trail) (g.T.Trail.removed c.take_value.new.trail) f.rows.items f.sizes.items c.take_value.new.domain (g.T.Trail.capacity c.take_value.new.trail) c.args.p 1 (λ u. not (u == c.args.t))
 cut g c =
     let f = c.self.inside in
@@ -80,6 +57,9 @@ cut g c =
     c.take_value.auto.domain c.take_value.ensures.row (one_left start c.args.t inside here-part)
     (c.take_value.ensures.trail ∙ ap (λ us. g.T.Trail.removed f.trail ++ at_vertex c.args.p us) (sym (one_leaves start c.args.t inside here-part))) c.take_value.ensures.room
 
+pub lower_noting-requires-clause-left : goal.lower_noting-requires-clause-left
+lower_noting-requires-clause-left g c = rw (c.deref_mut-2.ensures.value, c.from-2.ensures) (cut g c).left
+
 pub invariant_of-self : goal.invariant_of-self
 invariant_of-self g c =
     let f = c.self.inside in
@@ -96,13 +76,13 @@ invariant_of-self g c =
       sizes,
     )
     (record {
-      kept = (cut g c).kept;
+      kept = (cut g (goal.at.invariant_of-self g c).After-from-2).kept;
       noted = noted_cut f.vertices f.values f.words _ _ f.rows.items f.sizes.items c.take_value.new.domain f.singles.items c.lower_noting.new.singles _ c.args.p 1 (λ u. not (u == c.args.t))
-          c.self.invariant.noted in-range (cut g c) singles (rw (c.deref_mut-2.ensures.value, c.from-2.ensures) at c.lower_noting.ensures.single);
+          c.self.invariant.noted in-range (cut g (goal.at.invariant_of-self g c).After-from-2) singles (rw (c.deref_mut-2.ensures.value, c.from-2.ensures) at c.lower_noting.ensures.single);
     })
 
 pub returns-clause-keeps : goal.returns-clause-keeps
-returns-clause-keeps g c = rw (← c.self.view_is) (cut g c).keeps-those
+returns-clause-keeps g c = rw (← c.self.view_is) (cut g (goal.at.returns-clause-keeps g c).After-from-2).keeps-those
 
 pub returns-clause-within : goal.returns-clause-within
 returns-clause-within g c =

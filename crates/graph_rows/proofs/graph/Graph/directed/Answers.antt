@@ -1,23 +1,28 @@
-use Rattle.std.proofs.Common.{◌≡◌, length, refl, sym, ap, ◌∙◌, arith, rules}
+use Rattle.std.proofs.Common.{◌≡◌, ℕ, length, refl, sym, ap, subst, ◌∙◌, arith, rules}
 use Rattle.std.proofs.lemmas.List.{with_items_is}
-use Rattle.graph_rows.proofs.Marking.{no_marks_made}
+use Rattle.lad_reader.specs.Parts.{AllBelow}
+use Rattle.graph_rows.proofs.Marking.{unmarked_made}
 use Rattle.graph_rows.proofs.Parts.{made-directed, turned_made}
 use Rattle.graph_rows.proofs.HeldGraph.{marks_kept, turned_kept, loops_kept, back_kept, beside_kept, listed_kept, no_label}
 use Rattle.graph_rows.proofs.graph.Graph.directed.Goals as goal
 
-pub mark_all_out-requires-clause-marks : goal.mark_all_out-requires-clause-marks
-mark_all_out-requires-clause-marks c =
+pub mark_all_out-requires : goal.mark_all_out-requires
+mark_all_out-requires c =
     let same : length c.in_ok-labels.labels.items ≡ length c.args.parts.now.labels = ap length (c.in_ok-labels.ensures.items ∙ c.as_slice.ensures) in
-    no_marks_made c.len-size.result _ _ _ c.in_ok-words.words.items c.in_ok-degrees.degrees.items (omega arith) (search rules)
+    let sizes : length c.args.parts.now.labels ≡ c.len-size.result = omega arith in
+    unmarked_made c.len-size.result _ _ _ c.in_ok-words.words.items c.in_ok-degrees.degrees.items c.args.parts.now.neighbours (omega arith) (search rules)
     c.deref_mut.ensures.value (c.in_ok-words.ensures.items_if_clones_equal (search rules))
     c.deref_mut-2.ensures.value (c.in_ok-degrees.ensures.items_if_clones_equal (search rules))
+    (sym c.requires.lengths ∙ sizes) (subst (λ (n : ℕ). AllBelow n c.args.parts.now.neighbours) sizes c.requires.below)
 
-pub mark_all_in-requires-clause-marks : goal.mark_all_in-requires-clause-marks
-mark_all_in-requires-clause-marks c =
+pub mark_all_in-requires : goal.mark_all_in-requires
+mark_all_in-requires c =
     let same : length c.in_ok-labels.labels.items ≡ length c.args.parts.now.labels = ap length (c.in_ok-labels.ensures.items ∙ c.as_slice.ensures) in
-    no_marks_made c.len-size.result _ _ _ c.in_ok-back.back.items c.in_ok-in_degrees.in_degrees.items (omega arith) (search rules)
+    let sizes : length c.args.parts.now.labels ≡ c.len-size.result = omega arith in
+    unmarked_made c.len-size.result _ _ _ c.in_ok-back.back.items c.in_ok-in_degrees.in_degrees.items c.args.parts.now.neighbours (omega arith) (search rules)
     c.deref_mut-3.ensures.value (c.in_ok-back.ensures.items_if_clones_equal (search rules))
     c.deref_mut-4.ensures.value (c.in_ok-in_degrees.ensures.items_if_clones_equal (search rules))
+    (sym c.requires.lengths ∙ sizes) (subst (λ (n : ℕ). AllBelow n c.args.parts.now.neighbours) sizes c.requires.below)
 
 pub returns : goal.returns
 returns c = record {

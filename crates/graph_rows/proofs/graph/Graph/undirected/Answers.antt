@@ -1,16 +1,19 @@
-use Rattle.std.proofs.Common.{◌≡◌, length, ap, ◌∙◌, arith, rules}
+use Rattle.std.proofs.Common.{◌≡◌, ℕ, length, sym, ap, subst, ◌∙◌, arith, rules}
 use Rattle.std.proofs.lemmas.List.{with_items_is}
-use Rattle.graph_rows.proofs.Marking.{no_marks_made}
+use Rattle.lad_reader.specs.Parts.{AllBelow}
+use Rattle.graph_rows.proofs.Marking.{unmarked_made}
 use Rattle.graph_rows.proofs.Parts.{graph-made, mutual_made, plain_made}
 use Rattle.graph_rows.proofs.HeldGraph.{marks_kept, mutual_kept, loops_kept, back_own, no_label, none_beside}
 use Rattle.graph_rows.proofs.graph.Graph.undirected.Goals as goal
 
-pub mark_all-requires-clause-marks : goal.mark_all-requires-clause-marks
-mark_all-requires-clause-marks c =
+pub mark_all-requires : goal.mark_all-requires
+mark_all-requires c =
     let same : length c.in_ok-labels.labels.items ≡ length c.args.parts.now.labels = ap length (c.in_ok-labels.ensures.items ∙ c.as_slice.ensures) in
-    no_marks_made c.len-size.result _ _ _ c.in_ok-words.words.items c.in_ok-degrees.degrees.items (omega arith) (search rules)
+    let sizes : length c.args.parts.now.labels ≡ c.len-size.result = omega arith in
+    unmarked_made c.len-size.result _ _ _ c.in_ok-words.words.items c.in_ok-degrees.degrees.items c.args.parts.now.neighbours (omega arith) (search rules)
     c.deref_mut.ensures.value (c.in_ok-words.ensures.items_if_clones_equal (search rules))
     c.deref_mut-2.ensures.value (c.in_ok-degrees.ensures.items_if_clones_equal (search rules))
+    (sym c.requires.lengths ∙ sizes) (subst (λ (n : ℕ). AllBelow n c.args.parts.now.neighbours) sizes c.requires.below)
 
 pub returns-clause-graph : goal.returns-clause-graph
 returns-clause-graph c =

@@ -1,13 +1,11 @@
-use Rattle.std.proofs.Common.{ℕ, ◌≡◌, ◌+◌, ◌-◌, ◌<◌, List, length, take, Option, Some, IfSome, refl, subst, sym, ap, ◌∙◌, arith}
+use Rattle.std.proofs.Common.{ℕ, ◌≡◌, ◌+◌, ◌-◌, ◌<◌, List, length, take, Some, refl, subst, sym, ap, ◌∙◌, arith}
 use Rattle.std.specs.Prelude.{slice_get}
 use Rattle.search_theory.specs.Account.{path}
-use Rattle.log_theory.specs.declared.step.Name.{Name}
 use Rattle.proof_logger.specs.Logging.{Closed}
-use Rattle.dead_paths.specs.Explaining.{IsLastOf}
 use Rattle.path_journal.specs.declared.refuted.Refuted.{Refuted}
 use Rattle.path_journal.specs.Lines.{Refutes}
 use Rattle.path_journal.specs.Entries.{Writes}
-use Rattle.path_journal.proofs.Closing.{counted, counted_steps, counted_line, closed_empty, closed_failed, closed_same}
+use Rattle.path_journal.proofs.Closing.{counted_steps, named, closed_empty, closed_failed, closed_same}
 use Rattle.path_journal.proofs.keeping.PathJournalProofLogger.close.Goals as goal
 
 pub returns-in_err-answer-clause-steps : goal.returns-in_err-answer-clause-steps
@@ -44,19 +42,16 @@ returns-in-None-last_pair-clause-closed g c =
     let knows = g.M.LineMaker.knows j.maker in
     let later = g.M.LineMaker.knows c.dead_line.new.self.maker in
     let es = c.reserve.new.self.items in
-    let count = counted knows j.lines.now j.journal j.numbers.owner j.numbers.notes j.entries.items es c.deref.result.now c.args.q.now c.args.rows.now c.args.account.now c.count_above-above.result c.path-length.result.now
-    c.in_ok-reserve.ensures.items c.deref.ensures.value c.path-length.ensures.is c.requires.writes c.count_above-above.ensures.from c.count_above-above.ensures.below in
     let q = c.args.q.now in
     let rows = c.args.rows.now in
     let a = c.args.account.now in
     let k = c.count_above-above.result in
-    let m = counted_line knows later j.lines.now j.journal c.dead_line.new.self.journal j.numbers.owner j.numbers.notes es q rows a k c.in_ok-answer.answer c.in-Some-answer.name c.in-Some-answer.is count c.in_ok-answer.ensures.lined in
-    let last : IsLastOf (Some c.dead_line.new.self.journal.steps) c.in-Some-answer.name =
-    subst (λ (o : Option Name). IfSome o (IsLastOf (Some c.dead_line.new.self.journal.steps))) c.in-Some-answer.is c.in_ok-answer.ensures.last in
+    let made = named knows later j.lines.now j.journal c.dead_line.new.self.journal j.numbers.owner j.numbers.notes j.entries.items es c.deref.result.now q rows a k c.path-length.result.now c.in_ok-answer.answer c.in-Some-answer.name c.in-Some-answer.is
+    c.in_ok-reserve.ensures.items c.deref.ensures.value c.path-length.ensures.is c.requires.writes c.count_above-above.ensures.from c.count_above-above.ensures.below c.in_ok-answer.ensures.lined c.in_ok-answer.ensures.last in
     let none : length (path a) ≡ 0 = ap (λ (xs : List (ℕ × ℕ)). length xs) (sym c.path.ensures.is) ∙ c.in-None-last_pair.ensures.none in
     closed_same later j.lines.now c.dead_line.new.self.lines.now c.dead_line.new.self.journal j.numbers.owner c.dead_line.new.self.numbers.owner j.numbers.notes c.dead_line.new.self.numbers.notes c.dead_line.new.self.entries.items q rows a
     c.dead_line.ensures.same (ap (λ n. n.owner) c.dead_line.ensures.numbers) (ap (λ n. n.notes) c.dead_line.ensures.numbers) (closed_empty knows later j.lines.now j.journal c.dead_line.new.self.journal j.numbers.owner j.numbers.notes es c.dead_line.new.self.entries.items q rows a
-    c.in-Some-answer.name count.writes c.dead_line.ensures.owner c.dead_line.ensures.notes m last none)
+    c.in-Some-answer.name made.count.writes c.dead_line.ensures.owner c.dead_line.ensures.notes made.line made.last none)
 
 pub returns-clause-closed : goal.returns-clause-closed
 returns-clause-closed g c =
@@ -64,15 +59,12 @@ returns-clause-closed g c =
     let knows = g.M.LineMaker.knows j.maker in
     let later = g.M.LineMaker.knows c.dead_line.new.self.maker in
     let es = c.reserve.new.self.items in
-    let count = counted knows j.lines.now j.journal j.numbers.owner j.numbers.notes j.entries.items es c.deref.result.now c.args.q.now c.args.rows.now c.args.account.now c.count_above-above.result c.path-length.result.now
-    c.in_ok-reserve.ensures.items c.deref.ensures.value c.path-length.ensures.is c.requires.writes c.count_above-above.ensures.from c.count_above-above.ensures.below in
     let q = c.args.q.now in
     let rows = c.args.rows.now in
     let a = c.args.account.now in
     let k = c.count_above-above.result in
-    let m = counted_line knows later j.lines.now j.journal c.dead_line.new.self.journal j.numbers.owner j.numbers.notes es q rows a k c.in_ok-answer.answer c.in-Some-answer.name c.in-Some-answer.is count c.in_ok-answer.ensures.lined in
-    let last : IsLastOf (Some c.dead_line.new.self.journal.steps) c.in-Some-answer.name =
-    subst (λ (o : Option Name). IfSome o (IsLastOf (Some c.dead_line.new.self.journal.steps))) c.in-Some-answer.is c.in_ok-answer.ensures.last in
+    let made = named knows later j.lines.now j.journal c.dead_line.new.self.journal j.numbers.owner j.numbers.notes j.entries.items es c.deref.result.now q rows a k c.path-length.result.now c.in_ok-answer.answer c.in-Some-answer.name c.in-Some-answer.is
+    c.in_ok-reserve.ensures.items c.deref.ensures.value c.path-length.ensures.is c.requires.writes c.count_above-above.ensures.from c.count_above-above.ensures.below c.in_ok-answer.ensures.lined c.in_ok-answer.ensures.last in
     let some = c.in-Some-last_pair.ensures.some in
     let long : length c.path-length.result.now ≡ length (path a) = ap (λ (xs : List (ℕ × ℕ)). length xs) c.path-length.ensures.is in
     let here : length c.path.result.now ≡ length (path a) = ap (λ (xs : List (ℕ × ℕ)). length xs) c.path.ensures.is in
@@ -84,5 +76,5 @@ returns-clause-closed g c =
     closed_same later j.lines.now c.dead_line.new.self.lines.now c.dead_line.new.self.journal j.numbers.owner c.dead_line.new.self.numbers.owner j.numbers.notes c.dead_line.new.self.numbers.notes c.push_reserved.new.self.items q rows a
     c.dead_line.ensures.same (ap (λ n. n.owner) c.dead_line.ensures.numbers) (ap (λ n. n.notes) c.dead_line.ensures.numbers) (subst (λ (xs : List Refuted). Closed (λ b. Writes later j.lines.now c.dead_line.new.self.journal j.numbers.owner j.numbers.notes xs q rows b) (Refutes j.lines.now c.dead_line.new.self.journal q rows) a)
     (sym c.push_reserved.ensures.items)
-    (closed_failed knows later j.lines.now j.journal c.dead_line.new.self.journal j.numbers.owner j.numbers.notes es q rows a c.in-Some-answer.name k c.truncate.new.self.items _ c.in-Some-last_pair.last front count.writes
-    c.dead_line.ensures.owner c.dead_line.ensures.notes m last count.from count.below refl level at refl))
+    (closed_failed knows later j.lines.now j.journal c.dead_line.new.self.journal j.numbers.owner j.numbers.notes es q rows a c.in-Some-answer.name k c.truncate.new.self.items _ c.in-Some-last_pair.last front made.count.writes
+    c.dead_line.ensures.owner c.dead_line.ensures.notes made.line made.last made.count.from made.count.below refl level at refl))

@@ -1,6 +1,0 @@
-use Rattle.std.proofs.Common.{take}
-use Rattle.graph_theory.specs.Mapping.{HasNoLineFeed}
-use Rattle.graph_rows.proofs.mapping.first_line.Given as goal
-
-abbrev pub invariant-loop-i : goal.invariant-loop-i
-invariant-loop-i l = HasNoLineFeed (take l.i l.bytes)
