@@ -126,6 +126,10 @@ yes_text-push bytes m rest more t e f =
     mapping_lines-push 0 t m ∙ ap (λ (q : ℕ). mapping_lines 0 m ++ mapping_line q t) d in
     rw (e, f, lines) (simp append_assoc)
 
+-- With its image among the images, a line is no more in what follows.
+pub yes_text-pushed : (m pushed rest more : List ℕ) (t : ℕ) → pushed ≡ m ++ t ∷ [] → rest ≡ mapping_line (length m) t ++ more → yes_text pushed ++ more ≡ yes_text m ++ rest
+yes_text-pushed m pushed rest more t e f = rw e (sym (yes_text-push _ m rest more t refl f))
+
 -- What follows a line is shorter.
 pub length-after_line : (p t : ℕ) (bs more : List ℕ) → bs ≡ mapping_line p t ++ more → length more < length bs
 length-after_line p t bs more e = let l : length bs ≡ length (mapping_line p t ++ more) = ap length e in omega (arith, simp length-append at l)

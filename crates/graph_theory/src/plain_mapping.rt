@@ -1,7 +1,7 @@
 //! A mapping's text read plainly, for reference: line by line, each number of a line against the number's own text.
 ghost use Rattle.std.specs.Prelude.{◌≡◌, ◌≢◌, ℕ, ◌+◌, ◌<◌, ◌^◌, List, ◌++◌, length, IfOk, IfErr, MatchOption, MatchResult};
 ghost use Rattle.std.specs.Fmt.{decimal};
-ghost use Rattle.graph_theory.specs.Mapping.{mapping_line, yes_line, HasNoLine, IsMapping, FaultyLine, OnLine};
+ghost use Rattle.graph_theory.specs.Mapping.{mapping_line, yes_text, AreNumbers32, HasNoLine, IsMapping, FaultyLine, OnLine};
 
 use crate::mapping_lines::{after, first_line};
 use crate::mapping_text::{MapFault, mapping_laws};
@@ -46,31 +46,42 @@ fn line_in(alloc: Global, bytes: &[u8], vertex: u64) -> Result<Option<(u32, &[u8
     }
 }
 
+/// These images, and after them those that the lines of a text say: the first line's, then those of what follows it.
+///
+/// It calls itself for what follows, so the stack holds a frame for each line.
+fn images_from(alloc: Global, rest: &[u8], mut images: Vec<u32>) -> Result<Vec<u32>, MapFault>
+    requires { AreNumbers32 images.items }
+    ensures found { IfOk result
+        (λ m. IsMapping (yes_text images.items ++ rest.now) m.items) }
+    ensures fault { IfErr result
+        (λ e. OnLine e (FaultyLine (yes_text images.items ++ rest.now))) }
+{
+    if rest.is_empty() {
+        return Ok(images);
+    }
+    let vertex = images.len() as u64;
+    let Some((image, more)) = line_in(alloc, rest, vertex)? else {
+        return Err(MapFault::Line { line: vertex + 2 });
+    };
+    images.push(image)?;
+    images_from(alloc, more, images)
+}
+
 /// The images that the lines of a text say.
 fn images_in(alloc: Global, bytes: &[u8]) -> Result<Vec<u32>, MapFault>
     ensures found { IfOk result (λ m. IsMapping bytes.now m.items) }
     ensures fault { IfErr result (λ e. OnLine e (FaultyLine bytes.now)) }
 {
-    let Some(mut rest) = after(bytes, b"yes\n") else {
-        return Err(MapFault::Line { line: 1 });
-    };
-    let mut images = Vec::new(alloc);
-    while !rest.is_empty() {
-        let vertex = images.len() as u64;
-        match line_in(alloc, rest, vertex)? {
-            Some((image, more)) => {
-                images.push(image)?;
-                rest = more;
-            }
-            None => return Err(MapFault::Line { line: vertex + 2 }),
-        }
+    match after(bytes, b"yes\n") {
+        Some(rest) => images_from(alloc, rest, Vec::new(alloc)),
+        None => Err(MapFault::Line { line: 1 }),
     }
-    Ok(images)
 }
 
 /// The mapping whose text this is, or its first faulty line, in time linear in the text.
 ///
-/// It writes the text of each number and compares, so it takes memory for each line and gives it back.
+/// It writes the text of each number and compares, so it takes memory for each line and gives it back. Each line is
+/// read in a call of its own within the last, so it takes stack in proportion to the lines.
 pub fn mapping_in(alloc: Global, bytes: &[u8]) -> Result<Vec<u32>, MapFault>
     ensures found { IfOk result (λ m. IsMapping bytes.now m.items) }
     ensures fault { IfErr result (λ e. OnLine e (FaultyLine bytes.now)) }
