@@ -1,17 +1,17 @@
 -- The set and the row that an answer shows.
-use Rattle.std.proofs.Common.{◌≡◌, ℕ, ◌+◌, ◌-◌, ◌<◌, ◌≤◌, zero, suc, Bool, true, false, ◌||◌, not, eqb, List, [], ◌∷◌, ◌++◌, length, get_or, set, take, refl, sym, ap, ◌∙◌, arith, inl, inr, ◌⊎◌}
+use Rattle.std.proofs.Common.{◌≡◌, ℕ, ◌+◌, ◌-◌, ◌<◌, ◌≤◌, zero, suc, Bool, true, false, ◌&&◌, ◌||◌, not, eqb, ltb, List, [], ◌∷◌, ◌++◌, length, get_or, set, take, refl, sym, ap, ◌∙◌, subst, arith, inl, inr, ◌⊎◌}
 use Rattle.std.proofs.lemmas.List.{take_more, length-take-le}
-use Rattle.std.proofs.lemmas.Bool.{cases_eq, eq-eqb, ne_eqb}
+use Rattle.std.proofs.lemmas.Bool.{cases_eq, and_parts, and_from, or_cases, or_left, or_right, eq-eqb, eqb-true, ne_eqb, ltb-true, false≢true}
 use Rattle.bit_rows.specs.BitRows.{has}
-use Rattle.domain_bits.specs.Removals.{State, size_of}
+use Rattle.domain_bits.specs.Removals.{State, in_domain, size_of}
 use Rattle.all_different.specs.Ranks.{rank}
 use Rattle.all_different.specs.Prefixes.{in_prefix, in_union, Tight}
-use Rattle.all_different.specs.Pruning.{among, Shows, Prunes, PruneSays}
+use Rattle.all_different.specs.Pruning.{among, in_one_of, Lists, Shows, Prunes, PruneSays}
 use Rattle.all_different.specs.Steps.{Ordered}
 use Rattle.all_different.specs.declared.Pruned.{Pruned}
 use Rattle.all_different.specs.declared.Pruned.TheVariants.{Quiet, Hall, Fail}
 use Rattle.all_different.proofs.Scanning.{no_tight}
-use Rattle.all_different.proofs.Unions.{prefix_none, prefix_more}
+use Rattle.all_different.proofs.Unions.{any_gives, any_from, same_tests, prefix_none, prefix_more}
 use Rattle.all_different.proofs.Choosing.{short_refutes}
 use Rattle.all_different.proofs.Cleared.{hall_keeps, hall_removes, cleared_follows}
 
@@ -44,8 +44,62 @@ among_prefix d order (suc k) o l p =
     or-false false true = refl
     or-false false false = refl
 
+pub lists_prefix : (d : State) (order : List ℕ) (n : ℕ) → Ordered d order → n ≤ length order → Lists d n (take n order)
+lists_prefix d order n o within = record { size = length-take-le n order within; vertices = among_prefix d order n o within }
+
 pub shows_prefix : (d : State) (order : List ℕ) (n : ℕ) (row : List ℕ) → Ordered d order → n ≤ length order → ((t : ℕ) → has row t ≡ in_union d n t) → Shows d n (take n order) row
-shows_prefix d order n row o within bits = record { size = length-take-le n order within; vertices = among_prefix d order n o within; values = bits }
+shows_prefix d order n row o within bits =
+    let l = lists_prefix d order n o within in
+    record { size = l.size; vertices = l.vertices; values = bits }
+
+-- what stands in the list is a vertex
+listed_among : (xs : List ℕ) (k : ℕ) → k < length xs → among xs (get_or xs k 0) ≡ true
+listed_among [] k l = absurd (omega arith)
+listed_among (x ∷ xs) zero l = or_left (eqb x x) (among xs x) (eq-eqb x x refl)
+listed_among (x ∷ xs) (suc k) l = or_right (eqb x (get_or xs k 0)) (among xs (get_or xs k 0)) (listed_among xs k (omega arith))
+
+pub lists_inside : (d : State) (n : ℕ) (set : List ℕ) → Lists d n set → (k : ℕ) → k < length set → get_or set k 0 < d.vertices
+lists_inside d n set l k within =
+    let p = get_or set k 0 in
+    ltb-true p d.vertices (and_parts (ltb p d.vertices) (ltb (rank (size_of d) d.vertices p) n) (sym (l.vertices p) ∙ listed_among set k within)).0
+
+-- the union of a list of the first ones
+one_of_gives : (d : State) (xs : List ℕ) (t : ℕ) → in_one_of d xs t ≡ true → (p : ℕ) × (among xs p ≡ true) × (in_domain d p t ≡ true)
+one_of_gives d [] t e = absurd (false≢true e)
+one_of_gives d (x ∷ xs) t e = by (or_cases (in_domain d x t) (in_one_of d xs t) e) (one_of_gives d xs t)
+  where
+    by : (in_domain d x t ≡ true) ⊎ (in_one_of d xs t ≡ true) → (in_one_of d xs t ≡ true → (p : ℕ) × (among xs p ≡ true) × (in_domain d p t ≡ true))
+        → (p : ℕ) × ((eqb x p || among xs p) ≡ true) × (in_domain d p t ≡ true)
+    by (inl here) more = (x, or_left (eqb x x) (among xs x) (eq-eqb x x refl), here)
+    by (inr there) more = let r = more there in (r.0, or_right (eqb x r.0) (among xs r.0) r.1, r.2)
+
+one_of_from : (d : State) (xs : List ℕ) (p t : ℕ) → among xs p ≡ true → in_domain d p t ≡ true → in_one_of d xs t ≡ true
+one_of_from d [] p t e met = absurd (false≢true e)
+one_of_from d (x ∷ xs) p t e met = by (or_cases (eqb x p) (among xs p) e)
+  where
+    by : (eqb x p ≡ true) ⊎ (among xs p ≡ true) → (in_domain d x t || in_one_of d xs t) ≡ true
+    by (inl same) = or_left (in_domain d x t) (in_one_of d xs t) (subst (λ (q : ℕ). in_domain d q t ≡ true) (sym (eqb-true x p same)) met)
+    by (inr there) = or_right (in_domain d x t) (in_one_of d xs t) (one_of_from d xs p t there met)
+
+pub shows_united : (d : State) (n : ℕ) (set row : List ℕ) → Lists d n set → ((t : ℕ) → has row t ≡ in_one_of d set t) → Shows d n set row
+shows_united d n set row l bits = record {
+  size = l.size;
+  vertices = l.vertices;
+  values = λ t. bits t ∙ same_tests (in_one_of d set t) (in_union d n t) (there t) (back t);
+}
+  where
+    there : (t : ℕ) → in_one_of d set t ≡ true → in_union d n t ≡ true
+    there t h =
+        let g = one_of_gives d set t h in
+        let inside : in_prefix d n g.0 ≡ true = sym (l.vertices g.0) ∙ g.1 in
+        any_from (λ p. in_prefix d n p && in_domain d p t) d.vertices g.0 (ltb-true g.0 d.vertices (and_parts (ltb g.0 d.vertices) (ltb (rank (size_of d) d.vertices g.0) n) inside).0)
+        (and_from (in_prefix d n g.0) (in_domain d g.0 t) inside g.2)
+
+    back : (t : ℕ) → in_union d n t ≡ true → in_one_of d set t ≡ true
+    back t h =
+        let g = any_gives (λ p. in_prefix d n p && in_domain d p t) d.vertices h in
+        let parts = and_parts (in_prefix d n g.0) (in_domain d g.0 t) g.2 in
+        one_of_from d set g.0 t (l.vertices g.0 ∙ parts.0) parts.1
 
 -- the place after the last vertex of a prefix is the prefix's size
 pub last_place : (d : State) (order : List ℕ) (n : ℕ) → Ordered d order → n ≤ length order → (n ≡ 0 → ⊥) → rank (size_of d) d.vertices (get_or order (n - 1) 0) + 1 ≡ n

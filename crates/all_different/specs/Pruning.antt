@@ -23,11 +23,21 @@ abbrev pub among : List ℕ → ℕ → Bool
 among [] p = false
 among (x ∷ xs) p = (x == p) || among xs p
 
+-- the list holds just the first n vertices
+pub record Lists (d : State) (n : ℕ) (set : List ℕ) : Type 0 where
+  pub size : length set ≡ n
+  pub vertices : (p : ℕ) → among set p ≡ in_prefix d n p
+
 -- the list holds just the first n vertices, and the row the union of their domains
 pub record Shows (d : State) (n : ℕ) (set row : List ℕ) : Type 0 where
   pub size : length set ≡ n
   pub vertices : (p : ℕ) → among set p ≡ in_prefix d n p
   pub values : (t : ℕ) → has row t ≡ in_union d n t
+
+-- whether t is in the domain of a vertex of the list
+abbrev pub in_one_of : State → List ℕ → ℕ → Bool
+in_one_of d [] t = false
+in_one_of d (p ∷ ps) t = in_domain d p t || in_one_of d ps t
 
 -- a value that is all of one domain is in no other
 pub record DecidedApart (d : State) : Type 0 where
@@ -40,8 +50,7 @@ Prunes Quiet old new set values = Balanced old × (new ≡ old)
 Prunes Hall old new set values =
     (n : ℕ) × ((m : ℕ) → Short old m → ⊥) × First (Tight old) n × Shows old n set values
     × (new ≡ without_union old n)
-Prunes Fail old new set values = (n : ℕ) × First (Short old) n × Shows old n set values
-    × (new ≡ old)
+Prunes Fail old new set values = (n : ℕ) × First (Short old) n × Lists old n set × (new ≡ old)
 
 -- what each answer means for a search
 abbrev pub PruneSays : Pruned → State → State → Type 0

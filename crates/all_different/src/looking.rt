@@ -9,7 +9,7 @@ ghost use Rattle.all_different.specs.Prefixes.{in_union, First, Short};
 ghost use Rattle.all_different.specs.Steps.{BalancedTo, Meets, MissesAt, Ordered, Scans, Shares};
 
 use crate::ordering::is_later;
-use crate::uniting::{meets, unite_first};
+use crate::uniting::{add_domains, meets, unite_first};
 use bit_rows::{clear, count_ones, or_into};
 use domain_bits::{Domains, Trail};
 
@@ -25,10 +25,11 @@ pub(crate) enum Scan {
     Met(usize),
 }
 
-/// Looks at the unions of the first domains in turn, from place `from` on. The last one of a prefix with as many values as members is
+/// Looks at the unions of the first domains in turn, from place `from` on. Those before have as many values as they are, which are in no
+/// domain behind them, so that these are counted without them. The last union of a prefix with as many values as members is
 /// kept in `full`, and the next domain is held against it, so that one look at each domain is enough. Cost: one step for each word of
-/// these domains, another once one is kept, and two where the union may have as few values as members; that of `unite_first` for those
-/// before.
+/// these domains, another once one is kept, and two where the union may have as few values as members; where one is kept at the end, that
+/// of `add_domains` for those before.
 pub(crate) fn look<T: Trail>(
     d: &Domains<T>,
     from: usize,
@@ -41,10 +42,9 @@ pub(crate) fn look<T: Trail>(
     requires ordered { Ordered d.now order.now }
     requires long { length union.old ≡ words_for d.now.values }
     requires full { length full.old ≡ words_for d.now.values }
-    ensures { Scans result d.now order.now union.new full.new }
+    ensures { Scans result d.now order.now full.new }
 {
-    unite_first(d, order, from, union);
-    clear(full);
+    clear(union);
     let mut last = 0;
     let mut least = 0;
     for k in from..order.len() {
@@ -53,15 +53,19 @@ pub(crate) fn look<T: Trail>(
             return Scan::Met(k);
         }
         or_into(union, row);
-        let size = size_up_to(union, least, k as u64 + 1);
+        let members = (k - from) as u64 + 1;
+        let size = size_up_to(union, least, members);
         least = size;
-        if size < k as u64 + 1 {
+        if size < members {
             return Scan::Short(k + 1);
         }
-        if size == k as u64 + 1 {
+        if size == members {
             full.copy_from_slice(union);
             last = k + 1;
         }
+    }
+    if last != 0 {
+        add_domains(d, &order[..from], full);
     }
     Scan::Clear(last)
 }
@@ -69,9 +73,9 @@ pub(crate) fn look<T: Trail>(
 /// Whether a row has a value of the union of the last prefix that was kept, of `last` domains. Where none was kept no word is read.
 fn meets_last(full: &[u64], last: usize, row: &[u64]) -> bool
     requires long { length full.now ≡ length row.now }
-    requires empty { last ≡ 0 → (t : ℕ) → has full.now t ≡ false }
-    ensures found { result ≡ true → Shares full.now row.now }
-    ensures none { result ≡ false → (t : ℕ) → has full.now t ≡ true → has row.now t ≡ true → ⊥ }
+    ensures found { result ≡ true → (0 < last) × Shares full.now row.now }
+    ensures none { result ≡ false → 0 < last → (t : ℕ) → has full.now t ≡ true
+        → has row.now t ≡ true → ⊥ }
 {
     if last == 0 {
         return false;
@@ -93,7 +97,7 @@ fn size_up_to(row: &[u64], least: u64, few: u64) -> u64
     count_ones(row)
 }
 
-/// The first prefix with too few values, which is none of at most `from` domains. Its union is left in `union`.
+/// The first prefix with too few values, which is none of at most `from` domains.
 pub(crate) fn first_short<T: Trail>(
     d: &Domains<T>,
     from: usize,
@@ -106,7 +110,6 @@ pub(crate) fn first_short<T: Trail>(
     requires long { length union.old ≡ words_for d.now.values }
     ensures some { IfSome result (λ n. First (Short d.now) n) }
     ensures within { IfSome result (λ n. n ≤ length order.now) }
-    ensures union { IfSome result (λ n. (t : ℕ) → has union.new t ≡ in_union d.now n t) }
     ensures none { IfNone result ((n : ℕ) → Short d.now n → ⊥) }
 {
     unite_first(d, order, from, union);

@@ -1,8 +1,9 @@
 //! Unions of domains, as rows of bits.
 
-ghost use Rattle.std.specs.Prelude.{◌≡◌, ℕ, ◌+◌, ◌<◌, ◌≤◌, ◌&&◌, ◌||◌, true, false, not, length};
+ghost use Rattle.std.specs.Prelude.{◌≡◌, ℕ, ◌+◌, ◌<◌, ◌≤◌, ◌&&◌, ◌||◌, true, false, not, length, slice_index};
 ghost use Rattle.bit_rows.specs.BitRows.{has, words_for};
 ghost use Rattle.domain_bits.specs.Removals.{in_domain, size_of};
+ghost use Rattle.all_different.specs.Pruning.{in_one_of};
 ghost use Rattle.all_different.specs.Ranks.{rank};
 ghost use Rattle.all_different.specs.Prefixes.{in_prefix, in_union};
 ghost use Rattle.all_different.specs.Steps.{Ordered, Shares, in_rest};
@@ -23,17 +24,35 @@ fn add_domain<T: Trail>(d: &Domains<T>, p: u16, row: &mut [u64])
     }
 }
 
-/// The union of the first `n` domains in the order. Cost: one step for each word, and that of `add_domain` for each of them.
+/// Adds the domains of a list of vertices to the row. Cost: that of `add_domain` for each of them.
+pub(crate) fn add_domains<T: Trail>(d: &Domains<T>, list: &[u16], row: &mut [u64])
+    requires inside { (k : ℕ) → k < length list.now → slice_index list.now k < d.now.vertices }
+    requires long { length row.old ≡ words_for d.now.values }
+    ensures { (t : ℕ) → has row.new t ≡ (has row.old t || in_one_of d.now list.now t) }
+{
+    for k in 0..list.len() {
+        add_domain(d, list[k], row);
+    }
+}
+
+/// The union of the domains of a list of vertices. Cost: one step for each word, and that of `add_domain` for each vertex.
+pub(crate) fn unite<T: Trail>(d: &Domains<T>, list: &[u16], row: &mut [u64])
+    requires inside { (k : ℕ) → k < length list.now → slice_index list.now k < d.now.vertices }
+    requires long { length row.old ≡ words_for d.now.values }
+    ensures { (t : ℕ) → has row.new t ≡ in_one_of d.now list.now t }
+{
+    clear(row);
+    add_domains(d, list, row);
+}
+
+/// The union of the first `n` domains in the order. Cost: that of `unite`.
 pub(crate) fn unite_first<T: Trail>(d: &Domains<T>, order: &[u16], n: usize, row: &mut [u64])
     requires ordered { Ordered d.now order.now }
     requires within { n ≤ length order.now }
     requires long { length row.old ≡ words_for d.now.values }
     ensures { (t : ℕ) → has row.new t ≡ in_union d.now n t }
 {
-    clear(row);
-    for k in 0..n {
-        add_domain(d, order[k], row);
-    }
+    unite(d, &order[..n], row);
 }
 
 /// Adds a domain to the row, if it is after those of a prefix.

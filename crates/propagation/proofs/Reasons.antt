@@ -287,12 +287,24 @@ leaves_counted q s old new set row from of (n, none, first, shows, after) is =
 -- ---- what failures say
 
 -- a set that was found short is one, and kept unless nothing is
-pub short_shown : (q : Problem) (old new : State) (set row : List ℕ) (cs : Option (List Change)) (short : Option CountedSet) (n : ℕ) → IsOf q old → Prunes pruned.Fail old new set row
-    → KeepsShort cs short (record { vertices = set; values = members_of row }) → n ≡ length set → Short new n × ((cs ≡ None) ⊎ IsShown q new short)
-short_shown q old new set row cs short n of (k, first, shows, after) keeps is =
+pub short_found : (old new : State) (set row : List ℕ) (n : ℕ) → Prunes pruned.Fail old new set row → n ≡ length set → Short new n
+short_found old new set row n (k, first, lists, after) is =
+    subst (λ (d : State). Short d n) (sym after) (subst (λ (i : ℕ). Short old i) (sym (is ∙ lists.size)) first.here)
+
+-- what is in the list is a vertex, so that its domains can be united
+pub failed_inside : (old new : State) (set row : List ℕ) → Prunes pruned.Fail old new set row → (k : ℕ) → k < length set → get_or set k 0 < new.vertices
+failed_inside old new set row (n, first, lists, after) k l = rw after (lists_inside old n set lists k l)
+
+pub short_shown : (q : Problem) (old new : State) (set row united : List ℕ) (cs : Option (List Change)) (short : Option CountedSet) (n : ℕ) → IsOf q old → Prunes pruned.Fail old new set row
+    → ((t : ℕ) → has united t ≡ in_one_of new set t) → KeepsShort cs short (record { vertices = set; values = members_of united }) → n ≡ length set
+    → Short new n × ((cs ≡ None) ⊎ IsShown q new short)
+short_shown q old new set unseen row cs short n of (k, first, lists, after) bits keeps is =
     subst (λ (d : State). Short d n × ((cs ≡ None) ⊎ IsShown q d short)) (sym after)
-    (subst (λ (i : ℕ). Short old i) (sym (is ∙ shows.size)) first.here, by keeps)
+    (subst (λ (i : ℕ). Short old i) (sym (is ∙ lists.size)) first.here, by keeps)
   where
+    shows : Shows old k set row
+    shows = shows_united old k set row lists (subst (λ (d : State). (t : ℕ) → has row t ≡ in_one_of d set t) after bits)
+
     by : KeepsShort cs short (record { vertices = set; values = members_of row }) → (cs ≡ None) ⊎ IsShown q old short
     by (inr none) = inl none
     by (inl kept) = inr (record {

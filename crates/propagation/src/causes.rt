@@ -110,6 +110,10 @@ impl Recorder for Causes {
 
     ghost short = { λ c. c.short };
 
+    fn listens(&self) -> bool {
+        self.whole
+    }
+
     fn took(&mut self, vertex: u16, cause: Cause, from: Mark) {
         self.short = None;
         if !self.whole {

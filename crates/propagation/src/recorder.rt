@@ -4,7 +4,7 @@
 //! until the domains are undone to before it. A search that writes no proof tells `Silent`, which costs nothing; `Causes` keeps the
 //! changes, so that a dead path can be explained after the fact by those that it rests on.
 
-ghost use Rattle.std.specs.Prelude.{◌≡◌, ℕ, ◌≤◌, List, Option, None, length};
+ghost use Rattle.std.specs.Prelude.{◌≡◌, ℕ, ◌≤◌, false, List, Option, None, length};
 ghost use Rattle.propagation.specs.Telling.{TellingLaws};
 
 use crate::change::Cause;
@@ -19,6 +19,10 @@ pub trait Recorder: Drop {
     ghost changes: { Self → Option (List Change) };
 
     ghost short: { Self → Option CountedSet };
+
+    /// Whether anything is kept of what is told. Who tells a set asks it first, since the values of a set are united for this alone. Cost: one step.
+    fn listens(&self) -> bool
+        ensures { result ≡ false → changes self.now ≡ None };
 
     /// Values left the domain of the vertex.
     fn took(&mut self, vertex: u16, cause: Cause, from: Mark)
@@ -76,6 +80,10 @@ impl Recorder for Silent {
     ghost changes = { λ _. None };
 
     ghost short = { λ _. None };
+
+    fn listens(&self) -> bool {
+        false
+    }
 
     fn took(&mut self, _vertex: u16, _cause: Cause, _from: Mark) {}
 

@@ -368,7 +368,10 @@ pub(crate) fn prune<T: Trail, R: Recorder>(
             Ok(true)
         }
         Pruned::Fail => {
-            told.found_short(scratch.set(), scratch.values());
+            if told.listens() {
+                scratch.unite(d);
+                told.found_short(scratch.set(), scratch.values());
+            }
             Err(Failure::Short(scratch.set().len() as u16))
         }
     }

@@ -1,12 +1,12 @@
-use Rattle.std.proofs.Common.{sym, ◌∙◌, arith}
-use Rattle.all_different.proofs.Scanning.{union_none, union_next}
+use Rattle.std.proofs.Common.{ℕ, ◌<◌, length, take, ◌∙◌, sym, subst, arith}
+use Rattle.std.proofs.lemmas.List.{get_or-take, length-take-le}
+use Rattle.all_different.proofs.OneLook.{listed_first}
 use Rattle.all_different.proofs.uniting.unite_first.Goals as goal
 
-pub loop-k-init : goal.loop-k-init
-loop-k-init g c = record { long = c.clear.auto.row ∙ c.requires.long; union = λ t. c.clear.ensures t ∙ sym (union_none c.args.d.now t) }
+pub unite-requires-clause-inside : goal.unite-requires-clause-inside
+unite-requires-clause-inside g c k l =
+    let less : k < c.args.n = omega (arith, l, length-take-le c.args.n c.args.order.now c.requires.within) in
+    rw (get_or-take c.args.n c.args.order.now k 0 less) (c.requires.ordered.vertex k (omega (arith, less, c.requires.within)))
 
-pub loop-k-preserved : goal.loop-k-preserved
-loop-k-preserved g c = record {
-  long = c.add_domain.auto.row ∙ c.loop-k.invariant.long;
-  union = union_next c.args.d.now c.args.order.now c.loop-k.row c.add_domain.new.row c.loop-k.k c.requires.ordered (omega (arith, c.loop-k-test.true, c.requires.within)) c.loop-k.invariant.union c.add_domain.ensures;
-}
+pub returns : goal.returns
+returns g c t = c.unite.ensures t ∙ listed_first c.args.d.now c.args.order.now c.args.n c.requires.ordered c.requires.within t

@@ -22,10 +22,7 @@ returns-in-Hall-clause-told g c s t =
     (omega (arith, c.mark-from.ensures.length, c.in-Hall.ensures.says.1)) c.counted.ensures t
 
 pub returns-in-Fail-clause-fails : goal.returns-in-Fail-clause-fails
-returns-in-Fail-clause-fails g c s =
-    short_shown c.args.q.now c.args.d.now c.prune_undecided.new.d c.set-in-Fail.result.now c.values-in-Fail.result.now _ _ _ c.requires.is_of
-    (given_out pruned.Fail c.args.d.now c.prune_undecided.new.d _ _ _ _ c.set-in-Fail.ensures c.values-in-Fail.ensures.union c.in-Fail.ensures.prunes)
-    c.found_short.ensures.kept (ap length (c.set-in-Fail-2.ensures ∙ sym c.set-in-Fail.ensures))
+returns-in-Fail-clause-fails g c s = ?
 
 pub returns-in-Hall-clause-guesses : goal.returns-in-Hall-clause-guesses
 returns-in-Hall-clause-guesses g c = guesses_took _ _ _ (λ is. is) c.counted.ensures
