@@ -75,11 +75,11 @@ one_of_gives d (x ∷ xs) t e = by (or_cases (in_domain d x t) (in_one_of d xs t
 
 one_of_from : (d : State) (xs : List ℕ) (p t : ℕ) → among xs p ≡ true → in_domain d p t ≡ true → in_one_of d xs t ≡ true
 one_of_from d [] p t e met = absurd (false≢true e)
-one_of_from d (x ∷ xs) p t e met = by (or_cases (eqb x p) (among xs p) e)
+one_of_from d (x ∷ xs) p t e met = by (or_cases (eqb x p) (among xs p) e) (λ there. one_of_from d xs p t there met)
   where
-    by : (eqb x p ≡ true) ⊎ (among xs p ≡ true) → (in_domain d x t || in_one_of d xs t) ≡ true
-    by (inl same) = or_left (in_domain d x t) (in_one_of d xs t) (subst (λ (q : ℕ). in_domain d q t ≡ true) (sym (eqb-true x p same)) met)
-    by (inr there) = or_right (in_domain d x t) (in_one_of d xs t) (one_of_from d xs p t there met)
+    by : (eqb x p ≡ true) ⊎ (among xs p ≡ true) → (among xs p ≡ true → in_one_of d xs t ≡ true) → (in_domain d x t || in_one_of d xs t) ≡ true
+    by (inl same) more = or_left (in_domain d x t) (in_one_of d xs t) (subst (λ (q : ℕ). in_domain d q t ≡ true) (sym (eqb-true x p same)) met)
+    by (inr there) more = or_right (in_domain d x t) (in_one_of d xs t) (more there)
 
 pub shows_united : (d : State) (n : ℕ) (set row : List ℕ) → Lists d n set → ((t : ℕ) → has row t ≡ in_one_of d set t) → Shows d n set row
 shows_united d n set row l bits = record {

@@ -9,7 +9,7 @@ ghost use Rattle.domain_bits.specs.Removals.{at_vertex};
 use crate::trail::{Run, Trail};
 use bit_rows::{WORDS, are_within, blocks_of};
 
-/// Filters a row by another one.
+/// Filters a row by another one. A row of one word, as where there are no more than 64 values, goes by no loop.
 #[inline(always)]
 pub(crate) fn filter_row<T: Trail>(p: u16, domain: &mut [u64], keep: &[u64], trail: &mut T) -> u32
     requires long { length keep.now ≡ length domain.old }
@@ -25,6 +25,9 @@ pub(crate) fn filter_row<T: Trail>(p: u16, domain: &mut [u64], keep: &[u64], tra
     ensures count { result
         ≡ count (λ u. has domain.old u && not (has keep.now u)) (64 * length domain.old) }
 {
+    if domain.len() == 1 {
+        return filter_word(p, 0, domain, keep[0], trail);
+    }
     let mut gone = 0;
     let fours = blocks_of(domain.len());
     for block in 0..fours {

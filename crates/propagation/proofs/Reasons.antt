@@ -1,6 +1,6 @@
 -- Each cause explains what leaves by it.
 
-use Rattle.std.proofs.Common.{◌≡◌, ℕ, zero, suc, ◌+◌, ◌*◌, ◌/◌, ◌==◌, ◌<◌, ◌≤◌, ◌&&◌, ◌||◌, not, cond, eqb, ltb, Bool, true, false, List, [], ◌∷◌, ◌++◌, length, Option, Some, None, refl, sym, ap, ◌∙◌, subst, arith, ◌⊎◌, inl, inr}
+use Rattle.std.proofs.Common.{◌≡◌, ℕ, zero, suc, ◌+◌, ◌*◌, ◌/◌, ◌==◌, ◌<◌, ◌≤◌, ◌&&◌, ◌||◌, not, cond, eqb, ltb, Bool, true, false, List, [], ◌∷◌, ◌++◌, length, Option, Some, None, get_or, refl, sym, ap, ◌∙◌, subst, arith, ◌⊎◌, inl, inr}
 use Rattle.std.proofs.lemmas.Bool.{cases_eq, cases_lt, eq-eqb, eqb-true, ne_eqb, and_parts, or_cases, ltb-true, true≢false}
 use Rattle.std.proofs.lemmas.List.{append-nil}
 use Rattle.graph_theory.specs.Graph.{size}
@@ -21,6 +21,7 @@ use Rattle.all_different.specs.Pruning.{among, Shows, Prunes, without_union}
 use Rattle.all_different.proofs.Choosing.{union_has}
 use Rattle.all_different.proofs.Cleared.{cleared_follows, cleared_domain}
 use Rattle.all_different.proofs.Scanning.{union_below}
+use Rattle.all_different.proofs.Showing.{lists_inside, shows_united}
 use Rattle.all_different.proofs.Unions.{count_prefix}
 use Rattle.nogood_watch.specs.Nogoods as watched
 use Rattle.nogood_watch.specs.Nogoods.{literal, partner, nogood_of, AreWatches}
@@ -29,7 +30,7 @@ use Rattle.nogood_watch.proofs.Visits.{partner_half, partner_in}
 use Rattle.propagation.specs.declared.change.Cause.{Cause}
 use Rattle.propagation.specs.declared.change.Cause.TheVariants as cause
 use Rattle.propagation.specs.Propagation.{IsOf, Sweeps}
-use Rattle.propagation.specs.Recording.{Change, LeftOne, LeftOthers, LeftOver, CountedSet, members_of, KeepsShort}
+use Rattle.propagation.specs.Recording.{Change, LeftOne, LeftOthers, LeftOver, CountedSet, members_of, KeepsUnited}
 use Rattle.propagation.specs.Telling.{HasFirst, HasAtMost, NamesUnit, RefusesBy, StandsBy, IsForbidden, AreForbidden, IsCrowded, AreDistinct, HaveOnly, Leaves, IsDecided, IsShown}
 use Rattle.propagation.proofs.Visits.{gone_kept}
 use Rattle.propagation.proofs.Forcing.{half_in}
@@ -287,32 +288,25 @@ leaves_counted q s old new set row from of (n, none, first, shows, after) is =
 -- ---- what failures say
 
 -- a set that was found short is one, and kept unless nothing is
-pub short_found : (old new : State) (set row : List ℕ) (n : ℕ) → Prunes pruned.Fail old new set row → n ≡ length set → Short new n
-short_found old new set row n (k, first, lists, after) is =
-    subst (λ (d : State). Short d n) (sym after) (subst (λ (i : ℕ). Short old i) (sym (is ∙ lists.size)) first.here)
-
--- what is in the list is a vertex, so that its domains can be united
 pub failed_inside : (old new : State) (set row : List ℕ) → Prunes pruned.Fail old new set row → (k : ℕ) → k < length set → get_or set k 0 < new.vertices
 failed_inside old new set row (n, first, lists, after) k l = rw after (lists_inside old n set lists k l)
 
-pub short_shown : (q : Problem) (old new : State) (set row united : List ℕ) (cs : Option (List Change)) (short : Option CountedSet) (n : ℕ) → IsOf q old → Prunes pruned.Fail old new set row
-    → ((t : ℕ) → has united t ≡ in_one_of new set t) → KeepsShort cs short (record { vertices = set; values = members_of united }) → n ≡ length set
-    → Short new n × ((cs ≡ None) ⊎ IsShown q new short)
-short_shown q old new set unseen row cs short n of (k, first, lists, after) bits keeps is =
+pub short_shown : (q : Problem) (old new : State) (set row : List ℕ) (cs : Option (List Change)) (short : Option CountedSet) (n : ℕ) → IsOf q old → Prunes pruned.Fail old new set row
+    → KeepsUnited cs short new set → n ≡ length set → Short new n × ((cs ≡ None) ⊎ IsShown q new short)
+short_shown q old new set unseen cs short n of (k, first, lists, after) keeps is =
     subst (λ (d : State). Short d n × ((cs ≡ None) ⊎ IsShown q d short)) (sym after)
-    (subst (λ (i : ℕ). Short old i) (sym (is ∙ lists.size)) first.here, by keeps)
+    (subst (λ (i : ℕ). Short old i) (sym (is ∙ lists.size)) first.here, by (subst (λ (d : State). KeepsUnited cs short d set) after keeps))
   where
-    shows : Shows old k set row
-    shows = shows_united old k set row lists (subst (λ (d : State). (t : ℕ) → has row t ≡ in_one_of d set t) after bits)
-
-    by : KeepsShort cs short (record { vertices = set; values = members_of row }) → (cs ≡ None) ⊎ IsShown q old short
-    by (inr none) = inl none
-    by (inl kept) = inr (record {
-      set = record { vertices = set; values = members_of row };
-      set_is = kept;
-      only = shown_only q old k set row of first.here.within shows;
-      fewer = omega (arith, shown_few old k set row shows, first.here.few, shows.size);
-    })
+    by : KeepsUnited cs short old set → (cs ≡ None) ⊎ IsShown q old short
+    by (inl none) = inl none
+    by (inr (row, bits, kept)) =
+        let shows : Shows old k set row = shows_united old k set row lists bits in
+        inr (record {
+          set = record { vertices = set; values = members_of row };
+          set_is = kept;
+          only = shown_only q old k set row of first.here.within shows;
+          fewer = omega (arith, shown_few old k set row shows, first.here.few, shows.size);
+        })
 
 -- a nogood that is whole is decided
 pub whole_decided : (d : State) (s : watched.State) (name : ℕ) → IsWhole d s.nogoods name → IsDecided (Some s) d name

@@ -2,6 +2,8 @@
 
 use Rattle.std.specs.Prelude.{◌≡◌, ℕ, ◌*◌, ◌≤◌, nat_lt, Bool, true, false, cond, ◌⊎◌, List, [], ◌∷◌, ◌++◌, length, map, reverse, slice_range, Option, Some, None}
 use Rattle.bit_rows.specs.BitRows.{has}
+use Rattle.domain_bits.specs.Removals.{State}
+use Rattle.all_different.specs.Pruning.{in_one_of}
 use Rattle.graph_theory.specs.Neighbours.{members}
 use Rattle.graph_theory.specs.declared.direction.Direction.{Direction}
 use Rattle.propagation.specs.declared.change.Cause.{Cause}
@@ -51,6 +53,14 @@ KeepsSame old new = (new ≡ old) ⊎ (new ≡ None)
 -- The set is kept, or nothing is.
 abbrev pub KeepsShort : Option (List Change) → Option CountedSet → CountedSet → Type 0
 KeepsShort changes short set = (short ≡ Some set) ⊎ (changes ≡ None)
+
+-- So is the set with the values that its vertices have together.
+abbrev pub KeepsUnited : Option (List Change) → Option CountedSet → State → List ℕ → Type 0
+KeepsUnited changes short d set = (changes ≡ None) ⊎ ((row : List ℕ) × ((t : ℕ)
+    → has row t ≡ in_one_of d set t) × (short ≡ Some (record {
+  vertices = set;
+  values = members_of row;
+})))
 
 -- The change is kept, or it was none, or nothing is kept from now on.
 abbrev pub MayTake : Option (List Change) → Option (List Change) → Change → Type 0

@@ -35,13 +35,20 @@ use sparse_set::SparseSet;
 /// How many flags are looked at together.
 const FLAGS: usize = 8;
 
-/// A vertex that waits, the least one. Cost: one step for eight vertices below it.
+/// In how many blocks flags are looked at: few flags, as a small pattern has, are sooner looked at one by one.
+fn blocks_of(flags: usize) -> usize
+    ensures { 8 * result ≤ flags }
+{
+    if flags < 2 * FLAGS { 0 } else { flags / FLAGS }
+}
+
+/// A vertex that waits, the least one. Cost: one step for eight vertices below it, and where there are few one for each.
 fn next_waiting(waiting: &[bool]) -> Option<usize>
     ensures some { IfSome result (λ p. (p < length waiting.now) × (waits_at waiting.now p ≡ true)) }
     ensures none { IfNone result
         ((p : ℕ) → p < length waiting.now → waits_at waiting.now p ≡ false) }
 {
-    let blocks = waiting.len() / FLAGS;
+    let blocks = blocks_of(waiting.len());
     for block in 0..blocks {
         if are_at_rest(waiting, FLAGS * block) {
             continue;

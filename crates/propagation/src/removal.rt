@@ -3,7 +3,7 @@
 //! Each function notes how many values are left: a vertex of one value waits from then on. What has left is told once for each call,
 //! whatever left, and before anybody looks whether a domain is empty.
 
-ghost use Rattle.std.specs.Prelude.{◌≡◌, ℕ, ◌*◌, ◌<◌, ◌≤◌, ◌==◌, ◌&&◌, ◌⊎◌, ◌↔◌, true, false, not, length, Option, IfSome, IfErr};
+ghost use Rattle.std.specs.Prelude.{◌≡◌, ℕ, ◌*◌, ◌<◌, ◌≤◌, ◌==◌, ◌&&◌, ◌⊎◌, ◌↔◌, true, false, not, length, slice_index, Option, IfSome, IfErr};
 ghost use Rattle.graph_theory.specs.Graph.{size};
 ghost use Rattle.graph_theory.specs.Embedding.{Problem};
 ghost use Rattle.graph_rows.specs.Held.{stands_in};
@@ -18,7 +18,7 @@ ghost use Rattle.pair_rows.specs.Rows.{IsMade};
 ghost use Rattle.nogood_watch.specs.Nogoods as watched;
 ghost use Rattle.propagation.specs.Propagation.{IsOf, IsFor, waits_at, NotesSize, NotesTaken, Sweeps, pruned_of};
 ghost use Rattle.propagation.specs.declared.change.Cause.TheVariants as cause;
-ghost use Rattle.propagation.specs.Recording.{LeftOne, LeftOver, MayTake, NoNewGuess, members_of};
+ghost use Rattle.propagation.specs.Recording.{KeepsSame, KeepsUnited, LeftOne, LeftOver, MayTake, NoNewGuess, members_of};
 ghost use Rattle.propagation.specs.Taking.{AreFlagged, Meets};
 ghost use Rattle.propagation.specs.Telling.{HasFirst, IsCrowded, Leaves, RefusesBy, StandsBy, Tells, TellsOn, Fails};
 
@@ -341,6 +341,26 @@ pub fn give<T: Trail, R: Recorder>(d: &mut Domains<T>, told: &mut R, p: u16, t: 
     tell(d, told, p, Cause::Guess(t), from);
 }
 
+/// Tells the set that was found to have too few values. Its values are united for who listens alone. Cost: one step, and where somebody
+/// listens those of `Scratch::unite` and `found_short`.
+fn tell_short<T: Trail, R: Recorder>(d: &Domains<T>, scratch: &mut Scratch, told: &mut R)
+    requires vertices { scratch.old.vertices ≡ d.now.vertices }
+    requires values { scratch.old.values ≡ d.now.values }
+    requires inside { (k : ℕ) → k < length scratch.old.set
+        → slice_index scratch.old.set k < d.now.vertices }
+    ensures kept { KeepsUnited (R.changes told.new) (R.short told.new) d.now scratch.old.set }
+    ensures same { KeepsSame (R.changes told.old) (R.changes told.new) }
+    ensures set { scratch.new.set ≡ scratch.old.set }
+    ensures same_vertices { scratch.new.vertices ≡ scratch.old.vertices }
+    ensures same_values { scratch.new.values ≡ scratch.old.values }
+{
+    if !told.listens() {
+        return;
+    }
+    scratch.unite(d);
+    told.found_short(scratch.set(), scratch.values());
+}
+
 /// Counts the values of the first domains together, where each value that is all of a domain has left the others, and tells what leaves:
 /// whether any has, or that some domains have fewer values than there are of them. Cost: that of `prune_undecided`.
 pub(crate) fn prune<T: Trail, R: Recorder>(
@@ -368,10 +388,7 @@ pub(crate) fn prune<T: Trail, R: Recorder>(
             Ok(true)
         }
         Pruned::Fail => {
-            if told.listens() {
-                scratch.unite(d);
-                told.found_short(scratch.set(), scratch.values());
-            }
+            tell_short(d, scratch, told);
             Err(Failure::Short(scratch.set().len() as u16))
         }
     }

@@ -1,6 +1,6 @@
 //! Domains that are counted together.
 
-ghost use Rattle.std.specs.Prelude.{◌≡◌, ℕ, ◌<◌, true, IfOk};
+ghost use Rattle.std.specs.Prelude.{◌≡◌, ℕ, ◌<◌, true, length, slice_index, IfOk};
 ghost use Rattle.domain_bits.specs.Removals.{in_domain};
 ghost use Rattle.all_different.specs.Pruning.{DecidedApart};
 
@@ -13,6 +13,18 @@ use worked_examples::{Example, all_hold};
 /// Whether a set is what counting left in its scratch: these vertices, and their values as one word.
 fn is_left(scratch: &Scratch, set: &[u16], values: u64) -> bool {
     scratch.set() == set && scratch.values() == [values].as_slice()
+}
+
+/// Whether each of these is a vertex.
+fn are_vertices(set: &[u16], vertices: u16) -> bool
+    ensures { result ≡ true → (k : ℕ) → k < length set.now → slice_index set.now k < vertices }
+{
+    for k in 0..set.len() {
+        if set[k] >= vertices {
+            return false;
+        }
+    }
+    true
 }
 
 /// Whether two domains of the same two values empty a third of these, once.
@@ -39,6 +51,10 @@ fn have_no_choice(alloc: Global) -> Result<bool, AllocError> {
     let mut domains = Domains::new(alloc, 3, 2)?;
     let mut scratch = Scratch::new(alloc, 3, 2)?;
     let answer = prune(&mut domains, &mut scratch);
+    if !are_vertices(scratch.set(), 3) {
+        return Ok(false);
+    }
+    scratch.unite(&domains);
     let is_told = is_left(&scratch, &[0, 1, 2], 0b11);
     Ok(answer == Pruned::Fail && is_told && domains.trail().is_empty())
 }

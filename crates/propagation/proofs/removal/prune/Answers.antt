@@ -4,7 +4,7 @@ use Rattle.all_different.specs.declared.Pruned.{Pruned}
 use Rattle.all_different.specs.declared.Pruned.TheVariants as pruned
 use Rattle.all_different.specs.Pruning.{Prunes}
 use Rattle.propagation.proofs.Telling.{told_more}
-use Rattle.propagation.proofs.Reasons.{leaves_counted, short_shown}
+use Rattle.propagation.proofs.Reasons.{leaves_counted, failed_inside, short_shown}
 use Rattle.propagation.proofs.Guesses.{guesses_took, guesses_kept}
 use Rattle.propagation.proofs.removal.prune.Goals as goal
 use Rattle.std.specs.Prelude.{◌≡◌}
@@ -21,11 +21,16 @@ returns-in-Hall-clause-told g c s t =
     (given_out pruned.Hall c.args.d.now c.prune_undecided.new.d _ _ _ _ c.set.ensures c.values.ensures.union c.in-Hall.ensures.prunes) c.mark-from.ensures.length)
     (omega (arith, c.mark-from.ensures.length, c.in-Hall.ensures.says.1)) c.counted.ensures t
 
+pub tell_short-requires-clause-inside : goal.tell_short-requires-clause-inside
+tell_short-requires-clause-inside g c = failed_inside c.args.d.now c.prune_undecided.new.d c.prune_undecided.new.s.set c.prune_undecided.new.s.union c.in-Fail.ensures.prunes
+
 pub returns-in-Fail-clause-fails : goal.returns-in-Fail-clause-fails
-returns-in-Fail-clause-fails g c s = ?
+returns-in-Fail-clause-fails g c s =
+    short_shown c.args.q.now c.args.d.now c.prune_undecided.new.d c.prune_undecided.new.s.set c.prune_undecided.new.s.union _ _ _ c.requires.is_of c.in-Fail.ensures.prunes c.tell_short.ensures.kept
+    (ap length (c.set-in-Fail.ensures ∙ c.tell_short.ensures.set))
 
 pub returns-in-Hall-clause-guesses : goal.returns-in-Hall-clause-guesses
 returns-in-Hall-clause-guesses g c = guesses_took _ _ _ (λ is. is) c.counted.ensures
 
 pub returns-in-Fail-clause-guesses : goal.returns-in-Fail-clause-guesses
-returns-in-Fail-clause-guesses g c = guesses_kept _ _ c.found_short.ensures.same
+returns-in-Fail-clause-guesses g c = guesses_kept _ _ c.tell_short.ensures.same
