@@ -5,7 +5,7 @@ use Rattle.std.proofs.lemmas.Bool.{eq-eqb}
 use Rattle.graph_theory.specs.Graph.{Graph, size, label}
 use Rattle.graph_theory.specs.Embedding.{Problem, Allowed}
 use Rattle.graph_theory.specs.Neighbours.{degree, sequence, IsKeptBy}
-use Rattle.graph_theory.specs.Reversed.{reversed_problem, AreMutual}
+use Rattle.graph_theory.specs.Reversed.{reversed, reversed_problem, AreMutual}
 use Rattle.graph_theory.proofs.ReversedGraphs.{degree-mutual, sequence-mutual}
 use Rattle.bit_rows.specs.BitRows.{has}
 use Rattle.nds_filter.specs.Sequences.{sequences, sequence_at}
@@ -100,3 +100,12 @@ pub kept_in : (g h : Graph) (ps ts : List (List ℕ)) (p t : ℕ) (b : Bool) →
 kept_in g h ps ts p t b ps_are ts_are p_in t_in told =
     subst (λ (ys : List ℕ). (b ≡ true) ↔ IsKeptBy (sequence g p) ys) (sequence_is h ts t ts_are t_in)
     (subst (λ (xs : List ℕ). (b ≡ true) ↔ IsKeptBy xs (sequence_at ts t)) (sequence_is g ps p ps_are p_in) told)
+
+-- behind the other tests a value is a first one where its sequence of the edges that lead in is kept
+pub first_when : (q : Problem) (p t : ℕ) (b : Bool) → (degree q.pattern p ≤ degree q.target t) × (degree (reversed q.pattern) p ≤ degree (reversed q.target) t) → Allowed q p t
+    → IsKeptBy (sequence q.pattern p) (sequence q.target t) → ((b ≡ true) ↔ IsKeptBy (sequence (reversed q.pattern) p) (sequence (reversed q.target) t))
+    → (b ≡ true) ↔ IsFirstValue q p t
+first_when q p t b degrees alone along told = (
+  λ is. record { alone = alone; in_degree = degrees.1; degree = degrees.0; in_sequence = told.0 is; sequence = along },
+  λ first. told.1 first.in_sequence,
+)

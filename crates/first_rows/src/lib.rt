@@ -9,7 +9,7 @@
 ghost use Rattle.std.specs.Prelude.{◌≡◌, ℕ, ◌<◌, ◌↔◌, true, length, IsTrue, IfOk, IfSome, IfNone};
 ghost use Rattle.graph_theory.specs.Graph.{size, label};
 ghost use Rattle.graph_theory.specs.Embedding.{Allowed};
-ghost use Rattle.graph_theory.specs.Neighbours.{sequence, IsKeptBy};
+ghost use Rattle.graph_theory.specs.Neighbours.{IsKeptBy};
 ghost use Rattle.graph_theory.specs.Reversed.{reversed, reversed_problem, AreMutual};
 ghost use Rattle.bit_rows.specs.BitRows.{has, words_for};
 ghost use Rattle.nds_filter.specs.Sequences.{sequences, sequence_at};
@@ -159,30 +159,8 @@ pub fn is_first(
 {
     degree_filter::keeps(q, p, t)
         && q.allowed(p, t)
-        && keeps_sequences(q, ps, ts, in_ps, in_ts, p, t)
-}
-
-/// Whether the sequences of `t` keep those of `p`.
-fn keeps_sequences(
-    q: &Problem,
-    ps: &Sequences,
-    ts: &Sequences,
-    in_ps: &Sequences,
-    in_ts: &Sequences,
-    p: u16,
-    t: u16,
-) -> bool
-    requires p_in { p < size q.now.pattern }
-    requires t_in { t < size q.now.target }
-    requires pattern { ps.now ≡ sequences q.now.pattern }
-    requires target { ts.now ≡ sequences q.now.target }
-    requires in_pattern { in_ps.now ≡ sequences (reversed q.now.pattern) }
-    requires in_target { in_ts.now ≡ sequences (reversed q.now.target) }
-    ensures { IsTrue result
-        ↔ (IsKeptBy (sequence q.now.pattern p) (sequence q.now.target t)
-        × IsKeptBy (sequence (reversed q.now.pattern) p) (sequence (reversed q.now.target) t)) }
-{
-    keeps_sequence(ps, ts, p, t) && keeps_sequence(in_ps, in_ts, p, t)
+        && keeps_sequence(ps, ts, p, t)
+        && keeps_sequence(in_ps, in_ts, p, t)
 }
 
 /// Whether the sequence of `t` keeps that of `p`.
