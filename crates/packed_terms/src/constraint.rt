@@ -52,7 +52,6 @@ impl ShortConstraint {
     /// The constraint of light terms in any order: like terms are added, and zeros vanish. One pass or two where the terms rise already,
     /// else a sort.
     pub(crate) fn from_terms(
-        alloc: Global,
         terms: Vec<(u32, i32)>,
         bound: i32,
     ) -> Result<ShortConstraint, AllocError>
@@ -60,7 +59,7 @@ impl ShortConstraint {
         requires bound { unsigned_abs bound < 2 ^ 31 }
         ensures { IfOk result (λ made. made ≡ form_of terms.items bound) }
     {
-        let terms = sorted_terms(alloc, terms)?;
+        let terms = sorted_terms(terms)?;
         let weight = weight_of(&terms);
         Ok(ShortConstraint {
             terms,

@@ -1,10 +1,10 @@
 // Short terms in any order as sorted ones, like terms added.
 
-ghost use Rattle.std.specs.Prelude.{◌≡◌, ℕ, ℤ, ◌<◌, ◌^◌, ◌↔◌, ◌++◌, [], IsTrue, IfOk, OnOk};
+ghost use Rattle.std.specs.Prelude.{◌≡◌, ℕ, ℤ, ◌+◌, ◌<◌, ◌≤◌, ◌^◌, ◌↔◌, ◌++◌, [], drop, length, take, IsTrue, IfOk};
 ghost use Rattle.std.specs.List.Sorted.{IsNonDecreasingBy};
 ghost use Rattle.proof_theory.specs.Forms.{Rises, keep, size, sorted};
 
-use std::alloc::{AllocError, Global};
+use std::alloc::AllocError;
 
 /// Whether the terms rise strictly by variable and none is zero. One pass.
 fn is_rising(terms: &[(u32, i32)]) -> bool
@@ -20,36 +20,39 @@ fn is_rising(terms: &[(u32, i32)]) -> bool
     true
 }
 
-/// A term at the end, unless it is zero.
-fn push_term(out: &mut Vec<(u32, i32)>, variable: u32, coefficient: i32) -> Result<(), AllocError>
-    ensures { OnOk result (out.new.items ≡ out.old.items ++ keep variable coefficient []) }
+/// A term at a place, unless it is zero. Returns the place behind.
+fn put_term(terms: &mut [(u32, i32)], place: usize, term: (u32, i32)) -> usize
+    requires { place + length (keep term.0 term.1 []) ≤ length terms.old }
+    ensures behind { result ≡ place + length (keep term.0 term.1 []) }
+    ensures put { take result terms.new ≡ take place terms.old ++ keep term.0 term.1 [] }
+    ensures rest { (k : ℕ) → result ≤ k → drop k terms.new ≡ drop k terms.old }
 {
-    if coefficient != 0 {
-        out.push((variable, coefficient))?;
+    if term.1 == 0 {
+        return place;
     }
-    Ok(())
+    terms[place] = term;
+    place + 1
 }
 
-/// Terms in the order of their variables as the sorted list: like terms added, zeros left out. One pass.
-fn combine(alloc: Global, terms: &[(u32, i32)]) -> Result<Vec<(u32, i32)>, AllocError>
-    requires order { IsNonDecreasingBy (λ (t : ℕ × ℤ). t.0) terms.now }
-    requires fits { size terms.now < 2 ^ 31 }
-    ensures { IfOk result (λ v. v.items ≡ sorted terms.now) }
+/// Makes the sorted list of terms in the order of their variables where they stand: like terms are added, zeros left out. Returns how many
+/// terms it has, which are the first. One pass.
+fn combine(terms: &mut [(u32, i32)]) -> usize
+    requires order { IsNonDecreasingBy (λ (t : ℕ × ℤ). t.0) terms.old }
+    requires fits { size terms.old < 2 ^ 31 }
+    ensures { take result terms.new ≡ sorted terms.old }
 {
-    let mut out = Vec::with_capacity(alloc, terms.len())?;
-    let mut variable = 0;
-    let mut sum: i32 = 0;
-    for &(next, coefficient) in terms {
-        if next == variable {
-            sum += coefficient;
+    let mut kept = 0;
+    let mut waiting: (u32, i32) = (0, 0);
+    for i in 0..terms.len() {
+        let next = terms[i];
+        if next.0 == waiting.0 {
+            waiting.1 += next.1;
         } else {
-            push_term(&mut out, variable, sum)?;
-            variable = next;
-            sum = coefficient;
+            kept = put_term(terms, kept, waiting);
+            waiting = next;
         }
     }
-    push_term(&mut out, variable, sum)?;
-    Ok(out)
+    put_term(terms, kept, waiting)
 }
 
 /// The same terms in no more room than they need.
@@ -62,22 +65,23 @@ fn fitted(mut terms: Vec<(u32, i32)>) -> Vec<(u32, i32)>
 
 /// Terms in any order as sorted ones, like terms added. The sort merges what rises already, so that k sorted lists one behind the other
 /// cost their terms times the logarithm of k.
-fn ordered(alloc: Global, mut terms: Vec<(u32, i32)>) -> Result<Vec<(u32, i32)>, AllocError>
+fn ordered(mut terms: Vec<(u32, i32)>) -> Result<Vec<(u32, i32)>, AllocError>
     requires { size terms.items < 2 ^ 31 }
     ensures { IfOk result (λ v. v.items ≡ sorted terms.items) }
 {
     terms.sort_by_key(|t| t.0)?;
-    let made = combine(alloc, &terms)?;
-    Ok(fitted(made))
+    let kept = combine(&mut terms);
+    terms.truncate(kept);
+    Ok(fitted(terms))
 }
 
 /// Terms in any order as sorted ones, like terms added. One pass where they rise already.
-pub fn sorted_terms(alloc: Global, terms: Vec<(u32, i32)>) -> Result<Vec<(u32, i32)>, AllocError>
+pub fn sorted_terms(terms: Vec<(u32, i32)>) -> Result<Vec<(u32, i32)>, AllocError>
     requires { size terms.items < 2 ^ 31 }
     ensures { IfOk result (λ v. v.items ≡ sorted terms.items) }
 {
     if is_rising(&terms) {
         return Ok(fitted(terms));
     }
-    ordered(alloc, terms)
+    ordered(terms)
 }

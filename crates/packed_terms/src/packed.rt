@@ -43,7 +43,7 @@ fn short_of(alloc: Global, constraint: &Constraint) -> Result<Option<ShortConstr
         return Ok(None);
     }
     let terms = shortened(alloc, constraint.terms())?;
-    Ok(Some(ShortConstraint::from_terms(alloc, terms, bound as i32)?))
+    Ok(Some(ShortConstraint::from_terms(terms, bound as i32)?))
 }
 
 impl PackedConstraint {

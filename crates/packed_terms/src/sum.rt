@@ -111,28 +111,28 @@ impl ShortSum {
     }
 
     /// The sum put in order. A sort of the terms that takes what rises already as it is, and one pass; one pass alone where all rises.
-    fn constraint(self, alloc: Global) -> Result<ShortConstraint, AllocError>
+    fn constraint(self) -> Result<ShortConstraint, AllocError>
         ensures { IfOk result (λ made. made ≡ self) }
     {
         let ShortSum { terms, bound, .. } = self;
-        ShortConstraint::from_terms(alloc, terms, bound)
+        ShortConstraint::from_terms(terms, bound)
     }
 
     /// The same, put in order where there are far more terms than when they were last in order, so that like terms are added.
-    fn kept_short(self, alloc: Global) -> Result<ShortSum, AllocError>
+    fn kept_short(self) -> Result<ShortSum, AllocError>
         ensures { IfOk result (λ made. made ≡ self) }
     {
         if self.terms.len() / 4 <= self.ordered.max(ROOM / 4) {
             return Ok(self);
         }
-        Ok(ShortSum::from_constraint(self.constraint(alloc)?))
+        Ok(ShortSum::from_constraint(self.constraint()?))
     }
 
     /// The same in wide terms.
     fn widened(self, alloc: Global) -> Result<Sum, AllocError>
         ensures { IfOk result (λ made. made ≡ self) }
     {
-        let made = self.constraint(alloc)?;
+        let made = self.constraint()?;
         Ok(Sum::from_constraint(made.widened(alloc)?))
     }
 
@@ -209,11 +209,11 @@ impl PackedSum {
     }
 
     /// The same, put in order where there are far more short terms than when they were last in order.
-    fn kept_short(self, alloc: Global) -> Result<PackedSum, AllocError>
+    fn kept_short(self) -> Result<PackedSum, AllocError>
         ensures { IfOk result (λ made. made ≡ self) }
     {
         match self.running {
-            Running::Short(short) => Ok(PackedSum::from_short(short.kept_short(alloc)?)),
+            Running::Short(short) => Ok(PackedSum::from_short(short.kept_short()?)),
             Running::Wide(wide) => Ok(PackedSum::from_sum(wide)),
         }
     }
@@ -244,7 +244,7 @@ impl PackedSum {
         ensures { Gives result (sum_of self other) }
     {
         let made = self.with(alloc, other)?;
-        Ok(made.kept_short(alloc)?)
+        Ok(made.kept_short()?)
     }
 
     /// The sum put in order, as `pb_terms` keeps it. A sort of the terms that takes what rises already as it is, and a few passes.
@@ -259,7 +259,7 @@ impl PackedSum {
         ensures { IfOk result (λ made. made ≡ self) }
     {
         match self.running {
-            Running::Short(short) => Ok(PackedConstraint::from_short(short.constraint(alloc)?)),
+            Running::Short(short) => Ok(PackedConstraint::from_short(short.constraint()?)),
             Running::Wide(wide) => {
                 PackedConstraint::from_constraint(alloc, wide.constraint(alloc)?)
             }

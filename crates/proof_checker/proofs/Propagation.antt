@@ -16,6 +16,7 @@ use Rattle.log_theory.specs.declared.step.Step.TheVariants.{U}
 use Rattle.log_theory.specs.Steps.{◌>>=◌, or_fault}
 use Rattle.log_theory.specs.Lookups.{Lookup, makes, find_all, is_among, are_distinct, variables_of}
 use Rattle.pb_terms.proofs.Combining.{none}
+use Rattle.pb_terms.proofs.Fronts.{Rises-at}
 use Rattle.proof_checker.specs.Reach.{Reaches, AllReach, LiteralsReach, AllNamed, found_first, forms_of, NegatesOne}
 
 -- ---- which variables are reached
@@ -101,6 +102,19 @@ forced_more s u k t ts h f v = ap (λ (o : Option Bool). or_else o (forced_at k 
         ap (λ (b : Bool). or_else (or_else (s v) (cond b (forced_by k t.1) None)) (forced_at k ts v)) (ne_eqb t.0 v n)
         ∙ ap (λ (o : Option Bool). or_else o (forced_at k ts v)) (or_none (s v))
         ∙ sym (ap (λ (b : Bool). or_else (s v) (cond b (forced_by k t.1) (forced_at k ts v))) (ne_eqb t.0 v n))
+
+-- What terms from a place on force beside what is set is what all of them force beside what was set.
+abbrev pub ForcesOn : Setting → Setting → ℤ → List (ℕ × ℤ) → ℕ → Type 0
+ForcesOn s t k ts i = (v : ℕ) → or_else (t v) (forced_at k (drop i ts) v) ≡ or_else (s v) (forced_at k ts v)
+
+-- So it is from the next place on, once the literal of the term there is set, if that is forced.
+pub forced_onward : (s t u : Setting) (k c : ℤ) (ts : List (ℕ × ℤ)) (i : ℕ) → Rises 0 ts → i < length ts → c ≡ (get_or ts i none).1
+    → ((v : ℕ) → u v ≡ or_else (t v) (cond ((get_or ts i none).0 == v) (forced_by k c) None)) → ForcesOn s t k ts i → ForcesOn s u k ts (i + 1)
+forced_onward s t u k c ts i rises h e set on v =
+    forced_more t u k (get_or ts i none) (drop (i + 1) ts) (Rises-at i ts none rises h).2
+    (λ w. set w ∙ ap (λ (z : ℤ). or_else (t w) (cond ((get_or ts i none).0 == w) (forced_by k z) None)) e) v
+    ∙ sym (ap (λ (us : List (ℕ × ℤ)). or_else (t v) (forced_at k us v)) (drop_more ts i none h))
+    ∙ on v
 
 -- ---- settings that say the same refute the same
 

@@ -1,5 +1,5 @@
-use Rattle.pb_terms.proofs.Combining.{Combined}
+use Rattle.packed_terms.proofs.InPlace.{Placed}
 use Rattle.packed_terms.proofs.ordered.combine.Given as goal
 
-abbrev pub invariant-loop-next : goal.invariant-loop-next
-invariant-loop-next l = Combined l.out.items l.terms l.variable l.next-index l.sum
+abbrev pub invariant-loop-i : goal.invariant-loop-i
+invariant-loop-i l = Placed l.initial.terms l.terms l.kept l.i l.waiting.0 l.waiting.1
