@@ -58,9 +58,9 @@ KeepsShort changes short set = (short ≡ Some set) ⊎ (changes ≡ None)
 abbrev pub KeepsUnited : Option (List Change) → Option CountedSet → State → List ℕ → Type 0
 KeepsUnited changes short d set = (changes ≡ None) ⊎ ((row : List ℕ) × ((t : ℕ)
     → has row t ≡ in_one_of d set t) × (short ≡ Some (record {
-  vertices = set;
-  values = members_of row;
-})))
+      vertices = set;
+      values = members_of row;
+    })))
 
 -- The change is kept, or it was none, or nothing is kept from now on.
 abbrev pub MayTake : Option (List Change) → Option (List Change) → Change → Type 0

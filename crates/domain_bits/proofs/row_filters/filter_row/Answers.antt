@@ -16,26 +16,26 @@ filter_word-requires-clause-room g c =
 pub returns-then-domain-eq1-clause-row : goal.returns-then-domain-eq1-clause-row
 returns-then-domain-eq1-clause-row g c t l =
     let f =
-        filtering_more c.args.domain.now c.args.domain.now c.filter_word.new.domain (has c.args.keep.now) 0 c.args.p _ _ _ 0 c.filter_word.result (get_or c.args.keep.now 0 0)
-        (filtering_begins c.args.domain.now (has c.args.keep.now) c.args.p (g.T.Trail.removed c.args.trail.now)) (omega (arith, c.if-domain-eq1.true)) (Fits-lt-pow (c.type_inv.keep 0))
-        (λ b l. sym (has_at c.args.keep.now 0 b l)) c.filter_word.ensures.word c.filter_word.ensures.trail c.filter_word.ensures.count in
+    filtering_more c.args.domain.now c.args.domain.now c.filter_word.new.domain (has c.args.keep.now) 0 c.args.p _ _ _ 0 c.filter_word.result (get_or c.args.keep.now 0 0)
+    (filtering_begins c.args.domain.now (has c.args.keep.now) c.args.p (g.T.Trail.removed c.args.trail.now)) (omega (arith, c.if-domain-eq1.true)) (Fits-lt-pow (c.type_inv.keep 0))
+    (λ b l. sym (has_at c.args.keep.now 0 b l)) c.filter_word.ensures.word c.filter_word.ensures.trail c.filter_word.ensures.count in
     f.done t (omega (arith, l, c.if-domain-eq1.true))
 
 pub returns-then-domain-eq1-clause-trail : goal.returns-then-domain-eq1-clause-trail
 returns-then-domain-eq1-clause-trail g c =
     let f =
-        filtering_more c.args.domain.now c.args.domain.now c.filter_word.new.domain (has c.args.keep.now) 0 c.args.p _ _ _ 0 c.filter_word.result (get_or c.args.keep.now 0 0)
-        (filtering_begins c.args.domain.now (has c.args.keep.now) c.args.p (g.T.Trail.removed c.args.trail.now)) (omega (arith, c.if-domain-eq1.true)) (Fits-lt-pow (c.type_inv.keep 0))
-        (λ b l. sym (has_at c.args.keep.now 0 b l)) c.filter_word.ensures.word c.filter_word.ensures.trail c.filter_word.ensures.count in
+    filtering_more c.args.domain.now c.args.domain.now c.filter_word.new.domain (has c.args.keep.now) 0 c.args.p _ _ _ 0 c.filter_word.result (get_or c.args.keep.now 0 0)
+    (filtering_begins c.args.domain.now (has c.args.keep.now) c.args.p (g.T.Trail.removed c.args.trail.now)) (omega (arith, c.if-domain-eq1.true)) (Fits-lt-pow (c.type_inv.keep 0))
+    (λ b l. sym (has_at c.args.keep.now 0 b l)) c.filter_word.ensures.word c.filter_word.ensures.trail c.filter_word.ensures.count in
     let one : 64 * (0 + 1) ≡ 64 * length c.args.domain.now = omega (arith, c.if-domain-eq1.true) in
     f.listed ∙ ap (λ n. g.T.Trail.removed c.args.trail.now ++ at_vertex c.args.p (members (λ u. has c.args.domain.now u && not (has c.args.keep.now u)) n)) one
 
 pub returns-then-domain-eq1-clause-count : goal.returns-then-domain-eq1-clause-count
 returns-then-domain-eq1-clause-count g c =
     let f =
-        filtering_more c.args.domain.now c.args.domain.now c.filter_word.new.domain (has c.args.keep.now) 0 c.args.p _ _ _ 0 c.filter_word.result (get_or c.args.keep.now 0 0)
-        (filtering_begins c.args.domain.now (has c.args.keep.now) c.args.p (g.T.Trail.removed c.args.trail.now)) (omega (arith, c.if-domain-eq1.true)) (Fits-lt-pow (c.type_inv.keep 0))
-        (λ b l. sym (has_at c.args.keep.now 0 b l)) c.filter_word.ensures.word c.filter_word.ensures.trail c.filter_word.ensures.count in
+    filtering_more c.args.domain.now c.args.domain.now c.filter_word.new.domain (has c.args.keep.now) 0 c.args.p _ _ _ 0 c.filter_word.result (get_or c.args.keep.now 0 0)
+    (filtering_begins c.args.domain.now (has c.args.keep.now) c.args.p (g.T.Trail.removed c.args.trail.now)) (omega (arith, c.if-domain-eq1.true)) (Fits-lt-pow (c.type_inv.keep 0))
+    (λ b l. sym (has_at c.args.keep.now 0 b l)) c.filter_word.ensures.word c.filter_word.ensures.trail c.filter_word.ensures.count in
     let one : 64 * (0 + 1) ≡ 64 * length c.args.domain.now = omega (arith, c.if-domain-eq1.true) in
     omega (arith, f.counted ∙ ap (count (λ u. has c.args.domain.now u && not (has c.args.keep.now u))) one)
 
