@@ -6,10 +6,10 @@ ghost use Rattle.bit_rows.specs.BitRows.{has, words_for};
 ghost use Rattle.domain_bits.specs.Removals.{size_of};
 ghost use Rattle.all_different.specs.Ranks.{rank};
 ghost use Rattle.all_different.specs.Prefixes.{in_union, First, Short};
-ghost use Rattle.all_different.specs.Steps.{BalancedTo, Meets, MissesAt, Ordered, Scans, Shares};
+ghost use Rattle.all_different.specs.Steps.{BalancedTo, Meets, MissesAt, Ordered, Scans, Shares, in_later};
 
 use crate::ordering::is_later;
-use crate::uniting::{add_domains, meets, unite_first};
+use crate::uniting::{add_domains, meets};
 use bit_rows::{clear, count_ones, or_into};
 use domain_bits::{Domains, Trail};
 
@@ -42,7 +42,7 @@ pub(crate) fn look<T: Trail>(
     requires ordered { Ordered d.now order.now }
     requires long { length union.old ≡ words_for d.now.values }
     requires full { length full.old ≡ words_for d.now.values }
-    ensures { Scans result d.now order.now full.new }
+    ensures { Scans result d.now from order.now union.new full.new }
 {
     clear(union);
     let mut last = 0;
@@ -97,26 +97,30 @@ fn size_up_to(row: &[u64], least: u64, few: u64) -> u64
     count_ones(row)
 }
 
-/// The first prefix with too few values, which is none of at most `from` domains.
+/// The first prefix with too few values, where none of at most `k` domains has, as `look` left it: `union` has what these have and the
+/// first `from` have not. Cost: two steps for each word of the domains from place `k` on, up to the last one that is looked at.
 pub(crate) fn first_short<T: Trail>(
     d: &Domains<T>,
     from: usize,
     order: &[u16],
+    k: usize,
     union: &mut [u64],
 ) -> Option<usize>
     requires begun { BalancedTo d.now from }
-    requires within { from ≤ length order.now }
     requires ordered { Ordered d.now order.now }
+    requires after { from ≤ k }
+    requires within { k ≤ length order.now }
     requires long { length union.old ≡ words_for d.now.values }
+    requires union { (t : ℕ) → has union.old t ≡ in_later d.now from k t }
+    requires none { (m : ℕ) → m ≤ k → Short d.now m → ⊥ }
     ensures some { IfSome result (λ n. First (Short d.now) n) }
     ensures within { IfSome result (λ n. n ≤ length order.now) }
     ensures none { IfNone result ((n : ℕ) → Short d.now n → ⊥) }
 {
-    unite_first(d, order, from, union);
-    for k in from..order.len() {
-        or_into(union, d.row(order[k]));
-        if count_ones(union) < k as u64 + 1 {
-            return Some(k + 1);
+    for j in k..order.len() {
+        or_into(union, d.row(order[j]));
+        if count_ones(union) < (j - from) as u64 + 1 {
+            return Some(j + 1);
         }
     }
     None
