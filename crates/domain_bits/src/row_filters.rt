@@ -9,7 +9,7 @@ ghost use Rattle.domain_bits.specs.Removals.{at_vertex};
 use crate::trail::{Run, Trail};
 use bit_rows::{WORDS, are_within, blocks_of};
 
-/// Filters a row by another one. A row of one word, as where there are no more than 64 values, goes by no loop.
+/// Filters a row by another one. A row of one word, as where there are no more than 64 values, goes by no loop and no call.
 #[inline(always)]
 pub(crate) fn filter_row<T: Trail>(p: u16, domain: &mut [u64], keep: &[u64], trail: &mut T) -> u32
     requires long { length keep.now ≡ length domain.old }
@@ -28,6 +28,25 @@ pub(crate) fn filter_row<T: Trail>(p: u16, domain: &mut [u64], keep: &[u64], tra
     if domain.len() == 1 {
         return filter_word(p, 0, domain, keep[0], trail);
     }
+    filter_words(p, domain, keep, trail)
+}
+
+/// Filters a row of any number of words by another one.
+#[inline(never)]
+fn filter_words<T: Trail>(p: u16, domain: &mut [u64], keep: &[u64], trail: &mut T) -> u32
+    requires long { length keep.now ≡ length domain.old }
+    requires short { length domain.old ≤ 1024 }
+    requires room { length (T.removed trail.old) + count (has domain.old) (64 * length domain.old)
+        ≤ T.capacity trail.old }
+    ensures row { (t : ℕ) → t < 64 * length domain.old
+        → has domain.new t ≡ (has domain.old t && has keep.now t) }
+    ensures trail { T.removed trail.new ≡ T.removed trail.old
+        ++ at_vertex p (members (λ u. has domain.old u && not (has keep.now u))
+        (64 * length domain.old)) }
+    ensures room { T.capacity trail.new ≡ T.capacity trail.old }
+    ensures count { result
+        ≡ count (λ u. has domain.old u && not (has keep.now u)) (64 * length domain.old) }
+{
     let mut gone = 0;
     let fours = blocks_of(domain.len());
     for block in 0..fours {

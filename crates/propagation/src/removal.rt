@@ -83,7 +83,7 @@ fn tell_crowd<T: Trail, R: Recorder>(d: &Domains<T>, told: &mut R, crowd: &Crowd
 
 /// Keeps of the domain of `r` what the row has. Where one value is left, `r` waits; where none is, the answer is false.
 /// Cost: the words of a row, and the values that leave.
-#[inline(never)]
+#[inline(always)]
 pub fn narrow<T: Trail>(d: &mut Domains<T>, waiting: &mut [bool], row: &[u64], r: u16) -> bool
     requires r_in { r < d.old.vertices }
     requires flags { r < length waiting.old }

@@ -1,7 +1,7 @@
 use Rattle.std.proofs.Common.{◌≡◌, ◌*◌}
 use Rattle.bit_rows.specs.BitRows.{has}
 use Rattle.domain_bits.proofs.Filtering.{Filtering}
-use Rattle.domain_bits.proofs.row_filters.filter_row.Given as goal
+use Rattle.domain_bits.proofs.row_filters.filter_words.Given as goal
 
 abbrev pub invariant-loop-block : goal.invariant-loop-block
 invariant-loop-block g l = record {
