@@ -24,18 +24,16 @@ level-requires g c =
 
 pub returns-clause-untried : goal.returns-clause-untried
 returns-clause-untried g c t h =
-    let row : has c.copy_from_slice.new.self t ≡ in_domain c.args.d.now c.args.p t =
-    ap (λ (ws : List ℕ). has ws t) c.copy_from_slice.ensures.after ∙ c.row.ensures.bits t in
+    let row : has c.row.result.now t ≡ in_domain c.args.d.now c.args.p t = c.row.ensures.bits t in
     let refuted = c.level.ensures.refuted ∙ (ap (λ (ps : List (ℕ × ℕ)). (level_at c.args.account.now (length ps)).refuted) c.path-depth.ensures.is ∙ level_after c.args.account.now) in
     untried_of c.args.account.now.refuted c.level.result.1.now c.args.account.now.target t (in_domain c.args.d.now c.args.p t) refuted
-    (subst (λ (b : Bool). (b && not (has c.level.result.1.now t)) ≡ true) row (sym (c.and_not_into.ensures.members t) ∙ h))
+    (subst (λ (b : Bool). (b && not (has c.level.result.1.now t)) ≡ true) row (sym (c.put_without.ensures.members t) ∙ h))
 
 pub returns-clause-all : goal.returns-clause-all
 returns-clause-all g c t here off =
-    let row : has c.copy_from_slice.new.self t ≡ in_domain c.args.d.now c.args.p t =
-    ap (λ (ws : List ℕ). has ws t) c.copy_from_slice.ensures.after ∙ c.row.ensures.bits t in
+    let row : has c.row.result.now t ≡ in_domain c.args.d.now c.args.p t = c.row.ensures.bits t in
     let refuted = c.level.ensures.refuted ∙ (ap (λ (ps : List (ℕ × ℕ)). (level_at c.args.account.now (length ps)).refuted) c.path-depth.ensures.is ∙ level_after c.args.account.now) in
-    c.and_not_into.ensures.members t ∙
+    c.put_without.ensures.members t ∙
     subst (λ (b : Bool). (b && not (has c.level.result.1.now t)) ≡ true) (sym row)
     (all_untried c.args.account.now.refuted c.level.result.1.now c.args.account.now.target t (in_domain c.args.d.now c.args.p t) refuted
     (subst (λ (n : ℕ). t < n) (sym c.requires.values) (value_within c.args.d.now c.args.p t here)) here off)
