@@ -1,7 +1,7 @@
 -- The parts of a line of a mapping's text.
 
 use Rattle.std.specs.Prelude.{◌≡◌, ◌≢◌, ℕ, zero, suc, ◌+◌, ◌^◌, ◌<◌, nat_lt, Bool, true, ◌&&◌, if◌then◌else◌, List, [], ◌∷◌, ◌++◌, length, take, get_or, codes, Option, Some, None, Result, Ok, Err, IfOk, IfErr, MatchResult, refl}
-use Rattle.std.proofs.Common.{sym, ap, subst, ◌∙◌, append_assoc, length-append, inr, arith, tests}
+use Rattle.std.proofs.Common.{sym, ap, subst, ◌∙◌, append_assoc, inr, arith, tests}
 use Rattle.std.proofs.lemmas.List.{append_cancel_left, append-nil}
 use Rattle.std.proofs.lemmas.Fmt.{decimal_is_IsNumeral}
 use Rattle.std.proofs.lemmas.Str.Parse.{digit_from_value, numerals_by_value, tells_all_ascii_digits}
@@ -125,14 +125,6 @@ yes_text-push bytes m rest more t e f =
     let lines : mapping_lines 0 (m ++ t ∷ []) ≡ mapping_lines 0 m ++ mapping_line (length m) t =
     mapping_lines-push 0 t m ∙ ap (λ (q : ℕ). mapping_lines 0 m ++ mapping_line q t) d in
     rw (e, f, lines) (simp append_assoc)
-
--- With its image among the images, a line is no more in what follows.
-pub yes_text-pushed : (m pushed rest more : List ℕ) (t : ℕ) → pushed ≡ m ++ t ∷ [] → rest ≡ mapping_line (length m) t ++ more → yes_text pushed ++ more ≡ yes_text m ++ rest
-yes_text-pushed m pushed rest more t e f = rw e (sym (yes_text-push _ m rest more t refl f))
-
--- What follows a line is shorter.
-pub length-after_line : (p t : ℕ) (bs more : List ℕ) → bs ≡ mapping_line p t ++ more → length more < length bs
-length-after_line p t bs more e = let l : length bs ≡ length (mapping_line p t ++ more) = ap length e in omega (arith, simp length-append at l)
 
 -- The whole text was read.
 pub IsMapping-all : (bytes m rest : List ℕ) → AreNumbers32 m → bytes ≡ yes_text m ++ rest → length rest ≡ 0 → IsMapping bytes m

@@ -16,6 +16,5 @@ pub mod neighbours;
 pub mod path;
 pub mod plain;
 pub mod plain_lad;
-pub mod plain_mapping;
 pub mod text_words;
 pub mod trial;

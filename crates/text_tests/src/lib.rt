@@ -1,6 +1,7 @@
-//! Tests of the readers on worked texts, and on texts that are spoilt at random, each reading held against that of a plain reader.
+//! Tests of the readers on worked texts, and on texts that are spoilt at random, each reading held against that of a plain reader, or
+//! for mappings against what is written.
 //!
-//! Both readers are proved to read exactly what is defined; what only these tests show is that no text of many takes them anywhere
+//! The readers are proved to read exactly what is defined; what only these tests show is that no text of many takes them anywhere
 //! else. A text comes of the seed and its number alone.
 #![tactic(auto)]
 

@@ -1,29 +1,56 @@
 //! Mappings' texts.
 
 use crate::spoiling::{NUMBERS, Random, none_differs, spoilt};
-use graph_rows::read_mapping;
+use graph_rows::{read_mapping, write_mapping};
+use graph_theory::mapping_lines::first_line;
 use graph_theory::mapping_text::MapFault;
-use graph_theory::plain_mapping::mapping_in;
+use outer_io::MemorySink;
 use std::alloc::{AllocError, Global};
 use std::test::Fail;
 
 /// How many texts there are.
 const TEXTS: u64 = 10_000;
 
-/// Whether both readers read the same in a text, or find the same fault in it.
-fn agree(alloc: Global, text: &[u8]) -> bool {
-    match (read_mapping(alloc, text), mapping_in(alloc, text)) {
-        (Ok(images), Ok(plain)) => images.as_slice() == plain.as_slice(),
-        (Err(fault), Err(plain)) => fault == plain && fault != MapFault::NoMemory,
-        _ => false,
+/// Whether these images are written as this text.
+fn are_written(alloc: Global, images: &[u32], text: &[u8]) -> Result<bool, AllocError> {
+    let mut sink = MemorySink::new(alloc, text.len() as u64, Vec::new(alloc))?;
+    Ok(write_mapping(images, &mut sink).is_ok() && sink.bytes() == text)
+}
+
+/// The first so many lines of a text, or all of it where it has fewer.
+fn first_lines(text: &[u8], lines: u64) -> &[u8] {
+    let mut rest = text;
+    for _line in 0..lines {
+        match first_line(rest) {
+            Some((_, more)) => rest = more,
+            None => return text,
+        }
+    }
+    let front = text.len().saturating_sub(rest.len());
+    text.get(..front).unwrap_or(text)
+}
+
+/// Whether a text is read as what is written so; or whether its first lines are read up to the one that is faulty.
+fn is_read_well(alloc: Global, text: &[u8]) -> Result<bool, AllocError> {
+    match read_mapping(alloc, text) {
+        Ok(images) => are_written(alloc, &images, text),
+        Err(MapFault::Line { line }) => {
+            let before = first_lines(text, line.saturating_sub(1));
+            let with = read_mapping(alloc, first_lines(text, line));
+            Ok(
+                (line == 1 || read_mapping(alloc, before).is_ok())
+                    && with == Err(MapFault::Line { line }),
+            )
+        }
+        Err(MapFault::NoMemory) => Ok(false),
     }
 }
 
-/// The number of the first text on which they do not agree.
-fn first_difference(alloc: Global, texts: &[&[u8]]) -> Result<Option<u64>, AllocError> {
+/// The number of the first text that is not read well.
+fn first_misread(alloc: Global, texts: &[&[u8]]) -> Result<Option<u64>, AllocError> {
     for number in 0..TEXTS {
         let text = spoilt(alloc, &mut Random::new(number), texts, &NUMBERS)?;
-        if !agree(alloc, &text) {
+        if !is_read_well(alloc, &text)? {
             return Ok(Some(number));
         }
     }
@@ -40,5 +67,5 @@ static MAPPINGS: [&[u8]; 5] = [
 
 #[test]
 fn spoilt_mappings(rt: HostRuntime) -> Result<(), Fail> {
-    none_differs(first_difference(rt.alloc(), &MAPPINGS)?)
+    none_differs(first_misread(rt.alloc(), &MAPPINGS)?)
 }

@@ -1,10 +1,10 @@
 //! Readers on worked texts of graphs and mappings.
 
 use crate::graph_tests::agree;
+use graph_rows::read_mapping;
 use graph_theory::lad_text::{LadCause, LadFault, LadKind};
 use graph_theory::mapping_text::MapFault;
 use graph_theory::plain_lad::{ListedVertex, vertices_in};
-use graph_theory::plain_mapping::mapping_in;
 use lad_reader::{EdgeLabels, GraphParts, Labels, NeighbourLists, read_lad};
 use std::alloc::{AllocError, Global};
 use std::test::Fail;
@@ -179,7 +179,7 @@ struct Mapped(&'static [u8], &'static str);
 impl<R> Example<R> for Mapped {
     fn holds(&self, _rt: &R, alloc: Global) -> Result<bool, AllocError> {
         let Mapped(text, expected) = *self;
-        Ok(shown_mapping(alloc, mapping_in(alloc, text))?.as_str() == expected)
+        Ok(shown_mapping(alloc, read_mapping(alloc, text))?.as_str() == expected)
     }
 }
 
