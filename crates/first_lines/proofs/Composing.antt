@@ -2,7 +2,7 @@
 use Rattle.std.proofs.Common.{◌≡◌, ℕ, suc, ◌+◌, ◌*◌, ◌^◌, ◌<◌, ◌≤◌, ◌==◌, nat_lt, nat_le, Bool, true, false, ◌&&◌, ◌||◌, not, is_some, List, [], ◌∷◌, ◌++◌, length, refl, sym, ap, subst, ◌∙◌, arith, Option, Some, None, Result, Ok, Err, inl, inr, ◌⊎◌}
 use Rattle.std.proofs.lemmas.Bool.{cases_eq, lt-ltb, le-leb, and_from, eq-eqb}
 use Rattle.std.specs.declared.alloc.AllocError.{AllocError}
-use Rattle.std.specs.Prelude.{IfOk, IfNone}
+use Rattle.std.specs.Prelude.{IfNone}
 use Rattle.std.specs.Result.{IsErr}
 use native.Mathlib.Nat.{mul-le-mul_right, suc-mul}
 use Rattle.graph_theory.specs.Graph.{size}
@@ -36,6 +36,7 @@ use Rattle.unit_theory.proofs.Crowding.{value_refuted}
 use Rattle.unit_theory.proofs.HighNeighbours.{members_count, crowded}
 use Rattle.first_lines.proofs.Turning.{frame_turned}
 use Rattle.first_lines.proofs.Crowds.{crowd_long, pairs_none}
+use Rattle.first_lines.specs.declared.value_clauses.Lack.{Lack}
 use Rattle.first_lines.specs.Named.{AreUnits}
 use Rattle.first_lines.specs.Given.{IsFrameFor, IsGiven, IsMade, HasPairs, ArePushed, IsSeen, IsLarge, HasValues, AreCollected, IsFirstLine, IsCrowd}
 
@@ -302,27 +303,19 @@ large_mutual q p u ways p_in u_in large = record {
   sequence = rw (sequence-mutual q.pattern p ways.pattern_mutual p_in, sequence-mutual q.target u ways.target_mutual u_in) large.sequence;
 }
 
--- What was answered in a direction, of the problem.
-seen_turned : (direction : Direction) (w : Frame) (q : Problem) (p u : ℕ) (result : Result (Option Ref) AllocError) (named : List (ℕ × Name)) (forms : List Form)
-    → IsSeen w (turned_problem direction q) p u result named forms → IsSeen w q p u result named forms
-seen_turned direction w q p u (Ok (Some r)) named forms seen = seen
-seen_turned direction w q p u (Ok None) named forms seen = seen
-seen_turned direction w q p u (Err e) named forms seen = seen
-
-pub goes_turned : (direction : Direction) (w : Frame) (a b : Option (List Step)) (owner : ℕ) (q made : Problem) (p u : ℕ) (result : Result (Option Ref) AllocError) (old now : List (ℕ × Name))
-    → made ≡ turned_problem direction q → IsFrameOf q owner w → (IsFrameFor made owner w → Goes w a b (AreUnits w old) (IsSeen w made p u result now)) → Goes w a b (AreUnits w old) (IsSeen w q p u result now)
-goes_turned direction w a b owner q made p u result old now is frame goes =
-    goes_as w a b (AreUnits w old) (IsSeen w made p u result now) (AreUnits w old) (IsSeen w q p u result now) (λ forms units. units)
-    (λ forms seen. seen_turned direction w q p u result now forms (subst (λ (x : Problem). IsSeen w x p u result now forms) is seen))
+-- A clause that was made in a direction, for the problem.
+pub made_turned : (direction : Direction) (w : Frame) (a b : Option (List Step)) (owner : ℕ) (q made : Problem) (p u : ℕ) (given : Result Ref AllocError) (seen : Result (Option Ref) AllocError) (old now : List (ℕ × Name))
+    → made ≡ turned_problem direction q → IsFrameOf q owner w → ((forms : List Form) → IsGiven w given (refusal q p u) now forms → IsSeen w q p u seen now forms)
+    → (IsFrameFor made owner w → Goes w a b (AreUnits w old) (IsGiven w given (refusal made p u) now)) → Goes w a b (AreUnits w old) (IsSeen w q p u seen now)
+made_turned direction w a b owner q made p u given seen old now is frame see goes =
+    goes_as w a b (AreUnits w old) (IsGiven w given (refusal made p u) now) (AreUnits w old) (IsSeen w q p u seen now) (λ forms units. units)
+    (λ forms has. see forms (subst (λ (x : Problem). IsGiven w given (refusal x p u) now forms) is has))
     (goes (subst (λ (x : Problem). IsFrameFor x owner w) (sym is) (frame_turned direction q owner w frame)))
 
--- A value that is not refused in either direction.
-pub first_found : (q out : Problem) (p u : ℕ) (result : Result (Option Ref) AllocError) → out ≡ q → is_refused out p u ≡ false → IsLarge out p u → IfOk result (λ found. IfNone found (IsLarge (reversed_problem q) p u))
-    → IfOk result (λ found. IfNone found (IsFirstValue q p u))
-first_found q out p u (Ok (Some r)) is allowed along against = tt
-first_found q out p u (Ok None) is allowed along against =
-    first_value q p u (subst (λ (x : Problem). is_refused x p u ≡ false) is allowed) (subst (λ (x : Problem). IsLarge x p u) is along) against
-first_found q out p u (Err e) is allowed along against = tt
+-- A value that lacks nothing.
+pub none_lacks : (q made : Problem) (p u : ℕ) (lack : Option Lack) → made ≡ q → lack ≡ None → IfNone lack (IsLarge made p u) → IsLarge q p u
+none_lacks q made p u None is none large = subst (λ (x : Problem). IsLarge x p u) is large
+none_lacks q made p u (Some l) is none large = absurd cc
 
 -- ---- the line of a first domain
 

@@ -4,7 +4,7 @@ use Rattle.std.specs.Prelude.{◌≡◌, ℕ, ◌<◌, ◌≤◌, true, List, []
 use Rattle.std.specs.declared.alloc.AllocError.{AllocError}
 use Rattle.graph_theory.specs.Graph.{size}
 use Rattle.graph_theory.specs.Embedding.{Problem}
-use Rattle.graph_theory.specs.Neighbours.{degree, sequence, IsKeptBy}
+use Rattle.graph_theory.specs.Neighbours.{degree, sequence, fails_at, IsKeptBy}
 use Rattle.search_theory.specs.Consistency.{IsFirstValue}
 use Rattle.proof_theory.specs.Forms.{Form}
 use Rattle.log_theory.specs.declared.step.Name.{Name}
@@ -18,6 +18,8 @@ use Rattle.reason_theory.specs.Reasons.{ForcesFirst}
 use Rattle.kept_lines.specs.Frames.{Frame, HoldsModel, IsNamed, AreNamed, IsAddable}
 use Rattle.unit_theory.specs.Crowds.{refused_values, refused_pairs, crowd_forms, high_neighbours}
 use Rattle.nds_filter.specs.Sequences.{sequences}
+use Rattle.first_lines.specs.declared.value_clauses.Lack.{Lack}
+use Rattle.first_lines.specs.declared.value_clauses.Lack.TheVariants.{Degree, DegreesBeside}
 use Rattle.first_lines.specs.Operands.{crowd_refs}
 use Rattle.first_lines.specs.Named.{AreUnits}
 
@@ -62,6 +64,12 @@ IsSeen w q p u (Err e) named forms = Unit {0}
 pub record IsLarge (q : Problem) (p u : ℕ) : Type 0 where
   pub degree : degree q.pattern p ≤ degree q.target u
   pub sequence : IsKeptBy (sequence q.pattern p) (sequence q.target u)
+
+-- The degree of u is too small for p, or at this place of their sequences a neighbour's.
+abbrev pub Lacks : Problem → ℕ → ℕ → Lack → Type 0
+Lacks q p u Degree = degree q.target u < degree q.pattern p
+Lacks q p u (DegreesBeside place) = fails_at (sequence q.pattern p) (sequence q.target u) place
+    ≡ true
 
 -- The references are those of the clauses against the first n values that are not in the first domain.
 pub record HasValues (w : Frame) (q : Problem) (p : ℕ) (refs : List Ref) (n : ℕ) (named : List (ℕ

@@ -100,11 +100,14 @@ impl<'a> FirstLines<'a> {
         if let Some(found) = self.out.known(units, p, u) {
             return Ok(Some(found));
         }
-        if let Some(made) = self.out.large_ref(alloc, keeper, units, p, u)? {
-            return Ok(Some(made));
+        if let Some(lack) = self.out.lack(p, u) {
+            return Ok(Some(self.out.lacking_ref(alloc, keeper, units, p, u, lack)?));
         }
-        match &self.back {
-            Some(back) => back.large_ref(alloc, keeper, units, p, u),
+        let Some(back) = &self.back else {
+            return Ok(None);
+        };
+        match back.lack(p, u) {
+            Some(lack) => Ok(Some(back.lacking_ref(alloc, keeper, units, p, u, lack)?)),
             None => Ok(None),
         }
     }

@@ -13,7 +13,7 @@ ghost use Rattle.reason_theory.specs.Reasons.{not_there};
 ghost use Rattle.kept_lines.specs.Frames.{Frame, IsNamed, Goes, AnyForms, Named, IsKept};
 ghost use Rattle.unit_theory.specs.Crowds.{refused_pairs, high_count, HasAllLower};
 ghost use Rattle.first_lines.specs.Named.{is_false, AreUnits};
-ghost use Rattle.first_lines.specs.Given.{IsFrameFor, IsGiven, IsMade, HasPairs, ArePushed, pairs_with, all_pairs, IsSeen, IsLarge, AreLower, AreAllLower, IsCrowd};
+ghost use Rattle.first_lines.specs.Given.{IsFrameFor, IsGiven, IsMade, HasPairs, ArePushed, pairs_with, all_pairs, IsLarge, Lacks, AreLower, AreAllLower, IsCrowd};
 
 use crate::operands::crowd_refs;
 use crate::turned::Turned;
@@ -34,6 +34,15 @@ const NO_NAME: Name = Name {
     owner: 0,
     number: 0,
 };
+
+/// What shows that a value is not in the first domain of a vertex, in one direction of edges.
+#[derive(Clone, Copy)]
+pub(crate) enum Lack {
+    /// Its degree is too small.
+    Degree,
+    /// The degrees of its neighbours are, at this place of the sequences, counted from 0.
+    DegreesBeside(u16),
+}
 
 /// What the clauses against single values are made from, in one direction of edges. Contracts see the problem of the graphs that are
 /// turned so.
@@ -395,35 +404,49 @@ impl<'a> ValueClauses<'a> {
         self.crowd_line(alloc, keeper, p, u, d, clauses)
     }
 
-    /// The clause against a value whose degree is too small, or the degrees of its neighbours, or none where neither are. The caller has
-    /// looked for one that is there.
-    pub(crate) fn large_ref<K: Keeper>(
+    /// What `u` lacks for `p`, or none where neither its degree nor the degrees of its neighbours are too small. Cost: a few steps, and
+    /// where the degree is not too small one for each neighbour of `p` at most.
+    pub(crate) fn lack(&self, p: u16, u: u16) -> Option<Lack>
+        requires p_in { p < size self.now.pattern }
+        requires u_in { u < size self.now.target }
+        ensures lacks { IfSome result (Lacks self.now p u) }
+        ensures large { IfNone result (IsLarge self.now p u) }
+    {
+        if !self.turned.keeps_degree(p, u) {
+            return Some(Lack::Degree);
+        }
+        match self.compared(p, u) {
+            SequenceAnswer::Kept => None,
+            SequenceAnswer::FailsAt(place) => Some(Lack::DegreesBeside(place)),
+        }
+    }
+
+    /// The clause against a value that lacks this. The caller has looked for one that is there.
+    pub(crate) fn lacking_ref<K: Keeper>(
         &self,
         alloc: Global,
         keeper: &mut K,
         units: &mut Units,
         p: u16,
         u: u16,
-    ) -> Result<Option<Ref>, AllocError>
+        lack: Lack,
+    ) -> Result<Ref, AllocError>
         requires p_in { p < size self.now.pattern }
         requires u_in { u < size self.now.target }
+        requires lacks { Lacks self.now p u lack }
         ensures goes { (w : Frame) → IsFrameFor self.now (K.owner keeper.old) w
             → Goes w (K.kept keeper.old) (K.kept keeper.new) (AreUnits w units.old)
-            (IsSeen w self.now p u result units.new) }
-        ensures large { IfOk result (λ found. IfNone found (IsLarge self.now p u)) }
-        ensures fits { IfOk result (λ found. IfSome found IsRef) }
+            (IsGiven w result (refusal self.now p u) units.new) }
+        ensures fits { IfOk result IsRef }
         ensures owner { K.owner keeper.new ≡ K.owner keeper.old }
         ensures notes { K.notes keeper.new ≡ K.notes keeper.old }
         ensures spare { K.spare keeper.new ≡ K.spare keeper.old }
     {
-        if !self.turned.keeps_degree(p, u) {
-            return Ok(Some(self.lower_ref(alloc, keeper, units, p, u)?));
-        }
-        match self.compared(p, u) {
-            SequenceAnswer::Kept => Ok(None),
-            SequenceAnswer::FailsAt(place) => {
+        match lack {
+            Lack::Degree => self.lower_ref(alloc, keeper, units, p, u),
+            Lack::DegreesBeside(place) => {
                 let name = self.nds_line(alloc, keeper, units, p, u, place)?;
-                Ok(Some(remember(units, self.variable(p, u), name)?))
+                remember(units, self.variable(p, u), name)
             }
         }
     }

@@ -1,16 +1,16 @@
-use Rattle.std.proofs.Common.{◌≡◌, false, Ok, Option, Some, refl, sym, ap, subst, ◌∙◌}
-use Rattle.std.specs.Prelude.{IfOk, IfSome, IfNone}
+use Rattle.std.proofs.Common.{◌≡◌, false, Ok, Option, Some, None, refl, sym, ap, subst, ◌∙◌}
+use Rattle.std.specs.Prelude.{IfSome, IfNone}
 use Rattle.graph_theory.specs.Embedding.{Problem}
 use Rattle.graph_theory.specs.Reversed.{reversed_problem, AreMutual}
 use Rattle.graph_theory.specs.declared.direction.Direction.TheVariants.{Out, In}
 use Rattle.log_theory.specs.declared.step.Ref.{Ref}
 use Rattle.encoding_theory.specs.Encoding.{refusal, is_refused}
-use Rattle.kept_lines.specs.Frames.{IsNamed, Goes}
-use Rattle.kept_lines.proofs.Going.{goes_stay, goes_then}
+use Rattle.kept_lines.specs.Frames.{IsNamed}
+use Rattle.kept_lines.proofs.Going.{goes_stay}
 use Rattle.first_lines.specs.Named.{AreUnits}
-use Rattle.first_lines.specs.Given.{IsFrameFor, IsSeen, IsLarge}
+use Rattle.first_lines.specs.Given.{IsFrameFor, IsSeen}
 use Rattle.first_lines.proofs.Turning.{frame_turned}
-use Rattle.first_lines.proofs.Composing.{frame_moved, goes_turned, first_found, first_value, large_mutual}
+use Rattle.first_lines.proofs.Composing.{seen_err, made_turned, first_value, large_mutual, none_lacks}
 use Rattle.first_lines.proofs.first_lines.FirstLines.value_ref.Goals as goal
 
 pub returns-in-Some-clause-goes : goal.returns-in-Some-clause-goes
@@ -24,37 +24,50 @@ returns-in-Some-clause-goes g c = λ w frame.
       units,
     ))
 
-pub returns-in-Some-back-clause-goes : goal.returns-in-Some-back-clause-goes
-returns-in-Some-back-clause-goes g c = λ w frame.
-    let q = c.args.self.now in
-    let old = g.K.Keeper.kept c.args.keeper.now in
-    let mid = g.K.Keeper.kept c.large_ref.new.keeper in
-    let new = g.K.Keeper.kept c.large_ref-in-Some-back.new.keeper in
-    goes_then w old mid new (AreUnits w c.args.units.now) (AreUnits w c.large_ref.new.units) (IsSeen w q c.args.p c.args.u c.large_ref-in-Some-back.result c.large_ref-in-Some-back.new.units)
-    (subst (λ (o : Option Ref). Goes w old mid (AreUnits w c.args.units.now) (IsSeen w q c.args.p c.args.u (Ok o) c.large_ref.new.units)) c.in_default-2.is
-    (goes_turned Out w old mid (g.K.Keeper.owner c.args.keeper.now) q c.self.inside.out c.args.p c.args.u (Ok c.in_ok-made.field-0) c.args.units.now c.large_ref.new.units
-    (c.self.invariant.0 ∙ c.self.view_is) frame (c.in_ok-made.ensures.goes w)))
-    (goes_turned In w mid new (g.K.Keeper.owner c.large_ref.new.keeper) q c.in-Some-back.back c.args.p c.args.u c.large_ref-in-Some-back.result c.large_ref.new.units c.large_ref-in-Some-back.new.units
-    (subst (λ (o : Option Problem). IfSome o (λ b. b ≡ reversed_problem c.self.inside.problem.now)) c.in-Some-back.is c.self.invariant.1 ∙ ap reversed_problem c.self.view_is)
-    (frame_moved q (g.K.Keeper.owner c.args.keeper.now) (g.K.Keeper.owner c.large_ref.new.keeper) w c.large_ref.ensures.owner frame)
-    (c.large_ref-in-Some-back.ensures.goes w))
+pub returns-in_default-back-clause-goes : goal.returns-in_default-back-clause-goes
+returns-in_default-back-clause-goes g c = λ w frame.
+    goes_stay w (g.K.Keeper.kept c.args.keeper.now) (g.K.Keeper.kept c.args.keeper.now) (AreUnits w c.args.units.now) (IsSeen w c.args.self.now c.args.p c.args.u (Ok None) c.args.units.now) refl
+    (λ forms units. units)
 
-pub returns-in-Some-back-clause-first : goal.returns-in-Some-back-clause-first
-returns-in-Some-back-clause-first g c =
-    first_found c.args.self.now c.self.inside.out c.args.p c.args.u c.large_ref-in-Some-back.result (c.self.invariant.0 ∙ c.self.view_is)
-    (subst (λ (o : Option Ref). IfNone o (is_refused c.self.inside.out c.args.p c.args.u ≡ false)) c.in_default.is c.known.ensures.allowed)
-    (subst (λ (o : Option Ref). IfNone o (IsLarge c.self.inside.out c.args.p c.args.u)) c.in_default-2.is c.in_ok-made.ensures.large)
-    (subst (λ (x : Problem). IfOk c.large_ref-in-Some-back.result (λ found. IfNone found (IsLarge x c.args.p c.args.u)))
-    (subst (λ (o : Option Problem). IfSome o (λ b. b ≡ reversed_problem c.self.inside.problem.now)) c.in-Some-back.is c.self.invariant.1 ∙ ap reversed_problem c.self.view_is)
-    c.large_ref-in-Some-back.ensures.large)
+pub returns-in_default-back-clause-first : goal.returns-in_default-back-clause-first
+returns-in_default-back-clause-first g c =
+    let q = c.args.self.now in
+    let out_is : c.self.inside.out ≡ q = c.self.invariant.0 ∙ c.self.view_is in
+    let along = none_lacks q c.self.inside.out c.args.p c.args.u c.lack.result out_is c.in_default-lack.is c.lack.ensures.large in
+    first_value q c.args.p c.args.u
+    (subst (λ (x : Problem). is_refused x c.args.p c.args.u ≡ false) out_is (subst (λ (o : Option Ref). IfNone o (is_refused c.self.inside.out c.args.p c.args.u ≡ false)) c.in_default.is c.known.ensures.allowed))
+    along
+    (large_mutual q c.args.p c.args.u (subst AreMutual c.self.view_is (subst (λ (o : Option Problem). IfNone o (AreMutual c.self.inside.problem.now)) c.in_default-back.is c.self.invariant.2)) c.requires.p_in c.requires.u_in along)
+
+pub returns-in_err-lacking_ref-in-Some-lack-2-clause-goes : goal.returns-in_err-lacking_ref-in-Some-lack-2-clause-goes
+returns-in_err-lacking_ref-in-Some-lack-2-clause-goes g c = λ w frame.
+    let q = c.args.self.now in
+    let call = c.lacking_ref-in-Some-lack-2 in
+    let fails = c.from_residual-in_err-lacking_ref-in-Some-lack-2 in
+    made_turned In w (g.K.Keeper.kept c.args.keeper.now) (g.K.Keeper.kept call.new.keeper) (g.K.Keeper.owner c.args.keeper.now) q c.in-Some-back.back c.args.p c.args.u call.result fails.result c.args.units.now call.new.units
+    (subst (λ (o : Option Problem). IfSome o (λ b. b ≡ reversed_problem c.self.inside.problem.now)) c.in-Some-back.is c.self.invariant.1 ∙ ap reversed_problem c.self.view_is) frame
+    (λ forms given. seen_err w q c.args.p c.args.u fails.result call.new.units forms fails.ensures.0) (call.ensures.goes w)
+
+pub returns-in_ok-lacking_ref-in-Some-lack-2-clause-goes : goal.returns-in_ok-lacking_ref-in-Some-lack-2-clause-goes
+returns-in_ok-lacking_ref-in-Some-lack-2-clause-goes g c = λ w frame.
+    let call = c.lacking_ref-in-Some-lack-2 in
+    let made = c.in_ok-lacking_ref-in-Some-lack-2 in
+    made_turned In w (g.K.Keeper.kept c.args.keeper.now) (g.K.Keeper.kept call.new.keeper) (g.K.Keeper.owner c.args.keeper.now) c.args.self.now c.in-Some-back.back c.args.p c.args.u (Ok made.field-0) (Ok (Some made.field-0)) c.args.units.now call.new.units
+    (subst (λ (o : Option Problem). IfSome o (λ b. b ≡ reversed_problem c.self.inside.problem.now)) c.in-Some-back.is c.self.invariant.1 ∙ ap reversed_problem c.self.view_is) frame
+    (λ forms given. given) (made.ensures.goes w)
+
+pub returns-in-None-clause-goes : goal.returns-in-None-clause-goes
+returns-in-None-clause-goes g c = λ w frame.
+    goes_stay w (g.K.Keeper.kept c.args.keeper.now) (g.K.Keeper.kept c.args.keeper.now) (AreUnits w c.args.units.now) (IsSeen w c.args.self.now c.args.p c.args.u (Ok None) c.args.units.now) refl
+    (λ forms units. units)
 
 pub returns-in-None-clause-first : goal.returns-in-None-clause-first
 returns-in-None-clause-first g c =
     let q = c.args.self.now in
     let out_is : c.self.inside.out ≡ q = c.self.invariant.0 ∙ c.self.view_is in
-    let large : IsLarge q c.args.p c.args.u =
-    subst (λ (x : Problem). IsLarge x c.args.p c.args.u) out_is (subst (λ (o : Option Ref). IfNone o (IsLarge c.self.inside.out c.args.p c.args.u)) c.in_default-2.is c.in_ok-made.ensures.large) in
+    let back_is : c.in-Some-back.back ≡ reversed_problem q =
+    subst (λ (o : Option Problem). IfSome o (λ b. b ≡ reversed_problem c.self.inside.problem.now)) c.in-Some-back.is c.self.invariant.1 ∙ ap reversed_problem c.self.view_is in
     first_value q c.args.p c.args.u
     (subst (λ (x : Problem). is_refused x c.args.p c.args.u ≡ false) out_is (subst (λ (o : Option Ref). IfNone o (is_refused c.self.inside.out c.args.p c.args.u ≡ false)) c.in_default.is c.known.ensures.allowed))
-    large
-    (large_mutual q c.args.p c.args.u (subst AreMutual c.self.view_is (subst (λ (o : Option Problem). IfNone o (AreMutual c.self.inside.problem.now)) c.in-None.is c.self.invariant.2)) c.requires.p_in c.requires.u_in large)
+    (none_lacks q c.self.inside.out c.args.p c.args.u c.lack.result out_is c.in_default-lack.is c.lack.ensures.large)
+    (none_lacks (reversed_problem q) c.in-Some-back.back c.args.p c.args.u c.lack-2.result back_is c.in-None.is c.lack-2.ensures.large)
