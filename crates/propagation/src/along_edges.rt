@@ -12,7 +12,7 @@ ghost use Rattle.propagation.specs.Taking.{AreFlagged, Prunes, Takes};
 use crate::change::Failure;
 use crate::edge_room::EdgeRoom;
 use crate::edges::support_all;
-use crate::matching::match_one;
+use crate::matching::{choose, match_vertex};
 use crate::recorder::Recorder;
 use domain_bits::{Domains, Trail};
 use graph_rows::Problem;
@@ -60,7 +60,7 @@ fn left_for(room: &EdgeRoom, filter: EdgeFilter) -> u64 {
     }
 }
 
-/// Looks once, at all vertices that are due or at the one whose turn it is, and says whether there was one. Cost: that of `support_all` or of `match_one`.
+/// Looks once, at all vertices that are due or at the one whose turn it is, and says whether there was one. Cost: that of `support_all`, or of `choose` and `match_vertex`.
 fn look<T: Trail, R: Recorder>(
     q: &Problem,
     d: &mut Domains<T>,
@@ -79,7 +79,13 @@ fn look<T: Trail, R: Recorder>(
 {
     match filter {
         EdgeFilter::Support => support_all(q, d, waiting, undecided, room, told),
-        EdgeFilter::Matching => match_one(q, d, waiting, undecided, &mut room.matching, told),
+        EdgeFilter::Matching => match choose(q, d, undecided, &mut room.matching) {
+            None => Ok(false),
+            Some(p) => {
+                match_vertex(q, d, waiting, &mut room.matching, told, p)?;
+                Ok(true)
+            }
+        },
     }
 }
 

@@ -132,7 +132,7 @@ fn next_left<T: Trail>(d: &Domains<T>, p: u16, from: usize) -> usize
 }
 
 /// Looks at the values of `p` from the one on at which the last look stopped, as far as credit goes. Cost: that of `match_value` for each.
-fn match_vertex<T: Trail, R: Recorder>(
+pub(crate) fn match_vertex<T: Trail, R: Recorder>(
     q: &Problem,
     d: &mut Domains<T>,
     waiting: &mut [bool],
@@ -190,7 +190,7 @@ fn next_turn<T: Trail>(q: &Problem, d: &Domains<T>, members: &[u16], after: u64)
 
 /// The vertex to look at now, if there is one: the one that goes on, or the next of the round, or where the round is over and something has changed in it
 /// the first of another. Cost: a step for each vertex that is not past.
-fn choose<T: Trail>(
+pub(crate) fn choose<T: Trail>(
     q: &Problem,
     d: &Domains<T>,
     undecided: &SparseSet,
@@ -218,29 +218,4 @@ fn choose<T: Trail>(
     room.spend(1, members.len(), 1);
     let turn = next_turn(q, d, members, room.after);
     room.take_turn(turn)
-}
-
-/// Looks at one vertex, as far as credit goes, and says whether there was one. Cost: that of `choose` and of `match_vertex`.
-pub(crate) fn match_one<T: Trail, R: Recorder>(
-    q: &Problem,
-    d: &mut Domains<T>,
-    waiting: &mut [bool],
-    undecided: &SparseSet,
-    room: &mut MatchRoom,
-    told: &mut R,
-) -> Result<bool, Failure>
-    requires flagged { AreFlagged q.now d.old waiting.old }
-    requires count { undecided.now.count ≡ size q.now.pattern }
-    requires room { IsRoomFor q.now room.old }
-    ensures takes { Takes result q.now d.old waiting.old (R.changes told.old)
-        d.new waiting.new (R.changes told.new) }
-    ensures room { IsRoomFor q.now room.new }
-{
-    match choose(q, d, undecided, room) {
-        None => Ok(false),
-        Some(p) => {
-            match_vertex(q, d, waiting, room, told, p)?;
-            Ok(true)
-        }
-    }
 }

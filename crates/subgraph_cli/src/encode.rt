@@ -56,13 +56,12 @@ pub fn encode<F: Files, O: Sink>(
     ensures files { KeepsFiles F.tells F.content F.faults files.old files.new }
     ensures sink { IsSameSink O.spot O.rest O.faults out.old out.new }
 {
-    let q = load_problem(
-        alloc,
-        files,
-        &words.pattern,
-        &words.target,
-        words.format,
-        words.induced,
-    )?;
+    let EncodeWords {
+        pattern,
+        target,
+        induced,
+        format,
+    } = words;
+    let q = load_problem(alloc, files, pattern, target, *format, *induced)?;
     write_encoding(alloc, &q, out)
 }

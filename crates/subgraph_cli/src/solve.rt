@@ -79,14 +79,14 @@ pub fn solve<R: Threads + Sync, F: Files, O: Sink>(
         files.old files.new }
     ensures sink { IsSameSink O.spot O.rest O.faults out.old out.new }
 {
-    let q = load_problem(
-        alloc,
-        files,
-        &words.pattern,
-        &words.target,
-        words.format,
-        words.induced,
-    )?;
+    let SolveWords {
+        pattern,
+        target,
+        induced,
+        format,
+        ..
+    } = words;
+    let q = load_problem(alloc, files, pattern, target, *format, *induced)?;
     let answer = decide(rt, alloc, &q, words, spent)?;
     leave_proof(alloc, &q, &answer, words, files)?;
     tell(&answer, out)

@@ -81,15 +81,15 @@ pub fn verify<F: Files, O: Sink>(
     ensures files { KeepsFiles F.tells F.content F.faults files.old files.new }
     ensures sink { IsSameSink O.spot O.rest O.faults out.old out.new }
 {
-    let q = load_problem(
-        alloc,
-        files,
-        &words.pattern,
-        &words.target,
-        words.format,
-        words.induced,
-    )?;
-    let map = load_map(alloc, files, &words.mapping)?;
+    let VerifyWords {
+        pattern,
+        target,
+        mapping,
+        induced,
+        format,
+    } = words;
+    let q = load_problem(alloc, files, pattern, target, *format, *induced)?;
+    let map = load_map(alloc, files, mapping)?;
     if !q.is_embedding(&map) {
         return Ok(Tested::NotAnEmbedding);
     }
