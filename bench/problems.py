@@ -134,6 +134,16 @@ def molecule(rng, kind):
     return Problem("molecule", kind, rng.random() < 0.5, (labels, edges), moved(rng, target), "yes")
 
 
+def wide(rng, kind):
+    """A short ring into a graph of two sides and more than 512 vertices, where logs are written without rows of what values share: an odd one has no place there."""
+    size, half = rng.choice([3, 4, 5]), rng.randint(257, 300)
+    ring = [(v, (v + 1) % size) for v in range(size)]
+    both = [(a, half + rng.randrange(half)) for a in range(half) for _edge in range(rng.randint(1, 3))]
+    edges = [pair for a, b in both for pair in ((a, b), (b, a))]
+    target = moved(rng, graph_of(kind, 2 * half, edges))
+    return Problem("wide", kind, False, graph_of(kind, size, ring), target, "none" if size % 2 else None)
+
+
 STRUCTURED = [clique, two_sides, crowded, grid, order, molecule]
 
 

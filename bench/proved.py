@@ -1,10 +1,11 @@
 #!/usr/bin/env python3
 """Runs `solve --prove` on random and structured problems by 1 to 8 threads, and has each log judged by two checkers.
 
-usage: python3 bench/proved.py PROGRAM [--runs N] [--jobs J] [--seed S] [--hard PERCENT] [--structured PERCENT] [--formats F,..] [--keep FOLDER]
+usage: python3 bench/proved.py PROGRAM [--runs N] [--jobs J] [--seed S] [--hard PERCENT] [--structured PERCENT] [--wide PERCENT] [--formats F,..] [--keep FOLDER]
 
 PROGRAM is the built program (crates/subgraph/out/subgraph). The problems are those of `problems.py`: small ones, whose answer brute force
-knows; structured ones (cliques, two sides, grids, orders, molecules); and hard ones, whose searches restart and share what they have refuted. Each is
+knows; structured ones (cliques, two sides, grids, orders, molecules); hard ones, whose searches restart and share what they have refuted; and a few
+wide ones, with targets of more than 512 vertices. Each is
 run by one thread and twice by several, with hints or without, some with a small book or budget. The formats are all that the program takes beside
 --prove, which it is asked first, or those that --formats names.
 
@@ -27,7 +28,7 @@ import time
 import plain
 from agree import FORMATS, is_embedding, text_of
 from check_logs import check_cases
-from problems import hard, small, structured
+from problems import hard, small, structured, wide
 
 TOP = os.path.dirname(os.path.dirname(os.path.abspath(__file__)))
 SHOWN = {"yes": "accepted satisfiable\n", "none": "accepted unsatisfiable\n", "unknown": "accepted undecided\n"}
@@ -133,7 +134,12 @@ def one(words, seed, folder):
     """One problem: counts of its runs, and what disagreed."""
     rng = random.Random(seed)
     drawn = rng.random() * 100
-    make = hard if drawn < words.hard else structured if drawn < words.hard + words.structured else small
+    make = small
+    for other, percent in ((hard, words.hard), (structured, words.structured), (wide, words.wide)):
+        if drawn < percent:
+            make = other
+            break
+        drawn -= percent
     problem = make(rng, rng.choice(words.formats))
     counts = collections.Counter({f"of {problem.what}": 3, f"in {problem.kind}": 3, "problems": 1})
     runs = Runs(words.program, folder, problem)
@@ -175,6 +181,7 @@ def words_of_the_line():
     parser.add_argument("--seed", type=int, default=0)
     parser.add_argument("--hard", type=float, default=3.0, help="how many of a hundred problems are hard")
     parser.add_argument("--structured", type=float, default=47.0, help="how many of a hundred problems are structured")
+    parser.add_argument("--wide", type=float, default=0.5, help="how many of a hundred problems have targets of more than 512 vertices")
     parser.add_argument("--formats", help="which formats; all that the program takes where none is named")
     parser.add_argument("--folder", default="/dev/shm", help="where the files are written; memory is best")
     parser.add_argument("--keep", default=os.path.join(TOP, "out", "proved"), help="a folder for what disagrees")
