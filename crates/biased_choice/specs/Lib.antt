@@ -1,2 +1,3 @@
 pub mod Bias
 pub mod Streams
+pub mod Words

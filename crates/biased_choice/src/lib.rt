@@ -7,14 +7,14 @@
 
 mod shared;
 
-ghost use Rattle.std.specs.Prelude.{◌≡◌, ℕ, ◌-◌, ◌*◌, ◌^◌, ◌<◌, ◌≤◌, true, length};
+ghost use Rattle.std.specs.Prelude.{◌≡◌, ℕ, ◌+◌, ◌-◌, ◌*◌, ◌^◌, ◌<◌, ◌≤◌, true, length, slice_index};
 ghost use Rattle.bit_rows.specs.BitRows.{has};
 ghost use Rattle.graph_theory.specs.Neighbours.{count};
-ghost use Rattle.biased_choice.specs.Bias.{Bias, BiasLaws, top_degree, total_weight, weight};
+ghost use Rattle.biased_choice.specs.Bias.{Bias, BiasLaws, below, greatest, top_degree, total_weight, weight};
 ghost use Rattle.biased_choice.specs.Streams.{jumps, seeded};
+ghost use Rattle.biased_choice.specs.Words.{Passes};
 ghost use Rattle.rand_xoshiro.specs.Xoshiro256.{plus_plus};
 
-use bit_rows::next_member;
 use rand_core::SeedableRng;
 use rand_core::utils::NextWord;
 use rand_xoshiro::Xoshiro256PlusPlus;
@@ -73,18 +73,45 @@ pub fn pick(row: &[u64], degrees: &[u16], word: u64) -> u16
     ensures { Bias row.now degrees.now word result }
 {
     let top = greatest_degree(row, degrees);
-    let rest = word % all_weights(row, degrees, top);
-    let mut sum = 0;
-    let mut v = next_member(row, 0);
-    while v < 64 * row.len() {
-        let next = sum + weight_of_degree(top, degrees[v]);
-        if rest < next {
-            return v as u16;
+    let mut rest = word % all_weights(row, degrees, top);
+    for place in 0..row.len() {
+        match pick_in_word(row, place, degrees, top, rest) {
+            WordEnd::Chosen(v) => return v,
+            WordEnd::Left(left) => rest = left,
         }
-        sum = next;
-        v = next_member(row, v + 1);
     }
     unreachable!()
+}
+
+/// What the weights of the members of one word of a row came to.
+enum WordEnd {
+    /// With this member they pass what was left.
+    Chosen(u16),
+    /// So much is left for the words behind.
+    Left(u64),
+}
+
+/// Takes the weights of the members of one word of the row from what is left, up to the member with which they pass it. Cost: a step for
+/// each member. (The lowest bit of what is left of the word is cleared at each, so that no step waits for the number of the member before.)
+#[inline(always)]
+fn pick_in_word(row: &[u64], place: usize, degrees: &[u16], top: u16, mut rest: u64) -> WordEnd
+    requires short { length row.now ≤ 1024 }
+    requires place { place < length row.now }
+    requires degrees { (u : ℕ) → has row.now u ≡ true → u < length degrees.now }
+    requires top { top ≡ top_degree row.now degrees.now }
+    ensures { Passes result row.now degrees.now place rest }
+{
+    let mut left = row[place];
+    while left != 0 {
+        let v = 64 * place + left.trailing_zeros() as usize;
+        let own = weight_of_degree(top, degrees[v]);
+        if rest < own {
+            return WordEnd::Chosen(v as u16);
+        }
+        rest -= own;
+        left &= left - 1;
+    }
+    WordEnd::Left(rest)
 }
 
 /// The greatest degree of a member. Cost: a step for each member and for each word.
@@ -93,11 +120,27 @@ fn greatest_degree(row: &[u64], degrees: &[u16]) -> u16
     requires degrees { (u : ℕ) → has row.now u ≡ true → u < length degrees.now }
     ensures { result ≡ top_degree row.now degrees.now }
 {
-    let mut top: u16 = 0;
-    let mut v = next_member(row, 0);
-    while v < 64 * row.len() {
+    let mut top = 0;
+    for place in 0..row.len() {
+        top = greatest_in_word(row, place, degrees, top);
+    }
+    top
+}
+
+/// The greatest degree of the members before one word of the row, which is given, and of that word's. Cost: a step for each of the word's.
+#[inline(always)]
+fn greatest_in_word(row: &[u64], place: usize, degrees: &[u16], mut top: u16) -> u16
+    requires short { length row.now ≤ 1024 }
+    requires place { place < length row.now }
+    requires degrees { (u : ℕ) → has row.now u ≡ true → u < length degrees.now }
+    requires top { top ≡ greatest (has row.now) (slice_index degrees.now) (64 * place) }
+    ensures { result ≡ greatest (has row.now) (slice_index degrees.now) (64 * (place + 1)) }
+{
+    let mut left = row[place];
+    while left != 0 {
+        let v = 64 * place + left.trailing_zeros() as usize;
         top = top.max(degrees[v]);
-        v = next_member(row, v + 1);
+        left &= left - 1;
     }
     top
 }
@@ -122,10 +165,27 @@ fn all_weights(row: &[u64], degrees: &[u16], top: u16) -> u64
     ensures some { 0 < result }
 {
     let mut sum = 0;
-    let mut v = next_member(row, 0);
-    while v < 64 * row.len() {
+    for place in 0..row.len() {
+        sum = weights_in_word(row, place, degrees, top, sum);
+    }
+    sum
+}
+
+/// The weights of the members before one word of the row, which are given, and of that word's. Cost: a step for each of the word's.
+#[inline(always)]
+fn weights_in_word(row: &[u64], place: usize, degrees: &[u16], top: u16, mut sum: u64) -> u64
+    requires short { length row.now ≤ 1024 }
+    requires place { place < length row.now }
+    requires degrees { (u : ℕ) → has row.now u ≡ true → u < length degrees.now }
+    requires top { top ≡ top_degree row.now degrees.now }
+    requires sum { sum ≡ below row.now degrees.now (64 * place) }
+    ensures { result ≡ below row.now degrees.now (64 * (place + 1)) }
+{
+    let mut left = row[place];
+    while left != 0 {
+        let v = 64 * place + left.trailing_zeros() as usize;
         sum += weight_of_degree(top, degrees[v]);
-        v = next_member(row, v + 1);
+        left &= left - 1;
     }
     sum
 }

@@ -1,15 +1,6 @@
-use Rattle.std.proofs.Common.{◌≡◌, ◌-◌, ◌*◌, ◌<◌, ◌≤◌, true, length}
-use Rattle.bit_rows.specs.BitRows.{has}
-use Rattle.biased_choice.specs.Bias.{below}
+use Rattle.std.proofs.Common.{◌≡◌, ◌+◌, ◌*◌, ◌%◌}
+use Rattle.biased_choice.specs.Bias.{below, total_weight}
 use Rattle.biased_choice.proofs.pick.Given as goal
 
-abbrev pub invariant-loop-v : goal.invariant-loop-v
-invariant-loop-v l = record {
-  sum : l.sum ≡ below l.row l.degrees l.v;
-  low : l.sum ≤ l.rest;
-  within : l.v ≤ 64 * length l.row;
-  member : l.v < 64 * length l.row → has l.row l.v ≡ true;
-}
-
-abbrev pub decreases-loop-v : goal.decreases-loop-v
-decreases-loop-v l = 64 * length l.row - l.v
+abbrev pub invariant-loop-place : goal.invariant-loop-place
+invariant-loop-place l = l.rest + below l.row l.degrees (64 * l.place) ≡ l.word % total_weight l.row l.degrees
