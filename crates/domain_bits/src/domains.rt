@@ -289,14 +289,12 @@ impl<T: Trail> Domains<T> {
         ensures vertices { self.new.vertices ≡ self.old.vertices }
         ensures values { self.new.values ≡ self.old.values }
     {
+        let words = self.words;
+        let rows = self.rows.as_mut_slice();
+        let sizes = self.sizes.as_mut_slice();
+        let singles = self.singles.as_mut_slice();
         while let Some(run) = self.trail.pop(mark.length) {
-            restore(
-                &mut self.rows,
-                &mut self.sizes,
-                &mut self.singles,
-                self.words,
-                run,
-            );
+            restore(rows, sizes, singles, words, run);
         }
     }
 }
