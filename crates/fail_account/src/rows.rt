@@ -12,12 +12,17 @@ pub fn is_marked(words: &[u64], width: usize, level: usize, value: usize) -> boo
     (words[level * width + value / 64] >> (value % 64)) & 1 == 1
 }
 
-/// Empties the words from one place up to another.
+/// Empties the words from one place up to another. Cost: one step for each; one word, the row of at most 64 values, is written without a
+/// call of the system's library.
 pub fn clear_words(words: &mut [u64], from: usize, to: usize)
     requires order { from ≤ to }
     requires inside { to ≤ length words.old }
     ensures { Clears words.old words.new from to }
 {
+    if to - from == 1 {
+        words[from] = 0;
+        return;
+    }
     for place in from..to {
         words[place] = 0;
     }
