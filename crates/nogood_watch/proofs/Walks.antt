@@ -1,7 +1,7 @@
 -- A walk, visit by visit.
 use Rattle.std.proofs.Common.{◌≡◌, ℕ, ◌+◌, ◌-◌, ◌*◌, ◌/◌, ◌%◌, ◌<◌, ◌≤◌, Bool, true, false, cond, eqb, ltb, List, [], ◌++◌, length, get_or, refl, sym, ap, ◌∙◌, subst, arith, inl, inr, ◌⊎◌, length-append}
 use Rattle.std.proofs.lemmas.Bool.{cases_eq, eq-eqb, ne_eqb, eqb-true, ltb-true, ltb-false}
-use Rattle.std.proofs.lemmas.List.{get_or_append_left, get_or-append_right}
+use Rattle.std.proofs.lemmas.List.{get_or_append_left, get_or-append_right, get_or_default}
 use Rattle.std.proofs.lemmas.Nat.{div-mul-add, mod-mul-add}
 use Rattle.graph_theory.specs.Neighbours.{count}
 use Rattle.domain_bits.specs.Removals as removals
@@ -11,7 +11,8 @@ use Rattle.nogood_watch.specs.declared.watched.WatchAnswer.{WatchAnswer}
 use Rattle.nogood_watch.specs.declared.watched.WatchAnswer.TheVariants.{Quiet, Forced, Fail}
 use Rattle.nogood_watch.specs.Nogoods.{State, Nogood, literal, partner, nogood, nogood_of, AreLiterals, AreWatches}
 use Rattle.nogood_watch.specs.Watching.{IsAssigned, IsGuarded, KeepsOrFrees, Follows, Answers, forced_at}
-use Rattle.nogood_watch.specs.Inside.{cell, home_of}
+use Rattle.nogood_watch.specs.declared.watched.Entry.{Entry}
+use Rattle.nogood_watch.specs.Inside.{cell, home_of, Kept}
 use Rattle.nogood_watch.specs.Walking.{Visited, Ready, Walking, Walked, Tells, to_visit}
 use Rattle.nogood_watch.proofs.Chains.{first_home, no_home, chained_same, moved_at, moved_other}
 use Rattle.nogood_watch.proofs.Waiting.{count_less, half_count, visit_count}
@@ -342,3 +343,13 @@ answers_are (Fail name) d s old new l a follows t =
         → IsAssigned d ((forced_at s.forced t.0).0, (forced_at s.forced t.0).1) → IsAssigned d (literal (nogood_of s.nogoods (follows t.0 t.1).watch).literals j)
     pick j (inl e) here = subst (IsAssigned d) (sym e) here
     pick j (inr h) here = h
+
+-- ---- where no walk is needed
+
+-- where the list of a literal, read as `v`, is empty, no nogood is watched there
+pub none_watched : (vertices values : ℕ) (literals : List (ℕ × ℕ)) (entries : List Entry) (watches : List (ℕ × ℕ)) (heads next : List ℕ) (capacity : ℕ) (l : ℕ × ℕ) (at v : ℕ)
+    → Kept vertices values literals entries watches heads next capacity → l.0 < vertices → l.1 < values → at ≡ cell values l → v ≡ get_or heads at v → v ≡ no_watch
+    → (x : ℕ) → x < length watches → literal watches x ≡ l → ⊥
+none_watched vertices values literals entries watches heads next capacity l at v k p_in t_in e read none x x-in here =
+    let inside : at < length heads = omega (arith, e, cell_below vertices values l p_in t_in, k.heads_long) in
+    no_home (home_of values watches) heads next at x k.chained inside (get_or_default heads at 0 v inside ∙ sym read ∙ none) (omega (arith, k.next_long, x-in)) (ap (cell values) here ∙ sym e)

@@ -2,7 +2,7 @@
 use Rattle.std.specs.Prelude.{◌≡◌, ℕ, ◌<◌, ◌⊎◌, true, false, List, [], length, slice_index_or}
 use Rattle.domain_bits.specs.Removals as removals
 use Rattle.domain_bits.specs.Changes.{Single}
-use Rattle.nogood_watch.specs.Nogoods.{Nogood, State, literal, partner, nogood, nogood_of}
+use Rattle.nogood_watch.specs.Nogoods.{Nogood, State, literal, partner, nogood, nogood_of, AreWatches}
 use Rattle.nogood_watch.specs.declared.watched.WatchAnswer.{WatchAnswer}
 use Rattle.nogood_watch.specs.declared.watched.WatchAnswer.TheVariants.{Quiet, Forced, Fail}
 
@@ -96,3 +96,16 @@ Answers Quiet d s = s.forced ≡ []
 Answers Forced d s = (0 < length s.forced) × ((k : ℕ) → k < length s.forced
     → IsAssigned d ((forced_at s.forced k).0, (forced_at s.forced k).1) → ⊥)
 Answers (Fail name) d s = IsWhole d s.nogoods name
+
+-- all nogoods that were watched at l have been visited, with this answer
+pub record Visits (d : removals.State) (old new : State) (l : ℕ × ℕ) (answer : WatchAnswer) : Type 0 where
+  pub guarded : GuardsAll d old new l
+  pub others : KeepsOthers old new l
+  pub moves : MovesToFree d old.watches new.watches
+  pub forced : AllFollow d old new l
+  pub answers : Answers answer d new
+  pub watches : AreWatches new.nogoods new.watches
+  pub nogoods : new.nogoods ≡ old.nogoods
+  pub units : new.units ≡ old.units
+  pub vertices : new.vertices ≡ old.vertices
+  pub values : new.values ≡ old.values
