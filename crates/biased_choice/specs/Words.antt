@@ -13,6 +13,7 @@ pub record PassesAt (row degrees : List ℕ) (number v : ℕ) : Type 0 where
 
 -- of so much that is left before the word at a place: the member of the word at which the weights pass it, or what of it is left behind the word
 abbrev pub Passes : WordEnd → List ℕ → List ℕ → ℕ → ℕ → Type 0
-Passes (Chosen v) row degrees place rest = PassesAt row degrees (rest + below row degrees (64 * place)) v
+Passes (Chosen v) row degrees place rest = PassesAt row degrees (rest + below row degrees
+    (64 * place)) v
 Passes (Left left) row degrees place rest = left + below row degrees (64 * (place + 1))
     ≡ rest + below row degrees (64 * place)

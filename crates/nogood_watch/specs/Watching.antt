@@ -98,7 +98,8 @@ Answers Forced d s = (0 < length s.forced) × ((k : ℕ) → k < length s.forced
 Answers (Fail name) d s = IsWhole d s.nogoods name
 
 -- all nogoods that were watched at l have been visited, with this answer
-pub record Visits (d : removals.State) (old new : State) (l : ℕ × ℕ) (answer : WatchAnswer) : Type 0 where
+pub record Visits (d : removals.State) (old new : State) (l : ℕ
+    × ℕ) (answer : WatchAnswer) : Type 0 where
   pub guarded : GuardsAll d old new l
   pub others : KeepsOthers old new l
   pub moves : MovesToFree d old.watches new.watches
