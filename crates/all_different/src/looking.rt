@@ -44,7 +44,7 @@ pub(crate) fn look<T: Trail>(
     requires full { length full.old ≡ words_for d.now.values }
     ensures { Scans result d.now from order.now union.new full.new }
 {
-    clear(union);
+    begin_union(union);
     let mut last = 0;
     let mut least = 0;
     for k in from..order.len() {
@@ -68,6 +68,19 @@ pub(crate) fn look<T: Trail>(
         add_domains(d, &order[..from], full);
     }
     Scan::Clear(last)
+}
+
+/// Empties a union. Cost: one step for each word; one word, the union of at most 64 values, is written without a call of the system's
+/// library.
+#[inline(always)]
+fn begin_union(union: &mut [u64])
+    ensures { (t : ℕ) → has union.new t ≡ false }
+{
+    if union.len() == 1 {
+        union[0] = 0;
+        return;
+    }
+    clear(union);
 }
 
 /// Whether a row has a value of the union of the last prefix that was kept, of `last` domains. Where none was kept no word is read.
