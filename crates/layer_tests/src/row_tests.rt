@@ -6,7 +6,7 @@ ghost use Rattle.graph_theory.specs.Graph.{size};
 use crate::problems::{problem, problem_of};
 use graph_rows::Problem;
 use lad_reader::LadKind;
-use pair_rows::{MOST_WORDS, PairKinds, PairRows};
+use pair_rows::{MOST_WORDS, PairKinds, PairRows, RowsAt};
 use sample_graphs::{APART, EDGE, FOUR_CYCLE, PATH, TRIANGLE};
 use std::alloc::{AllocError, Global};
 use std::test::Fail;
@@ -49,7 +49,8 @@ fn row(alloc: Global, q: &Problem, p: u16, r: u16, t: u16) -> Option<u64> {
     rows.make(0);
     rows.make(t);
     rows.make(t);
-    rows.row(p, r, t).first().copied()
+    let at = rows.at(p, t);
+    at.row(r).first().copied()
 }
 
 impl<R> Example<R> for Worked {
@@ -105,15 +106,22 @@ fn rows_hold_what_goes_together_along_edges(rt: HostRuntime) -> Result<(), Fail>
     all_hold(&rt, rt.alloc(), &ALONG_EDGES)
 }
 
-/// Whether `p` and `r` are asked nothing but distinct images in a cycle.
-fn free(alloc: Global, pattern: &[u8], induced: bool, p: u16, r: u16) -> Option<bool> {
-    let q = problem(alloc, pattern, FOUR_CYCLE, induced)?;
-    if !are_two(&q, p, r) {
+/// Whether `r` is asked nothing but another image than that of `p`, which is the target's first vertex.
+fn is_free(alloc: Global, q: &Problem, p: u16, r: u16) -> Option<bool> {
+    if !are_two(q, p, r) || q.target().size() == 0 {
         return None;
     }
-    let kinds = PairKinds::new(alloc, &q).ok()?;
-    let rows = PairRows::new(alloc, &kinds, MOST_WORDS).ok()?;
-    Some(rows.is_free(p, r))
+    let kinds = PairKinds::new(alloc, q).ok()?;
+    let mut rows = PairRows::new(alloc, &kinds, MOST_WORDS).ok()?;
+    rows.make(0);
+    let at = rows.at(p, 0);
+    Some(at.is_free(r))
+}
+
+/// The same in a cycle.
+fn free(alloc: Global, pattern: &[u8], induced: bool, p: u16, r: u16) -> Option<bool> {
+    let q = problem(alloc, pattern, FOUR_CYCLE, induced)?;
+    is_free(alloc, &q, p, r)
 }
 
 #[test]
@@ -146,20 +154,28 @@ struct Near {
     target: &'static [u8],
     vertices: (u16, u16),
     value: u16,
-    /// Whether they are asked no edge and nothing besides.
-    is_bare: bool,
     /// The first neighbour of the value, where its neighbours are listed.
     first: Option<u16>,
+    /// The same, where the second vertex is asked nothing but an image that is no neighbour of the value, nor the value.
+    alone: Option<u16>,
     /// The values of the second vertex that go together with it, as one word.
     word: u64,
 }
 
 /// The first neighbour of `t`, where its neighbours are listed.
-fn first_neighbour(rows: &PairRows, q: &Problem, t: u16) -> Option<u16>
+fn first_neighbour(kinds: &PairKinds, q: &Problem, t: u16) -> Option<u16>
     requires t_in { t < size q.now.target }
-    requires same { rows.now.problem ≡ q.now }
+    requires same { kinds.now.problem ≡ q.now }
 {
-    rows.neighbours(t)?.first().copied()
+    kinds.neighbours(t)?.first().copied()
+}
+
+/// The same of the value, where `r` is asked nothing but an image that is none of them, nor the value.
+fn first_alone(at: &RowsAt, r: u16) -> Option<u16>
+    requires r_in { r < size at.now.problem.pattern }
+    requires apart { at.now.vertex ≡ r → ⊥ }
+{
+    at.near_alone(r)?.first().copied()
 }
 
 /// Whether this is so of two vertices and a value.
@@ -171,9 +187,10 @@ fn is_near(alloc: Global, q: &Problem, near: &Near) -> Option<bool> {
     let kinds = PairKinds::new(alloc, q).ok()?;
     let mut rows = PairRows::new(alloc, &kinds, MOST_WORDS).ok()?;
     rows.make(t);
-    let is_word = rows.row(p, r, t).first().copied() == Some(near.word);
-    let is_first = first_neighbour(&rows, q, t) == near.first;
-    Some(is_word && is_first && rows.is_bare(p, r) == near.is_bare)
+    let at = rows.at(p, t);
+    let is_word = at.row(r).first().copied() == Some(near.word);
+    let is_first = first_neighbour(&kinds, q, t) == near.first;
+    Some(is_word && is_first && first_alone(&at, r) == near.alone)
 }
 
 impl<R> Example<R> for Near {
@@ -191,8 +208,8 @@ static NEAR: [Near; 5] = [
         target: PATH,
         vertices: (0, 1),
         value: 0,
-        is_bare: true,
         first: Some(1),
+        alone: Some(1),
         word: 0b100,
     },
     Near {
@@ -200,8 +217,8 @@ static NEAR: [Near; 5] = [
         target: PATH,
         vertices: (0, 1),
         value: 1,
-        is_bare: true,
         first: None,
+        alone: None,
         word: 0,
     },
     Near {
@@ -209,8 +226,8 @@ static NEAR: [Near; 5] = [
         target: LOOP,
         vertices: (1, 0),
         value: 0,
-        is_bare: true,
         first: Some(1),
+        alone: Some(1),
         word: 0b100,
     },
     Near {
@@ -218,8 +235,8 @@ static NEAR: [Near; 5] = [
         target: PATH,
         vertices: (0, 2),
         value: 2,
-        is_bare: false,
         first: Some(1),
+        alone: None,
         word: 0b001,
     },
     Near {
@@ -227,8 +244,8 @@ static NEAR: [Near; 5] = [
         target: PATH,
         vertices: (0, 1),
         value: 0,
-        is_bare: false,
         first: Some(1),
+        alone: None,
         word: 0b010,
     },
 ];

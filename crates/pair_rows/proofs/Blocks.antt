@@ -1,9 +1,9 @@
 -- Blocks of rows, and what a row says of its pair.
 
-use Rattle.std.proofs.Common.{◌≡◌, ℕ, suc, ◌+◌, ◌*◌, ◌<◌, ◌≤◌, Bool, true, false, List, [], ◌∷◌, ◌++◌, eqb, length, take, drop, get_or, set, replicate, refl, sym, ap, ◌∙◌, subst, arith, inl, inr, ◌⊎◌, Some, zero-add}
+use Rattle.std.proofs.Common.{◌≡◌, ℕ, suc, ◌+◌, ◌-◌, ◌*◌, ◌<◌, ◌≤◌, ◌↔◌, Bool, true, false, List, [], ◌∷◌, ◌++◌, eqb, length, take, drop, get_or, set, replicate, refl, sym, ap, ◌∙◌, subst, arith, inl, inr, ◌⊎◌, Some, zero-add}
 use Rattle.std.specs.Prelude.{slice_get, slice_index_or}
 use Rattle.std.proofs.lemmas.Bool.{cases_eq, cases_order, eqb-true, eq-eqb}
-use Rattle.std.proofs.lemmas.List.{get_or-set_same, get_or-set_other, length-set, get_or_read, take-append-le, get_or-replicate, length-replicate, get_or_append_left, length-append, append-nil, append_assoc}
+use Rattle.std.proofs.lemmas.List.{get_or-set_same, get_or-set_other, length-set, get_or_read, take-append-le, get_or-replicate, length-replicate, get_or_append_left, length-append, append-nil, append_assoc, get_or-take, get_or-drop}
 use Rattle.std.proofs.lemmas.List.FromFn.{get_or-map-range_with_len}
 use Rattle.std.proofs.lemmas.Option.{slice_get_within, get_or_from_slice_get}
 use Rattle.std.proofs.Math.Seq.{take-length}
@@ -12,13 +12,15 @@ use Rattle.bit_rows.specs.BitRows.{has, words_for}
 use Rattle.graph_rows.proofs.Places.{place_within}
 use Rattle.graph_theory.specs.Graph.{Graph, size}
 use Rattle.graph_theory.specs.Embedding.{Problem}
+use Rattle.graph_theory.specs.Neighbours.{is_neighbour}
+use Rattle.graph_rows.specs.Held.{stands_in}
 use Rattle.search_theory.specs.Consistency.{AreConsistent}
 use Rattle.pair_rows.specs.declared.kinds.PairKind.{PairKind}
 use Rattle.pair_rows.specs.Kinds.{kind_of, Joins, RowIs, HasRow, WordsStay}
-use Rattle.pair_rows.specs.Held.{owns, made_in, Held, IsAdded}
-use Rattle.pair_rows.specs.Rows.{Rows, IsMade}
-use Rattle.pair_rows.specs.Shape.{Shaped}
-use Rattle.pair_rows.proofs.Rowing.{next_row, row_same, part_same}
+use Rattle.pair_rows.specs.Held.{owns, made_in, Held, HeldAt, IsAdded}
+use Rattle.pair_rows.specs.Rows.{At}
+use Rattle.pair_rows.specs.Shape.{Shape, Shaped}
+use Rattle.pair_rows.proofs.Rowing.{next_row, row_same, part_same, part_long}
 
 -- values that join in a pair's kind are consistent, and the other way round
 pub consistent_joins : (q : Problem) (p r t u : ℕ) → Joins q (kind_of q p r) t u → AreConsistent q p t r u
@@ -27,59 +29,134 @@ consistent_joins q p r t u j = record { pair = record { apart = j.apart; out = j
 pub joins_consistent : (q : Problem) (p r t u : ℕ) → AreConsistent q p t r u → Joins q (kind_of q p r) t u
 joins_consistent q p r t u c = record { apart = c.pair.apart; out = c.pair.out; back = c.pair.back; shared = c.shared; in_shared = c.in_shared }
 
+-- so it is where they join just by being apart and no neighbours, of which there is a list
+pub listed_consistent : (q : Problem) (p r t u : ℕ) (us : List ℕ) → Joins q (kind_of q p r) t u ↔ ((t ≡ u → ⊥) × (is_neighbour q.target t u ≡ false)) → stands_in us u ≡ is_neighbour q.target t u
+    → AreConsistent q p t r u ↔ ((t ≡ u → ⊥) × (stands_in us u ≡ false))
+listed_consistent q p r t u us joins listed = (to, from)
+  where
+    to : AreConsistent q p t r u → (t ≡ u → ⊥) × (stands_in us u ≡ false)
+    to consistent = let both = joins.0 (joins_consistent q p r t u consistent) in (both.0, listed ∙ both.1)
+
+    from : (t ≡ u → ⊥) × (stands_in us u ≡ false) → AreConsistent q p t r u
+    from both = consistent_joins q p r t u (joins.1 (both.0, sym listed ∙ both.1))
+
 -- a vertex whose rows are made owns its block
 pub owns_made : (block_of owners : List ℕ) (t : ℕ) → t < length block_of → slice_index_or (made_in block_of owners) t false ≡ owns block_of owners t
 owns_made block_of owners t t_in = get_or-map-range_with_len (owns block_of owners) 0 (length block_of) t t false t_in (zero-add t)
 
--- the row of a pair at t is within the words, and is the pair's
-pub record RowGiven (q : Problem) (p r t from width : ℕ) (words : List ℕ) : Type 0 where
-  pub ends : from + width ≤ length words
-  pub long : width ≡ words_for (size q.target)
-  pub row : RowIs q (kind_of q p r) t (take width (drop from words))
-
 pub row_within : (blocks kinds width block place : ℕ) → block < blocks → place < kinds → (block * kinds + place) * width + width ≤ blocks * kinds * width
 row_within blocks kinds width block place b_in p_in = next_row (block * kinds + place) (blocks * kinds) width (place_within blocks kinds block place b_in p_in)
 
-pub row_given : (q : Problem) (vertices width : ℕ) (kinds : List PairKind) (places : List ℕ) (most : ℕ) (block_of owners counts in_counts pool : List ℕ) (both_ways : Bool)
-    → Held q vertices width kinds places most block_of owners counts in_counts pool both_ways → (rows : Rows) → record { problem = q; made = made_in block_of owners } ≡ rows
-    → (p r t : ℕ) → p < size rows.problem.pattern → r < size rows.problem.pattern → (p ≡ r → ⊥) → t < size rows.problem.target → IsMade rows t
-    → RowGiven rows.problem p r t ((get_or block_of t 0 * length kinds + get_or places (p * vertices + r) 0) * width) width pool
-row_given q vertices width kinds places most block_of owners counts in_counts pool both_ways held rows is =
-    subst (λ (x : Rows). (p r t : ℕ) → p < size x.problem.pattern → r < size x.problem.pattern → (p ≡ r → ⊥) → t < size x.problem.target → IsMade x t
-    → RowGiven x.problem p r t ((get_or block_of t 0 * length kinds + get_or places (p * vertices + r) 0) * width) width pool) is given
+-- the block of a vertex ends within the words
+pub block_ends : (q : Problem) (vertices width : ℕ) (kinds : List PairKind) (places : List ℕ) (most : ℕ) (block_of owners counts in_counts pool : List ℕ) (both_ways : Bool)
+    → Held q vertices width kinds places most block_of owners counts in_counts pool both_ways → (t s b n : ℕ) (words : List ℕ) → t < size q.target → s ≡ t → b ≡ get_or block_of s b
+    → n ≡ length kinds * width → words ≡ pool → b * n + n ≤ length words
+block_ends q vertices width kinds places most block_of owners counts in_counts pool both_ways held t s b n words t_in s_is b_is n_is words_is =
+    let s_in : s < length block_of = omega (arith, held.block_of_are) in
+    let block : b ≡ get_or block_of t 0 = get_or_read block_of s b s_in b_is 0 ∙ ap (λ v. get_or block_of v 0) s_is in
+    rw (block, n_is, words_is) (omega (arith, held.pool_is, next_row (get_or block_of t 0) (length owners) (length kinds * width) (held.blocks_in t t_in)))
+
+-- what stands for one vertex at a value that owns its block: its part of the places, and that block
+pub held_at : (q : Problem) (vertices width : ℕ) (kinds : List PairKind) (places : List ℕ) (most : ℕ) (block_of owners counts in_counts pool : List ℕ) (both_ways : Bool)
+    → Held q vertices width kinds places most block_of owners counts in_counts pool both_ways → (p t : ℕ) → p < size q.pattern → t < size q.target → owns block_of owners t ≡ true
+    → HeldAt q width kinds p t (take vertices (drop (p * vertices) places)) (take (length kinds * width) (drop (get_or block_of t 0 * (length kinds * width)) pool))
+held_at q vertices width kinds places most block_of owners counts in_counts pool both_ways held p t p_in t_in owned = record {
+  value_in = t_in;
+  width_is = held.width_is;
+  own_long = part_long vertices vertices (p * vertices) places refl (omega (arith, places_end, places_long)) ∙ held.vertices_are;
+  each = λ r r_in apart. rw (place r r_in) (held.classed.each p r r_in (place_within (size q.pattern) (size q.pattern) p r p_in r_in) apart);
+  block_long = part_long (length kinds * width) (length kinds * width) (block * (length kinds * width)) pool refl (omega (arith, block_end, held.pool_is));
+  rows = λ i. record { each = λ k k_is. row i k (slice_get_within kinds i k k_is) ((held.rows t i t_in owned).each k k_is) };
+}
   where
-    given : (p r t : ℕ) → p < size q.pattern → r < size q.pattern → (p ≡ r → ⊥) → t < size q.target → slice_index_or (made_in block_of owners) t false ≡ true
-        → RowGiven q p r t ((get_or block_of t 0 * length kinds + get_or places (p * vertices + r) 0) * width) width pool
-    given p r t p_in r_in apart t_in made =
-        let number : p * size q.pattern + r < size q.pattern * size q.pattern = place_within (size q.pattern) (size q.pattern) p r p_in r_in in
-        let kind : slice_get kinds (get_or places (p * vertices + r) 0) ≡ Some (kind_of q p r) = rw held.vertices_are (held.classed.each p r r_in number apart) in
-        let in_kinds = slice_get_within kinds (get_or places (p * vertices + r) 0) (kind_of q p r) kind in
-        let owned : owns block_of owners t ≡ true = sym (owns_made block_of owners t (omega (arith, held.block_of_are))) ∙ made in
-        record {
-          ends = omega (arith, held.pool_is, row_within (length owners) (length kinds) width (get_or block_of t 0) (get_or places (p * vertices + r) 0) (held.blocks_in t t_in) in_kinds);
-          long = held.width_is;
-          row = (held.rows t (get_or places (p * vertices + r) 0) t_in owned).each (kind_of q p r) kind;
-        }
+    block : ℕ
+    block = get_or block_of t 0
+
+    places_end : p * vertices + vertices ≤ vertices * vertices
+    places_end = next_row p vertices vertices (omega (arith, held.vertices_are))
+
+    places_long : length places ≡ vertices * vertices
+    places_long = rw held.vertices_are held.classed.long
+
+    block_end : block * (length kinds * width) + length kinds * width ≤ length owners * (length kinds * width)
+    block_end = next_row block (length owners) (length kinds * width) (held.blocks_in t t_in)
+
+    place : (r : ℕ) → r < size q.pattern → get_or (take vertices (drop (p * vertices) places)) r 0 ≡ get_or places (p * size q.pattern + r) 0
+    place r r_in =
+        get_or-take vertices (drop (p * vertices) places) r 0 (omega (arith, held.vertices_are)) ∙ get_or-drop (p * vertices) places r 0
+        ∙ ap (λ n. get_or places (p * n + r) 0) held.vertices_are
+
+    row : (i : ℕ) (k : PairKind) → i < length kinds → RowIs q k t (take width (drop ((block * length kinds + i) * width) pool))
+        → RowIs q k t (take width (drop (i * width) (take (length kinds * width) (drop (block * (length kinds * width)) pool))))
+    row i k i_in is =
+        let ends = next_row i (length kinds) width i_in in
+        let words = drop (block * (length kinds * width)) pool in
+        row_same q k t (take width (drop ((block * length kinds + i) * width) pool)) (take width (drop (i * width) (take (length kinds * width) words)))
+        (part_same width ((block * length kinds + i) * width) (i * width) pool (take (length kinds * width) words)
+        (λ j j_in. get_or-take (length kinds * width) words (i * width + j) 0 (omega arith) ∙ get_or-drop (block * (length kinds * width)) pool (i * width + j) 0
+        ∙ ap (λ n. get_or pool n 0) (omega arith))) is
 
 -- the same where the parts are read one by one
-pub row_read : (q : Problem) (vertices width : ℕ) (kinds : List PairKind) (places : List ℕ) (most : ℕ) (block_of owners counts in_counts pool : List ℕ) (both_ways : Bool)
-    → Held q vertices width kinds places most block_of owners counts in_counts pool both_ways → (rows : Rows) → record { problem = q; made = made_in block_of owners } ≡ rows
-    → (p r t : ℕ) → p < size rows.problem.pattern → r < size rows.problem.pattern → (p ≡ r → ⊥) → t < size rows.problem.target → IsMade rows t
-    → (i j s place block len : ℕ) (words : List ℕ) → i ≡ p → j ≡ r → s ≡ t → place ≡ get_or places (i * vertices + j) place → block ≡ get_or block_of s block
-    → len ≡ length kinds → words ≡ pool → RowGiven rows.problem p r t ((block * len + place) * width) width words
-row_read q vertices width kinds places most block_of owners counts in_counts pool both_ways held rows is p r t p_in r_in apart t_in made i j s place block len words i_is j_is s_is place_is block_is len_is words_is =
-    let same : q ≡ rows.problem = ap (λ (x : Rows). x.problem) is in
-    let p_below : p < size q.pattern = subst (λ (x : Problem). p < size x.pattern) (sym same) p_in in
-    let r_below : r < size q.pattern = subst (λ (x : Problem). r < size x.pattern) (sym same) r_in in
-    let t_below : t < size q.target = subst (λ (x : Problem). t < size x.target) (sym same) t_in in
-    let number : i * vertices + j ≡ p * vertices + r = rw (i_is, j_is) refl in
-    let pair : p * size q.pattern + r < size q.pattern * size q.pattern = place_within (size q.pattern) (size q.pattern) p r p_below r_below in
-    let pair_number : p * vertices + r ≡ p * size q.pattern + r = rw held.vertices_are refl in
-    let inside : i * vertices + j < length places = omega (arith, number, pair_number, pair, held.classed.long) in
-    let place_at : place ≡ get_or places (p * vertices + r) 0 = get_or_read places (i * vertices + j) place inside place_is 0 ∙ ap (λ n. get_or places n 0) number in
+pub at_read : (q : Problem) (vertices width : ℕ) (kinds : List PairKind) (places : List ℕ) (most : ℕ) (block_of owners counts in_counts pool : List ℕ) (both_ways : Bool)
+    → Held q vertices width kinds places most block_of owners counts in_counts pool both_ways → (p t : ℕ) → p < size q.pattern → t < size q.target
+    → slice_index_or (made_in block_of owners) t false ≡ true → (i s b n : ℕ) (ps words : List ℕ) → i ≡ p → s ≡ t → b ≡ get_or block_of s b → n ≡ length kinds * width → ps ≡ places → words ≡ pool
+    → HeldAt q width kinds p t (take (i * vertices + vertices - i * vertices) (drop (i * vertices) ps)) (take (b * n + n - b * n) (drop (b * n) words))
+at_read q vertices width kinds places most block_of owners counts in_counts pool both_ways held p t p_in t_in made i s b n ps words i_is s_is b_is n_is ps_is words_is =
     let s_in : s < length block_of = omega (arith, held.block_of_are) in
-    let block_at : block ≡ get_or block_of t 0 = get_or_read block_of s block s_in block_is 0 ∙ ap (λ n. get_or block_of n 0) s_is in
-    rw (place_at, block_at, len_is, words_is) (row_given q vertices width kinds places most block_of owners counts in_counts pool both_ways held rows is p r t p_in r_in apart t_in made)
+    let block : b ≡ get_or block_of t 0 = get_or_read block_of s b s_in b_is 0 ∙ ap (λ v. get_or block_of v 0) s_is in
+    let places_few : i * vertices + vertices - i * vertices ≡ vertices = omega arith in
+    let block_few : b * n + n - b * n ≡ n = omega arith in
+    let owned : owns block_of owners t ≡ true = sym (owns_made block_of owners t (omega (arith, held.block_of_are))) ∙ made in
+    rw (places_few, block_few, i_is, block, n_is, ps_is, words_is)
+    (held_at q vertices width kinds places most block_of owners counts in_counts pool both_ways held p t p_in t_in owned)
+
+-- what is held of a vertex at a value, by the names that its callers know
+pub held_seen : {x y : Shape} → x ≡ y → {p t : ℕ} {at : At} → record { problem = y.problem; vertex = p; value = t } ≡ at → {own block : List ℕ} → HeldAt y.problem y.width y.kinds p t own block
+    → HeldAt at.problem x.width x.kinds at.vertex at.value own block
+held_seen {x} {y} same {p} {t} {at} is {own} {block} held =
+    subst (λ (z : Shape). HeldAt at.problem z.width z.kinds at.vertex at.value own block) (sym same)
+    (subst (λ (z : At). HeldAt z.problem y.width y.kinds z.vertex z.value own block) is held)
+
+-- the row of a kind at t, from this word of its block on, is within the block
+pub record RowGiven (q : Problem) (k : PairKind) (t from width : ℕ) (block : List ℕ) : Type 0 where
+  pub ends : from + width ≤ length block
+  pub long : length (take (from + width - from) (drop from block)) ≡ words_for (size q.target)
+  pub row : RowIs q k t (take (from + width - from) (drop from block))
+
+pub row_given : (q : Problem) (width : ℕ) (kinds : List PairKind) (p t : ℕ) (own block : List ℕ) → HeldAt q width kinds p t own block → (r i : ℕ) → i ≡ r → r < size q.pattern → (p ≡ r → ⊥)
+    → RowGiven q (kind_of q p r) t (get_or own i 0 * width) width block
+row_given q width kinds p t own block held r i i_is r_in apart =
+    subst (λ (j : ℕ). RowGiven q (kind_of q p r) t (get_or own j 0 * width) width block) (sym i_is) (record {
+      ends = ends;
+      long = part_long (from + width - from) width from block few ends ∙ held.width_is;
+      row = rw few ((held.rows (get_or own r 0)).each (kind_of q p r) kind);
+    })
+  where
+    from : ℕ
+    from = get_or own r 0 * width
+
+    few : from + width - from ≡ width
+    few = omega arith
+
+    kind : slice_get kinds (get_or own r 0) ≡ Some (kind_of q p r)
+    kind = held.each r r_in apart
+
+    ends : from + width ≤ length block
+    ends = omega (arith, held.block_long, next_row (get_or own r 0) (length kinds) width (slice_get_within kinds (get_or own r 0) (kind_of q p r) kind))
+
+-- the kind of a pair stands among the kinds, and is what is read there
+pub record KindGiven (kinds : List PairKind) (k : PairKind) (place : ℕ) : Type 0 where
+  pub within : place < length kinds
+  pub is : (kind : PairKind) → kind ≡ get_or kinds place kind → kind ≡ k
+
+pub kind_given : (q : Problem) (width : ℕ) (kinds : List PairKind) (p t : ℕ) (own block : List ℕ) → HeldAt q width kinds p t own block → (r i : ℕ) → i ≡ r → r < size q.pattern → (p ≡ r → ⊥)
+    → KindGiven kinds (kind_of q p r) (get_or own i 0)
+kind_given q width kinds p t own block held r i i_is r_in apart =
+    let kind : slice_get kinds (get_or own i 0) ≡ Some (kind_of q p r) = rw i_is (held.each r r_in apart) in
+    record {
+      within = slice_get_within kinds (get_or own i 0) (kind_of q p r) kind;
+      is = λ read read_is. read_is ∙ get_or_from_slice_get kinds (get_or own i 0) (kind_of q p r) read kind;
+    }
 
 -- the kind of a pair, where the parts are read one by one
 pub kind_read : (q : Problem) (vertices width : ℕ) (kinds : List PairKind) (places : List ℕ) (counted in_counted : Graph) (both_ways : Bool)
@@ -95,17 +172,6 @@ kind_read q vertices width kinds places counted in_counted both_ways held proble
     let place_at : place ≡ get_or places (p * size q.pattern + r) 0 = get_or_read places (i * vertices + j) place inside place_is 0 ∙ ap (λ n. get_or places n 0) number in
     let stands : slice_get kinds place ≡ Some (kind_of q p r) = rw place_at (held.classed.each p r r_below pair apart) in
     kind_is ∙ get_or_from_slice_get kinds place (kind_of q p r) kind stands ∙ ap (λ (x : Problem). kind_of x p r) same
-
--- a block is within the words
-pub block_within : (blocks kinds width block : ℕ) → block < blocks → (block * kinds + kinds) * width ≤ blocks * kinds * width
-block_within blocks kinds width block b_in =
-    mul-le-mul_right {m = block * kinds + kinds} {n = blocks * kinds} width (next_row block blocks kinds b_in)
-
-pub room_given : (q : Problem) (vertices width : ℕ) (kinds : List PairKind) (places : List ℕ) (most : ℕ) (block_of owners counts in_counts pool : List ℕ) (both_ways : Bool)
-    → Held q vertices width kinds places most block_of owners counts in_counts pool both_ways → (block len : ℕ) (ks : List PairKind) (words : List ℕ) → block < length owners
-    → len ≡ length kinds → ks ≡ kinds → words ≡ pool → (block * len + length ks) * width ≤ length words
-room_given q vertices width kinds places most block_of owners counts in_counts pool both_ways held block len ks words b_in len_is ks_is words_is =
-    rw (len_is, ks_is, words_is) (omega (arith, held.pool_is, block_within (length owners) (length kinds) width block b_in))
 
 -- a list that takes the place of another of its length
 pub whole_after : (n : ℕ) (old new : List ℕ) → n ≡ length old → length new ≡ length old → take n (new ++ drop (length new) old) ≡ new
@@ -141,7 +207,7 @@ owned_before block_of owners t block s b_in ne owned = (owned_old, other)
 pub other_block : (kinds width block b i : ℕ) (old new : List ℕ) → WordsStay (block * kinds * width) ((block * kinds + kinds) * width) old new → (b ≡ block → ⊥) → i < kinds
     → (v : ℕ) → has (take width (drop ((b * kinds + i) * width) new)) v ≡ has (take width (drop ((b * kinds + i) * width) old)) v
 other_block kinds width block b i old new stay ne i_in =
-    part_same width ((b * kinds + i) * width) old new (λ j j_in. stay.each ((b * kinds + i) * width + j) (outside j j_in (cases_order b block)))
+    part_same width ((b * kinds + i) * width) ((b * kinds + i) * width) old new (λ j j_in. stay.each ((b * kinds + i) * width + j) (outside j j_in (cases_order b block)))
   where
     outside : (j : ℕ) → j < width → (b ≡ block) ⊎ ((b < block) ⊎ (block < b)) → ((b * kinds + i) * width + j < block * kinds * width) ⊎ ((block * kinds + kinds) * width ≤ (b * kinds + i) * width + j)
     outside j j_in (inl e) = absurd (ne e)
@@ -291,7 +357,7 @@ held_added q vertices width kinds places most block_of owners counts in_counts p
       each = λ k k_is.
           let ends = row_within (length owners) (length kinds) width (get_or block_of t 0) i (held.blocks_in t t_in) (slice_get_within kinds i k k_is) in
           row_same q k t (take width (drop ((get_or block_of t 0 * length kinds + i) * width) pool)) (take width (drop ((get_or block_of t 0 * length kinds + i) * width) pool'))
-          (part_same width ((get_or block_of t 0 * length kinds + i) * width) pool pool' (stays ((get_or block_of t 0 * length kinds + i) * width) (omega (arith, ends, held.pool_is))))
+          (part_same width ((get_or block_of t 0 * length kinds + i) * width) ((get_or block_of t 0 * length kinds + i) * width) pool pool' (stays ((get_or block_of t 0 * length kinds + i) * width) (omega (arith, ends, held.pool_is))))
           ((held.rows t i t_in owned).each k k_is);
     }
 

@@ -19,17 +19,17 @@ row_same q k t old new same is = record {
   complete = λ u u_in j. same u ∙ is.complete u u_in j;
 }
 
--- the next words of two lists hold the same values where they agree
-pub part_same : (width a : ℕ) (old new : List ℕ) → ((i : ℕ) → i < width → get_or new (a + i) 0 ≡ get_or old (a + i) 0)
-    → (v : ℕ) → has (take width (drop a new)) v ≡ has (take width (drop a old)) v
-part_same width a old new same v = by (cases_lt (v / 64) width)
+-- words of two lists, in each from a first one on, hold the same values where they agree
+pub part_same : (width a b : ℕ) (old new : List ℕ) → ((i : ℕ) → i < width → get_or new (b + i) 0 ≡ get_or old (a + i) 0)
+    → (v : ℕ) → has (take width (drop b new)) v ≡ has (take width (drop a old)) v
+part_same width a b old new same v = by (cases_lt (v / 64) width)
   where
-    by : (v / 64 < width) ⊎ (width ≤ v / 64) → has (take width (drop a new)) v ≡ has (take width (drop a old)) v
-    by (inl inside) = has_same (take width (drop a new)) (take width (drop a old)) v
-        (get_or-take width (drop a new) (v / 64) 0 inside ∙ get_or-drop a new (v / 64) 0 ∙ same (v / 64) inside
+    by : (v / 64 < width) ⊎ (width ≤ v / 64) → has (take width (drop b new)) v ≡ has (take width (drop a old)) v
+    by (inl inside) = has_same (take width (drop b new)) (take width (drop a old)) v
+        (get_or-take width (drop b new) (v / 64) 0 inside ∙ get_or-drop b new (v / 64) 0 ∙ same (v / 64) inside
         ∙ sym (get_or-take width (drop a old) (v / 64) 0 inside ∙ get_or-drop a old (v / 64) 0))
     by (inr past) =
-        has_past (take width (drop a new)) v (omega (arith, length-take width (drop a new)))
+        has_past (take width (drop b new)) v (omega (arith, length-take width (drop b new)))
         ∙ sym (has_past (take width (drop a old)) v (omega (arith, length-take width (drop a old))))
 
 -- a row that is written stands where it was written
@@ -45,11 +45,6 @@ part_written width a all row inside long v = by (cases_lt v (64 * width))
 -- the first word of a row after another
 pub next_row : (a b width : ℕ) → a < b → a * width + width ≤ b * width
 next_row a b width l = let m = mul-le-mul_right {m = suc a} {n = b} width l in omega (arith, m, suc-mul a width)
-
--- the same row at a place that is the same number, of the same words
-pub row_at : (q : Problem) (k : PairKind) (t n width a b : ℕ) (words all : List ℕ) → n ≡ width → a ≡ b → words ≡ all
-    → RowIs q k t (take width (drop b all)) → RowIs q k t (take n (drop a words))
-row_at q k t n width a b words all n_is a_is is row = rw (n_is, a_is, is) row
 
 -- the rows of a block, as far as they are made
 pub record MadeBelow (q : Problem) (kinds : List PairKind) (width t first n : ℕ) (old new : List ℕ) : Type 0 where
@@ -97,7 +92,7 @@ made_more q kinds width t first n from old now row k before from_is inside long 
         let ends = next_row (first + i) (first + n) width (omega arith) in
         record {
           each = λ x x_is. row_same q x t (take width (drop ((first + i) * width) now)) (take width (drop ((first + i) * width) (put_mid from width now row)))
-              (part_same width ((first + i) * width) now (put_mid from width now row) (λ j j_in. outside ((first + i) * width + j) (inl (omega arith))))
+              (part_same width ((first + i) * width) ((first + i) * width) now (put_mid from width now row) (λ j j_in. outside ((first + i) * width + j) (inl (omega arith))))
               ((before.made i below).each x x_is);
         }
     by i i_in (inr above) =

@@ -1,11 +1,11 @@
 -- How rows are held: blocks of rows, of which each belongs to one target vertex.
 
-use Rattle.std.specs.Prelude.{◌≡◌, ℕ, ◌+◌, ◌*◌, ◌<◌, ◌≤◌, ◌==◌, Bool, true, false, ◌⊎◌, List, [], ◌∷◌, ◌++◌, length, drop, slice_index}
+use Rattle.std.specs.Prelude.{◌≡◌, ℕ, ◌+◌, ◌*◌, ◌<◌, ◌≤◌, ◌==◌, Bool, true, false, ◌⊎◌, List, Some, [], ◌∷◌, ◌++◌, length, drop, slice_get, slice_index}
 use Rattle.graph_theory.specs.Graph.{size, tabulate}
 use Rattle.graph_theory.specs.Embedding.{Problem}
 use Rattle.bit_rows.specs.BitRows.{words_for}
 use Rattle.pair_rows.specs.declared.kinds.PairKind.{PairKind}
-use Rattle.pair_rows.specs.Kinds.{AreKinds, HasRow}
+use Rattle.pair_rows.specs.Kinds.{kind_of, AreKinds, HasRow}
 
 -- The block of t is its own.
 abbrev pub owns : List ℕ → List ℕ → ℕ → Bool
@@ -40,3 +40,14 @@ pub record Held (q : Problem) (vertices width : ℕ) (kinds : List PairKind) (pl
   pub pool_is : length owners * (length kinds * width) ≤ length pool
   pub rows : (t i : ℕ) → t < size q.target → owns block_of owners t ≡ true
       → HasRow q kinds width t i (drop ((slice_index block_of t * length kinds + i) * width) pool)
+
+-- The place of the kind of p and each other vertex, and a block that has the row of each kind at t.
+pub record HeldAt (q : Problem) (width : ℕ) (kinds : List PairKind) (p t : ℕ)
+    (own block : List ℕ) : Type 0 where
+  pub value_in : t < size q.target
+  pub width_is : width ≡ words_for (size q.target)
+  pub own_long : length own ≡ size q.pattern
+  pub each : (r : ℕ) → r < size q.pattern → (p ≡ r → ⊥)
+      → slice_get kinds (slice_index own r) ≡ Some (kind_of q p r)
+  pub block_long : length block ≡ length kinds * width
+  pub rows : (i : ℕ) → HasRow q kinds width t i (drop (i * width) block)

@@ -11,3 +11,9 @@ pub record Rows : Type 0 where
 -- The rows at t are made.
 abbrev pub IsMade : Rows → ℕ → Type 0
 IsMade rows t = slice_index_or rows.made t false ≡ true
+
+-- The problem, a pattern vertex and a value of it, of which rows say what goes together with them.
+pub record At : Type 0 where
+  pub problem : Problem
+  pub vertex : ℕ
+  pub value : ℕ

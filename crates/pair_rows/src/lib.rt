@@ -12,7 +12,9 @@ mod kinds;
 mod near;
 mod pair_kinds;
 mod rows;
+mod rows_at;
 mod shared;
 
 pub use pair_kinds::PairKinds;
 pub use rows::{MOST_WORDS, PairRows};
+pub use rows_at::RowsAt;

@@ -1,15 +1,14 @@
 //! The kinds of a problem's pairs: what any number of searches over the problem reads and none of them changes.
 
-ghost use Rattle.std.specs.Prelude.{◌≡◌, ℕ, ◌<◌, ◌↔◌, true, false, length, is_some, Some, IsTrue, IfOk, IfSome, slice_get};
+ghost use Rattle.std.specs.Prelude.{◌≡◌, ℕ, ◌<◌, true, false, is_some, Some, IsTrue, IfOk, IfSome, slice_get};
 ghost use Rattle.graph_theory.specs.Graph.{size};
 ghost use Rattle.graph_theory.specs.Neighbours.{is_neighbour};
-ghost use Rattle.bit_rows.specs.BitRows.{words_for};
 ghost use Rattle.graph_rows.specs.Held.{stands_in};
 ghost use Rattle.search_theory.specs.Consistency.{AreConsistent};
 ghost use Rattle.pair_rows.specs.Near.{is_listed};
 ghost use Rattle.pair_rows.specs.declared.kinds.PairKind.{PairKind};
 
-use crate::kinds::{PairKind, asks_no_edge, asks_nothing, classify};
+use crate::kinds::{PairKind, asks_nothing, classify};
 use crate::near::NearLists;
 use bit_rows::words_for;
 use common_neighbour::Counts;
@@ -99,25 +98,6 @@ impl<'a> PairKinds<'a> {
     {
         let pair = usize::from(p) * self.vertices + usize::from(r);
         asks_nothing(self.problem, &self.kinds[self.places[pair] as usize])
-    }
-
-    /// Whether `p` and `r` are asked nothing but distinct images without an edge: the copy is to be an induced one, the target's edges are
-    /// known to stand both ways, no edge leads from `p` or `r` to the other, and they share no neighbour. Cost: two steps.
-    pub fn is_bare(&self, p: u16, r: u16) -> bool
-        requires p_in { p < size self.now.problem.pattern }
-        requires r_in { r < size self.now.problem.pattern }
-        requires apart { p ≡ r → ⊥ }
-        ensures { IsTrue result → (t u : ℕ)
-            → t < size self.now.problem.target → u < size self.now.problem.target
-            → AreConsistent self.now.problem p t r u
-            ↔ ((t ≡ u → ⊥) × (is_neighbour self.now.problem.target t u ≡ false)) }
-    {
-        let pair = usize::from(p) * self.vertices + usize::from(r);
-        asks_no_edge(
-            self.problem,
-            &self.kinds[self.places[pair] as usize],
-            self.both_ways,
-        )
     }
 
     /// The neighbours of `t`, rising, where they are listed: in the induced kind, for a vertex with less than twice as many as a row has

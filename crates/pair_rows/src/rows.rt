@@ -1,19 +1,16 @@
 //! Rows of consistent values, made at a target vertex when it is first needed.
 
-ghost use Rattle.std.specs.Prelude.{◌≡◌, ℕ, ◌<◌, ◌≤◌, ◌==◌, ◌↔◌, ◌||◌, ◌&&◌, ◌++◌, ◌∷◌, ◌*◌, [], true, false, length, is_some, IsTrue, IfOk, IfSome, OnOk, slice_index};
+ghost use Rattle.std.specs.Prelude.{◌≡◌, ℕ, ◌<◌, ◌≤◌, ◌==◌, ◌||◌, ◌&&◌, ◌++◌, ◌∷◌, ◌*◌, [], true, false, length, IfOk, OnOk, slice_index};
 ghost use Rattle.graph_theory.specs.Graph.{size};
-ghost use Rattle.graph_theory.specs.Neighbours.{common, is_neighbour};
+ghost use Rattle.graph_theory.specs.Neighbours.{common};
 ghost use Rattle.graph_theory.specs.Reversed.{reversed};
-ghost use Rattle.bit_rows.specs.BitRows.{has, words_for};
-ghost use Rattle.graph_rows.specs.Held.{stands_in};
-ghost use Rattle.search_theory.specs.Consistency.{AreConsistent};
 ghost use Rattle.pair_rows.specs.Rows.{IsMade};
-ghost use Rattle.pair_rows.specs.Near.{is_listed};
 ghost use Rattle.pair_rows.specs.Held.{owns, IsAdded};
 ghost use Rattle.pair_rows.specs.Kinds.{ServeAll};
 
 use crate::kinds::{SharedCounts, fill_block};
 use crate::pair_kinds::PairKinds;
+use crate::rows_at::RowsAt;
 use graph_theory::direction::reversed_laws;
 use std::alloc::{AllocError, Global};
 use std::marker::Model;
@@ -93,15 +90,26 @@ impl<'a> PairRows<'a> {
     /// ways, and for each kind one step for each word of a row,
     /// with one for each neighbour of `t` in a direction that the kind has an edge in, or for each target vertex where it has none and
     /// shares neighbours.
+    #[inline(always)]
     pub fn make(&mut self, t: u16)
         requires t_in { t < size self.old.problem.target }
         ensures problem { self.new.problem ≡ self.old.problem }
         ensures made { IsMade self.new t }
     {
-        let kinds = self.kinds;
         if is_owner(&self.block_of, &self.owners, t) {
             return;
         }
+        self.make_block(t)
+    }
+
+    /// Makes the rows at `t` in the block that is taken next. Cost: that of `make` where they are not made already.
+    #[inline(never)]
+    fn make_block(&mut self, t: u16)
+        requires t_in { t < size self.old.problem.target }
+        ensures problem { self.new.problem ≡ self.old.problem }
+        ensures made { IsMade self.new t }
+    {
+        let kinds = self.kinds;
         let block = take_block(
             &mut self.owners,
             &mut self.pool,
@@ -125,59 +133,27 @@ impl<'a> PairRows<'a> {
         self.next = block + 1;
     }
 
-    /// The values u of `r` that go together with `t` of `p`, as a bit row. Cost: two steps.
-    pub fn row(&self, p: u16, r: u16, t: u16) -> &[u64]
+    /// The rows of `p` at `t`: what the other pattern vertices have that goes together with it. Cost: a few steps.
+    #[inline(always)]
+    pub fn at(&self, p: u16, t: u16) -> RowsAt<'_>
         requires p_in { p < size self.now.problem.pattern }
-        requires r_in { r < size self.now.problem.pattern }
-        requires apart { p ≡ r → ⊥ }
         requires t_in { t < size self.now.problem.target }
         requires made { IsMade self.now t }
-        ensures long { length result.now ≡ words_for (size self.now.problem.target) }
-        ensures right { (u : ℕ) → has result.now u ≡ true → AreConsistent self.now.problem p t r u }
-        ensures within { (u : ℕ) → has result.now u ≡ true → u < size self.now.problem.target }
-        ensures complete { (u : ℕ) → AreConsistent self.now.problem p t r u
-            → u < size self.now.problem.target → has result.now u ≡ true }
+        ensures problem { result.problem ≡ self.now.problem }
+        ensures vertex { result.vertex ≡ p }
+        ensures value { result.value ≡ t }
     {
         let kinds = self.kinds;
-        let place = kinds.places[usize::from(p) * kinds.vertices + usize::from(r)] as usize;
-        let block = self.block_of[usize::from(t)] as usize;
-        let from = (block * kinds.kinds.len() + place) * kinds.width;
-        &self.pool[from..from + kinds.width]
-    }
-
-    /// As `PairKinds::is_free`. Cost: three steps.
-    pub fn is_free(&self, p: u16, r: u16) -> bool
-        requires p_in { p < size self.now.problem.pattern }
-        requires r_in { r < size self.now.problem.pattern }
-        requires apart { p ≡ r → ⊥ }
-        ensures { IsTrue result → (t u : ℕ) → (t ≡ u → ⊥) → AreConsistent self.now.problem p t r u }
-    {
-        self.kinds.is_free(p, r)
-    }
-
-    /// As `PairKinds::is_bare`. Cost: three steps.
-    pub fn is_bare(&self, p: u16, r: u16) -> bool
-        requires p_in { p < size self.now.problem.pattern }
-        requires r_in { r < size self.now.problem.pattern }
-        requires apart { p ≡ r → ⊥ }
-        ensures { IsTrue result → (t u : ℕ)
-            → t < size self.now.problem.target → u < size self.now.problem.target
-            → AreConsistent self.now.problem p t r u
-            ↔ ((t ≡ u → ⊥) × (is_neighbour self.now.problem.target t u ≡ false)) }
-    {
-        self.kinds.is_bare(p, r)
-    }
-
-    /// As `PairKinds::neighbours`. Cost: a few steps.
-    pub fn neighbours(&self, t: u16) -> Option<&[u16]>
-        requires t_in { t < size self.now.problem.target }
-        ensures few { is_some result ≡ is_listed self.now.problem t }
-        ensures listed { IfSome result
-            (λ us. (u : ℕ) → stands_in us.now u ≡ is_neighbour self.now.problem.target t u) }
-        ensures within { IfSome result
-            (λ us. (u : ℕ) → stands_in us.now u ≡ true → u < size self.now.problem.target) }
-    {
-        self.kinds.neighbours(t)
+        let from = usize::from(p) * kinds.vertices;
+        let words = kinds.kinds.len() * kinds.width;
+        let block = self.block_of[usize::from(t)] as usize * words;
+        RowsAt {
+            kinds,
+            p,
+            t,
+            places: &kinds.places[from..from + kinds.vertices],
+            block: &self.pool[block..block + words],
+        }
     }
 }
 
