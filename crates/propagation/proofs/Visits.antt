@@ -128,12 +128,12 @@ sweeps_narrowed answer q old new before after p t r keeps values p_in r_in other
 -- a domain from which t was taken, where p and r are asked nothing but distinct images
 pub sweeps_taken : (answer : Bool) (q : Problem) (old new : State) (before after : List Bool) (p t r : ℕ) → old.values ≡ size q.target → p < size q.pattern → r < size q.pattern → (p ≡ r → ⊥)
     → r < length before → Single (in_domain old) p t → changes.Keeps old new r (λ v. not (v == t)) → NotesTaken answer old before new after r t
-    → length new.removed ≤ new.vertices * new.values → ((x u : ℕ) → (x ≡ u → ⊥) → AreConsistent q p x r u)
+    → length new.removed ≤ new.vertices * new.values → ((u : ℕ) → (t ≡ u → ⊥) → AreConsistent q p t r u)
     → (waits_at before r ≡ true) ⊎ ((u : ℕ) → Single (in_domain old) r u → ⊥) → Sweeps answer q old before new after p t r
 sweeps_taken answer q old new before after p t r values p_in r_in other flag s k taken bounded free undecided = by_taken taken
   where
     right : (u : ℕ) → u < size q.target → not (u == t) ≡ true → AreConsistent q p t r u
-    right u u_in passes = free t u (λ same. not_both (u == t) (passed (u == t) passes) (eq-eqb u t (sym same)))
+    right u u_in passes = free u (λ same. not_both (u == t) (passed (u == t) passes) (eq-eqb u t (sym same)))
       where
         passed : (b : Bool) → not b ≡ true → b ≡ false
         passed true h = cc

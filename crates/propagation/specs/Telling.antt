@@ -72,7 +72,8 @@ pub record Joins (q : Problem) (direction : Direction) (p r : ℕ) : Type 0 wher
   pub joined : is_some (edge (turned direction q.pattern) p r) ≡ true
 
 -- An edge leads from p to r, but from no value that is left for p to u: so r, which goes where p's edge leads, does not go to u.
-pub record IsUnsupported (q : Problem) (d : State) (direction : Direction) (p r u : ℕ) : Type 0 where
+pub record IsUnsupported (q : Problem) (d : State) (direction : Direction)
+    (p r u : ℕ) : Type 0 where
   pub joins : Joins q direction p r
   pub value_in : u < size q.target
   pub none : (w : ℕ) → in_domain d p w ≡ true

@@ -29,7 +29,7 @@ use crate::recorder::Recorder;
 use crate::removal::keep_consistent;
 use domain_bits::{Domains, Trail};
 use graph_rows::Problem;
-use pair_rows::PairRows;
+use pair_rows::{PairRows, RowsAt};
 use sparse_set::SparseSet;
 
 /// How many flags are looked at together.
@@ -84,39 +84,36 @@ fn are_at_rest(waiting: &[bool], at: usize) -> bool
     !first && !second && !third && !fourth && !fifth && !sixth && !seventh && !eighth
 }
 
-/// Takes from the domain of `r` what is not consistent with `p` at `t`. A vertex that is decided and does not wait has
+/// Takes from the domain of `r` what is not consistent with the vertex at its value. A vertex that is decided and does not wait has
 /// taken its consequences, so that nothing is to be done there.
+#[inline(always)]
 fn settle_at<T: Trail, R: Recorder>(
-    rows: &PairRows,
+    at: &RowsAt<'_>,
     d: &mut Domains<T>,
     waiting: &mut [bool],
     told: &mut R,
-    p: u16,
-    t: u16,
     r: u16,
 ) -> bool
-    requires is_of { IsOf rows.now.problem d.old }
-    requires ready { ReadyBut rows.now.problem d.old waiting.old p }
-    requires p_in { p < size rows.now.problem.pattern }
-    requires t_in { t < size rows.now.problem.target }
-    requires r_in { r < size rows.now.problem.pattern }
-    requires made { IsMade rows.now t }
-    requires single { Single (in_domain d.old) p t }
+    requires is_of { IsOf at.now.problem d.old }
+    requires ready { ReadyBut at.now.problem d.old waiting.old at.now.vertex }
+    requires vertex_in { at.now.vertex < size at.now.problem.pattern }
+    requires value_in { at.now.value < size at.now.problem.target }
+    requires r_in { r < size at.now.problem.pattern }
+    requires single { Single (in_domain d.old) at.now.vertex at.now.value }
     requires bounded { length d.old.removed ≤ d.old.vertices * d.old.values }
-    ensures sweeps { Sweeps result rows.now.problem d.old waiting.old d.new waiting.new p t r }
-    ensures told { TellsOn rows.now.problem d.old (R.changes told.old) d.new (R.changes told.new) }
+    ensures sweeps { Sweeps result at.now.problem d.old waiting.old d.new waiting.new
+        at.now.vertex at.now.value r }
+    ensures told { TellsOn at.now.problem d.old (R.changes told.old) d.new (R.changes told.new) }
     ensures guesses { NoNewGuess (R.changes told.old) (R.changes told.new) }
 {
+    let p = at.vertex();
     if r == p {
         return true;
     }
-    if waiting[usize::from(r)] {
-        return keep_consistent(rows, d, waiting, told, p, t, r);
-    }
-    if d.size(r) == 1 {
+    if !waiting[usize::from(r)] && d.size(r) == 1 {
         return true;
     }
-    keep_consistent(rows, d, waiting, told, p, t, r)
+    keep_consistent(at, d, waiting, told, r)
 }
 
 /// Takes from each other domain what is not consistent with `p` at `t`, up to the first domain that becomes empty, where this fails.
@@ -144,9 +141,10 @@ fn settle<T: Trail, R: Recorder>(
     ensures told { TellsOn rows.now.problem d.old (R.changes told.old) d.new (R.changes told.new) }
     ensures guesses { NoNewGuess (R.changes told.old) (R.changes told.new) }
 {
+    let at = rows.at(p, t);
     let members = undecided.members();
     for k in 0..members.len() {
-        if !settle_at(rows, d, waiting, told, p, t, members[k]) {
+        if !settle_at(&at, d, waiting, told, members[k]) {
             return Err(Failure::Empty(members[k]));
         }
     }

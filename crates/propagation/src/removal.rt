@@ -14,7 +14,6 @@ ghost use Rattle.domain_bits.specs.Removals.{State, in_domain};
 ghost use Rattle.search_theory.specs.Claims.{Single};
 ghost use Rattle.search_theory.specs.Consistency.{AreConsistent};
 ghost use Rattle.all_different.specs.Pruning.{DecidedApart, PruneSays};
-ghost use Rattle.pair_rows.specs.Rows.{IsMade};
 ghost use Rattle.nogood_watch.specs.Nogoods as watched;
 ghost use Rattle.propagation.specs.Propagation.{IsOf, IsFor, waits_at, NotesSize, NotesTaken, Sweeps, pruned_of};
 ghost use Rattle.propagation.specs.declared.change.Cause.TheVariants as cause;
@@ -28,7 +27,7 @@ use all_different::{Pruned, Scratch, prune_undecided};
 use domain_bits::{Domains, Mark, Trail};
 use graph_rows::Problem;
 use graph_theory::direction::Direction;
-use pair_rows::PairRows;
+use pair_rows::RowsAt;
 
 /// Tells that values have left by the cause since the mark, if any have. Cost: one step, and that of `took`.
 fn tell<T: Trail, R: Recorder>(d: &Domains<T>, told: &mut R, vertex: u16, cause: Cause, from: Mark)
@@ -167,77 +166,53 @@ fn take_near<T: Trail>(
     note_size(d, waiting, r)
 }
 
-/// The neighbours of `t`, where `r` is asked nothing but an image that is none of them nor `t`, and they are listed. Cost: a few
-/// steps.
-#[inline(always)]
-fn near_alone<'a>(rows: &'a PairRows, p: u16, t: u16, r: u16) -> Option<&'a [u16]>
-    requires p_in { p < size rows.now.problem.pattern }
-    requires t_in { t < size rows.now.problem.target }
-    requires r_in { r < size rows.now.problem.pattern }
-    requires apart { p ≡ r → ⊥ }
-    ensures asked { IfSome result
-        (λ us. (u : ℕ) → u < size rows.now.problem.target → AreConsistent rows.now.problem p t r u
-        ↔ ((t ≡ u → ⊥) × (stands_in us.now u ≡ false))) }
-    ensures within { IfSome result
-        (λ us. (u : ℕ) → stands_in us.now u ≡ true → u < size rows.now.problem.target) }
-{
-    if rows.is_bare(p, r) {
-        rows.neighbours(t)
-    } else {
-        None
-    }
-}
-
-/// Takes from the domain of `r` what is not consistent with `p` at `t`: where the two are asked no edge besides distinct images and `t`
-/// has few neighbours, `t` and these, and no row is read. Cost: a few steps there, with one for each of these neighbours, and else a row
-/// and the values that leave.
+/// Takes from the domain of `r` what is not consistent with the vertex at its value: where `r` is asked no edge besides another image and the
+/// value has few neighbours, the value and these, and no row is read. Cost: a few steps there, with one for each of these neighbours, and
+/// else a row and the values that leave.
 #[inline(always)]
 fn take_inconsistent<T: Trail>(
-    rows: &PairRows,
+    at: &RowsAt<'_>,
     d: &mut Domains<T>,
     waiting: &mut [bool],
-    p: u16,
-    t: u16,
     r: u16,
 ) -> bool
-    requires flagged { AreFlagged rows.now.problem d.old waiting.old }
-    requires meets { Meets rows.now.problem d.old waiting.old p t r }
-    requires made { IsMade rows.now t }
-    ensures { Sweeps result rows.now.problem d.old waiting.old d.new waiting.new p t r }
+    requires flagged { AreFlagged at.now.problem d.old waiting.old }
+    requires meets { Meets at.now.problem d.old waiting.old at.now.vertex at.now.value r }
+    ensures { Sweeps result at.now.problem d.old waiting.old d.new waiting.new
+        at.now.vertex at.now.value r }
 {
-    match near_alone(rows, p, t, r) {
-        Some(near) => take_near(d, waiting, r, t, near),
-        None => narrow(d, waiting, rows.row(p, r, t), r),
+    match at.near_alone(r) {
+        Some(near) => take_near(d, waiting, r, at.value(), near),
+        None => narrow(d, waiting, at.row(r), r),
     }
 }
 
-/// Takes from the domain of `r` what is not consistent with `p` at `t`, and tells it. Where the two are asked nothing but distinct
-/// images, as nearly all pairs of a sparse pattern are, this is `t` alone, and no row is read. Cost: that of the removal.
+/// Takes from the domain of `r` what is not consistent with the vertex at its value, and tells it. Where `r` is asked nothing but another
+/// image, as nearly all pairs of a sparse pattern are, this is the value alone, and no row is read. Cost: that of the removal.
 #[inline(always)]
 pub(crate) fn keep_consistent<T: Trail, R: Recorder>(
-    rows: &PairRows,
+    at: &RowsAt<'_>,
     d: &mut Domains<T>,
     waiting: &mut [bool],
     told: &mut R,
-    p: u16,
-    t: u16,
     r: u16,
 ) -> bool
-    requires flagged { AreFlagged rows.now.problem d.old waiting.old }
-    requires meets { Meets rows.now.problem d.old waiting.old p t r }
-    requires made { IsMade rows.now t }
-    ensures sweeps { Sweeps result rows.now.problem d.old waiting.old d.new waiting.new p t r }
-    ensures told { TellsOn rows.now.problem d.old (R.changes told.old) d.new (R.changes told.new) }
+    requires flagged { AreFlagged at.now.problem d.old waiting.old }
+    requires meets { Meets at.now.problem d.old waiting.old at.now.vertex at.now.value r }
+    ensures sweeps { Sweeps result at.now.problem d.old waiting.old d.new waiting.new
+        at.now.vertex at.now.value r }
+    ensures told { TellsOn at.now.problem d.old (R.changes told.old) d.new (R.changes told.new) }
     ensures guesses { NoNewGuess (R.changes told.old) (R.changes told.new) }
 {
     let from = d.mark();
-    let cause = Cause::Vertex(p, t);
-    if rows.is_free(p, r) {
+    let t = at.value();
+    let cause = Cause::Vertex(at.vertex(), t);
+    if at.is_free(r) {
         let some = take_value(d, waiting, r, t);
         tell(d, told, r, cause, from);
         return some;
     }
-    let some = take_inconsistent(rows, d, waiting, p, t, r);
+    let some = take_inconsistent(at, d, waiting, r);
     tell(d, told, r, cause, from);
     some
 }

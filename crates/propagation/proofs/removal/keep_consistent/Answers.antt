@@ -1,20 +1,25 @@
 use Rattle.std.proofs.Common.{arith}
+use Rattle.propagation.specs.Propagation.{Sweeps}
 use Rattle.propagation.proofs.Reasons.{leaves_swept}
 use Rattle.propagation.proofs.Guesses.{guesses_may}
 use Rattle.propagation.proofs.Visits.{sweeps_taken}
 use Rattle.propagation.proofs.removal.keep_consistent.Goals as goal
 
-pub returns-then-is_free-clause-sweeps : goal.returns-then-is_free-clause-sweeps
-returns-then-is_free-clause-sweeps g c =
+-- what has left where the two are asked nothing but distinct images
+swept : (g : _) (c : goal.After-tell g) → let at = c.args.at.now in Sweeps c.take_value-some.result at.problem c.args.d.now c.args.waiting.now c.take_value-some.new.d c.take_value-some.new.waiting at.vertex at.value c.args.r
+swept g c =
     sweeps_taken _ _ _ _ _ _ _ _ _ c.requires.flagged.is_of.values_is c.requires.meets.p_in c.requires.meets.r_in c.requires.meets.apart (omega (arith, c.requires.flagged.long, c.requires.meets.r_in)) c.requires.meets.single
-    c.take_value-some.ensures.keeps c.take_value-some.ensures.taken c.take_value-some.ensures.bounded (c.is_free.ensures c.if-is_free.true) c.requires.meets.undecided
+    (rw c.value-t.ensures at c.take_value-some.ensures.keeps) (rw c.value-t.ensures at c.take_value-some.ensures.taken) c.take_value-some.ensures.bounded (c.is_free.ensures c.if-is_free.true) c.requires.meets.undecided
+
+pub returns-then-is_free-clause-sweeps : goal.returns-then-is_free-clause-sweeps
+returns-then-is_free-clause-sweeps g c = swept g c
 
 pub returns-then-is_free-clause-told : goal.returns-then-is_free-clause-told
 returns-then-is_free-clause-told g c s t =
-    c.tell.ensures.told _ s c.args.d.now
-    (leaves_swept _ _ s c.args.d.now _ _ _ c.args.p c.args.t c.args.r _ c.requires.meets.p_in c.requires.meets.t_in c.requires.meets.r_in c.requires.meets.apart c.requires.meets.single c.mark-from.ensures.length
-    (sweeps_taken _ _ _ _ _ _ _ _ _ c.requires.flagged.is_of.values_is c.requires.meets.p_in c.requires.meets.r_in c.requires.meets.apart (omega (arith, c.requires.flagged.long, c.requires.meets.r_in)) c.requires.meets.single
-    c.take_value-some.ensures.keeps c.take_value-some.ensures.taken c.take_value-some.ensures.bounded (c.is_free.ensures c.if-is_free.true) c.requires.meets.undecided))
+    let at = c.args.at.now in
+    (rw (c.vertex.ensures, c.value-t.ensures) at c.tell.ensures.told) _ s c.args.d.now
+    (leaves_swept _ _ s c.args.d.now _ _ _ at.vertex at.value c.args.r _ c.requires.meets.p_in c.requires.meets.t_in c.requires.meets.r_in c.requires.meets.apart c.requires.meets.single c.mark-from.ensures.length
+    (swept g c))
     t
 
 pub returns-then-is_free-clause-guesses : goal.returns-then-is_free-clause-guesses
@@ -22,8 +27,9 @@ returns-then-is_free-clause-guesses g c = guesses_may _ _ _ (λ is. is) c.tell.e
 
 pub returns-clause-told : goal.returns-clause-told
 returns-clause-told g c s t =
-    c.tell-2.ensures.told _ s c.args.d.now
-    (leaves_swept _ _ s c.args.d.now _ _ _ c.args.p c.args.t c.args.r _ c.requires.meets.p_in c.requires.meets.t_in c.requires.meets.r_in c.requires.meets.apart c.requires.meets.single c.mark-from.ensures.length
+    let at = c.args.at.now in
+    (rw (c.vertex.ensures, c.value-t.ensures) at c.tell-2.ensures.told) _ s c.args.d.now
+    (leaves_swept _ _ s c.args.d.now _ _ _ at.vertex at.value c.args.r _ c.requires.meets.p_in c.requires.meets.t_in c.requires.meets.r_in c.requires.meets.apart c.requires.meets.single c.mark-from.ensures.length
     c.take_inconsistent-some.ensures)
     t
 
