@@ -52,7 +52,8 @@ pub fn is_any_needed(marked: &[bool], rows: &[u64], values: usize, r: u16) -> bo
 pub fn needed_row<'a>(marked: &[bool], rows: &'a [u64], values: usize, r: u16) -> Option<&'a [u64]>
     requires held { AreRows values marked.now rows.now }
     requires r_in { r < length marked.now }
-    ensures none { IfNone result ((u : ℕ) → u < values → needs values marked.now rows.now r u ≡ false) }
+    ensures none { IfNone result
+        ((u : ℕ) → u < values → needs values marked.now rows.now r u ≡ false) }
     ensures long { IfSome result (λ row. length row.now ≡ words_for values) }
     ensures bits { IfSome result (λ row. (u : ℕ) → u < values
         → has row.now u ≡ needs values marked.now rows.now r u) }

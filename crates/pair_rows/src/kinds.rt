@@ -2,13 +2,14 @@
 
 ghost use Rattle.std.specs.Prelude.{◌≡◌, ℕ, ◌+◌, ◌*◌, ◌^◌, ◌<◌, ◌≤◌, ◌↔◌, ◌&&◌, ◌||◌, not, true, false, is_some, IsTrue, IfOk, IfSome, Some, drop, length, slice_index, slice_get};
 ghost use Rattle.graph_theory.specs.Graph.{size, edge};
-ghost use Rattle.graph_theory.specs.Neighbours.{common, is_neighbour};
+ghost use Rattle.graph_theory.specs.Neighbours.{common};
 ghost use Rattle.graph_theory.specs.Embedding.{Matches};
-ghost use Rattle.graph_theory.specs.Reversed.{reversed, IsMutual};
+ghost use Rattle.graph_theory.specs.Reversed.{reversed};
 ghost use Rattle.bit_rows.specs.BitRows.{has, words_for};
 ghost use Rattle.graph_rows.specs.Labels.{agree};
 ghost use Rattle.pair_rows.specs.Kinds.{kind_of, Joins, Shares, MatchEdges, IsTold, AreTold, Serve, ServeAll, RowIs, HasRow, AreKinds, KindsStay, WordsStay};
 
+use crate::asks::has_edge;
 use bit_rows::{
     and_into, and_not_into, clear, fill_below, keep_counted, next_member, set_bit, unset_bit,
 };
@@ -343,37 +344,6 @@ fn asks_labels(q: &Problem, kind: &PairKind) -> bool
     ensures told { result ≡ false → AreTold q.now kind.now }
 {
     asks_label(q.target(), kind.out) || asks_label(q.target(), kind.back)
-}
-
-/// Whether a pair of the kind has an edge, in one direction or the other.
-fn has_edge(kind: &PairKind) -> bool
-    ensures { result ≡ (is_some kind.now.out || is_some kind.now.back) }
-{
-    kind.out.is_some() || kind.back.is_some()
-}
-
-/// Whether a pair of the kind shares no neighbour, in either direction.
-fn shares_none(kind: &PairKind) -> bool
-    ensures { IsTrue result → (kind.now.shared ≡ 0) × (kind.now.in_shared ≡ 0) }
-{
-    kind.shared == 0 && kind.in_shared == 0
-}
-
-/// Whether a pair of the kind is asked nothing but distinct images.
-pub(crate) fn asks_nothing(q: &Problem, kind: &PairKind) -> bool
-    ensures { IsTrue result → (t u : ℕ) → (t ≡ u → ⊥) → Joins q.now kind.now t u }
-{
-    !q.induced() && !has_edge(kind) && shares_none(kind)
-}
-
-/// Whether a pair of the kind is asked nothing but distinct images without an edge, in the induced kind, and edges are known to stand
-/// both ways.
-pub(crate) fn asks_no_edge(q: &Problem, kind: &PairKind, both_ways: bool) -> bool
-    requires { IsTrue both_ways → IsMutual q.now.target }
-    ensures { IsTrue result → (t u : ℕ) → t < size q.now.target → u < size q.now.target
-        → Joins q.now kind.now t u ↔ ((t ≡ u → ⊥) × (is_neighbour q.now.target t u ≡ false)) }
-{
-    both_ways && q.induced() && !has_edge(kind) && shares_none(kind)
 }
 
 /// Makes the row of a kind with an edge: its values are among the neighbours of `t` in the direction of an edge of the kind, of which each

@@ -8,6 +8,7 @@
 //! McCreesh's and Prosser's supplemental graphs, 2015.)
 #![tactic(auto)]
 
+mod asks;
 mod kinds;
 mod near;
 mod pair_kinds;

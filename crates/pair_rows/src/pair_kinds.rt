@@ -8,7 +8,8 @@ ghost use Rattle.search_theory.specs.Consistency.{AreConsistent};
 ghost use Rattle.pair_rows.specs.Near.{is_listed};
 ghost use Rattle.pair_rows.specs.declared.kinds.PairKind.{PairKind};
 
-use crate::kinds::{PairKind, asks_nothing, classify};
+use crate::asks::asks_nothing;
+use crate::kinds::{PairKind, classify};
 use crate::near::NearLists;
 use bit_rows::words_for;
 use common_neighbour::Counts;

@@ -6,7 +6,7 @@ ghost use Rattle.bit_rows.specs.BitRows.{has, words_for};
 ghost use Rattle.graph_rows.specs.Held.{stands_in};
 ghost use Rattle.search_theory.specs.Consistency.{AreConsistent};
 
-use crate::kinds::{asks_no_edge, asks_nothing};
+use crate::asks::{asks_no_edge, asks_nothing};
 use crate::pair_kinds::PairKinds;
 use std::marker::Model;
 
@@ -47,7 +47,8 @@ impl<'a> RowsAt<'a> {
         ensures right { (u : ℕ) → has result.now u ≡ true
             → AreConsistent self.now.problem self.now.vertex self.now.value r u }
         ensures within { (u : ℕ) → has result.now u ≡ true → u < size self.now.problem.target }
-        ensures complete { (u : ℕ) → AreConsistent self.now.problem self.now.vertex self.now.value r u
+        ensures complete { (u : ℕ)
+            → AreConsistent self.now.problem self.now.vertex self.now.value r u
             → u < size self.now.problem.target → has result.now u ≡ true }
     {
         let kinds = self.kinds;

@@ -183,7 +183,8 @@ pub fn row_line<K: Keeper>(
     requires encoding { lines.now ≡ q.now }
     requires placed { IsPlace q.now pair.p pair.t pair.r }
     ensures goes { (w : Frame) → IsFrameOf q.now (K.owner keeper.old) w
-        → Goes w (K.kept keeper.old) (K.kept keeper.new) AnyForms (IsRowLine w q.now pair.p pair.t pair.r result) }
+        → Goes w (K.kept keeper.old) (K.kept keeper.new) AnyForms
+        (IsRowLine w q.now pair.p pair.t pair.r result) }
     ensures name { IfOk result IsName }
     ensures owner { K.owner keeper.new ≡ K.owner keeper.old }
     ensures notes { K.notes keeper.new ≡ K.notes keeper.old }
