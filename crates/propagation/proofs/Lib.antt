@@ -17,3 +17,5 @@ pub mod Guesses
 pub mod Supporting
 pub mod Gathering
 pub mod Takes
+pub mod Failing
+pub mod Written

@@ -1,18 +1,21 @@
-use Rattle.std.proofs.Common.{◌≡◌, List, Option, sym, true, false, subst, ◌∙◌}
+use Rattle.std.proofs.Common.{◌≡◌, true, false, List, Option, IfSome, sym, ◌∙◌, subst}
+use Rattle.search_theory.specs.Claims.{Quiet}
+use Rattle.all_different.specs.Prefixes.{Balanced}
 use Rattle.graph_theory.specs.Embedding.{Problem}
 use Rattle.nogood_watch.specs.InForce.{InForce}
 use Rattle.propagation.specs.Acting.{WatchesWait}
 use Rattle.propagation.specs.Learning.{AreKept}
-use Rattle.propagation.specs.Propagation.{TakenUp, LeavesPast}
+use Rattle.propagation.specs.Propagation.{TakenUp, LeavesPast, Narrows, Propagates}
 use Rattle.propagation.proofs.Acting.{kept_then, moved_more, wait_pruned}
 use Rattle.propagation.proofs.Past.{leaves_on, fewer_more}
 use Rattle.propagation.proofs.Narrowing.{narrows_more, none_narrowed}
-use Rattle.domain_bits.specs.Removals.{State}
+use Rattle.domain_bits.specs.Removals.{State, in_domain}
 use Rattle.nogood_watch.specs.Nogoods as watched
 use Rattle.propagation.specs.Recording.{Change}
 use Rattle.propagation.specs.Telling.{Tells}
 use Rattle.std.proofs.lemmas.Result.{err_from_is_err_and}
 use Rattle.propagation.proofs.Telling.{tells_of}
+use Rattle.propagation.proofs.Failing.{fails_as, in_force_failed}
 use Rattle.propagation.proofs.Guesses.{guesses_more}
 use Rattle.propagation.proofs.propagation.propagate.Goals as goal
 
@@ -97,3 +100,62 @@ returns-in_err-have_left-clause-guesses g c =
 pub returns-then-not-have_left-clause-guesses : goal.returns-then-not-have_left-clause-guesses
 returns-then-not-have_left-clause-guesses g c =
     guesses_more _ _ _ c.loop-d.invariant.guesses (guesses_more _ _ _ c.in_ok-take_up.ensures.guesses c.in_ok-have_left.ensures.prunes.guesses)
+
+-- ---- where nothing is left to be taken
+
+propagated_balanced : (q : Problem) (old mid up new : State) → Narrows q old mid → Narrows q mid up → Quiet q (in_domain up) → new ≡ up → Balanced new → Propagates true q old new
+propagated_balanced q old mid up new before after quiet same balanced = (
+  subst (λ (d : State). Narrows q old d) (sym same) (narrows_more q old mid up before after),
+  subst (λ (d : State). Quiet q (in_domain d)) (sym same) quiet,
+  balanced,
+)
+
+pub returns-in_err-take_up-clause-problem : goal.returns-in_err-take_up-clause-problem
+returns-in_err-take_up-clause-problem g c = c.in_err-take_up.ensures.problem ∙ c.loop-d.invariant.problem
+
+pub returns-in_err-take_up-clause-fails : goal.returns-in_err-take_up-clause-fails
+returns-in_err-take_up-clause-fails g c = fails_as _ _ _ _ _ _ _ _ c.from_residual.ensures.1 c.loop-d.invariant.problem c.in_err-take_up.ensures.fails
+
+pub returns-in_err-take_up-clause-in_force : goal.returns-in_err-take_up-clause-in_force
+returns-in_err-take_up-clause-in_force g c = in_force_failed _ _ _ _ c.from_residual.ensures.1
+
+pub returns-in_err-take_up-clause-left : goal.returns-in_err-take_up-clause-left
+returns-in_err-take_up-clause-left g c = subst (λ (q : Problem). LeavesPast q c.take_up.new.d c.take_up.new.undecided) c.loop-d.invariant.problem c.in_err-take_up.ensures.left
+
+pub returns-in_err-take_up-clause-fewer : goal.returns-in_err-take_up-clause-fewer
+returns-in_err-take_up-clause-fewer g c = fewer_more _ _ _ c.loop-d.invariant.fewer c.in_err-take_up.ensures.fewer
+
+pub returns-in_err-have_left-clause-problem : goal.returns-in_err-have_left-clause-problem
+returns-in_err-have_left-clause-problem g c = c.in_ok-take_up.ensures.problem ∙ c.loop-d.invariant.problem
+
+pub returns-in_err-have_left-clause-in_force : goal.returns-in_err-have_left-clause-in_force
+returns-in_err-have_left-clause-in_force g c = in_force_failed _ _ _ _ c.from_residual-in_err-have_left.ensures.1
+
+pub returns-in_err-have_left-clause-fewer : goal.returns-in_err-have_left-clause-fewer
+returns-in_err-have_left-clause-fewer g c = fewer_more _ _ _ c.loop-d.invariant.fewer c.in_ok-take_up.ensures.fewer
+
+pub returns-then-not-have_left-clause-problem : goal.returns-then-not-have_left-clause-problem
+returns-then-not-have_left-clause-problem g c = c.in_ok-take_up.ensures.problem ∙ c.loop-d.invariant.problem
+
+pub returns-then-not-have_left-clause-fails : goal.returns-then-not-have_left-clause-fails
+returns-then-not-have_left-clause-fails g c = tt
+
+pub returns-then-not-have_left-clause-fewer : goal.returns-then-not-have_left-clause-fewer
+returns-then-not-have_left-clause-fewer g c = fewer_more _ _ _ c.loop-d.invariant.fewer c.in_ok-take_up.ensures.fewer
+
+pub returns-then-not-have_left-clause-propagated : goal.returns-then-not-have_left-clause-propagated
+returns-then-not-have_left-clause-propagated g c =
+    let pruned = rw c.if-not-have_left.true at c.in_ok-have_left.ensures.prunes.pruned in
+    let taken = subst (λ (q : Problem). TakenUp true q c.loop-d.d c.take_up.new.d) c.loop-d.invariant.problem c.in_ok-take_up.ensures.taken in
+    propagated_balanced _ c.args.d.now c.loop-d.d c.take_up.new.d _ c.loop-d.invariant.narrows taken.0 taken.1 pruned.0 pruned.1
+
+pub returns-then-not-have_left-clause-in_force : goal.returns-then-not-have_left-clause-in_force
+returns-then-not-have_left-clause-in_force g c =
+    let pruned = rw c.if-not-have_left.true at c.in_ok-have_left.ensures.prunes.pruned in
+    subst (λ (d : State). IfSome c.take_up.new.nogoods (λ s. InForce d s.watches)) (sym pruned.0) c.in_ok-take_up.ensures.in_force
+
+pub returns-then-not-have_left-clause-left : goal.returns-then-not-have_left-clause-left
+returns-then-not-have_left-clause-left g c =
+    let pruned = rw c.if-not-have_left.true at c.in_ok-have_left.ensures.prunes.pruned in
+    subst (λ (d : State). LeavesPast c.args.q.now d c.take_up.new.undecided) (sym pruned.0)
+    (subst (λ (q : Problem). LeavesPast q c.take_up.new.d c.take_up.new.undecided) c.loop-d.invariant.problem c.in_ok-take_up.ensures.left)

@@ -6,6 +6,8 @@ use Rattle.propagation.specs.Propagation.{IsOf, Shrinks}
 use Rattle.propagation.specs.Telling.{Tells}
 use Rattle.propagation.proofs.Acting.{acted_told, moved_none, moved_more, kept_each, wait_on, wait_raised}
 use Rattle.propagation.proofs.Forcing.{ready_on, ready_at_rest, propagated_after}
+use Rattle.propagation.proofs.Failing.{propagated_failed, fails_where_emptied, acted_failed}
+use Rattle.propagation.proofs.Past.{leaves_on, fewer_none}
 use Rattle.propagation.proofs.Telling.{tells_of}
 use Rattle.propagation.proofs.Guesses.{guesses_more}
 use Rattle.propagation.proofs.propagation.propagate_again.Goals as goal
@@ -70,3 +72,42 @@ returns-in_err-take_units-clause-told g c t =
 
 pub returns-clause-guesses : goal.returns-clause-guesses
 returns-clause-guesses g c = guesses_more _ _ _ c.in_ok-take_units.ensures.guesses c.propagate.ensures.guesses
+
+pub returns-clause-problem : goal.returns-clause-problem
+returns-clause-problem g c = c.propagate.ensures.problem
+
+pub returns-clause-fails : goal.returns-clause-fails
+returns-clause-fails g c = c.propagate.ensures.fails
+
+pub returns-clause-left : goal.returns-clause-left
+returns-clause-left g c = c.propagate.ensures.left
+
+pub returns-clause-fewer : goal.returns-clause-fewer
+returns-clause-fewer g c = c.propagate.ensures.fewer
+
+pub returns-in_err-take_units-clause-problem : goal.returns-in_err-take_units-clause-problem
+returns-in_err-take_units-clause-problem g c = problem_of _ _ _ c.begin_run.ensures c.requires.problem
+
+pub returns-in_err-take_units-clause-propagated : goal.returns-in_err-take_units-clause-propagated
+returns-in_err-take_units-clause-propagated g c = propagated_failed _ _ _ _ _ _ c.from_residual.ensures.1 (problem_of _ _ _ c.begin_run.ensures c.requires.problem) c.in_err-take_units.ensures.forces
+
+pub returns-in_err-take_units-clause-fails : goal.returns-in_err-take_units-clause-fails
+returns-in_err-take_units-clause-fails g c = fails_where_emptied _ _ _ _ _ _ _ _ c.from_residual.ensures.1 (problem_of _ _ _ c.begin_run.ensures c.requires.problem) c.in_err-take_units.ensures.none
+
+pub returns-in_err-take_units-clause-acted : goal.returns-in_err-take_units-clause-acted
+returns-in_err-take_units-clause-acted g c = acted_failed _ _ _ _ c.from_residual.ensures.1
+
+pub returns-in_err-take_units-clause-guesses : goal.returns-in_err-take_units-clause-guesses
+returns-in_err-take_units-clause-guesses g c = c.in_err-take_units.ensures.guesses
+
+pub returns-in_err-take_units-clause-left : goal.returns-in_err-take_units-clause-left
+returns-in_err-take_units-clause-left g c = leaves_on _ c.args.d.now c.take_units.new.d _ c.in_err-take_units.ensures.forces.0.less c.requires.left
+
+pub returns-in_err-take_units-clause-fewer : goal.returns-in_err-take_units-clause-fewer
+returns-in_err-take_units-clause-fewer g c = fewer_none c.args.undecided.now
+
+pub propagate-requires-clause-problem : goal.propagate-requires-clause-problem
+propagate-requires-clause-problem g c = problem_of _ _ _ c.begin_run.ensures c.requires.problem
+
+pub propagate-requires-clause-left : goal.propagate-requires-clause-left
+propagate-requires-clause-left g c = leaves_on _ c.args.d.now c.take_units.new.d _ c.in_ok-take_units.ensures.forces.narrows.less c.requires.left

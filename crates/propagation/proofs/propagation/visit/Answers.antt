@@ -1,10 +1,12 @@
-use Rattle.std.proofs.Common.{◌≡◌, ℕ, List, Option, sym, ◌<◌, true, false, slice_set, subst, arith}
+use Rattle.std.proofs.Common.{◌≡◌, ℕ, ◌<◌, true, false, List, Option, refl, sym, slice_set, subst, arith}
 use Rattle.graph_theory.specs.Graph.{size}
 use Rattle.graph_theory.specs.Embedding.{Problem}
 use Rattle.propagation.specs.Acting.{WatchesWait, WatchesWaitBut}
+use Rattle.propagation.specs.Learning.{AreKept}
 use Rattle.propagation.specs.Propagation.{Settles, Shrinks}
 use Rattle.propagation.proofs.Acting.{kept_then, moved_none, moved_more, wait_but_on, wait_but_lowered, wait_two}
-use Rattle.propagation.proofs.Past.{leaves_on, leaves_one, fewer_one, past_visited}
+use Rattle.propagation.proofs.Past.{leaves_on, leaves_one, fewer_none, fewer_one, past_visited}
+use Rattle.propagation.proofs.Failing.{visited_failed, fails_where_emptied, fails_as, waits_failed}
 use Rattle.propagation.proofs.Visits.{single_of, two_of, visited_two, visited_empty}
 use Rattle.propagation.proofs.Forcing.{visited_settled_forced}
 use Rattle.std.proofs.lemmas.Result.{err_from_is_err_and}
@@ -107,3 +109,99 @@ returns-in_err-force-in-Some-clause-guesses g c = guesses_more _ _ _ c.in_ok-set
 
 pub returns-in_ok-force-in-Some-clause-guesses : goal.returns-in_ok-force-in-Some-clause-guesses
 returns-in_ok-force-in-Some-clause-guesses g c = guesses_more _ _ _ c.in_ok-settle-in-Some.ensures.guesses c.in_ok-force-in-Some.ensures.guesses
+
+pub returns-then-size-eq0-clause-problem : goal.returns-then-size-eq0-clause-problem
+returns-then-size-eq0-clause-problem g c = refl
+
+pub returns-then-size-eq0-clause-kept : goal.returns-then-size-eq0-clause-kept
+returns-then-size-eq0-clause-kept g c = c.requires.kept
+
+pub returns-then-size-eq0-clause-wait : goal.returns-then-size-eq0-clause-wait
+returns-then-size-eq0-clause-wait g c = tt
+
+pub returns-then-size-eq0-clause-fails : goal.returns-then-size-eq0-clause-fails
+returns-then-size-eq0-clause-fails g c = (c.requires.p_in, c.size.ensures.empty.0 c.if-size-eq0.true)
+
+pub returns-then-size-eq0-clause-told : goal.returns-then-size-eq0-clause-told
+returns-then-size-eq0-clause-told g c t = t
+
+pub returns-then-size-eq0-clause-guesses : goal.returns-then-size-eq0-clause-guesses
+returns-then-size-eq0-clause-guesses g c p t from h = h
+
+pub returns-then-size-eq0-clause-left : goal.returns-then-size-eq0-clause-left
+returns-then-size-eq0-clause-left g c = c.requires.left
+
+pub returns-then-size-eq0-clause-fewer : goal.returns-then-size-eq0-clause-fewer
+returns-then-size-eq0-clause-fewer g c = fewer_none c.args.undecided.now
+
+pub returns-else-size-eq0-clause-problem : goal.returns-else-size-eq0-clause-problem
+returns-else-size-eq0-clause-problem g c = refl
+
+pub returns-else-size-eq0-clause-kept : goal.returns-else-size-eq0-clause-kept
+returns-else-size-eq0-clause-kept g c = c.requires.kept
+
+pub returns-else-size-eq0-clause-fails : goal.returns-else-size-eq0-clause-fails
+returns-else-size-eq0-clause-fails g c = tt
+
+pub returns-else-size-eq0-clause-told : goal.returns-else-size-eq0-clause-told
+returns-else-size-eq0-clause-told g c t = t
+
+pub returns-else-size-eq0-clause-guesses : goal.returns-else-size-eq0-clause-guesses
+returns-else-size-eq0-clause-guesses g c p t from h = h
+
+pub returns-else-size-eq0-clause-left : goal.returns-else-size-eq0-clause-left
+returns-else-size-eq0-clause-left g c = c.requires.left
+
+pub returns-else-size-eq0-clause-fewer : goal.returns-else-size-eq0-clause-fewer
+returns-else-size-eq0-clause-fewer g c = fewer_none c.args.undecided.now
+
+pub returns-in_err-settle-in-Some-clause-problem : goal.returns-in_err-settle-in-Some-clause-problem
+returns-in_err-settle-in-Some-clause-problem g c = c.make.ensures.problem
+
+pub returns-in_err-settle-in-Some-clause-kept : goal.returns-in_err-settle-in-Some-clause-kept
+returns-in_err-settle-in-Some-clause-kept g c = c.requires.kept
+
+pub returns-in_err-settle-in-Some-clause-wait : goal.returns-in_err-settle-in-Some-clause-wait
+returns-in_err-settle-in-Some-clause-wait g c = waits_failed _ _ _ _ _ c.from_residual.ensures.1
+
+pub returns-in_err-settle-in-Some-clause-visited : goal.returns-in_err-settle-in-Some-clause-visited
+returns-in_err-settle-in-Some-clause-visited g c = visited_failed _ _ _ _ _ _ _ _ c.from_residual.ensures.1 c.make.ensures.problem c.in_err-settle-in-Some.ensures.settles
+
+pub returns-in_err-settle-in-Some-clause-fails : goal.returns-in_err-settle-in-Some-clause-fails
+returns-in_err-settle-in-Some-clause-fails g c = fails_where_emptied _ _ _ _ _ _ _ _ c.from_residual.ensures.1 c.make.ensures.problem c.in_err-settle-in-Some.ensures.none
+
+pub returns-in_err-settle-in-Some-clause-guesses : goal.returns-in_err-settle-in-Some-clause-guesses
+returns-in_err-settle-in-Some-clause-guesses g c = c.in_err-settle-in-Some.ensures.guesses
+
+pub returns-in_err-settle-in-Some-clause-left : goal.returns-in_err-settle-in-Some-clause-left
+returns-in_err-settle-in-Some-clause-left g c = leaves_on _ c.args.d.now c.settle.new.d _ c.in_err-settle-in-Some.ensures.settles.0.less c.requires.left
+
+pub returns-in_err-settle-in-Some-clause-fewer : goal.returns-in_err-settle-in-Some-clause-fewer
+returns-in_err-settle-in-Some-clause-fewer g c = fewer_none c.args.undecided.now
+
+pub returns-in_err-force-in-Some-clause-problem : goal.returns-in_err-force-in-Some-clause-problem
+returns-in_err-force-in-Some-clause-problem g c = c.make.ensures.problem
+
+pub returns-in_err-force-in-Some-clause-kept : goal.returns-in_err-force-in-Some-clause-kept
+returns-in_err-force-in-Some-clause-kept g c = subst (λ (q : Problem). AreKept q c.force.new.nogoods) c.make.ensures.problem c.in_err-force-in-Some.ensures.kept
+
+pub returns-in_err-force-in-Some-clause-wait : goal.returns-in_err-force-in-Some-clause-wait
+returns-in_err-force-in-Some-clause-wait g c = waits_failed _ _ _ _ _ c.from_residual-in_err-force-in-Some.ensures.1
+
+pub returns-in_err-force-in-Some-clause-fails : goal.returns-in_err-force-in-Some-clause-fails
+returns-in_err-force-in-Some-clause-fails g c = fails_as _ _ _ _ _ _ _ _ c.from_residual-in_err-force-in-Some.ensures.1 c.make.ensures.problem c.in_err-force-in-Some.ensures.fails
+
+pub returns-in_err-force-in-Some-clause-fewer : goal.returns-in_err-force-in-Some-clause-fewer
+returns-in_err-force-in-Some-clause-fewer g c = fewer_none c.args.undecided.now
+
+pub returns-in_ok-force-in-Some-clause-problem : goal.returns-in_ok-force-in-Some-clause-problem
+returns-in_ok-force-in-Some-clause-problem g c = c.make.ensures.problem
+
+pub returns-in_ok-force-in-Some-clause-kept : goal.returns-in_ok-force-in-Some-clause-kept
+returns-in_ok-force-in-Some-clause-kept g c = subst (λ (q : Problem). AreKept q c.force.new.nogoods) c.make.ensures.problem c.in_ok-force-in-Some.ensures.kept
+
+pub returns-in_ok-force-in-Some-clause-wait : goal.returns-in_ok-force-in-Some-clause-wait
+returns-in_ok-force-in-Some-clause-wait g c = c.in_ok-force-in-Some.ensures.wait
+
+pub returns-in_ok-force-in-Some-clause-fails : goal.returns-in_ok-force-in-Some-clause-fails
+returns-in_ok-force-in-Some-clause-fails g c = tt

@@ -1,4 +1,4 @@
-use Rattle.std.proofs.Common.{◌≡◌, List, ℕ, Some, refl, sym, ◌∙◌, ap, subst, inl, inr, ◌⊎◌, Option, None}
+use Rattle.std.proofs.Common.{◌≡◌, List, ℕ, Some, refl, ◌∙◌, ap, inl, inr, Option}
 use Rattle.bit_rows.specs.BitRows.{has}
 use Rattle.domain_bits.specs.Removals.{State}
 use Rattle.all_different.specs.Pruning.{in_one_of}
