@@ -1,4 +1,5 @@
-use Rattle.std.proofs.Common.{◌≤◌, List, length, sym, ap, subst, ◌∙◌, arith}
+use Rattle.std.proofs.Common.{◌≡◌, ◌≤◌, List, length, refl, sym, ap, subst, ◌∙◌, arith}
+use Rattle.nogood_book.specs.Facts.{Facts}
 use Rattle.graph_theory.specs.Embedding.{Problem}
 use Rattle.nogood_book.specs.declared.row.Row.{Row}
 use Rattle.nogood_book.specs.Rows.{Sound}
@@ -11,6 +12,9 @@ use Rattle.propagation.proofs.Narrowing.{is_of_narrowed}
 use Rattle.restart_search.proofs.Logging.{told_on, told_named, ends_path}
 use Rattle.restart_search.proofs.Noting.{beside_caught}
 use Rattle.restart_search.proofs.restarting.take_up_book.Goals as goal
+
+few_seen : (f : Facts) (rows : List Row) → rows ≡ f.seen → length rows ≤ f.size → length f.seen ≤ f.size
+few_seen f rows is few = subst (λ (xs : List Row). length xs ≤ f.size) is few
 
 pub take_rows-requires-clause-sound : goal.take_rows-requires-clause-sound
 take_rows-requires-clause-sound g c =
@@ -103,3 +107,81 @@ returns-in_ok-close-in-Err-clause-steps g c =
 pub returns-in_err-close-in-Err-clause-steps : goal.returns-in_err-close-in-Err-clause-steps
 returns-in_err-close-in-Err-clause-steps g c =
     subst (λ (rows : List Row). g.L.ProofLogger.steps c.close.new.self c.args.author.now.problem.now rows) c.rows-rows.ensures.seen c.in_err-close-in-Err.ensures.steps
+
+pub returns-in_err-take_rows-clause-few : goal.returns-in_err-take_rows-clause-few
+returns-in_err-take_rows-clause-few g c = few_seen (g.B.Seat.RowSeat.shows c.catch_up.new.seat) c.rows-rows.result.now c.rows-rows.ensures.seen c.rows-rows.ensures.few
+
+pub returns-in-Ok-clause-few : goal.returns-in-Ok-clause-few
+returns-in-Ok-clause-few g c = few_seen (g.B.Seat.RowSeat.shows c.catch_up.new.seat) c.rows-rows.result.now c.rows-rows.ensures.seen c.rows-rows.ensures.few
+
+pub returns-in_ok-close-in-Err-clause-few : goal.returns-in_ok-close-in-Err-clause-few
+returns-in_ok-close-in-Err-clause-few g c = few_seen (g.B.Seat.RowSeat.shows c.catch_up.new.seat) c.rows-rows.result.now c.rows-rows.ensures.seen c.rows-rows.ensures.few
+
+pub returns-in_err-close-in-Err-clause-few : goal.returns-in_err-close-in-Err-clause-few
+returns-in_err-close-in-Err-clause-few g c = few_seen (g.B.Seat.RowSeat.shows c.catch_up.new.seat) c.rows-rows.result.now c.rows-rows.ensures.seen c.rows-rows.ensures.few
+
+pub returns-in_err-take_rows-clause-problem : goal.returns-in_err-take_rows-clause-problem
+returns-in_err-take_rows-clause-problem g c = c.take_rows.ensures.problem
+
+pub returns-in-Ok-clause-problem : goal.returns-in-Ok-clause-problem
+returns-in-Ok-clause-problem g c = c.propagate_again.ensures.problem
+
+pub returns-in_ok-close-in-Err-clause-problem : goal.returns-in_ok-close-in-Err-clause-problem
+returns-in_ok-close-in-Err-clause-problem g c = c.propagate_again.ensures.problem
+
+pub returns-in_err-close-in-Err-clause-problem : goal.returns-in_err-close-in-Err-clause-problem
+returns-in_err-close-in-Err-clause-problem g c = c.propagate_again.ensures.problem
+
+pub returns-in_err-take_rows-clause-owner : goal.returns-in_err-take_rows-clause-owner
+returns-in_err-take_rows-clause-owner g c = refl
+
+pub returns-in-Ok-clause-owner : goal.returns-in-Ok-clause-owner
+returns-in-Ok-clause-owner g c = refl
+
+pub returns-in_ok-close-in-Err-clause-owner : goal.returns-in_ok-close-in-Err-clause-owner
+returns-in_ok-close-in-Err-clause-owner g c = c.close.ensures.owner
+
+pub returns-in_err-close-in-Err-clause-owner : goal.returns-in_err-close-in-Err-clause-owner
+returns-in_err-close-in-Err-clause-owner g c = c.close.ensures.owner
+
+pub returns-in_err-take_rows-clause-caught : goal.returns-in_err-take_rows-clause-caught
+returns-in_err-take_rows-clause-caught g c = c.catch_up.ensures.caught
+
+pub returns-in-Ok-clause-caught : goal.returns-in-Ok-clause-caught
+returns-in-Ok-clause-caught g c = c.catch_up.ensures.caught
+
+pub returns-in_ok-close-in-Err-clause-caught : goal.returns-in_ok-close-in-Err-clause-caught
+returns-in_ok-close-in-Err-clause-caught g c = c.catch_up.ensures.caught
+
+pub returns-in_err-close-in-Err-clause-caught : goal.returns-in_err-close-in-Err-clause-caught
+returns-in_err-close-in-Err-clause-caught g c = c.catch_up.ensures.caught
+
+pub returns-in_err-take_rows-clause-fits : goal.returns-in_err-take_rows-clause-fits
+returns-in_err-take_rows-clause-fits g c = c.catch_up.ensures.fits
+
+pub returns-in-Ok-clause-fits : goal.returns-in-Ok-clause-fits
+returns-in-Ok-clause-fits g c = c.catch_up.ensures.fits
+
+pub returns-in_ok-close-in-Err-clause-fits : goal.returns-in_ok-close-in-Err-clause-fits
+returns-in_ok-close-in-Err-clause-fits g c = c.catch_up.ensures.fits
+
+pub returns-in_err-close-in-Err-clause-fits : goal.returns-in_err-close-in-Err-clause-fits
+returns-in_err-close-in-Err-clause-fits g c = c.catch_up.ensures.fits
+
+pub take_rows-requires-clause-few : goal.take_rows-requires-clause-few
+take_rows-requires-clause-few g c = omega (arith, c.rows-rows.ensures.few, c.rows-rows.ensures.size)
+
+pub close-requires-clause-few : goal.close-requires-clause-few
+close-requires-clause-few g c = omega (arith, c.rows-rows.ensures.few, c.rows-rows.ensures.size)
+
+pub close-requires-clause-honest : goal.close-requires-clause-honest
+close-requires-clause-honest g c = c.requires.at_root.honest
+
+pub propagate_again-requires-clause-is_of : goal.propagate_again-requires-clause-is_of
+propagate_again-requires-clause-is_of g c = c.requires.at_root.is_of
+
+pub propagate_again-requires-clause-left : goal.propagate_again-requires-clause-left
+propagate_again-requires-clause-left g c = c.requires.at_root.left
+
+pub propagate_again-requires-clause-quiet : goal.propagate_again-requires-clause-quiet
+propagate_again-requires-clause-quiet g c = c.requires.at_root.rest.quiet
