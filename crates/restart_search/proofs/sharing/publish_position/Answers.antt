@@ -9,7 +9,7 @@ use Rattle.nogood_book.specs.Rows.{Pairs}
 use Rattle.nogood_book.proofs.Reaching.{reaches_more}
 use Rattle.restart_search.specs.Sharing.{IsRowOf, learned_by, refuted_at, refuted_in}
 use Rattle.restart_search.proofs.Positions.{level_is, refuted_dead}
-use Rattle.restart_search.proofs.Publishing.{went_more, row_on, row_later, published_on, published_more, published_ended, published_all, level_few}
+use Rattle.restart_search.proofs.Publishing.{went_more, row_on, row_later, published_on, published_more, published_ended, published_all, level_few, seat_went}
 use Rattle.restart_search.proofs.Learning.{below_more, below_all, none_after, no_vertex, first_all, position_first_ones}
 use Rattle.proof_logger.specs.Logging.{GrowsBeside}
 use Rattle.restart_search.proofs.sharing.publish_position.Goals as goal
@@ -161,3 +161,105 @@ returns-then-not-publish_guess-clause-part g c =
     let above : take c.from-at.result c.path-path.result.now ≡ take c.loop-i.i (path c.args.account.now) = rw (c.from-at.ensures, c.path-path.ensures.is) refl in
     position_first_ones c.args.account.now c.args.author.now.owner (g.B.Seat.RowSeat.shows c.args.seat.now).seen (g.B.Seat.RowSeat.shows c.loop-i.seat).seen (g.B.Seat.RowSeat.shows c.publish_guess.new.seat).seen (take c.from-at.result c.path-path.result.now) c.loop-i.i c.in-Some.p (members (has c.level-vertex.result.1.now) c.args.account.now.target)
     c.loop-i.invariant.learned (first_all c.args.author.now.owner (g.B.Seat.RowSeat.shows c.loop-i.seat).seen (g.B.Seat.RowSeat.shows c.publish_guess.new.seat).seen (refuted_at (take c.from-at.result c.path-path.result.now) (Some c.in-Some.p) (members (has c.level-vertex.result.1.now) c.args.account.now.target)) (c.publish_guess.ensures.learned ∙ c.in_ok-whole.ensures.learned c.if-not-whole.false)) above (sym c.level-vertex.ensures.vertex ∙ c.in-Some.is) c.level-vertex.ensures.refuted
+
+pub returns-in_default-clause-owner : goal.returns-in_default-clause-owner
+returns-in_default-clause-owner g c = c.loop-i.invariant.owner
+
+pub returns-in_default-clause-writes : goal.returns-in_default-clause-writes
+returns-in_default-clause-writes g c = c.loop-i.invariant.writes
+
+pub returns-in_default-clause-fits : goal.returns-in_default-clause-fits
+returns-in_default-clause-fits g c = c.loop-i.invariant.fits
+
+pub returns-in_default-clause-went : goal.returns-in_default-clause-went
+returns-in_default-clause-went g c = c.loop-i.invariant.went
+
+pub returns-in_default-clause-full : goal.returns-in_default-clause-full
+returns-in_default-clause-full g c = λ no. cc
+
+pub returns-clause-owner : goal.returns-clause-owner
+returns-clause-owner g c = c.loop-i.invariant.owner
+
+pub returns-clause-writes : goal.returns-clause-writes
+returns-clause-writes g c = c.loop-i.invariant.writes
+
+pub returns-clause-fits : goal.returns-clause-fits
+returns-clause-fits g c = c.loop-i.invariant.fits
+
+pub returns-clause-went : goal.returns-clause-went
+returns-clause-went g c = c.loop-i.invariant.went
+
+pub returns-clause-full : goal.returns-clause-full
+returns-clause-full g c = λ no. cc
+
+pub returns-in_err-whole-clause-owner : goal.returns-in_err-whole-clause-owner
+returns-in_err-whole-clause-owner g c = c.publish_level.ensures.owner ∙ c.loop-i.invariant.owner
+
+pub returns-in_err-whole-clause-writes : goal.returns-in_err-whole-clause-writes
+returns-in_err-whole-clause-writes g c = c.publish_level.ensures.writes
+
+pub returns-in_err-whole-clause-fits : goal.returns-in_err-whole-clause-fits
+returns-in_err-whole-clause-fits g c = c.publish_level.ensures.fits
+
+pub returns-in_err-whole-clause-went : goal.returns-in_err-whole-clause-went
+returns-in_err-whole-clause-went g c = went_more (g.B.Seat.RowSeat.shows c.args.seat.now) (g.B.Seat.RowSeat.shows c.loop-i.seat) (g.B.Seat.RowSeat.shows c.publish_level.new.seat) c.loop-i.invariant.went c.publish_level.ensures.went
+
+pub returns-then-not-whole-clause-owner : goal.returns-then-not-whole-clause-owner
+returns-then-not-whole-clause-owner g c = c.publish_level.ensures.owner ∙ c.loop-i.invariant.owner
+
+pub returns-then-not-whole-clause-writes : goal.returns-then-not-whole-clause-writes
+returns-then-not-whole-clause-writes g c = c.publish_level.ensures.writes
+
+pub returns-then-not-whole-clause-fits : goal.returns-then-not-whole-clause-fits
+returns-then-not-whole-clause-fits g c = c.publish_level.ensures.fits
+
+pub returns-then-not-whole-clause-went : goal.returns-then-not-whole-clause-went
+returns-then-not-whole-clause-went g c = went_more (g.B.Seat.RowSeat.shows c.args.seat.now) (g.B.Seat.RowSeat.shows c.loop-i.seat) (g.B.Seat.RowSeat.shows c.publish_level.new.seat) c.loop-i.invariant.went c.publish_level.ensures.went
+
+pub returns-then-not-publish_guess-clause-owner : goal.returns-then-not-publish_guess-clause-owner
+returns-then-not-publish_guess-clause-owner g c = c.publish_level.ensures.owner ∙ c.loop-i.invariant.owner
+
+pub returns-then-not-publish_guess-clause-fits : goal.returns-then-not-publish_guess-clause-fits
+returns-then-not-publish_guess-clause-fits g c = c.publish_guess.ensures.fits
+
+pub returns-then-not-publish_guess-clause-went : goal.returns-then-not-publish_guess-clause-went
+returns-then-not-publish_guess-clause-went g c = went_more (g.B.Seat.RowSeat.shows c.args.seat.now) (g.B.Seat.RowSeat.shows c.publish_level.new.seat) (g.B.Seat.RowSeat.shows c.publish_guess.new.seat) (went_more (g.B.Seat.RowSeat.shows c.args.seat.now) (g.B.Seat.RowSeat.shows c.loop-i.seat) (g.B.Seat.RowSeat.shows c.publish_level.new.seat) c.loop-i.invariant.went c.publish_level.ensures.went) c.publish_guess.ensures.went
+
+pub returns-then-not-whole-clause-full : goal.returns-then-not-whole-clause-full
+returns-then-not-whole-clause-full g c = λ no. c.in_ok-whole.ensures.full c.if-not-whole.true
+
+pub returns-then-not-publish_guess-clause-full : goal.returns-then-not-publish_guess-clause-full
+returns-then-not-publish_guess-clause-full g c = λ no. c.if-not-publish_guess.ensures.full refl
+
+pub returns-then-not-whole-clause-all : goal.returns-then-not-whole-clause-all
+returns-then-not-whole-clause-all g c = λ yes. cc
+
+pub returns-then-not-whole-clause-learned : goal.returns-then-not-whole-clause-learned
+returns-then-not-whole-clause-learned g c = λ yes. cc
+
+pub returns-then-not-publish_guess-clause-all : goal.returns-then-not-publish_guess-clause-all
+returns-then-not-publish_guess-clause-all g c = λ yes. cc
+
+pub returns-then-not-publish_guess-clause-learned : goal.returns-then-not-publish_guess-clause-learned
+returns-then-not-publish_guess-clause-learned g c = λ yes. cc
+
+pub publish_level-requires-clause-fits : goal.publish_level-requires-clause-fits
+publish_level-requires-clause-fits g c = c.loop-i.invariant.fits
+
+pub publish_level-requires-clause-seat : goal.publish_level-requires-clause-seat
+publish_level-requires-clause-seat g c = seat_went c.args.author.now.problem.now c.args.author.now.owner (g.B.Seat.RowSeat.shows c.args.seat.now) (g.B.Seat.RowSeat.shows c.loop-i.seat) c.loop-i.invariant.went c.requires.seat
+
+pub publish_level-requires-clause-row : goal.publish_level-requires-clause-row
+publish_level-requires-clause-row g c = c.level-vertex.ensures.refuted
+
+pub publish_level-requires-clause-target : goal.publish_level-requires-clause-target
+publish_level-requires-clause-target g c = c.requires.honest.target_is
+
+pub publish_level-requires-clause-writes : goal.publish_level-requires-clause-writes
+publish_level-requires-clause-writes g c = c.loop-i.invariant.writes
+
+pub publish_guess-requires-clause-fits : goal.publish_guess-requires-clause-fits
+publish_guess-requires-clause-fits g c = c.publish_level.ensures.fits
+
+pub publish_guess-requires-clause-seat : goal.publish_guess-requires-clause-seat
+publish_guess-requires-clause-seat g c = seat_went c.args.author.now.problem.now c.args.author.now.owner (g.B.Seat.RowSeat.shows c.args.seat.now) (g.B.Seat.RowSeat.shows c.publish_level.new.seat) (went_more (g.B.Seat.RowSeat.shows c.args.seat.now) (g.B.Seat.RowSeat.shows c.loop-i.seat) (g.B.Seat.RowSeat.shows c.publish_level.new.seat) c.loop-i.invariant.went c.publish_level.ensures.went) c.requires.seat
