@@ -1,4 +1,5 @@
-use Rattle.std.proofs.Common.{ℕ, ◌<◌, Bool, true, List, IfSome, slice_set, ap, subst, sym, ◌∙◌, arith}
+use Rattle.std.proofs.Common.{◌≡◌, ℕ, ◌<◌, ◌++◌, take, Bool, true, List, IfSome, slice_set, length, ◌∷◌, [], length-append, refl, ap, subst, sym, ◌∙◌, arith}
+use Rattle.std.proofs.Math.Seq.{take-append_seam}
 use Rattle.graph_theory.specs.Path.{Dead}
 use Rattle.search_theory.specs.Account.{Account, Honest, path}
 use Rattle.restart_search.specs.declared.position.Moment.{Moment}
@@ -16,7 +17,12 @@ use Rattle.propagation.proofs.Visits.{single_of}
 use Rattle.propagation.proofs.Narrowing.{is_of_narrowed}
 use Rattle.propagation.specs.Propagation.{IsOf, Ready}
 use Rattle.propagation.specs.Acting.{WatchesWait}
+use Rattle.propagation.specs.Learning.{Filtering}
 use Rattle.restart_search.proofs.search.guess.Goals as goal
+
+-- flags that were written in place of a vector's are as many as they were
+kept_long : (n m : ℕ) (xs ys : List Bool) → length xs ≡ n → n ≡ m → length (take n (xs ++ ys)) ≡ m
+kept_long n m xs ys long is = ap length (subst (λ (k : ℕ). take k (xs ++ ys) ≡ xs) long (take-append_seam xs ys)) ∙ (long ∙ is)
 
 pub push_reserved-requires : goal.push_reserved-requires
 push_reserved-requires g c =
@@ -165,3 +171,117 @@ returns-in_ok-close-in-Err-clause-went g c =
     within_on c.args.q.now _ _ _
     (within_guess c.args.q.now _ _ c.args.pair.0 c.args.pair.1 c.requires.unspent c.requires.before_cutoff c.requires.may c.deepen.ensures.deepened)
     (within_fail c.args.q.now _ _ dead c.take_back.ensures.failed)
+
+pub returns-in-Ok-clause-problem : goal.returns-in-Ok-clause-problem
+returns-in-Ok-clause-problem g c = ap (λ (f : Filtering). f.problem) c.count.ensures ∙ c.propagate.ensures.problem
+
+pub returns-in_ok-close-in-Err-clause-problem : goal.returns-in_ok-close-in-Err-clause-problem
+returns-in_ok-close-in-Err-clause-problem g c = ap (λ (f : Filtering). f.problem) c.count-in-Err.ensures ∙ c.propagate.ensures.problem
+
+pub returns-in_err-close-in-Err-clause-problem : goal.returns-in_err-close-in-Err-clause-problem
+returns-in_err-close-in-Err-clause-problem g c = ap (λ (f : Filtering). f.problem) c.count-in-Err.ensures ∙ c.propagate.ensures.problem
+
+pub returns-in-Ok-clause-owner : goal.returns-in-Ok-clause-owner
+returns-in-Ok-clause-owner g c = refl
+
+pub returns-in_ok-close-in-Err-clause-owner : goal.returns-in_ok-close-in-Err-clause-owner
+returns-in_ok-close-in-Err-clause-owner g c = c.close.ensures.owner
+
+pub returns-in_err-close-in-Err-clause-owner : goal.returns-in_err-close-in-Err-clause-owner
+returns-in_err-close-in-Err-clause-owner g c = c.close.ensures.owner
+
+pub returns-in_ok-close-in-Err-clause-steps : goal.returns-in_ok-close-in-Err-clause-steps
+returns-in_ok-close-in-Err-clause-steps g c = c.close.ensures.steps
+
+pub returns-in_err-close-in-Err-clause-steps : goal.returns-in_err-close-in-Err-clause-steps
+returns-in_err-close-in-Err-clause-steps g c = c.close.ensures.steps
+
+pub returns-in-Ok-clause-nearer : goal.returns-in-Ok-clause-nearer
+returns-in-Ok-clause-nearer g c = c.deepen.ensures.nearer
+
+pub returns-in_ok-close-in-Err-clause-nearer : goal.returns-in_ok-close-in-Err-clause-nearer
+returns-in_ok-close-in-Err-clause-nearer g c = omega (arith, c.take_back.ensures.nearer, c.deepen.ensures.nearer)
+
+pub returns-in-Ok-clause-budget : goal.returns-in-Ok-clause-budget
+returns-in-Ok-clause-budget g c = ap (λ (a : Account). a.budget) c.deepen.ensures.deepened
+
+pub returns-in_err-close-in-Err-clause-budget : goal.returns-in_err-close-in-Err-clause-budget
+returns-in_err-close-in-Err-clause-budget g c = ap (λ (a : Account). a.budget) c.deepen.ensures.deepened
+
+pub returns-in_ok-close-in-Err-clause-budget : goal.returns-in_ok-close-in-Err-clause-budget
+returns-in_ok-close-in-Err-clause-budget g c = c.take_back.ensures.budget ∙ ap (λ (a : Account). a.budget) c.deepen.ensures.deepened
+
+pub returns-in-Ok-clause-root : goal.returns-in-Ok-clause-root
+returns-in-Ok-clause-root g c = refl
+
+pub returns-in_err-close-in-Err-clause-root : goal.returns-in_err-close-in-Err-clause-root
+returns-in_err-close-in-Err-clause-root g c = refl
+
+pub returns-in_ok-close-in-Err-clause-root : goal.returns-in_ok-close-in-Err-clause-root
+returns-in_ok-close-in-Err-clause-root g c = c.take_back.ensures.root
+
+pub returns-in-Ok-clause-room : goal.returns-in-Ok-clause-room
+returns-in-Ok-clause-room g c = omega (arith, c.push_reserved.ensures.capacity)
+
+pub returns-in_err-close-in-Err-clause-room : goal.returns-in_err-close-in-Err-clause-room
+returns-in_err-close-in-Err-clause-room g c = omega (arith, c.push_reserved.ensures.capacity)
+
+pub returns-in_ok-close-in-Err-clause-room : goal.returns-in_ok-close-in-Err-clause-room
+returns-in_ok-close-in-Err-clause-room g c = omega (arith, c.push_reserved.ensures.capacity, c.take_back.ensures.room)
+
+pub returns-in_ok-close-in-Err-clause-sound : goal.returns-in_ok-close-in-Err-clause-sound
+returns-in_ok-close-in-Err-clause-sound g c = c.take_back.ensures.sound
+
+pub propagate-requires-clause-problem : goal.propagate-requires-clause-problem
+propagate-requires-clause-problem g c = ap (λ (f : Filtering). f.problem) c.enter.ensures ∙ c.requires.problem
+
+pub propagate-requires-clause-is_of : goal.propagate-requires-clause-is_of
+propagate-requires-clause-is_of g c = record {
+  vertices_is = c.give.ensures.keeps.shrinks.vertices_same ∙ c.requires.sound.based.is_of.vertices_is;
+  values_is = c.give.ensures.keeps.shrinks.values_same ∙ c.requires.sound.based.is_of.values_is;
+}
+
+pub close-requires-clause-honest : goal.close-requires-clause-honest
+close-requires-clause-honest g c = c.deepen.ensures.honest
+
+pub close-requires-clause-sound : goal.close-requires-clause-sound
+close-requires-clause-sound g c = c.requires.rows
+
+pub close-requires-clause-few : goal.close-requires-clause-few
+close-requires-clause-few g c = c.requires.few
+
+pub deepen-requires-clause-honest : goal.deepen-requires-clause-honest
+deepen-requires-clause-honest g c = c.requires.sound.based.honest
+
+pub deepen-requires-clause-unspent : goal.deepen-requires-clause-unspent
+deepen-requires-clause-unspent g c = c.requires.unspent
+
+pub deepen-requires-clause-before_cutoff : goal.deepen-requires-clause-before_cutoff
+deepen-requires-clause-before_cutoff g c = c.requires.before_cutoff
+
+pub deepen-requires-clause-may_guess : goal.deepen-requires-clause-may_guess
+deepen-requires-clause-may_guess g c = c.requires.may
+
+pub give-requires-clause-t_in : goal.give-requires-clause-t_in
+give-requires-clause-t_in g c = c.requires.here
+
+pub give-requires-clause-p_in : goal.give-requires-clause-p_in
+give-requires-clause-p_in g c = omega (arith, c.requires.may.vertex_in, c.requires.sound.based.honest.pattern_is, c.requires.sound.based.is_of.vertices_is)
+
+pub take_back-requires-clause-some : goal.take_back-requires-clause-some
+take_back-requires-clause-some g c = 
+    omega (
+      arith,
+      ap (λ (a : Account). length (path a)) c.deepen.ensures.deepened,
+      ap length (path_deepened c.args.position.now.account c.args.pair.0 c.args.pair.1),
+      length-append (path c.args.position.now.account) ((c.args.pair.0, c.args.pair.1) ∷ []),
+    )
+
+pub returns-in-Ok-clause-long : goal.returns-in-Ok-clause-long
+returns-in-Ok-clause-long g c = kept_long c.args.propagator.now.waiting.len _ _ _ (c.propagate.auto.waiting ∙ c.deref_mut.ensures.len) (c.args.propagator.now.waiting.ok.0 ∙ c.requires.long)
+
+pub returns-in_ok-close-in-Err-clause-long : goal.returns-in_ok-close-in-Err-clause-long
+returns-in_ok-close-in-Err-clause-long g c = kept_long c.args.propagator.now.waiting.len _ _ _ (c.lower.ensures ∙ c.deref_mut-in-Err.ensures.len) (c.args.propagator.now.waiting.ok.0 ∙ c.requires.long)
+
+pub returns-in_err-close-in-Err-clause-long : goal.returns-in_err-close-in-Err-clause-long
+returns-in_err-close-in-Err-clause-long g c = kept_long c.args.propagator.now.waiting.len _ _ _ (c.lower.ensures ∙ c.deref_mut-in-Err.ensures.len) (c.args.propagator.now.waiting.ok.0 ∙ c.requires.long)
