@@ -269,7 +269,7 @@ pub give-requires-clause-p_in : goal.give-requires-clause-p_in
 give-requires-clause-p_in g c = omega (arith, c.requires.may.vertex_in, c.requires.sound.based.honest.pattern_is, c.requires.sound.based.is_of.vertices_is)
 
 pub take_back-requires-clause-some : goal.take_back-requires-clause-some
-take_back-requires-clause-some g c = 
+take_back-requires-clause-some g c =
     omega (
       arith,
       ap (λ (a : Account). length (path a)) c.deepen.ensures.deepened,
