@@ -1,4 +1,5 @@
-use Rattle.std.proofs.Common.{refl, sym, subst}
+use Rattle.std.proofs.Common.{◌≡◌, ◌++◌, ℕ, List, length, take, Result, Ok, Err, OnOk, refl, sym, ap, ◌∙◌, subst}
+use Rattle.std.proofs.Math.Seq.{take-append_seam}
 use Rattle.graph_theory.specs.Graph.{size}
 use Rattle.propagation.specs.declared.change.Cause.TheVariants as cause
 use Rattle.propagation.specs.declared.change.What.{What}
@@ -6,6 +7,14 @@ use Rattle.propagation.specs.Recording.{change_by, change_of}
 use Rattle.dead_paths.specs.Choosing.{values_of, IsStep}
 use Rattle.dead_paths.proofs.Resting.{step_first, step_one, made_one_ok, told_made}
 use Rattle.dead_paths.proofs.takes.go_back.Goals as goal
+
+-- words that were written in place of a vector's are as many as they were
+kept_long : (n k : ℕ) (xs ys : List ℕ) → length xs ≡ n → n ≡ k → length (take n (xs ++ ys)) ≡ k
+kept_long n k xs ys long is = ap length (subst (λ (j : ℕ). take j (xs ++ ys) ≡ xs) long (take-append_seam xs ys)) ∙ (long ∙ is)
+
+on_ok : {A E : Type 0} (r : Result A E) (P : Type 0) → P → OnOk r P
+on_ok (Ok a) P p = p
+on_ok (Err e) P p = tt
 
 pub returns-in-First-clause-step : goal.returns-in-First-clause-step
 returns-in-First-clause-step c = λ path here.
@@ -47,3 +56,49 @@ returns-in-Others-clause-step c = λ path here.
     told_made c.args.walk.now.q.now c.args.walk.now.rows.now path (change_of c.args.walk.now.numbers.now c.args.entry.now) (values_of (size c.args.walk.now.q.now.target) c.args.marked.now c.args.needed.now) (values_of (size c.args.walk.now.q.now.target) c.by_set.new.marked c.by_set.new.needed) c.by_set.result c.told_if-in-Others.result c.told_if-in-Others.ensures.yes c.told_if-in-Others.ensures.no
     (subst (λ (x : What). IsStep c.by_set.result c.args.walk.now.q.now c.args.walk.now.rows.now path (change_by c.args.walk.now.numbers.now x c.args.entry.now.from) (values_of (size c.args.walk.now.q.now.target) c.args.marked.now c.args.needed.now) (values_of (size c.args.walk.now.q.now.target) c.by_set.new.marked c.by_set.new.needed))
     (sym c.in-Others.is) (rw (c.part.ensures, c.part-in-Others.ensures) at c.by_set.ensures c.args.walk.now.rows.now path c.args.entry.now.from))
+
+pub returns-in-First-clause-fit : goal.returns-in-First-clause-fit
+returns-in-First-clause-fit c = c.requires.fit
+
+pub returns-in-Guess-clause-fit : goal.returns-in-Guess-clause-fit
+returns-in-Guess-clause-fit c = c.requires.fit
+
+pub returns-in-Vertex-clause-fit : goal.returns-in-Vertex-clause-fit
+returns-in-Vertex-clause-fit c = on_ok c.by_vertex.result _ (record {
+  spare = kept_long c.args.room.now.spare.len _ _ _ (c.by_vertex.auto.spare ∙ c.deref_mut.ensures.len) (c.args.room.now.spare.ok.0 ∙ c.requires.fit.spare);
+  other = kept_long c.args.room.now.other.len _ _ _ (c.by_vertex.auto.other ∙ c.deref_mut-in-Vertex.ensures.len) (c.args.room.now.other.ok.0 ∙ c.requires.fit.other);
+  set = c.requires.fit.set;
+  counts = kept_long c.args.room.now.counts.len _ _ _ (c.by_vertex.auto.counts ∙ c.deref_mut-in-Vertex-2.ensures.len) (c.args.room.now.counts.ok.0 ∙ c.requires.fit.counts);
+})
+
+pub returns-in_ok-chosen-in-Nogood-clause-fit : goal.returns-in_ok-chosen-in-Nogood-clause-fit
+returns-in_ok-chosen-in-Nogood-clause-fit c = record {
+  spare = kept_long c.args.room.now.spare.len _ _ _ (c.by_nogood.auto.spare ∙ c.deref_mut-in-Nogood.ensures.len) (c.args.room.now.spare.ok.0 ∙ c.requires.fit.spare);
+  other = c.requires.fit.other;
+  set = c.requires.fit.set;
+  counts = c.requires.fit.counts;
+}
+
+pub returns-in-Edge-clause-fit : goal.returns-in-Edge-clause-fit
+returns-in-Edge-clause-fit c = record {
+  spare = kept_long c.args.room.now.spare.len _ _ _ (c.by_edge.auto.spare ∙ c.deref_mut-in-Edge.ensures.len) (c.args.room.now.spare.ok.0 ∙ c.requires.fit.spare);
+  other = kept_long c.args.room.now.other.len _ _ _ (c.by_edge.auto.other ∙ c.deref_mut-in-Edge-2.ensures.len) (c.args.room.now.other.ok.0 ∙ c.requires.fit.other);
+  set = c.requires.fit.set;
+  counts = c.requires.fit.counts;
+}
+
+pub returns-in-Others-clause-fit : goal.returns-in-Others-clause-fit
+returns-in-Others-clause-fit c = record {
+  spare = kept_long c.args.room.now.spare.len _ _ _ (c.by_set.auto.spare ∙ c.deref_mut-in-Others-2.ensures.len) (c.args.room.now.spare.ok.0 ∙ c.requires.fit.spare);
+  other = kept_long c.args.room.now.other.len _ _ _ (c.by_set.auto.other ∙ c.deref_mut-in-Others-3.ensures.len) (c.args.room.now.other.ok.0 ∙ c.requires.fit.other);
+  set = kept_long c.args.room.now.set.len _ _ _ (c.by_set.auto.set ∙ c.deref_mut-in-Others.ensures.len) (c.args.room.now.set.ok.0 ∙ c.requires.fit.set);
+  counts = c.requires.fit.counts;
+}
+
+pub returns-in-Over-clause-fit : goal.returns-in-Over-clause-fit
+returns-in-Over-clause-fit c = record {
+  spare = kept_long c.args.room.now.spare.len _ _ _ (c.by_crowd.auto.spare ∙ c.deref_mut-in-Over-2.ensures.len) (c.args.room.now.spare.ok.0 ∙ c.requires.fit.spare);
+  other = kept_long c.args.room.now.other.len _ _ _ (c.by_crowd.auto.other ∙ c.deref_mut-in-Over-3.ensures.len) (c.args.room.now.other.ok.0 ∙ c.requires.fit.other);
+  set = kept_long c.args.room.now.set.len _ _ _ (c.by_crowd.auto.set ∙ c.deref_mut-in-Over.ensures.len) (c.args.room.now.set.ok.0 ∙ c.requires.fit.set);
+  counts = c.requires.fit.counts;
+}
