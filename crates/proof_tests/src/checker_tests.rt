@@ -28,17 +28,28 @@ pub fn is_expected(verdict: Verdict, expected: Expected) -> bool {
     }
 }
 
+/// A log of its first lines and what is behind them.
+pub fn with_head(alloc: Global, head: &[u8], rest: &str) -> Result<Vec<u8>, AllocError> {
+    let mut log = Vec::from_slice(alloc, head)?;
+    log.extend_from_slice(rest.as_bytes())?;
+    Ok(log)
+}
+
+/// Whether a log over the model of a text is judged as expected.
+pub fn is_judged(alloc: Global, model: &[u8], log: &[u8], expected: Expected) -> bool {
+    match read_opb(alloc, model) {
+        Ok(model) => is_expected(check(alloc, &model, log), expected),
+        Err(_) => false,
+    }
+}
+
 /// What is behind the first two lines of a log over `NOT_BOTH`, and what is expected.
 struct Shows(&'static str, Expected);
 
 impl<R> Example<R> for Shows {
     fn holds(&self, _rt: &R, alloc: Global) -> Result<bool, AllocError> {
-        let Ok(model) = read_opb(alloc, NOT_BOTH) else {
-            return Ok(false);
-        };
-        let mut log = String::from_str(alloc, "embedding proof 1\nm 2\n")?;
-        log.push_str(self.0)?;
-        Ok(is_expected(check(alloc, &model, log.as_bytes()), self.1))
+        let log = with_head(alloc, b"embedding proof 1\nm 2\n", self.0)?;
+        Ok(is_judged(alloc, NOT_BOTH, &log, self.1))
     }
 }
 
@@ -104,10 +115,7 @@ pub struct Whole {
 
 impl<R> Example<R> for Whole {
     fn holds(&self, _rt: &R, alloc: Global) -> Result<bool, AllocError> {
-        match read_opb(alloc, self.model) {
-            Ok(model) => Ok(is_expected(check(alloc, &model, self.log), self.verdict)),
-            Err(_) => Ok(false),
-        }
+        Ok(is_judged(alloc, self.model, self.log, self.verdict))
     }
 }
 
@@ -242,14 +250,26 @@ fn first_front_that_ends(alloc: Global, model: &Model, log: &[u8]) -> usize {
     log.len()
 }
 
+/// A model's text, and a log over it that is accepted, of which each front ends early.
+struct Fronts(&'static [u8], &'static [u8]);
+
+impl<R> Example<R> for Fronts {
+    fn holds(&self, _rt: &R, alloc: Global) -> Result<bool, AllocError> {
+        match read_opb(alloc, self.0) {
+            Ok(model) => Ok(
+                check(alloc, &model, self.1) == Verdict::Unsatisfiable
+                    && first_front_that_ends(alloc, &model, self.1) == self.1.len(),
+            ),
+            Err(_) => Ok(false),
+        }
+    }
+}
+
+static FRONTS: [Fronts; 1] = [Fronts(TRIANGLE_INTO_CYCLE, NO_TRIANGLE)];
+
 #[test]
 fn each_front_of_an_accepted_log_ends_early(rt: HostRuntime) -> Result<(), Fail> {
-    let alloc = rt.alloc();
-    let model = read_opb(alloc, TRIANGLE_INTO_CYCLE).ok().ok_or("no model")?;
-    let is_accepted = check(alloc, &model, NO_TRIANGLE) == Verdict::Unsatisfiable;
-    let front = first_front_that_ends(alloc, &model, NO_TRIANGLE);
-    assert!(rt; is_accepted && front == NO_TRIANGLE.len());
-    Ok(())
+    all_hold(&rt, rt.alloc(), &FRONTS)
 }
 
 /// Two logs over two constraints, whole.
@@ -271,14 +291,22 @@ fn a_model_from_its_text(rt: HostRuntime) -> Result<(), Fail> {
     all_hold(&rt, rt.alloc(), &FROM_TEXTS)
 }
 
-/// The verdict of a log that is fed by pieces of so many bytes.
+/// Feeds a log by pieces of so many bytes.
+fn feed_all(alloc: Global, checker: &mut Checker, log: &[u8], size: usize) -> Result<(), AllocError>
+    requires { 0 < size }
+{
+    for piece in log.chunks(size) {
+        checker.feed(alloc, piece)?;
+    }
+    Ok(())
+}
+
+/// The verdict of a log that is fed so.
 fn fed_by(alloc: Global, model: &Model, log: &[u8], size: usize) -> Result<Verdict, AllocError>
     requires { 0 < size }
 {
     let mut checker = Checker::new(alloc, model)?;
-    for piece in log.chunks(size) {
-        checker.feed(alloc, piece)?;
-    }
+    feed_all(alloc, &mut checker, log, size)?;
     Ok(checker.finish())
 }
 
@@ -298,58 +326,71 @@ fn shows_however_cut(
     Ok(true)
 }
 
-#[test]
-fn a_log_is_accepted_however_it_is_cut(rt: HostRuntime) -> Result<(), Fail> {
-    let alloc = rt.alloc();
-    let model = read_opb(alloc, TRIANGLE_INTO_CYCLE).ok().ok_or("no model")?;
-    let same = shows_however_cut(alloc, &model, NO_TRIANGLE, Is(Verdict::Unsatisfiable))?;
-    assert!(rt; same);
-    Ok(())
+/// A log that is fed by pieces of every size, and what is expected of each.
+struct Cut(Whole);
+
+impl<R> Example<R> for Cut {
+    fn holds(&self, _rt: &R, alloc: Global) -> Result<bool, AllocError> {
+        match read_opb(alloc, self.0.model) {
+            Ok(model) => shows_however_cut(alloc, &model, self.0.log, self.0.verdict),
+            Err(_) => Ok(false),
+        }
+    }
 }
 
+static CUT: [Cut; 2] = [
+    // a log is accepted however it is cut
+    Cut(Whole {
+        model: TRIANGLE_INTO_CYCLE,
+        log: NO_TRIANGLE,
+        verdict: Is(Verdict::Unsatisfiable),
+    }),
+    // text behind a claim is refused however it is cut
+    Cut(Whole {
+        model: NOT_BOTH,
+        log: b"embedding proof 1\nm 2\nq\nq\nx",
+        verdict: Stops(4, Cause::Form),
+    }),
+];
+
 #[test]
-fn text_behind_a_claim_is_refused_however_it_is_cut(rt: HostRuntime) -> Result<(), Fail> {
-    let alloc = rt.alloc();
-    let model = read_opb(alloc, NOT_BOTH).ok().ok_or("no model")?;
-    let log = b"embedding proof 1\nm 2\nq\nq\nx";
-    let same = shows_however_cut(alloc, &model, log, Stops(4, Cause::Form))?;
-    assert!(rt; same);
-    Ok(())
+fn a_log_is_judged_alike_however_it_is_cut(rt: HostRuntime) -> Result<(), Fail> {
+    all_hold(&rt, rt.alloc(), &CUT)
 }
 
 /// A log in a file: how many bytes it may have, which call on the files fails (0: none), and what is told.
 struct InFile {
-    log: &'static str,
+    file: &'static [InMemory],
     most: u64,
     failing: u64,
     expected: Checked,
 }
 
-const SHORT: &str = "embedding proof 1\nm 2\nq\n";
+const SHORT: &[InMemory] = &[InMemory("l", Some(b"embedding proof 1\nm 2\nq\n"), 0)];
 
-const WRONG: &str = "embedding proof 3\nm 2\nq\n";
+const WRONG: &[InMemory] = &[InMemory("l", Some(b"embedding proof 3\nm 2\nq\n"), 0)];
 
 static IN_FILES: [InFile; 8] = [
     InFile {
-        log: SHORT,
+        file: SHORT,
         most: 24,
         failing: 0,
         expected: Checked::Verdict(Verdict::Undecided),
     },
     InFile {
-        log: SHORT,
+        file: SHORT,
         most: u64::MAX,
         failing: 0,
         expected: Checked::Verdict(Verdict::Undecided),
     },
     InFile {
-        log: SHORT,
+        file: SHORT,
         most: 23,
         failing: 0,
         expected: Checked::TooLong,
     },
     InFile {
-        log: WRONG,
+        file: WRONG,
         most: 24,
         failing: 0,
         expected: Checked::Verdict(Verdict::Refused {
@@ -358,25 +399,25 @@ static IN_FILES: [InFile; 8] = [
         }),
     },
     InFile {
-        log: WRONG,
+        file: WRONG,
         most: 10,
         failing: 0,
         expected: Checked::TooLong,
     },
     InFile {
-        log: SHORT,
+        file: SHORT,
         most: 24,
         failing: 1,
         expected: Checked::Failed,
     },
     InFile {
-        log: WRONG,
+        file: WRONG,
         most: 24,
         failing: 2,
         expected: Checked::Failed,
     },
     InFile {
-        log: SHORT,
+        file: SHORT,
         most: 24,
         failing: 3,
         expected: Checked::Failed,
@@ -385,12 +426,13 @@ static IN_FILES: [InFile; 8] = [
 
 impl<R> Example<R> for InFile {
     fn holds(&self, _rt: &R, alloc: Global) -> Result<bool, AllocError> {
-        let Ok(model) = read_opb(alloc, NOT_BOTH) else {
-            return Ok(false);
-        };
-        let file = InMemory("l", Some(self.log.as_bytes()), 0);
-        let mut files = files_in_memory(alloc, &[file], self.failing)?;
-        Ok(check_file(alloc, &model, &mut files, "l", self.most) == self.expected)
+        let mut files = files_in_memory(alloc, self.file, self.failing)?;
+        match read_opb(alloc, NOT_BOTH) {
+            Ok(model) => {
+                Ok(check_file(alloc, &model, &mut files, "l", self.most) == self.expected)
+            }
+            Err(_) => Ok(false),
+        }
     }
 }
 

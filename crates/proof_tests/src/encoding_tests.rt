@@ -2,9 +2,9 @@
 
 ghost use Rattle.std.specs.Prelude.{◌≡◌};
 
+use crate::file_tests::sink_of;
 use graph_rows::Problem;
 use lad_reader::LadKind;
-use outer_io::MemorySink;
 use pb_encoding::{Encoding, is_edge_pair, is_non_edge_pair};
 use sample_graphs::{EDGE, FOUR_CYCLE, TRIANGLE, graph_in};
 use std::alloc::{AllocError, Global};
@@ -27,20 +27,28 @@ fn problem(
     Some(Problem::new(pattern, target, induced))
 }
 
-/// The text that these pieces make.
-fn joined(alloc: Global, pieces: &[&[u8]]) -> Result<Vec<u8>, AllocError> {
-    let mut text = Vec::new(alloc);
+/// Whether a text is these pieces, one behind the other.
+fn is_joined(text: &[u8], pieces: &[&[u8]]) -> bool {
+    let mut rest = text;
     for piece in pieces {
-        text.extend_from_slice(piece)?;
+        match rest.strip_prefix(*piece) {
+            Some(behind) => rest = behind,
+            None => return false,
+        }
     }
-    Ok(text)
+    rest.is_empty()
+}
+
+/// Whether an encoding is written as these pieces.
+fn is_written_as(alloc: Global, encoding: &Encoding, text: &[&[u8]]) -> Result<bool, AllocError> {
+    let mut sink = sink_of(alloc, 4096)?;
+    Ok(encoding.write(alloc, &mut sink).is_ok() && is_joined(sink.bytes(), text))
 }
 
 /// Whether this is the text of the encoding of a problem.
-fn is_text(alloc: Global, q: &Problem, text: &[u8]) -> Result<bool, AllocError> {
+fn is_text(alloc: Global, q: &Problem, text: &[&[u8]]) -> Result<bool, AllocError> {
     let encoding = Encoding::new(alloc, q)?;
-    let mut sink = MemorySink::new(alloc, 4096, Vec::new(alloc))?;
-    Ok(encoding.write(alloc, &mut sink).is_ok() && sink.bytes() == text)
+    is_written_as(alloc, &encoding, text)
 }
 
 /// That two vertices go to two.
@@ -73,9 +81,8 @@ struct Encoded {
 
 impl<R> Example<R> for Encoded {
     fn holds(&self, _rt: &R, alloc: Global) -> Result<bool, AllocError> {
-        let text = joined(alloc, self.text)?;
         match problem(alloc, self.pattern, self.target, self.kind, self.induced) {
-            Some(q) => is_text(alloc, &q, &text),
+            Some(q) => is_text(alloc, &q, self.text),
             None => Ok(false),
         }
     }

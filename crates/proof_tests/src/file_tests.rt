@@ -24,6 +24,11 @@ static THREE_FILES: [InMemory; 3] = [
 /// A file that is not there.
 static LONE_FILE: [InMemory; 1] = [InMemory("p", None, 200_000)];
 
+/// A sink of this much room that fails at no call.
+pub fn sink_of(alloc: Global, room: u64) -> Result<MemorySink, AllocError> {
+    MemorySink::new(alloc, room, Vec::new(alloc))
+}
+
 /// Two puts in a row, through `?`.
 fn put_both<S: Sink>(sink: &mut S, first: &[u8], second: &[u8]) -> Result<(), Failed>
     ensures cause { HasBlame S.spot S.rest S.faults S.blamed sink.old sink.new result }
@@ -235,12 +240,19 @@ fn write_in_pieces<F: Files>(
     }
 }
 
-/// So many bytes.
-fn long_text(alloc: Global, len: u32) -> Result<Vec<u8>, AllocError> {
-    let mut text = Vec::new(alloc);
+/// Puts so many bytes behind a text.
+fn lengthen(text: &mut Vec<u8>, len: u32) -> Result<(), AllocError> {
     for i in 0..len {
         text.push((i % 251) as u8)?;
     }
+    Ok(())
+}
+
+/// A text of two parts of these lengths.
+fn long_text(alloc: Global, first: u32, second: u32) -> Result<Vec<u8>, AllocError> {
+    let mut text = Vec::new(alloc);
+    lengthen(&mut text, first)?;
+    lengthen(&mut text, second)?;
     Ok(text)
 }
 
@@ -250,13 +262,13 @@ struct InPieces(bool, u32, u32, u64, usize);
 
 impl InPieces {
     /// Whether the file then holds a front part of that length, and all only where the call says so.
-    fn has_written(&self, alloc: Global, first: &[u8], second: &[u8]) -> Result<bool, AllocError> {
-        let InPieces(is_headed, _, _, failing, expected) = *self;
-        let mut files = files_in_memory(alloc, &LONE_FILE, failing)?;
+    fn has_written(&self, alloc: Global, whole: &[u8]) -> Result<bool, AllocError> {
+        let InPieces(is_headed, len, _, failing, expected) = *self;
+        let first = whole.get(..len as usize).unwrap_or(&[]);
+        let second = whole.get(len as usize..).unwrap_or(&[]);
         let mut room = PieceRoom::new(alloc)?;
+        let mut files = files_in_memory(alloc, &LONE_FILE, failing)?;
         let written = write_in_pieces(&mut files, &mut room, is_headed, first, second);
-        let mut whole = Vec::from_slice(alloc, first)?;
-        whole.extend_from_slice(second)?;
         let is_whole = expected == whole.len();
         Ok(written.is_ok() == is_whole && files.content("p") == whole.get(..expected))
     }
@@ -264,10 +276,8 @@ impl InPieces {
 
 impl<R> Example<R> for InPieces {
     fn holds(&self, _rt: &R, alloc: Global) -> Result<bool, AllocError> {
-        let InPieces(_, first, second, _, _) = *self;
-        let first = long_text(alloc, first)?;
-        let second = long_text(alloc, second)?;
-        self.has_written(alloc, &first, &second)
+        let whole = long_text(alloc, self.1, self.2)?;
+        self.has_written(alloc, &whole)
     }
 }
 

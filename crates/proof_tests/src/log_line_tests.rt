@@ -2,6 +2,7 @@
 
 ghost use Rattle.log_theory.specs.LogText.{IsStep};
 
+use crate::file_tests::sink_of;
 use log_theory::{Profile, Step};
 use outer_io::MemorySink;
 use proof_log::{StepFault, plain, read_step, write_step};
@@ -18,7 +19,7 @@ fn is_written_as(
 ) -> Result<bool, AllocError>
     requires { IsStep step.now }
 {
-    let mut sink = MemorySink::new(alloc, 256, Vec::new(alloc))?;
+    let mut sink = sink_of(alloc, 256)?;
     let done = write_step(profile, step, &mut sink);
     Ok(done.is_ok() && sink.bytes().strip_suffix(b"\n") == Some(line))
 }
@@ -197,13 +198,14 @@ const LINE: &[u8] = b"u 64.7 ~x3 ; #12 ;";
 
 /// Whether writing the line fails where this call on the sink fails, and leaves a front part of it.
 fn stops_at(alloc: Global, call: u64) -> Result<bool, AllocError> {
-    let Ok(step) = read_step(alloc, Profile::Hinted, LINE) else {
-        return Ok(false);
-    };
-    let mut failing = Vec::new(alloc);
-    failing.push(call)?;
-    let mut sink = MemorySink::new(alloc, 64, failing)?;
-    Ok(write_step(Profile::Hinted, &step, &mut sink).is_err() && LINE.starts_with(sink.bytes()))
+    let mut sink = MemorySink::new(alloc, 64, Vec::from_slice(alloc, &[call])?)?;
+    match read_step(alloc, Profile::Hinted, LINE) {
+        Ok(step) => Ok(
+            write_step(Profile::Hinted, &step, &mut sink).is_err()
+                && LINE.starts_with(sink.bytes()),
+        ),
+        Err(_) => Ok(false),
+    }
 }
 
 /// The first call, from 1, whose fault does not stop it so, or 12. The line's kind, a name, a reference or a literal goes to the sink by one call.
@@ -222,6 +224,32 @@ fn stops_where_the_sink_fails(rt: HostRuntime) -> Result<(), Fail> {
     Ok(())
 }
 
+/// Whether two steps are written as the same line.
+fn are_alike(alloc: Global, one: &Step, other: &Step) -> Result<bool, AllocError>
+    requires one { IsStep one.now }
+    requires other { IsStep other.now }
+{
+    let mut first = sink_of(alloc, 256)?;
+    let mut second = sink_of(alloc, 256)?;
+    Ok(
+        write_step(Profile::Hinted, one, &mut first).is_ok()
+            && write_step(Profile::Hinted, other, &mut second).is_ok()
+            && first.bytes() == second.bytes(),
+    )
+}
+
+/// Whether a step is written as this line without hints, and is the step that was read in it once its hints are dropped.
+fn is_dropped(alloc: Global, step: &Step, read: &Step, line: &[u8]) -> Result<bool, AllocError>
+    requires step { IsStep step.now }
+    requires read { IsStep read.now }
+{
+    if !is_written_as(alloc, Profile::Plain, step, line)? {
+        return Ok(false);
+    }
+    let dropped = plain(alloc, step)?;
+    are_alike(alloc, read, &dropped)
+}
+
 /// A line of a log with hints, and the same line without them.
 struct Dropped(&'static [u8], &'static [u8]);
 
@@ -233,15 +261,7 @@ impl<R> Example<R> for Dropped {
         let Ok(read) = read_step(alloc, Profile::Plain, self.1) else {
             return Ok(false);
         };
-        let dropped = plain(alloc, &step)?;
-        let mut one = MemorySink::new(alloc, 256, Vec::new(alloc))?;
-        let mut other = MemorySink::new(alloc, 256, Vec::new(alloc))?;
-        Ok(
-            is_written_as(alloc, Profile::Plain, &step, self.1)?
-                && write_step(Profile::Hinted, &read, &mut one).is_ok()
-                && write_step(Profile::Hinted, &dropped, &mut other).is_ok()
-                && one.bytes() == other.bytes(),
-        )
+        is_dropped(alloc, &step, &read, self.1)
     }
 }
 

@@ -2,18 +2,18 @@
 
 ghost use Rattle.std.specs.Prelude.{◌≡◌, ◌+◌, ◌≤◌, [], ◌∷◌, length, IfOk, OnOk};
 
+use crate::checker_tests::Expected::{Is, Stops};
+use crate::checker_tests::Whole;
+use crate::file_tests::sink_of;
 use journals::{Journal, Keeper};
 use log_theory::{Cause, Name, Profile, Step, Variables, Verdict};
 use merged_log::{write_refutation, write_solution, write_undecided};
 use nogood_book::{Row, RowKind};
-use opb_text::read_opb;
-use outer_io::MemorySink;
-use proof_checker::check;
 use proof_log::read_step;
 use std::alloc::{AllocError, Global};
 use std::test::Fail;
+use worked_examples::all_hold;
 use worked_examples::models::TRIANGLE_INTO_CYCLE;
-use worked_examples::{Example, all_hold};
 
 /// Keeps the line that a text tells.
 fn keep(alloc: Global, journal: &mut Journal, line: &[u8]) -> Result<(), AllocError>
@@ -103,7 +103,7 @@ fn journals_of_two_owners_are_merged(rt: HostRuntime) -> Result<(), Fail> {
     journals.push_reserved(first);
     journals.push_reserved(second);
     let rows = [nogood(1, 0), nogood(2, 1)];
-    let mut sink = MemorySink::new(rt.alloc(), 4096, Vec::new(rt.alloc()))?;
+    let mut sink = sink_of(rt.alloc(), 4096)?;
     let written = write_refutation(Profile::Hinted, 34, &journals, &rows, 2, &mut sink);
     assert!(rt; written.is_ok() && sink.bytes() == MERGED);
     Ok(())
@@ -111,14 +111,14 @@ fn journals_of_two_owners_are_merged(rt: HostRuntime) -> Result<(), Fail> {
 
 /// Whether a log of a search that was not decided is this text.
 fn is_undecided_log(alloc: Global, text: &[u8]) -> Result<bool, AllocError> {
-    let mut sink = MemorySink::new(alloc, 4096, Vec::new(alloc))?;
+    let mut sink = sink_of(alloc, 4096)?;
     let is_written = write_undecided(Profile::Hinted, 34, &mut sink).is_ok();
     Ok(is_written && sink.bytes() == text)
 }
 
 /// Whether a log of a solution in which `x1` and `x4` are one is this text.
 fn is_solution_log(alloc: Global, text: &[u8]) -> Result<bool, AllocError> {
-    let mut sink = MemorySink::new(alloc, 4096, Vec::new(alloc))?;
+    let mut sink = sink_of(alloc, 4096)?;
     let ones = Variables::new(Vec::from_slice(alloc, &[1u32, 4])?);
     let is_written = write_solution(Profile::Hinted, 10, ones, &mut sink).is_ok();
     Ok(is_written && sink.bytes() == text)
@@ -145,45 +145,26 @@ u 2.6 ~x3 ; 2.4 2.5 13 ;\np 2.7 18 23 + 6 + ;\np 2.8 18 25 + 6 + ;\nu 2.9 ~x4 ; 
 /// Constraint 1 alone, of two variables.
 const ONE_OF_TWO: &[u8] = b"* #variable= 2 #constraint= 1\n+1 x1 +1 x2 >= 1 ;\n";
 
-/// A model, a log, and its verdict.
-struct Judged {
-    model: &'static [u8],
-    log: &'static [u8],
-    verdict: Verdict,
-}
-
-impl<R> Example<R> for Judged {
-    fn holds(&self, _rt: &R, alloc: Global) -> Result<bool, AllocError> {
-        match read_opb(alloc, self.model) {
-            Ok(model) => Ok(check(alloc, &model, self.log) == self.verdict),
-            Err(_) => Ok(false),
-        }
-    }
-}
-
-static JUDGED: [Judged; 4] = [
-    Judged {
+static JUDGED: [Whole; 4] = [
+    Whole {
         model: TRIANGLE_INTO_CYCLE,
         log: MERGED,
-        verdict: Verdict::Unsatisfiable,
+        verdict: Is(Verdict::Unsatisfiable),
     },
-    Judged {
+    Whole {
         model: TRIANGLE_INTO_CYCLE,
         log: EXCHANGED,
-        verdict: Verdict::Refused {
-            line: 10,
-            cause: Cause::Order,
-        },
+        verdict: Stops(10, Cause::Order),
     },
-    Judged {
+    Whole {
         model: TRIANGLE_INTO_CYCLE,
         log: b"embedding proof 1\nm 34\nq\n",
-        verdict: Verdict::Undecided,
+        verdict: Is(Verdict::Undecided),
     },
-    Judged {
+    Whole {
         model: ONE_OF_TWO,
         log: b"embedding proof 1\nm 1\ny x2\n",
-        verdict: Verdict::Satisfiable,
+        verdict: Is(Verdict::Satisfiable),
     },
 ];
 

@@ -1,7 +1,7 @@
 //! Worked texts, read and written again.
 
+use crate::file_tests::sink_of;
 use opb_text::{Model, OpbFault, read_opb, write_opb};
-use outer_io::MemorySink;
 use std::alloc::{AllocError, Global};
 use std::test::Fail;
 use worked_examples::models::{EDGE_INTO_EDGE, THREE_INTO_TWO};
@@ -9,7 +9,7 @@ use worked_examples::{Example, all_hold};
 
 /// The text that a model is written as.
 fn text_of(alloc: Global, model: &Model) -> Result<String, AllocError> {
-    let mut sink = MemorySink::new(alloc, 4096, Vec::new(alloc))?;
+    let mut sink = sink_of(alloc, 4096)?;
     if write_opb(model.variables(), model.constraints(), &mut sink).is_err() {
         return String::from_str(alloc, "no room");
     }
@@ -260,7 +260,7 @@ impl<R> Example<R> for Room {
         let Ok(model) = read_opb(alloc, EDGE_INTO_EDGE) else {
             return Ok(false);
         };
-        let mut sink = MemorySink::new(alloc, self.0, Vec::new(alloc))?;
+        let mut sink = sink_of(alloc, self.0)?;
         let stops = write_opb(model.variables(), model.constraints(), &mut sink).is_err();
         let bytes = sink.bytes();
         Ok(stops && EDGE_INTO_EDGE.starts_with(bytes) && bytes.len() as u64 == self.0)

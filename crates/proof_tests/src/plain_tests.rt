@@ -1,10 +1,8 @@
 //! Worked logs without hints.
 
 use crate::checker_tests::Expected::{self, Is, Stops};
-use crate::checker_tests::{Whole, is_expected};
+use crate::checker_tests::{Whole, is_judged, with_head};
 use log_theory::{Cause, Verdict};
-use opb_text::read_opb;
-use proof_checker::check;
 use std::alloc::{AllocError, Global};
 use std::test::Fail;
 use worked_examples::models::{
@@ -17,12 +15,8 @@ struct Behind(&'static [u8], &'static str, Expected);
 
 impl<R> Example<R> for Behind {
     fn holds(&self, _rt: &R, alloc: Global) -> Result<bool, AllocError> {
-        let Ok(model) = read_opb(alloc, self.0) else {
-            return Ok(false);
-        };
-        let mut log = String::from_str(alloc, "embedding proof 2\nm 2\n")?;
-        log.push_str(self.1)?;
-        Ok(is_expected(check(alloc, &model, log.as_bytes()), self.2))
+        let log = with_head(alloc, b"embedding proof 2\nm 2\n", self.1)?;
+        Ok(is_judged(alloc, self.0, &log, self.2))
     }
 }
 
