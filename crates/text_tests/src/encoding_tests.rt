@@ -52,14 +52,23 @@ fn is_same(constraint: &Constraint, plain: &Terms) -> bool {
         && constraint.bound() == plain.bound
 }
 
-/// Whether a model is what was read plainly.
-fn are_same(model: &Model, plain: &Encoding) -> bool {
-    for (constraint, terms) in model.constraints().iter().zip(&plain.constraints) {
-        if !is_same(constraint, terms) {
+/// Whether constraints are what the terms say, one by one.
+fn are_all_same(constraints: &[Constraint], plain: &[Terms]) -> bool {
+    if constraints.len() != plain.len() {
+        return false;
+    }
+    for i in 0..plain.len() {
+        if !is_same(&constraints[i], &plain[i]) {
             return false;
         }
     }
-    model.variables() == plain.variables && model.constraints().len() == plain.constraints.len()
+    true
+}
+
+/// Whether a model is what was read plainly.
+fn are_same(model: &Model, plain: &Encoding) -> bool {
+    model.variables() == plain.variables
+        && are_all_same(model.constraints(), plain.constraints.as_slice())
 }
 
 /// Which causes were met, each once.

@@ -14,33 +14,35 @@ const MOST: u32 = 8;
 
 /// Whether a vertex has these neighbours, with these labels of the edges to them where there are any.
 fn has_listed(neighbours: &[u32], labels: &[u32], listed: &[(u32, u32)]) -> bool {
-    for (i, (neighbour, label)) in listed.iter().enumerate() {
-        let is_same = neighbours.get(i) == Some(neighbour)
-            && *label == labels.get(i).copied().unwrap_or(0);
-        if !is_same {
+    if neighbours.len() != listed.len() {
+        return false;
+    }
+    for i in 0..listed.len() {
+        if listed[i] != (neighbours[i], labels.get(i).copied().unwrap_or(0)) {
             return false;
         }
     }
-    neighbours.len() == listed.len()
+    true
 }
 
 /// Whether the parts are these vertices.
 fn are_same(parts: &GraphParts, vertices: &[ListedVertex]) -> bool {
-    for a in 0..parts.neighbours.len() {
-        let Some(vertex) = vertices.get(a) else {
-            return false;
-        };
-        let is_same = parts.labels.as_slice().get(a) == Some(&vertex.label())
+    let labels = parts.labels.as_slice();
+    if parts.neighbours.len() != vertices.len() || labels.len() < vertices.len() {
+        return false;
+    }
+    for a in 0..vertices.len() {
+        let is_same = labels[a] == vertices[a].label()
             && has_listed(
                 parts.neighbours.of(a),
                 parts.edge_labels.of(a),
-                vertex.listed(),
+                vertices[a].listed(),
             );
         if !is_same {
             return false;
         }
     }
-    parts.neighbours.len() == vertices.len()
+    true
 }
 
 /// Whether both readers read the same in a text of at most so many vertices, or find the same fault in it.

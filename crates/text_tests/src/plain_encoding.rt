@@ -206,8 +206,10 @@ fn head_in(words: &[&[u8]]) -> Option<(u32, u64)> {
 fn lines_of<'a>(alloc: Global, text: &'a [u8]) -> Result<Vec<&'a [u8]>, AllocError> {
     let pieces = pieces_of(alloc, text, b"\n")?;
     let mut lines = Vec::new(alloc);
-    for (i, piece) in pieces.iter().enumerate() {
-        if i.wrapping_add(1) == pieces.len() {
+    let mut number: usize = 0;
+    for piece in &pieces {
+        number = number.wrapping_add(1);
+        if number == pieces.len() {
             if !piece.is_empty() {
                 lines.push(*piece)?;
             }

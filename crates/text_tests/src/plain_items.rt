@@ -94,13 +94,13 @@ pub fn operations_of(
 ) -> Result<Option<Vec<Op>>, AllocError> {
     let mut operations = Vec::new(alloc);
     let mut is_taken = false;
-    for (i, word) in words.iter().enumerate() {
+    for i in 0..words.len() {
         if is_taken {
             is_taken = false;
             continue;
         }
-        let after = words.get(i.wrapping_add(1)).copied().unwrap_or(b"");
-        let Some(operation) = operation_of(word, after, variables) else {
+        let after = words.get(i + 1).copied().unwrap_or(b"");
+        let Some(operation) = operation_of(words[i], after, variables) else {
             return Ok(None);
         };
         is_taken = matches!(operation, Op::Times(_) | Op::Divide(_));
@@ -155,9 +155,9 @@ pub fn variables_of(
 
 /// The words in front of the first `;`, and those behind it.
 pub fn parted<'a, 'b>(words: &'b [&'a [u8]]) -> Option<(&'b [&'a [u8]], &'b [&'a [u8]])> {
-    for (i, word) in words.iter().enumerate() {
-        if *word == b";".as_slice() {
-            return Some((words.get(..i)?, words.get(i.wrapping_add(1)..)?));
+    for i in 0..words.len() {
+        if words[i] == b";".as_slice() {
+            return Some((&words[..i], &words[i + 1..]));
         }
     }
     None

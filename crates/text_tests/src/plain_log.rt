@@ -65,41 +65,35 @@ fn find<'a>(log: &'a Log, reference: Ref) -> Result<&'a Row, Stop> {
     Err(Stop::Cause(Cause::NoSuchName))
 }
 
-/// Whether anything has the name.
-fn is_named(log: &Log, reference: Ref) -> bool {
-    find(log, reference).is_ok()
+/// Whether what one name refers to bears on the order of the other: it was made by the same owner, or is a row of a greater number.
+fn bears_on(one: Ref, other: Ref) -> bool {
+    match (one, other) {
+        (Ref::Made(one), Ref::Made(other)) => one.owner == other.owner,
+        (Ref::Shared(one), Ref::Shared(other)) => one > other,
+        _ => false,
+    }
 }
 
-/// How many constraints an owner has made.
-fn made_by(log: &Log, owner: u8) -> u64 {
-    let mut made: u64 = 0;
+/// How many names bear on the order of this one.
+fn bearing_on(log: &Log, reference: Ref) -> u64 {
+    let mut found: u64 = 0;
     for (name, _) in &log.named {
-        if let Ref::Made(name) = name
-            && name.owner == owner
-        {
-            made = made.wrapping_add(1);
+        if bears_on(*name, reference) {
+            found = found.wrapping_add(1);
         }
     }
-    made
+    found
 }
 
-/// Whether a row with a greater number is shared.
-fn is_row_above(log: &Log, row: u32) -> bool {
-    for (name, _) in &log.named {
-        if let Ref::Shared(other) = name
-            && *other > row
-        {
-            return true;
-        }
-    }
-    false
+/// Refuses a name that is given, or out of order where so many have to bear on it.
+fn expect_new(log: &Log, reference: Ref, bearing: u64) -> Result<(), Stop> {
+    refuse_if(find(log, reference).is_ok(), Cause::NameUsed)?;
+    refuse_if(bearing_on(log, reference) != bearing, Cause::Order)
 }
 
 /// Refuses a name that is given, or is not the next one of its owner.
 fn expect_next(log: &Log, name: Name) -> Result<(), Stop> {
-    refuse_if(is_named(log, Ref::Made(name)), Cause::NameUsed)?;
-    let next = made_by(log, name.owner).wrapping_add(1);
-    refuse_if(name.number != next, Cause::Order)
+    expect_new(log, Ref::Made(name), name.number.wrapping_sub(1))
 }
 
 /// A copy of a row.
@@ -161,14 +155,15 @@ fn calculate(alloc: Global, log: &mut Log, words: &[&[u8]]) -> Result<(), Stop> 
 
 /// Whether a variable stands twice among literals.
 fn is_twice(literals: &[Literal]) -> bool {
-    for (i, literal) in literals.iter().enumerate() {
-        for (k, other) in literals.iter().enumerate() {
-            if i != k && literal.variable == other.variable {
-                return true;
+    let mut number: u64 = 0;
+    for literal in literals {
+        for other in literals {
+            if literal.variable == other.variable {
+                number = number.wrapping_add(1);
             }
         }
     }
-    false
+    number != literals.len() as u64
 }
 
 /// Whether the references, one after another, come to a contradiction where the literals are false.
@@ -249,8 +244,7 @@ fn rename(alloc: Global, log: &mut Log, words: &[&[u8]]) -> Result<(), Stop> {
     };
     let row = of_form(row_number_of(row))?;
     let name = of_form(name_of(name))?;
-    refuse_if(is_named(log, Ref::Shared(row)), Cause::NameUsed)?;
-    refuse_if(is_row_above(log, row), Cause::Order)?;
+    expect_new(log, Ref::Shared(row), 0)?;
     let named = copy(alloc, find(log, Ref::Made(name))?)?;
     log.named.push((Ref::Shared(row), named))?;
     Ok(())
@@ -258,11 +252,9 @@ fn rename(alloc: Global, log: &mut Log, words: &[&[u8]]) -> Result<(), Stop> {
 
 /// Whether a variable stands twice.
 fn is_one_twice(ones: &[u32]) -> bool {
-    for (i, one) in ones.iter().enumerate() {
-        for (k, other) in ones.iter().enumerate() {
-            if i != k && one == other {
-                return true;
-            }
+    for i in 0..ones.len() {
+        if ones[..i].contains(&ones[i]) {
+            return true;
         }
     }
     false
@@ -270,8 +262,10 @@ fn is_one_twice(ones: &[u32]) -> bool {
 
 /// Whether each constraint of the encoding holds where exactly these variables are 1.
 fn do_hold(log: &Log, ones: &[u32]) -> bool {
-    for (_, row) in log.named.iter().take(log.constraints) {
-        if !holds(row, ones) {
+    for (name, row) in &log.named {
+        if let Ref::Line(_) = name
+            && !holds(row, ones)
+        {
             return false;
         }
     }
@@ -365,9 +359,9 @@ pub fn verdict_of(alloc: Global, log: &mut Log, text: &[u8]) -> Result<Verdict, 
     let pieces = pieces_of(alloc, text, b"\n")?;
     let mut shown = None;
     let mut line: u64 = 0;
-    for (i, piece) in pieces.iter().enumerate() {
+    for piece in &pieces {
         line = line.wrapping_add(1);
-        let is_last = i.wrapping_add(1) == pieces.len();
+        let is_last = line == pieces.len() as u64;
         match take_piece(alloc, log, shown, line, piece, is_last) {
             Ok(next) => shown = next,
             Err(Stop::Cause(cause)) => return Ok(Verdict::Refused { line, cause }),

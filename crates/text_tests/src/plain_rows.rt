@@ -170,8 +170,12 @@ pub fn saturated(alloc: Global, row: &Row) -> Result<Row, AllocError> {
 /// The sum of two rows.
 pub fn sum(alloc: Global, one: &Row, other: &Row) -> Result<Row, AllocError> {
     let mut coefficients = Vec::new(alloc);
-    for (a, b) in one.coefficients.iter().zip(&other.coefficients) {
-        coefficients.push(a.saturating_add(*b))?;
+    let added = other.coefficients.as_slice();
+    let mut place: usize = 0;
+    for a in &one.coefficients {
+        let b = added.get(place).copied().unwrap_or(0);
+        coefficients.push(a.saturating_add(b))?;
+        place = place.wrapping_add(1);
     }
     Ok(Row {
         coefficients,

@@ -34,12 +34,23 @@ fn is_open(c: i128, value: Option<bool>) -> bool {
 /// By how much the literals that are not false outweigh the bound, in the normal form.
 fn slack(row: &Row, values: &[Option<bool>]) -> i128 {
     let mut open: i128 = 0;
-    for (c, value) in row.coefficients.iter().zip(values) {
-        if is_open(*c, *value) {
+    let mut place: usize = 0;
+    for c in &row.coefficients {
+        if is_open(*c, values.get(place).copied().flatten()) {
             open = open.saturating_add(size(*c));
         }
+        place = place.wrapping_add(1);
     }
     open.saturating_sub(degree(row))
+}
+
+/// Gives the variable of that place this value where it has none.
+fn give(values: &mut [Option<bool>], place: usize, is_one: bool) {
+    if let Some(value) = values.get_mut(place) {
+        if value.is_none() {
+            *value = Some(is_one);
+        }
+    }
 }
 
 /// Whether the row cannot hold any more; else each literal without which it could not hold becomes true.
@@ -48,10 +59,12 @@ pub fn is_contradicted(row: &Row, values: &mut [Option<bool>]) -> bool {
     if slack < 0 {
         return true;
     }
-    for (c, value) in row.coefficients.iter().zip(values.iter_mut()) {
-        if value.is_none() && size(*c) > slack {
-            *value = Some(*c > 0);
+    let mut place: usize = 0;
+    for c in &row.coefficients {
+        if size(*c) > slack {
+            give(values, place, *c > 0);
         }
+        place = place.wrapping_add(1);
     }
     false
 }

@@ -4,9 +4,9 @@ use std::alloc::{AllocError, Global};
 
 /// What stands in front of the first such byte, and what behind it.
 pub fn cut_at(text: &[u8], byte: u8) -> Option<(&[u8], &[u8])> {
-    for (i, other) in text.iter().enumerate() {
-        if *other == byte {
-            return Some((text.get(..i)?, text.get(i.wrapping_add(1)..)?));
+    for i in 0..text.len() {
+        if text[i] == byte {
+            return Some((&text[..i], &text[i + 1..]));
         }
     }
     None
@@ -20,8 +20,8 @@ pub fn pieces_of<'a>(
 ) -> Result<Vec<&'a [u8]>, AllocError> {
     let mut pieces = Vec::new(alloc);
     let mut start: usize = 0;
-    for (i, byte) in text.iter().enumerate() {
-        if between.contains(byte) {
+    for i in 0..text.len() {
+        if between.contains(&text[i]) {
             pieces.push(text.get(start..i).unwrap_or(&[]))?;
             start = i.wrapping_add(1);
         }

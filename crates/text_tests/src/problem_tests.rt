@@ -39,6 +39,16 @@ fn problem(
     ))
 }
 
+/// Whether no embedding extends a path, or one may, as told.
+fn is_dead_so(
+    alloc: Global,
+    q: &ListedProblem,
+    path: &[(u32, u32)],
+    dead: bool,
+) -> Result<bool, AllocError> {
+    Ok(q.is_dead(alloc, path)? == dead)
+}
+
 /// Two graphs of a format, whether induced, a mapping, whether it embeds, and whether none does.
 struct Pair(
     LadKind,
@@ -54,8 +64,8 @@ impl<R> Example<R> for Pair {
     fn holds(&self, _rt: &R, alloc: Global) -> Result<bool, AllocError> {
         let Pair(kind, pattern, target, induced, map, embeds, none) = *self;
         match problem(alloc, kind, pattern, target, induced) {
-            Ok(q) => Ok(q.is_embedding(map) == embeds && q.is_dead(alloc, &[])? == none),
-            Err(_) => Ok(false),
+            Ok(q) if q.is_embedding(map) == embeds => is_dead_so(alloc, &q, &[], none),
+            _ => Ok(false),
         }
     }
 }
@@ -231,7 +241,7 @@ impl<R> Example<R> for Path {
     fn holds(&self, _rt: &R, alloc: Global) -> Result<bool, AllocError> {
         let Path(path, dead) = *self;
         match problem(alloc, LAD, PATH, FOUR_CYCLE, false) {
-            Ok(q) => Ok(q.is_dead(alloc, path)? == dead),
+            Ok(q) => is_dead_so(alloc, &q, path, dead),
             Err(_) => Ok(false),
         }
     }

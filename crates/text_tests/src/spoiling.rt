@@ -74,48 +74,56 @@ fn pieces_in(text: &[u8], between: &[u8]) -> usize {
     pieces
 }
 
-/// The piece in that place, from 0.
-fn piece_at(alloc: Global, text: &[u8], between: &[u8], at: usize) -> Result<Vec<u8>, AllocError> {
-    let mut found = Vec::new(alloc);
-    let mut piece: usize = 0;
-    for byte in text {
-        if between.contains(byte) {
-            piece = piece.wrapping_add(1);
-        } else if piece == at {
-            found.push(*byte)?;
-        }
-    }
-    Ok(found)
+/// A text as one piece, what stands in front of it and what behind it.
+#[derive(Clone, Copy)]
+struct Parted<'a> {
+    front: &'a [u8],
+    piece: &'a [u8],
+    behind: &'a [u8],
 }
 
-/// The text with another piece in that place.
-fn with_piece(
-    alloc: Global,
-    text: &[u8],
-    between: &[u8],
-    at: usize,
-    other: &[u8],
-) -> Result<Vec<u8>, AllocError> {
-    let mut made = Vec::new(alloc);
+/// A text whose piece stands from one place to another.
+fn around(text: &[u8], start: usize, end: usize) -> Parted<'_> {
+    if start > end || end > text.len() {
+        return Parted {
+            front: text,
+            piece: &[],
+            behind: &[],
+        };
+    }
+    Parted {
+        front: &text[..start],
+        piece: &text[start..end],
+        behind: &text[end..],
+    }
+}
+
+/// The text about its piece in that place, from 0.
+fn around_piece<'a>(text: &'a [u8], between: &[u8], at: usize) -> Parted<'a> {
     let mut piece: usize = 0;
-    for byte in text {
-        if between.contains(byte) {
+    let mut start: usize = 0;
+    for i in 0..text.len() {
+        if between.contains(&text[i]) {
             if piece == at {
-                made.extend_from_slice(other)?;
+                return around(text, start, i);
             }
             piece = piece.wrapping_add(1);
-            made.push(*byte)?;
-        } else if piece != at {
-            made.push(*byte)?;
+            start = i + 1;
         }
     }
-    if piece == at {
-        made.extend_from_slice(other)?;
+    around(text, start, text.len())
+}
+
+/// The text that these parts make.
+fn joined(alloc: Global, parts: &[&[u8]]) -> Result<Vec<u8>, AllocError> {
+    let mut made = Vec::new(alloc);
+    for part in parts {
+        made.extend_from_slice(part)?;
     }
     Ok(made)
 }
 
-/// The text with one piece doubled, the bytes between pieces in front of it.
+/// The text with one piece doubled, the first of the bytes between pieces in front of it.
 fn with_double(
     alloc: Global,
     random: &mut Random,
@@ -123,13 +131,14 @@ fn with_double(
     between: &[u8],
 ) -> Result<Vec<u8>, AllocError> {
     let at = random.below(pieces_in(text, between));
-    let piece = piece_at(alloc, text, between, at)?;
-    let mut double = Vec::from_slice(alloc, &piece)?;
+    let found = around_piece(text, between, at);
+    let mut made = joined(alloc, &[found.front, found.piece])?;
     if let Some(byte) = between.first() {
-        double.push(*byte)?;
+        made.push(*byte)?;
     }
-    double.extend_from_slice(&piece)?;
-    with_piece(alloc, text, between, at, &double)
+    made.extend_from_slice(found.piece)?;
+    made.extend_from_slice(found.behind)?;
+    Ok(made)
 }
 
 /// The text without one piece and what stands right in front of it.
@@ -140,17 +149,12 @@ fn with_drop(
     between: &[u8],
 ) -> Result<Vec<u8>, AllocError> {
     let at = random.below(pieces_in(text, between));
-    let mut made = Vec::new(alloc);
-    let mut piece: usize = 0;
-    for byte in text {
-        if between.contains(byte) {
-            piece = piece.wrapping_add(1);
-        }
-        if piece != at {
-            made.push(*byte)?;
-        }
-    }
-    Ok(made)
+    let found = around_piece(text, between, at);
+    let front = match found.front {
+        [front @ .., _] => front,
+        [] => &[],
+    };
+    joined(alloc, &[front, found.behind])
 }
 
 /// The text with two pieces exchanged.
@@ -162,10 +166,11 @@ fn with_exchange(
 ) -> Result<Vec<u8>, AllocError> {
     let pieces = pieces_in(text, between);
     let (one, other) = (random.below(pieces), random.below(pieces));
-    let first = piece_at(alloc, text, between, one)?;
-    let second = piece_at(alloc, text, between, other)?;
-    let half = with_piece(alloc, text, between, one, &second)?;
-    with_piece(alloc, &half, between, other, &first)
+    let first = around_piece(text, between, one);
+    let second = around_piece(text, between, other);
+    let half = joined(alloc, &[first.front, second.piece, first.behind])?;
+    let rest = around_piece(&half, between, other);
+    joined(alloc, &[rest.front, first.piece, rest.behind])
 }
 
 /// The text with one of these words for one of its own.
@@ -176,43 +181,12 @@ fn with_word(
     words: &[&[u8]],
 ) -> Result<Vec<u8>, AllocError> {
     let at = random.below(pieces_in(text, WORDS));
-    match words.get(random.below(words.len())) {
-        Some(word) => with_piece(alloc, text, WORDS, at, word),
-        None => Vec::from_slice(alloc, text),
+    let found = around_piece(text, WORDS, at);
+    let mut made = Vec::from_slice(alloc, found.front)?;
+    if let Some(word) = words.get(random.below(words.len())) {
+        made.extend_from_slice(word)?;
     }
-}
-
-/// What becomes of one byte.
-#[derive(Clone, Copy)]
-enum AtByte {
-    /// Another takes its place.
-    Changed(u8),
-    /// Another stands before it.
-    After(u8),
-    /// It is gone.
-    Dropped,
-    /// It is gone, and all behind it.
-    Cut,
-}
-
-/// The text after this at one byte.
-fn with_byte(alloc: Global, text: &[u8], at: usize, edit: AtByte) -> Result<Vec<u8>, AllocError> {
-    let mut made = Vec::new(alloc);
-    for (i, byte) in text.iter().enumerate() {
-        if i != at {
-            made.push(*byte)?;
-            continue;
-        }
-        match edit {
-            AtByte::Changed(other) => made.push(other)?,
-            AtByte::After(other) => {
-                made.push(other)?;
-                made.push(*byte)?;
-            }
-            AtByte::Dropped => (),
-            AtByte::Cut => break,
-        }
-    }
+    made.extend_from_slice(found.behind)?;
     Ok(made)
 }
 
@@ -227,13 +201,16 @@ fn any_byte(random: &mut Random) -> u8 {
 /// The text with one byte changed, put in or dropped, or cut at one.
 fn with_other_byte(alloc: Global, random: &mut Random, text: &[u8]) -> Result<Vec<u8>, AllocError> {
     let at = random.below(text.len());
-    let edit = match random.below(5) {
-        0 | 1 => AtByte::Changed(any_byte(random)),
-        2 => AtByte::After(any_byte(random)),
-        3 => AtByte::Dropped,
-        _ => AtByte::Cut,
-    };
-    with_byte(alloc, text, at, edit)
+    let edit = random.below(5);
+    let other = if edit < 3 { any_byte(random) } else { 0 };
+    let found = around(text, at, at.saturating_add(1));
+    match edit {
+        _ if text.is_empty() => Ok(Vec::new(alloc)),
+        0 | 1 => joined(alloc, &[found.front, &[other], found.behind]),
+        2 => joined(alloc, &[found.front, &[other], found.piece, found.behind]),
+        3 => joined(alloc, &[found.front, found.behind]),
+        _ => Vec::from_slice(alloc, found.front),
+    }
 }
 
 /// The text after one edit, which may put in one of these words.
