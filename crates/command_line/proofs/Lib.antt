@@ -1,3 +1,4 @@
+pub mod Failing
 pub mod Simple
 pub mod Numbers
 pub mod Rows
