@@ -1,4 +1,5 @@
 pub mod Failing
+pub mod Missing
 pub mod Simple
 pub mod Numbers
 pub mod Rows
