@@ -7,5 +7,6 @@ pub mod EncodeStatuses
 pub mod CheckStatuses
 pub mod DemoStatuses
 pub mod Ends
+pub mod Passing
 pub mod Complete
 pub mod Runs
