@@ -22,11 +22,26 @@ const FORK: &[u8] = b"3 2 1 2 0 0";
 /// Edges from 0 to 1 and 2, from 1 to itself and 2, and from 3 to 2.
 const MIXED: &[u8] = b"4 2 1 2 2 1 2 0 1 2";
 
-/// The problem of two texts.
-fn problem(alloc: Global, kind: LadKind, pattern: &[u8], target: &[u8]) -> Option<Problem> {
-    let pattern = graph_in(alloc, pattern, kind)?;
-    let target = graph_in(alloc, target, kind)?;
-    Some(Problem::new(pattern, target, false))
+/// The problem of two texts, each of a kind.
+pub(crate) fn problem_of(
+    alloc: Global,
+    pattern: (LadKind, &[u8]),
+    target: (LadKind, &[u8]),
+    induced: bool,
+) -> Option<Problem> {
+    let pattern = graph_in(alloc, pattern.1, pattern.0)?;
+    let target = graph_in(alloc, target.1, target.0)?;
+    Some(Problem::new(pattern, target, induced))
+}
+
+/// The problem of two texts of this kind.
+pub(crate) fn problem(
+    alloc: Global,
+    kind: LadKind,
+    pattern: &[u8],
+    target: &[u8],
+) -> Option<Problem> {
+    problem_of(alloc, (kind, pattern), (kind, target), false)
 }
 
 /// The texts of a pattern and a target, a vertex of each, and whether the degrees of the second keep the first.

@@ -2,7 +2,8 @@
 
 ghost use Rattle.graph_theory.specs.Graph.{size};
 
-use graph_rows::{Graph, Problem};
+use crate::degree_tests::problem_of;
+use graph_rows::Graph;
 use graph_theory::direction::Direction;
 use lad_reader::LadKind;
 use sample_graphs::{PATH, graph_in};
@@ -17,24 +18,19 @@ const DIRECTED: LadKind = LadKind::DirectedLad;
 /// Edges from 0 to 1 and 2, from 1 to itself and 2, and from 3 to 2.
 const MIXED: &[u8] = b"4 2 1 2 2 1 2 0 1 2";
 
-/// The row of `a` in a direction, and the row the other way round.
-fn rows_by(graph: &Graph, direction: Direction, a: u16) -> Option<(u64, u64)> {
-    if a >= graph.size() {
-        return None;
-    }
-    let row = graph.row_by(direction, a).first().copied()?;
-    let back = graph.in_row_by(direction, a).first().copied()?;
-    Some((row, back))
+/// Whether these are the row of `a` in a direction, and the row the other way round.
+fn are_rows(graph: &Graph, direction: Direction, a: u16, row: u64, back: u64) -> bool {
+    a < graph.size()
+        && graph.row_by(direction, a) == [row].as_slice()
+        && graph.in_row_by(direction, a) == [back].as_slice()
 }
 
-/// The degree of `a` in a direction, as it is counted for one vertex and for all, and the degree the other way round.
-fn degrees_by(graph: &Graph, direction: Direction, a: u16) -> Option<(u16, u16, u16)> {
-    if a >= graph.size() {
-        return None;
-    }
-    let among = graph.degrees_by(direction)[usize::from(a)];
-    let back = graph.in_degree_by(direction, a);
-    Some((graph.degree_by(direction, a), among, back))
+/// Whether these are the degree of `a` in a direction, as it is counted for one vertex and for all, and the degree the other way round.
+fn are_degrees(graph: &Graph, direction: Direction, a: u16, degree: u16, back: u16) -> bool {
+    a < graph.size()
+        && graph.degree_by(direction, a) == degree
+        && graph.degrees_by(direction)[usize::from(a)] == degree
+        && graph.in_degree_by(direction, a) == back
 }
 
 /// A graph's text, a direction, a vertex, its row, and the row the other way round.
@@ -44,7 +40,7 @@ impl<R> Example<R> for Rows {
     fn holds(&self, _rt: &R, alloc: Global) -> Result<bool, AllocError> {
         let Rows(kind, text, direction, a, row, back) = *self;
         match graph_in(alloc, text, kind) {
-            Some(graph) => Ok(rows_by(&graph, direction, a) == Some((row, back))),
+            Some(graph) => Ok(are_rows(&graph, direction, a, row, back)),
             None => Ok(false),
         }
     }
@@ -72,7 +68,7 @@ impl<R> Example<R> for Degrees {
     fn holds(&self, _rt: &R, alloc: Global) -> Result<bool, AllocError> {
         let Degrees(direction, a, degree, back) = *self;
         match graph_in(alloc, MIXED, DIRECTED) {
-            Some(graph) => Ok(degrees_by(&graph, direction, a) == Some((degree, degree, back))),
+            Some(graph) => Ok(are_degrees(&graph, direction, a, degree, back)),
             None => Ok(false),
         }
     }
@@ -90,19 +86,15 @@ fn degrees_are_those_of_their_direction(rt: HostRuntime) -> Result<(), Fail> {
     all_hold(&rt, rt.alloc(), &DEGREES)
 }
 
-/// Whether edges of a problem are known to stand both ways.
-fn is_mutual(alloc: Global, pattern: LadKind, target: LadKind) -> Option<bool> {
-    let pattern = graph_in(alloc, PATH, pattern)?;
-    let target = graph_in(alloc, PATH, target)?;
-    Some(Problem::new(pattern, target, false).is_mutual())
-}
-
 /// The formats of a pattern and a target, and whether edges of such a problem are known to stand both ways.
 struct Mutual(LadKind, LadKind, bool);
 
 impl<R> Example<R> for Mutual {
     fn holds(&self, _rt: &R, alloc: Global) -> Result<bool, AllocError> {
-        Ok(is_mutual(alloc, self.0, self.1) == Some(self.2))
+        match problem_of(alloc, (self.0, PATH), (self.1, PATH), false) {
+            Some(q) => Ok(q.is_mutual() == self.2),
+            None => Ok(false),
+        }
     }
 }
 

@@ -29,16 +29,6 @@ enum Act {
     Is(u16, &'static [u64]),
 }
 
-/// Whether a value left, or was not there, as told.
-fn removes<T: Trail>(domains: &mut Domains<T>, p: u16, t: u16, was_there: bool) -> bool {
-    p < domains.vertices() && t < domains.values() && domains.remove(p, t) == was_there
-}
-
-/// Whether the domain has the value.
-fn has<T: Trail>(domains: &Domains<T>, p: u16, t: u16) -> bool {
-    p < domains.vertices() && t < domains.values() && domains.has(p, t)
-}
-
 /// Whether the vertex could go to the value.
 fn assigns<T: Trail>(domains: &mut Domains<T>, p: u16, t: u16) -> bool {
     if p >= domains.vertices() || t >= domains.values() || !domains.has(p, t) {
@@ -70,11 +60,15 @@ impl Act {
     /// Whether it can be done, or is so.
     fn holds<T: Trail>(&self, domains: &mut Domains<T>, mark: Mark) -> bool {
         match *self {
-            Act::Removes(p, t, was_there) => removes(domains, p, t, was_there),
+            Act::Removes(p, t, was_there) => {
+                p < domains.vertices() && t < domains.values() && domains.remove(p, t) == was_there
+            }
             Act::Assigns(p, t) => assigns(domains, p, t),
             Act::Meets(p, row) => meets(domains, p, row),
             Act::Undoes => undoes(domains, mark),
-            Act::Has(p, t) => has(domains, p, t),
+            Act::Has(p, t) => {
+                p < domains.vertices() && t < domains.values() && domains.has(p, t)
+            }
             Act::Sizes(p, size) => p < domains.vertices() && domains.size(p) == size,
             Act::Only(p, value) => p < domains.vertices() && domains.only(p) == value,
             Act::Is(p, row) => p < domains.vertices() && domains.row(p) == row,

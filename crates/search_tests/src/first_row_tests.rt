@@ -4,12 +4,13 @@ ghost use Rattle.std.specs.Prelude.{◌≡◌, ◌<◌, IfSome};
 ghost use Rattle.graph_theory.specs.Graph.{size};
 ghost use Rattle.nds_filter.specs.Sequences.{sequences};
 
+use crate::degree_tests::problem_of;
 use first_rows::{FirstRows, fill_first, is_first};
 use graph_rows::{Graph, Problem};
 use graph_theory::direction::Direction;
 use lad_reader::LadKind;
 use nds_filter::Sequences;
-use sample_graphs::{PATH, TRIANGLE, graph_in};
+use sample_graphs::{PATH, TRIANGLE};
 use std::alloc::{AllocError, Global};
 use std::test::Fail;
 use worked_examples::{Example, all_hold};
@@ -77,9 +78,7 @@ fn problem(alloc: Global, row: &FirstRow) -> Option<Problem> {
     } else {
         LadKind::Lad
     };
-    let pattern = graph_in(alloc, row.pattern, kind)?;
-    let target = graph_in(alloc, row.target, kind)?;
-    Some(Problem::new(pattern, target, row.induced))
+    problem_of(alloc, (kind, row.pattern), (kind, row.target), row.induced)
 }
 
 /// Two texts, with directions or without, a pattern vertex, and its first domain as one word.

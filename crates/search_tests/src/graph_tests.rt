@@ -1,15 +1,14 @@
 //! Worked problems, on which the test over bit rows and the plain program must agree, and worked texts of mappings.
 
-ghost use Rattle.std.specs.Prelude.{◌≤◌, IfSome};
-ghost use Rattle.graph_theory.specs.Graph.{size};
-
-use graph_rows::{Graph, Problem, read_mapping, write_mapping};
+use crate::degree_tests::problem_of;
+use graph_rows::{Graph, read_mapping, write_mapping};
 use graph_theory::listed_graph::ListedGraph;
 use graph_theory::mapping_text::MapFault;
 use graph_theory::plain_lad::vertices_in;
 use graph_theory::trial::ListedProblem;
-use lad_reader::{LadKind, read_lad};
+use lad_reader::LadKind;
 use outer_io::MemorySink;
+use sample_graphs::graph_in;
 use std::alloc::{AllocError, Global};
 use std::test::Fail;
 use worked_examples::{Example, all_hold};
@@ -25,35 +24,6 @@ const PATH: &[u8] = b"3 1 1 2 0 2 1 1";
 const EDGE: &[u8] = b"2 1 1 1 0";
 
 const POINT_AND_LOOP: &[u8] = b"2 0 1 1";
-
-/// The graph of a text of at most 1,024 vertices.
-fn graph(alloc: Global, text: &[u8], kind: LadKind) -> Option<Graph>
-    ensures { IfSome result (λ g. size g ≤ 1024) }
-{
-    let Ok(parts) = read_lad(alloc, text, kind, 1024) else {
-        return None;
-    };
-    let Ok(graph) = Graph::new(alloc, &parts) else {
-        return None;
-    };
-    if graph.size() > 1024 {
-        return None;
-    }
-    Some(graph)
-}
-
-/// The problem of two texts.
-fn problem(
-    alloc: Global,
-    pattern: &[u8],
-    target: &[u8],
-    kind: LadKind,
-    induced: bool,
-) -> Option<Problem> {
-    let pattern = graph(alloc, pattern, kind)?;
-    let target = graph(alloc, target, kind)?;
-    Some(Problem::new(pattern, target, induced))
-}
 
 /// The graph of a text, kept as its lists.
 fn listed_text(alloc: Global, text: &[u8], kind: LadKind) -> Option<ListedGraph> {
@@ -101,7 +71,8 @@ impl Decided {
 
     /// Whether the test over bit rows does.
     fn holds_by_rows(&self, alloc: Global) -> bool {
-        match problem(alloc, self.pattern, self.target, self.kind, self.induced) {
+        let pattern = (self.kind, self.pattern);
+        match problem_of(alloc, pattern, (self.kind, self.target), self.induced) {
             Some(q) => q.is_embedding(self.map) == self.embeds,
             None => false,
         }
@@ -339,7 +310,8 @@ fn has_a_loop_at_one(graph: &Graph) -> bool {
 
 #[test]
 fn loops_and_degrees_lie_beside_the_rows(rt: HostRuntime) -> Result<(), Fail> {
-    let graph = graph(rt.alloc(), b"3 5 2 1 2 5 2 1 0 6 1 0", LABELLED).ok_or("no graph")?;
+    let text = b"3 5 2 1 2 5 2 1 0 6 1 0";
+    let graph = graph_in(rt.alloc(), text, LABELLED).ok_or("no graph")?;
     assert!(rt; has_a_loop_at_one(&graph));
     Ok(())
 }

@@ -2,11 +2,12 @@
 
 ghost use Rattle.graph_theory.specs.Graph.{size};
 
+use crate::degree_tests::problem;
 use graph_rows::{Graph, Problem};
 use graph_theory::direction::Direction;
 use lad_reader::LadKind;
 use nds_filter::{KeptRows, SequenceAnswer, Sequences, keeps};
-use sample_graphs::{EDGE, TRIANGLE, graph_in};
+use sample_graphs::{EDGE, TRIANGLE};
 use std::alloc::{AllocError, Global};
 use std::test::Fail;
 use worked_examples::{Example, all_hold};
@@ -22,13 +23,6 @@ const ALONG: &[u8] = b"3 1 1 1 2 0";
 
 /// Edges from 0 to 1 and 2, from 1 to itself and 2, and from 3 to 2.
 const MIXED: &[u8] = b"4 2 1 2 2 1 2 0 1 2";
-
-/// The problem of two texts of this kind.
-fn problem(alloc: Global, kind: LadKind, pattern: &[u8], target: &[u8]) -> Option<Problem> {
-    let pattern = graph_in(alloc, pattern, kind)?;
-    let target = graph_in(alloc, target, kind)?;
-    Some(Problem::new(pattern, target, false))
-}
 
 /// The answer for two vertices of two graphs in a direction.
 fn answer_by(
