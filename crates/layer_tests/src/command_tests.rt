@@ -199,7 +199,6 @@ static SAYS: [Says; 25] = [
     },
 ];
 
-/// Lines that are no command.
 /// A line that is no command.
 struct Refused(&'static str);
 
@@ -293,11 +292,6 @@ fn has_longest(alloc: Global, line: &str) -> Result<bool, AllocError> {
 #[test]
 fn a_name_has_at_most_4095_bytes(rt: HostRuntime) -> Result<(), Fail> {
     assert!(rt; has_longest(rt.alloc(), "subgraph solve p")?);
-    Ok(())
-}
-
-#[test]
-fn the_name_of_a_log_has_at_most_4095_bytes(rt: HostRuntime) -> Result<(), Fail> {
     assert!(rt; has_longest(rt.alloc(), "subgraph solve p t --prove e --log")?);
     Ok(())
 }

@@ -2,9 +2,11 @@
 
 ghost use Rattle.std.specs.Prelude.{IfSome};
 ghost use Rattle.graph_theory.specs.Plain.{ArePlain};
+ghost use Rattle.proof_files.specs.Findings.{IsFound};
 
 use graph_rows::Problem;
 use log_theory::Profile;
+use outer_io::MemoryFiles;
 use proof_files::{Finding, write_proof};
 use sample_graphs::graph;
 use std::alloc::{AllocError, Global};
@@ -26,27 +28,6 @@ static FILES: [InMemory; 2] = [InMemory("e", Some(b"other"), 256), InMemory("l",
 /// What the two files hold.
 type Contents = (Option<&'static [u8]>, Option<&'static [u8]>);
 
-/// Whether writing succeeds or fails as it should, and leaves these contents.
-fn leaves(
-    alloc: Global,
-    map: &[u32],
-    failing: u64,
-    ok: bool,
-    contents: Contents,
-) -> Result<bool, AllocError> {
-    let Some(q) = problem(alloc) else {
-        return Ok(false);
-    };
-    let mut files = files_in_memory(alloc, &FILES, failing)?;
-    let finding = if q.is_embedding(map) {
-        Finding::Embedding(map)
-    } else {
-        Finding::Nothing
-    };
-    let written = write_proof(alloc, &q, &finding, Profile::Hinted, "e", "l", &mut files);
-    Ok(written.is_ok() == ok && (files.content("e"), files.content("l")) == contents)
-}
-
 const ENCODING: &[u8] = b"* #variable= 2 #constraint= 5
 +1 x1 +1 x2 >= 1 ;
 -1 x1 -1 x2 >= -1 ;
@@ -58,9 +39,41 @@ const ENCODING: &[u8] = b"* #variable= 2 #constraint= 5
 /// A map, the call that fails (0: none), whether writing succeeds, and what the two files then hold.
 struct Left(&'static [u32], u64, bool, Contents);
 
+/// Whether the files hold this.
+fn hold(files: &MemoryFiles, contents: Contents) -> bool {
+    files.content("e") == contents.0 && files.content("l") == contents.1
+}
+
+/// Writes the proof of what was found, and tells whether it could.
+fn write(alloc: Global, q: &Problem, finding: &Finding, files: &mut MemoryFiles) -> bool
+    requires { IsFound q.now finding.now }
+{
+    write_proof(alloc, q, finding, Profile::Hinted, "e", "l", files).is_ok()
+}
+
+/// Whether writing what was found succeeds or fails as it should, and leaves these contents.
+fn leaves(alloc: Global, q: &Problem, finding: &Finding, left: &Left) -> Result<bool, AllocError>
+    requires { IsFound q.now finding.now }
+{
+    let mut files = files_in_memory(alloc, &FILES, left.1)?;
+    Ok(write(alloc, q, finding, &mut files) == left.2 && hold(&files, left.3))
+}
+
+/// The same of the problem and the map of a row, or nothing where that is no embedding.
+fn leaves_of(alloc: Global, q: &Problem, left: &Left) -> Result<bool, AllocError> {
+    if q.is_embedding(left.0) {
+        leaves(alloc, q, &Finding::Embedding(left.0), left)
+    } else {
+        leaves(alloc, q, &Finding::Nothing, left)
+    }
+}
+
 impl<R> Example<R> for Left {
     fn holds(&self, _rt: &R, alloc: Global) -> Result<bool, AllocError> {
-        leaves(alloc, self.0, self.1, self.2, self.3)
+        match problem(alloc) {
+            Some(q) => leaves_of(alloc, &q, self),
+            None => Ok(false),
+        }
     }
 }
 

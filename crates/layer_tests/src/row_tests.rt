@@ -3,7 +3,7 @@
 ghost use Rattle.std.specs.Prelude.{◌≡◌, ◌<◌, IsTrue};
 ghost use Rattle.graph_theory.specs.Graph.{size};
 
-use crate::problems::{problem, problem_of};
+use crate::problems::problem_of;
 use graph_rows::Problem;
 use lad_reader::LadKind;
 use pair_rows::{MOST_WORDS, PairKinds, PairRows, RowsAt};
@@ -39,25 +39,101 @@ struct Worked(
     u64,
 );
 
-/// The values of `r` that go together with `t` of `p`, as one word, where rows were made at another vertex before.
-fn row(alloc: Global, q: &Problem, p: u16, r: u16, t: u16) -> Option<u64> {
+/// What rows of a vertex at a value tell of another vertex.
+#[derive(Clone, Copy)]
+struct Looked {
+    /// The values of the other vertex that go together with it, as one word.
+    word: Option<u64>,
+    /// Whether the other vertex is asked nothing but another image.
+    is_free: bool,
+    /// The first neighbour of the value, where the other vertex is asked nothing but an image that is no neighbour of the value, nor the value.
+    alone: Option<u16>,
+    /// The same, where the value's neighbours are listed.
+    first: Option<u16>,
+}
+
+/// The first neighbour of `t`, where its neighbours are listed.
+fn first_neighbour(kinds: &PairKinds, q: &Problem, t: u16) -> Option<u16>
+    requires t_in { t < size q.now.target }
+    requires same { kinds.now.problem ≡ q.now }
+{
+    kinds.neighbours(t)?.first().copied()
+}
+
+/// The same of the value, where `r` is asked nothing but an image that is none of them, nor the value.
+fn first_alone(at: &RowsAt, r: u16) -> Option<u16>
+    requires r_in { r < size at.now.problem.pattern }
+    requires apart { at.now.vertex ≡ r → ⊥ }
+{
+    at.near_alone(r)?.first().copied()
+}
+
+/// What the rows tell of `r`, with this first neighbour.
+fn told(at: &RowsAt, r: u16, first: Option<u16>) -> Looked
+    requires r_in { r < size at.now.problem.pattern }
+    requires apart { at.now.vertex ≡ r → ⊥ }
+{
+    Looked {
+        word: at.row(r).first().copied(),
+        is_free: at.is_free(r),
+        alone: first_alone(at, r),
+        first,
+    }
+}
+
+/// The same of rows at `t` that are made where rows were made at another vertex before.
+fn made(rows: &mut PairRows, p: u16, r: u16, t: u16, first: Option<u16>) -> Looked
+    requires p_in { p < size rows.old.problem.pattern }
+    requires r_in { r < size rows.old.problem.pattern }
+    requires apart { p ≡ r → ⊥ }
+    requires t_in { t < size rows.old.problem.target }
+{
+    rows.make(0);
+    rows.make(t);
+    rows.make(t);
+    told(&rows.at(p, t), r, first)
+}
+
+/// The same of new rows of these kinds.
+fn made_of(alloc: Global, q: &Problem, kinds: &PairKinds, p: u16, r: u16, t: u16) -> Option<Looked>
+    requires same { kinds.now.problem ≡ q.now }
+    requires p_in { p < size q.now.pattern }
+    requires r_in { r < size q.now.pattern }
+    requires apart { p ≡ r → ⊥ }
+    requires t_in { t < size q.now.target }
+{
+    let first = first_neighbour(kinds, q, t);
+    let mut rows = PairRows::new(alloc, kinds, MOST_WORDS).ok()?;
+    Some(made(&mut rows, p, r, t, first))
+}
+
+/// The same of two vertices and a value of a problem, where they are some.
+fn look(alloc: Global, q: &Problem, (p, r): (u16, u16), t: u16) -> Option<Looked> {
     if !are_two(q, p, r) || t >= q.target().size() {
         return None;
     }
     let kinds = PairKinds::new(alloc, q).ok()?;
-    let mut rows = PairRows::new(alloc, &kinds, MOST_WORDS).ok()?;
-    rows.make(0);
-    rows.make(t);
-    rows.make(t);
-    let at = rows.at(p, t);
-    at.row(r).first().copied()
+    made_of(alloc, q, &kinds, p, r, t)
+}
+
+/// The same of the problem of two texts of this format.
+fn look_in(
+    alloc: Global,
+    kind: LadKind,
+    (pattern, target): (&[u8], &[u8]),
+    induced: bool,
+    vertices: (u16, u16),
+    t: u16,
+) -> Option<Looked> {
+    let q = problem_of(alloc, kind, pattern, target, induced)?;
+    look(alloc, &q, vertices, t)
 }
 
 impl<R> Example<R> for Worked {
     fn holds(&self, _rt: &R, alloc: Global) -> Result<bool, AllocError> {
-        let Worked(kind, pattern, target, induced, (p, r), t, word) = *self;
-        match problem_of(alloc, kind, pattern, target, induced) {
-            Some(q) => Ok(row(alloc, &q, p, r, t) == Some(word)),
+        let Worked(kind, pattern, target, induced, vertices, t, word) = *self;
+        match look_in(alloc, kind, (pattern, target), induced, vertices, t) {
+            Some(seen) => Ok(seen.word == Some(word)),
             None => Ok(false),
         }
     }
@@ -106,46 +182,30 @@ fn rows_hold_what_goes_together_along_edges(rt: HostRuntime) -> Result<(), Fail>
     all_hold(&rt, rt.alloc(), &ALONG_EDGES)
 }
 
-/// Whether `r` is asked nothing but another image than that of `p`, which is the target's first vertex.
-fn is_free(alloc: Global, q: &Problem, p: u16, r: u16) -> Option<bool> {
-    if !are_two(q, p, r) || q.target().size() == 0 {
-        return None;
+/// A pattern, whether its copy in a cycle is to be induced, two of its vertices, and whether the second is asked nothing but another image than
+/// that of the first, which is the first of the cycle.
+struct Free(&'static [u8], bool, (u16, u16), bool);
+
+impl<R> Example<R> for Free {
+    fn holds(&self, _rt: &R, alloc: Global) -> Result<bool, AllocError> {
+        match look_in(alloc, LAD, (self.0, FOUR_CYCLE), self.1, self.2, 0) {
+            Some(seen) => Ok(seen.is_free == self.3),
+            None => Ok(false),
+        }
     }
-    let kinds = PairKinds::new(alloc, q).ok()?;
-    let mut rows = PairRows::new(alloc, &kinds, MOST_WORDS).ok()?;
-    rows.make(0);
-    let at = rows.at(p, 0);
-    Some(at.is_free(r))
 }
 
-/// The same in a cycle.
-fn free(alloc: Global, pattern: &[u8], induced: bool, p: u16, r: u16) -> Option<bool> {
-    let q = problem(alloc, pattern, FOUR_CYCLE, induced)?;
-    is_free(alloc, &q, p, r)
-}
+/// Vertices apart are free, but in the induced kind; neighbours and vertices that share one are not.
+static FREE: [Free; 4] = [
+    Free(APART, false, (0, 1), true),
+    Free(APART, true, (0, 1), false),
+    Free(EDGE, false, (1, 0), false),
+    Free(PATH, false, (0, 2), false),
+];
 
 #[test]
-fn vertices_apart_are_free(rt: HostRuntime) -> Result<(), Fail> {
-    assert!(rt; free(rt.alloc(), APART, false, 0, 1) == Some(true));
-    Ok(())
-}
-
-#[test]
-fn vertices_apart_are_not_free_in_the_induced_kind(rt: HostRuntime) -> Result<(), Fail> {
-    assert!(rt; free(rt.alloc(), APART, true, 0, 1) == Some(false));
-    Ok(())
-}
-
-#[test]
-fn neighbours_are_not_free(rt: HostRuntime) -> Result<(), Fail> {
-    assert!(rt; free(rt.alloc(), EDGE, false, 1, 0) == Some(false));
-    Ok(())
-}
-
-#[test]
-fn vertices_that_share_a_neighbour_are_not_free(rt: HostRuntime) -> Result<(), Fail> {
-    assert!(rt; free(rt.alloc(), PATH, false, 0, 2) == Some(false));
-    Ok(())
+fn only_vertices_apart_are_free(rt: HostRuntime) -> Result<(), Fail> {
+    all_hold(&rt, rt.alloc(), &FREE)
 }
 
 /// A problem of the induced kind, two vertices of its pattern and a value of the first, and what is so of them.
@@ -162,41 +222,21 @@ struct Near {
     word: u64,
 }
 
-/// The first neighbour of `t`, where its neighbours are listed.
-fn first_neighbour(kinds: &PairKinds, q: &Problem, t: u16) -> Option<u16>
-    requires t_in { t < size q.now.target }
-    requires same { kinds.now.problem ≡ q.now }
-{
-    kinds.neighbours(t)?.first().copied()
-}
-
-/// The same of the value, where `r` is asked nothing but an image that is none of them, nor the value.
-fn first_alone(at: &RowsAt, r: u16) -> Option<u16>
-    requires r_in { r < size at.now.problem.pattern }
-    requires apart { at.now.vertex ≡ r → ⊥ }
-{
-    at.near_alone(r)?.first().copied()
-}
-
-/// Whether this is so of two vertices and a value.
-fn is_near(alloc: Global, q: &Problem, near: &Near) -> Option<bool> {
-    let ((p, r), t) = (near.vertices, near.value);
-    if !are_two(q, p, r) || t >= q.target().size() {
-        return None;
-    }
-    let kinds = PairKinds::new(alloc, q).ok()?;
-    let mut rows = PairRows::new(alloc, &kinds, MOST_WORDS).ok()?;
-    rows.make(t);
-    let at = rows.at(p, t);
-    let is_word = at.row(r).first().copied() == Some(near.word);
-    let is_first = first_neighbour(&kinds, q, t) == near.first;
-    Some(is_word && is_first && first_alone(&at, r) == near.alone)
-}
-
 impl<R> Example<R> for Near {
     fn holds(&self, _rt: &R, alloc: Global) -> Result<bool, AllocError> {
-        match problem(alloc, self.pattern, self.target, true) {
-            Some(q) => Ok(is_near(alloc, &q, self) == Some(true)),
+        match look_in(
+            alloc,
+            LAD,
+            (self.pattern, self.target),
+            true,
+            self.vertices,
+            self.value,
+        ) {
+            Some(seen) => Ok(
+                seen.word == Some(self.word)
+                    && seen.first == self.first
+                    && seen.alone == self.alone,
+            ),
             None => Ok(false),
         }
     }

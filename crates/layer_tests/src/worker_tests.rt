@@ -8,7 +8,6 @@ use parallel_solve::{Proof, Settings, Solved, solve_with};
 use sample_graphs::{EDGE, FOUR_CYCLE, TRIANGLE};
 use std::alloc::Global;
 use std::sync::atomic::{AtomicU64, Ordering};
-use std::test::Fail;
 use std::thread::{self, Threads};
 use worker_gate::{Gate, OpenGate, Point};
 
@@ -112,21 +111,10 @@ fn all_decide<R: Threads + Sync>(rt: &R, alloc: Global, rows: u32) -> bool {
 }
 
 #[test]
-fn any_number_of_workers_decides_alike(rt: HostRuntime) -> Result<(), Fail> {
+fn any_number_of_workers_decides_alike_over_any_book(rt: HostRuntime) {
     assert!(rt; all_decide(&rt, rt.alloc(), 64));
-    Ok(())
-}
-
-#[test]
-fn workers_over_one_row_decide_alike(rt: HostRuntime) -> Result<(), Fail> {
     assert!(rt; all_decide(&rt, rt.alloc(), 1));
-    Ok(())
-}
-
-#[test]
-fn workers_without_a_book_decide_alike(rt: HostRuntime) -> Result<(), Fail> {
     assert!(rt; all_decide(&rt, rt.alloc(), 0));
-    Ok(())
 }
 
 /// Whether so many workers over a book of so many rows refute five vertices beside each other among four parts, which takes restarts.
@@ -136,27 +124,11 @@ fn refute<R: Threads + Sync>(rt: &R, alloc: Global, threads: u32, rows: u32) -> 
 }
 
 #[test]
-fn a_worker_that_restarts_refutes(rt: HostRuntime) -> Result<(), Fail> {
+fn workers_that_restart_refute_over_any_book(rt: HostRuntime) {
     assert!(rt; refute(&rt, rt.alloc(), 1, 65536));
-    Ok(())
-}
-
-#[test]
-fn workers_that_restart_share_a_book(rt: HostRuntime) -> Result<(), Fail> {
     assert!(rt; refute(&rt, rt.alloc(), 4, 65536));
-    Ok(())
-}
-
-#[test]
-fn workers_that_restart_share_three_rows(rt: HostRuntime) -> Result<(), Fail> {
     assert!(rt; refute(&rt, rt.alloc(), 4, 3));
-    Ok(())
-}
-
-#[test]
-fn workers_that_restart_need_no_book(rt: HostRuntime) -> Result<(), Fail> {
     assert!(rt; refute(&rt, rt.alloc(), 4, 0));
-    Ok(())
 }
 
 /// Whether so many workers without a fail to spend leave an account each.
@@ -166,15 +138,10 @@ fn is_spent<R: Threads + Sync>(rt: &R, alloc: Global, threads: u32) -> bool {
 }
 
 #[test]
-fn a_spent_worker_has_an_account(rt: HostRuntime) -> Result<(), Fail> {
+fn a_spent_solve_has_an_account_for_each_worker(rt: HostRuntime) {
     assert!(rt; is_spent(&rt, rt.alloc(), 1));
-    Ok(())
-}
-
-#[test]
-fn a_spent_solve_has_an_account_for_each_worker(rt: HostRuntime) -> Result<(), Fail> {
-    assert!(rt; is_spent(&rt, rt.alloc(), 3) && is_spent(&rt, rt.alloc(), 64));
-    Ok(())
+    assert!(rt; is_spent(&rt, rt.alloc(), 3));
+    assert!(rt; is_spent(&rt, rt.alloc(), 64));
 }
 
 /// A gate that holds each of two workers at its guesses until the other has come to one, for at most ten million turns.
@@ -229,25 +196,17 @@ impl Meeting {
 }
 
 #[test]
-fn two_workers_search_beside_each_other(rt: HostRuntime) -> Result<(), Fail> {
+fn two_workers_search_beside_each_other(rt: HostRuntime) {
     let meeting = Meeting::new();
     let asked = settings(2, 1000, 64, false);
     let end = end_of(&rt, rt.alloc(), TRIANGLE, FOUR_CYCLE, &asked, &meeting);
     assert!(rt; end == End::None && meeting.is_held());
-    Ok(())
 }
 
 #[test]
-fn a_log_is_kept_where_one_is_asked_for(rt: HostRuntime) -> Result<(), Fail> {
-    let end = end_of_triangle(&rt, rt.alloc(), &settings(2, 1000, 64, true));
-    assert!(rt; end == End::Proved);
-    Ok(())
-}
-
-#[test]
-fn a_log_is_kept_where_the_root_is_refuted(rt: HostRuntime) -> Result<(), Fail> {
+fn a_log_is_kept_where_one_is_asked_for_also_of_a_root_that_is_refuted(rt: HostRuntime) {
     let asked = settings(2, 1000, 64, true);
+    assert!(rt; end_of_triangle(&rt, rt.alloc(), &asked) == End::Proved);
     let end = end_of(&rt, rt.alloc(), CLIQUE, FOUR_CYCLE, &asked, &OpenGate);
     assert!(rt; end == End::Proved);
-    Ok(())
 }

@@ -1,10 +1,13 @@
 //! What `demo` answers.
 
+use crate::ends::{Ends, all_end};
 use memory_runs::{CLEAN, Failing, Ran, run_over};
 use std::alloc::{AllocError, Global};
 use std::test::Fail;
 use std::thread::Threads;
-use worked_examples::none_wrong;
+
+/// What is told where both problems of a seed are decided.
+const DECIDED: &[u8] = b"planted yes\ncycle none\nlog accepted\n";
 
 /// Runs the words over no file, with this call on the output failing.
 fn run_demo<R: Threads + Sync>(
@@ -20,76 +23,29 @@ fn run_demo<R: Threads + Sync>(
     run_over(rt, alloc, line, Vec::new(alloc), failing)
 }
 
-/// Words, and what they come to.
-struct Shown {
-    line: &'static str,
-    /// Which of the output's calls is to fail, 0 for none.
-    failing: u64,
-    status: u8,
-    out: &'static str,
-    err: &'static str,
-    /// How many accounts are left.
-    accounts: usize,
-}
-
-/// Whether the runs of a row end so.
-fn holds<R: Threads + Sync>(rt: &R, alloc: Global, row: &Shown) -> Result<bool, AllocError> {
-    let ran = run_demo(rt, alloc, row.line, row.failing)?;
-    Ok(ran.gave(row.status, row.out, row.err) && ran.accounts == row.accounts)
-}
-
-/// The place, from 0, of the first row that does not hold.
-fn first_wrong<R: Threads + Sync>(
-    rt: &R,
-    alloc: Global,
-    rows: &[Shown],
-) -> Result<Option<usize>, AllocError> {
-    for (at, row) in rows.iter().enumerate() {
-        if !holds(rt, alloc, row)? {
-            return Ok(Some(at));
-        }
-    }
-    Ok(None)
-}
-
-static SHOWN: [Shown; 4] = [
-    Shown {
-        line: "subgraph demo 7 --budget 2000000",
-        failing: 0,
-        status: 0,
-        out: "planted yes\ncycle none\nlog accepted\n",
-        err: "",
-        accounts: 0,
-    },
-    Shown {
-        line: "subgraph demo 7 --budget 2000000",
-        failing: 1,
-        status: 5,
-        out: "",
-        err: "output: fault\n",
-        accounts: 0,
-    },
-    Shown {
-        line: "subgraph demo 7 --threads 4 --budget 2000000",
-        failing: 0,
-        status: 0,
-        out: "planted yes\ncycle none\nlog accepted\n",
-        err: "",
-        accounts: 0,
-    },
-    Shown {
-        line: "subgraph demo",
-        failing: 0,
-        status: 3,
-        out: "",
-        err: "words: not a command\n",
-        accounts: 0,
-    },
+static SHOWN: [Ends; 3] = [
+    Ends("subgraph demo 7 --budget 2000000", &[], 0, DECIDED, "", 0),
+    Ends(
+        "subgraph demo 7 --threads 4 --budget 2000000",
+        &[],
+        0,
+        DECIDED,
+        "",
+        0,
+    ),
+    Ends("subgraph demo", &[], 3, b"", "words: not a command\n", 0),
 ];
 
 #[test]
 fn both_problems_of_a_seed_are_decided(rt: HostRuntime) -> Result<(), Fail> {
-    none_wrong(first_wrong(&rt, rt.alloc(), &SHOWN)?)
+    all_end(&rt, rt.alloc(), &SHOWN)
+}
+
+#[test]
+fn a_fault_of_the_output_is_told(rt: HostRuntime) -> Result<(), Fail> {
+    let ran = run_demo(&rt, rt.alloc(), "subgraph demo 7 --budget 2000000", 1)?;
+    assert!(rt; ran.gave(5, "", "output: fault\n") && ran.accounts == 0);
+    Ok(())
 }
 
 /// Whether the cycle was left unknown by each of three workers, and the planted pattern was found or left unknown too.

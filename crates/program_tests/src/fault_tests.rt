@@ -6,138 +6,68 @@ use std::test::Fail;
 use std::thread::Threads;
 use worked_examples::none_wrong;
 
-/// Runs the program over an edge as pattern and target, a good and a bad mapping of it, an encoding with a good and a
-/// bad log of each kind, and faulty graphs, with this call failing.
-fn run_failing<R: Threads + Sync>(
-    rt: &R,
-    alloc: Global,
-    line: &str,
-    failing: Failing,
-) -> Result<Ran, AllocError> {
-    let texts = [
-        ("p", EDGE),
-        ("t", EDGE),
-        ("m", "yes\n0 -> 1\n1 -> 0\n"),
-        ("b", "yes\n0 -> 0\n1 -> 0\n"),
-        ("e", "* #variable= 0 #constraint= 0\n"),
-        ("l", "embedding proof 1\nm 0\ny\n"),
-        ("h", "embedding proof 2\nm 0\ny\n"),
-        ("r", "embedding proof 1\nm 0\ne 1\n"),
-        ("u", "embedding proof 2\nm 0\nu 0.1 ;\n"),
-        ("none", ""),
-        ("cut", "3\n2 1\n"),
-        ("letter", "1\nx\n"),
-        ("other", "2\n1 2\n0\n"),
-        ("more", "1\n0 7\n"),
-    ];
-    run_over(rt, alloc, line, parts(alloc, &texts)?, failing)
-}
-
-/// Runs the same, with this call on the files failing.
-fn run_files<R: Threads + Sync>(
-    rt: &R,
-    alloc: Global,
-    line: &str,
-    number: u64,
-) -> Result<Ran, AllocError> {
-    let failing = Failing {
-        files: number,
-        ..CLEAN
-    };
-    run_failing(rt, alloc, line, failing)
-}
-
-/// Runs the same, with this call on the output failing.
-fn run_out<R: Threads + Sync>(
-    rt: &R,
-    alloc: Global,
-    line: &str,
-    number: u64,
-) -> Result<Ran, AllocError> {
-    let failing = Failing {
-        out: number,
-        ..CLEAN
-    };
-    run_failing(rt, alloc, line, failing)
-}
-
-/// Words, and the number of the first call on the files that a run no longer makes.
-struct OfFiles {
-    line: &'static str,
-    beyond: u64,
-}
-
-/// Whether a fault of each earlier call is told.
-fn are_told<R: Threads + Sync>(
-    rt: &R,
-    alloc: Global,
-    faults: &OfFiles,
-) -> Result<bool, AllocError> {
-    for number in 1..faults.beyond {
-        let ran = run_files(rt, alloc, faults.line, number)?;
-        if !ran.gave(5, "", "files: fault\n") {
-            return Ok(false);
-        }
-    }
-    Ok(true)
-}
-
-/// Whether the runs of a row end so.
-fn holds_of_files<R: Threads + Sync>(
-    rt: &R,
-    alloc: Global,
-    row: &OfFiles,
-) -> Result<bool, AllocError> {
-    let ran = run_files(rt, alloc, row.line, row.beyond)?;
-    Ok(ran.status == 0 && are_told(rt, alloc, row)?)
-}
-
-/// The place, from 0, of the first row that does not hold.
-fn first_wrong_of_files<R: Threads + Sync>(
-    rt: &R,
-    alloc: Global,
-    rows: &[OfFiles],
-) -> Result<Option<usize>, AllocError> {
-    for (at, row) in rows.iter().enumerate() {
-        if !holds_of_files(rt, alloc, row)? {
-            return Ok(Some(at));
-        }
-    }
-    Ok(None)
-}
-
-static OF_FILES: [OfFiles; 5] = [
-    OfFiles {
-        line: "subgraph solve p t",
-        beyond: 7,
-    },
-    OfFiles {
-        line: "subgraph verify p t m",
-        beyond: 10,
-    },
-    OfFiles {
-        line: "subgraph encode p t",
-        beyond: 7,
-    },
-    OfFiles {
-        line: "subgraph check e l",
-        beyond: 7,
-    },
-    OfFiles {
-        line: "subgraph check e h",
-        beyond: 7,
-    },
+/// An edge as pattern and target, a good and a bad mapping of it, an encoding with a good and a bad log of each kind, and faulty graphs.
+const TEXTS: &[(&str, &str)] = &[
+    ("p", EDGE),
+    ("t", EDGE),
+    ("m", "yes\n0 -> 1\n1 -> 0\n"),
+    ("b", "yes\n0 -> 0\n1 -> 0\n"),
+    ("e", "* #variable= 0 #constraint= 0\n"),
+    ("l", "embedding proof 1\nm 0\ny\n"),
+    ("h", "embedding proof 2\nm 0\ny\n"),
+    ("r", "embedding proof 1\nm 0\ne 1\n"),
+    ("u", "embedding proof 2\nm 0\nu 0.1 ;\n"),
+    ("none", ""),
+    ("cut", "3\n2 1\n"),
+    ("letter", "1\nx\n"),
+    ("other", "2\n1 2\n0\n"),
+    ("more", "1\n0 7\n"),
 ];
 
-#[test]
-fn each_fault_of_the_files_is_told(rt: HostRuntime) -> Result<(), Fail> {
-    none_wrong(first_wrong_of_files(&rt, rt.alloc(), &OF_FILES)?)
+/// What fails.
+#[derive(Clone, Copy)]
+enum Stream {
+    Files,
+    Output,
+    Errors,
 }
 
-/// Words, and the number of the first call on the output that a run no longer makes.
-struct OfOutput {
-    line: &'static str,
-    beyond: u64,
+/// Words, what fails of their run, the number of the first call on it that the run no longer makes (or, of the error stream, that is not tried
+/// to fail), and the status with which the run ends if none fails.
+struct Faults(&'static str, Stream, u64, u8);
+
+/// The call of this number fails.
+fn failing(stream: Stream, number: u64) -> Failing {
+    match stream {
+        Stream::Files => Failing {
+            files: number,
+            ..CLEAN
+        },
+        Stream::Output => Failing {
+            out: number,
+            ..CLEAN
+        },
+        Stream::Errors => Failing {
+            err: number,
+            ..CLEAN
+        },
+    }
+}
+
+/// Runs the words of a row, with this call failing.
+fn run_but<R: Threads + Sync>(
+    rt: &R,
+    alloc: Global,
+    row: &Faults,
+    number: u64,
+) -> Result<Ran, AllocError> {
+    run_over(
+        rt,
+        alloc,
+        row.0,
+        parts(alloc, TEXTS)?,
+        failing(row.1, number),
+    )
 }
 
 /// Whether a run tells a fault of its output, and has written a part of the whole, from its beginning.
@@ -146,16 +76,25 @@ fn is_cut_off(ran: &Ran, whole: &Ran) -> bool {
     ran.ended(5, "output: fault\n") && written.len() < all.len() && all.starts_with(written)
 }
 
-/// Whether a fault of each earlier call cuts the output off.
-fn are_cut_off<R: Threads + Sync>(
+/// Whether a run ended as it should whose call failed: with a fault of the files, with a part of its output, or, where the error stream failed, with
+/// the same status.
+fn is_told(row: &Faults, ran: &Ran, whole: &Ran) -> bool {
+    match row.1 {
+        Stream::Files => ran.gave(5, "", "files: fault\n"),
+        Stream::Output => is_cut_off(ran, whole),
+        Stream::Errors => ran.status == row.3,
+    }
+}
+
+/// Whether the run of a row ends so with each earlier call failing.
+fn are_told<R: Threads + Sync>(
     rt: &R,
     alloc: Global,
-    faults: &OfOutput,
+    row: &Faults,
     whole: &Ran,
 ) -> Result<bool, AllocError> {
-    for number in 1..faults.beyond {
-        let ran = run_out(rt, alloc, faults.line, number)?;
-        if !is_cut_off(&ran, whole) {
+    for number in 1..row.2 {
+        if !is_told(row, &run_but(rt, alloc, row, number)?, whole) {
             return Ok(false);
         }
     }
@@ -163,100 +102,20 @@ fn are_cut_off<R: Threads + Sync>(
 }
 
 /// Whether the runs of a row end so.
-fn holds_of_output<R: Threads + Sync>(
-    rt: &R,
-    alloc: Global,
-    row: &OfOutput,
-) -> Result<bool, AllocError> {
-    let whole = run_failing(rt, alloc, row.line, CLEAN)?;
-    let beyond = run_out(rt, alloc, row.line, row.beyond)?;
-    Ok(beyond.status == 0 && are_cut_off(rt, alloc, row, &whole)?)
+fn holds<R: Threads + Sync>(rt: &R, alloc: Global, row: &Faults) -> Result<bool, AllocError> {
+    let whole = run_but(rt, alloc, row, 0)?;
+    let beyond = run_but(rt, alloc, row, row.2)?;
+    Ok(beyond.status == row.3 && are_told(rt, alloc, row, &whole)?)
 }
 
 /// The place, from 0, of the first row that does not hold.
-fn first_wrong_of_output<R: Threads + Sync>(
+fn first_wrong<R: Threads + Sync>(
     rt: &R,
     alloc: Global,
-    rows: &[OfOutput],
+    rows: &[Faults],
 ) -> Result<Option<usize>, AllocError> {
     for (at, row) in rows.iter().enumerate() {
-        if !holds_of_output(rt, alloc, row)? {
-            return Ok(Some(at));
-        }
-    }
-    Ok(None)
-}
-
-static OF_OUTPUT: [OfOutput; 5] = [
-    OfOutput {
-        line: "subgraph solve p t",
-        beyond: 10,
-    },
-    OfOutput {
-        line: "subgraph verify p t m",
-        beyond: 2,
-    },
-    OfOutput {
-        line: "subgraph encode p t",
-        beyond: 7,
-    },
-    OfOutput {
-        line: "subgraph check e l",
-        beyond: 2,
-    },
-    OfOutput {
-        line: "subgraph check e h",
-        beyond: 2,
-    },
-];
-
-#[test]
-fn each_fault_of_the_output_is_told(rt: HostRuntime) -> Result<(), Fail> {
-    none_wrong(first_wrong_of_output(&rt, rt.alloc(), &OF_OUTPUT)?)
-}
-
-/// Words, and the status with which a run ends wherever a call on its error stream fails.
-struct OfErrors {
-    line: &'static str,
-    status: u8,
-}
-
-/// Runs the same, with this call on the error stream failing.
-fn run_err<R: Threads + Sync>(
-    rt: &R,
-    alloc: Global,
-    line: &str,
-    number: u64,
-) -> Result<Ran, AllocError> {
-    let failing = Failing {
-        err: number,
-        ..CLEAN
-    };
-    run_failing(rt, alloc, line, failing)
-}
-
-/// Whether the runs of a row end so.
-fn holds_of_errors<R: Threads + Sync>(
-    rt: &R,
-    alloc: Global,
-    row: &OfErrors,
-) -> Result<bool, AllocError> {
-    for number in 1..7 {
-        if run_err(rt, alloc, row.line, number)?.status != row.status {
-            return Ok(false);
-        }
-    }
-    Ok(true)
-}
-
-/// The place, from 0, of the first row that does not hold.
-fn first_wrong_of_errors<R: Threads + Sync>(
-    rt: &R,
-    alloc: Global,
-    rows: &[OfErrors],
-) -> Result<Option<usize>, AllocError> {
-    for (at, row) in rows.iter().enumerate() {
-        if !holds_of_errors(rt, alloc, row)? {
+        if !holds(rt, alloc, row)? {
             return Ok(Some(at));
         }
     }
@@ -265,76 +124,40 @@ fn first_wrong_of_errors<R: Threads + Sync>(
 
 // Status 6 is none of these: what a run takes of memory is granted here, and `bench/refused_memory.py --full` refuses each piece of
 // it to the built program in turn, with an error stream that is full.
-static OF_ERRORS: [OfErrors; 16] = [
-    OfErrors {
-        line: "subgraph solve p",
-        status: 3,
-    },
-    OfErrors {
-        line: "subgraph solve m t",
-        status: 4,
-    },
-    OfErrors {
-        line: "subgraph solve other t",
-        status: 4,
-    },
-    OfErrors {
-        line: "subgraph solve cut t",
-        status: 4,
-    },
-    OfErrors {
-        line: "subgraph solve none t",
-        status: 4,
-    },
-    OfErrors {
-        line: "subgraph solve letter t",
-        status: 4,
-    },
-    OfErrors {
-        line: "subgraph solve more t",
-        status: 4,
-    },
-    OfErrors {
-        line: "subgraph verify p t none",
-        status: 4,
-    },
-    OfErrors {
-        line: "subgraph check p l",
-        status: 4,
-    },
-    OfErrors {
-        line: "subgraph solve absent t",
-        status: 5,
-    },
-    OfErrors {
-        line: "subgraph verify p t t",
-        status: 4,
-    },
-    OfErrors {
-        line: "subgraph encode m t",
-        status: 4,
-    },
-    OfErrors {
-        line: "subgraph verify p t b",
-        status: 7,
-    },
-    OfErrors {
-        line: "subgraph check e r",
-        status: 7,
-    },
-    OfErrors {
-        line: "subgraph check e u",
-        status: 7,
-    },
-    OfErrors {
-        line: "subgraph check e absent",
-        status: 5,
-    },
+static FAULTS: [Faults; 26] = [
+    Faults("subgraph solve p t", Stream::Files, 7, 0),
+    Faults("subgraph verify p t m", Stream::Files, 10, 0),
+    Faults("subgraph encode p t", Stream::Files, 7, 0),
+    Faults("subgraph check e l", Stream::Files, 7, 0),
+    Faults("subgraph check e h", Stream::Files, 7, 0),
+    Faults("subgraph solve p t", Stream::Output, 10, 0),
+    Faults("subgraph verify p t m", Stream::Output, 2, 0),
+    Faults("subgraph encode p t", Stream::Output, 7, 0),
+    Faults("subgraph check e l", Stream::Output, 2, 0),
+    Faults("subgraph check e h", Stream::Output, 2, 0),
+    Faults("subgraph solve p", Stream::Errors, 6, 3),
+    Faults("subgraph solve m t", Stream::Errors, 6, 4),
+    Faults("subgraph solve other t", Stream::Errors, 6, 4),
+    Faults("subgraph solve cut t", Stream::Errors, 6, 4),
+    Faults("subgraph solve none t", Stream::Errors, 6, 4),
+    Faults("subgraph solve letter t", Stream::Errors, 6, 4),
+    Faults("subgraph solve more t", Stream::Errors, 6, 4),
+    Faults("subgraph verify p t none", Stream::Errors, 6, 4),
+    Faults("subgraph check p l", Stream::Errors, 6, 4),
+    Faults("subgraph solve absent t", Stream::Errors, 6, 5),
+    Faults("subgraph verify p t t", Stream::Errors, 6, 4),
+    Faults("subgraph encode m t", Stream::Errors, 6, 4),
+    Faults("subgraph verify p t b", Stream::Errors, 6, 7),
+    Faults("subgraph check e r", Stream::Errors, 6, 7),
+    Faults("subgraph check e u", Stream::Errors, 6, 7),
+    Faults("subgraph check e absent", Stream::Errors, 6, 5),
 ];
 
 #[test]
-fn a_fault_of_the_error_stream_changes_no_status(rt: HostRuntime) -> Result<(), Fail> {
-    none_wrong(first_wrong_of_errors(&rt, rt.alloc(), &OF_ERRORS)?)
+fn each_fault_is_told_where_it_can_be_and_none_of_the_error_stream_changes_the_status(
+    rt: HostRuntime,
+) -> Result<(), Fail> {
+    none_wrong(first_wrong(&rt, rt.alloc(), &FAULTS)?)
 }
 
 /// Whether a front of a target's text ends early, in place of this word.

@@ -10,6 +10,8 @@ mod demo_tests;
 #[cfg(test)]
 mod encode_tests;
 #[cfg(test)]
+mod ends;
+#[cfg(test)]
 mod fault_tests;
 #[cfg(test)]
 mod refusal_tests;

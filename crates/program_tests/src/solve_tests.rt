@@ -1,5 +1,6 @@
 //! What `solve` answers.
 
+use crate::ends::{Ends, all_end};
 use memory_runs::{EDGE, FOUR_CYCLE, Ran, TRIANGLE, run_pair, run_three};
 use std::alloc::{AllocError, Global};
 use std::test::Fail;
@@ -9,264 +10,251 @@ use worked_examples::none_wrong;
 /// A path of three vertices.
 const PATH: &str = "3\n1 1\n2 0 2\n1 1\n";
 
-/// Words, the graphs in the files `p` and `t`, and what a run ends with, where the answer is the only one.
-struct Answered {
-    line: &'static str,
-    pattern: &'static str,
-    target: &'static str,
-    status: u8,
-    out: &'static str,
-}
-
-/// Whether the runs of a row end so.
-fn holds_answered<R: Threads + Sync>(
-    rt: &R,
-    alloc: Global,
-    row: &Answered,
-) -> Result<bool, AllocError> {
-    let ran = run_pair(rt, alloc, row.line, row.pattern, row.target)?;
-    Ok(ran.gave(row.status, row.out, ""))
-}
-
-/// The place, from 0, of the first row that does not hold.
-fn first_wrong_answered<R: Threads + Sync>(
-    rt: &R,
-    alloc: Global,
-    rows: &[Answered],
-) -> Result<Option<usize>, AllocError> {
-    for (at, row) in rows.iter().enumerate() {
-        if !holds_answered(rt, alloc, row)? {
-            return Ok(Some(at));
-        }
-    }
-    Ok(None)
-}
-
-static ANSWERED: [Answered; 24] = [
-    Answered {
-        line: "subgraph solve p t --format directedlad --budget 1",
-        pattern: "3\n1 1\n1 2\n1 0\n",
-        target: "3\n2 1 2\n1 2\n0\n",
-        status: 1,
-        out: "none\n",
-    },
-    Answered {
-        line: "subgraph solve p t --format directedlad --budget 1",
-        pattern: "3\n2 1 2\n0\n0\n",
-        target: "3\n0\n1 0\n1 0\n",
-        status: 1,
-        out: "none\n",
-    },
-    Answered {
-        line: "subgraph solve p t --format directedlad --induced",
-        pattern: "2\n1 1\n0\n",
-        target: "2\n1 1\n1 0\n",
-        status: 1,
-        out: "none\n",
-    },
-    Answered {
-        line: "subgraph solve p t --format labelledlad",
-        pattern: "2\n5 1 1 7\n6 0\n",
-        target: "2\n6 0\n5 1 0 7\n",
-        status: 0,
-        out: "yes\n0 -> 1\n1 -> 0\n",
-    },
-    Answered {
-        line: "subgraph solve p t --format labelledlad",
-        pattern: "2\n5 1 1 7\n6 0\n",
-        target: "2\n6 0\n5 1 0 8\n",
-        status: 1,
-        out: "none\n",
-    },
-    Answered {
-        line: "subgraph solve p t --format vertexlabelledlad",
-        pattern: "2\n1 1 1\n2 1 0\n",
-        target: "3\n2 1 1\n1 2 0 2\n3 1 1\n",
-        status: 0,
-        out: "yes\n0 -> 1\n1 -> 0\n",
-    },
-    Answered {
-        line: "subgraph solve p t",
-        pattern: "0\n",
-        target: "0\n",
-        status: 0,
-        out: "yes\n",
-    },
-    Answered {
-        line: "subgraph solve p t",
-        pattern: "1\n0\n",
-        target: "0\n",
-        status: 1,
-        out: "none\n",
-    },
-    Answered {
-        line: "subgraph solve p t --budget 1",
-        pattern: "3\n0\n0\n0\n",
-        target: "2\n0\n0\n",
-        status: 1,
-        out: "none\n",
-    },
-    Answered {
-        line: "subgraph solve --induced p t",
-        pattern: PATH,
-        target: TRIANGLE,
-        status: 1,
-        out: "none\n",
-    },
-    Answered {
-        line: "subgraph solve p t",
-        pattern: "1\n1 0\n",
-        target: "2\n0\n1 1\n",
-        status: 0,
-        out: "yes\n0 -> 1\n",
-    },
-    Answered {
-        line: "subgraph solve p t --induced",
-        pattern: "1\n0\n",
-        target: "2\n0\n1 1\n",
-        status: 0,
-        out: "yes\n0 -> 0\n",
-    },
-    Answered {
-        line: "subgraph solve p t --format vertexlabelledlad",
-        pattern: "1\n4294967295 0\n",
-        target: "1\n4294967295 0\n",
-        status: 0,
-        out: "yes\n0 -> 0\n",
-    },
-    Answered {
-        line: "subgraph solve p t --format vertexlabelledlad",
-        pattern: "1\n4294967295 0\n",
-        target: "1\n0 0\n",
-        status: 1,
-        out: "none\n",
-    },
-    Answered {
-        line: "subgraph solve p t",
-        pattern: TRIANGLE,
-        target: FOUR_CYCLE,
-        status: 1,
-        out: "none\n",
-    },
-    Answered {
-        line: "subgraph solve p t --budget 3",
-        pattern: TRIANGLE,
-        target: FOUR_CYCLE,
-        status: 2,
-        out: "unknown\n",
-    },
-    Answered {
-        line: "subgraph solve p t --budget 4",
-        pattern: TRIANGLE,
-        target: FOUR_CYCLE,
-        status: 1,
-        out: "none\n",
-    },
-    Answered {
-        line: "subgraph solve p t --seed 18446744073709551615 --budget 128",
-        pattern: TRIANGLE,
-        target: FOUR_CYCLE,
-        status: 1,
-        out: "none\n",
-    },
-    Answered {
-        line: "subgraph solve p t --book 0 --threads 8",
-        pattern: TRIANGLE,
-        target: FOUR_CYCLE,
-        status: 1,
-        out: "none\n",
-    },
-    Answered {
-        line: "subgraph solve p t --threads 64",
-        pattern: TRIANGLE,
-        target: FOUR_CYCLE,
-        status: 1,
-        out: "none\n",
-    },
-    Answered {
-        line: "subgraph solve p t --threads 64",
-        pattern: "3\n0\n0\n0\n",
-        target: "2\n0\n0\n",
-        status: 1,
-        out: "none\n",
-    },
-    Answered {
-        line: "subgraph solve p t --threads 64",
-        pattern: "0\n",
-        target: "0\n",
-        status: 0,
-        out: "yes\n",
-    },
-    Answered {
-        line: "subgraph solve p p",
-        pattern: "0\n",
-        target: "x\n",
-        status: 0,
-        out: "yes\n",
-    },
-    Answered {
-        line: "subgraph solve t p",
-        pattern: "1\n0\n",
-        target: "0\n",
-        status: 0,
-        out: "yes\n",
-    },
+/// Problems of which the answer is the only one.
+static ANSWERED: [Ends; 24] = [
+    Ends(
+        "subgraph solve p t --format directedlad --budget 1",
+        &[("p", "3\n1 1\n1 2\n1 0\n"), ("t", "3\n2 1 2\n1 2\n0\n")],
+        1,
+        b"none\n",
+        "",
+        0,
+    ),
+    Ends(
+        "subgraph solve p t --format directedlad --budget 1",
+        &[("p", "3\n2 1 2\n0\n0\n"), ("t", "3\n0\n1 0\n1 0\n")],
+        1,
+        b"none\n",
+        "",
+        0,
+    ),
+    Ends(
+        "subgraph solve p t --format directedlad --induced",
+        &[("p", "2\n1 1\n0\n"), ("t", "2\n1 1\n1 0\n")],
+        1,
+        b"none\n",
+        "",
+        0,
+    ),
+    Ends(
+        "subgraph solve p t --format labelledlad",
+        &[("p", "2\n5 1 1 7\n6 0\n"), ("t", "2\n6 0\n5 1 0 7\n")],
+        0,
+        b"yes\n0 -> 1\n1 -> 0\n",
+        "",
+        0,
+    ),
+    Ends(
+        "subgraph solve p t --format labelledlad",
+        &[("p", "2\n5 1 1 7\n6 0\n"), ("t", "2\n6 0\n5 1 0 8\n")],
+        1,
+        b"none\n",
+        "",
+        0,
+    ),
+    Ends(
+        "subgraph solve p t --format vertexlabelledlad",
+        &[
+            ("p", "2\n1 1 1\n2 1 0\n"),
+            ("t", "3\n2 1 1\n1 2 0 2\n3 1 1\n"),
+        ],
+        0,
+        b"yes\n0 -> 1\n1 -> 0\n",
+        "",
+        0,
+    ),
+    Ends(
+        "subgraph solve p t",
+        &[("p", "0\n"), ("t", "0\n")],
+        0,
+        b"yes\n",
+        "",
+        0,
+    ),
+    Ends(
+        "subgraph solve p t",
+        &[("p", "1\n0\n"), ("t", "0\n")],
+        1,
+        b"none\n",
+        "",
+        0,
+    ),
+    Ends(
+        "subgraph solve p t --budget 1",
+        &[("p", "3\n0\n0\n0\n"), ("t", "2\n0\n0\n")],
+        1,
+        b"none\n",
+        "",
+        0,
+    ),
+    Ends(
+        "subgraph solve --induced p t",
+        &[("p", PATH), ("t", TRIANGLE)],
+        1,
+        b"none\n",
+        "",
+        0,
+    ),
+    Ends(
+        "subgraph solve p t",
+        &[("p", "1\n1 0\n"), ("t", "2\n0\n1 1\n")],
+        0,
+        b"yes\n0 -> 1\n",
+        "",
+        0,
+    ),
+    Ends(
+        "subgraph solve p t --induced",
+        &[("p", "1\n0\n"), ("t", "2\n0\n1 1\n")],
+        0,
+        b"yes\n0 -> 0\n",
+        "",
+        0,
+    ),
+    Ends(
+        "subgraph solve p t --format vertexlabelledlad",
+        &[("p", "1\n4294967295 0\n"), ("t", "1\n4294967295 0\n")],
+        0,
+        b"yes\n0 -> 0\n",
+        "",
+        0,
+    ),
+    Ends(
+        "subgraph solve p t --format vertexlabelledlad",
+        &[("p", "1\n4294967295 0\n"), ("t", "1\n0 0\n")],
+        1,
+        b"none\n",
+        "",
+        0,
+    ),
+    Ends(
+        "subgraph solve p t",
+        &[("p", TRIANGLE), ("t", FOUR_CYCLE)],
+        1,
+        b"none\n",
+        "",
+        0,
+    ),
+    Ends(
+        "subgraph solve p t --budget 3",
+        &[("p", TRIANGLE), ("t", FOUR_CYCLE)],
+        2,
+        b"unknown\n",
+        "",
+        1,
+    ),
+    Ends(
+        "subgraph solve p t --budget 4",
+        &[("p", TRIANGLE), ("t", FOUR_CYCLE)],
+        1,
+        b"none\n",
+        "",
+        0,
+    ),
+    Ends(
+        "subgraph solve p t --seed 18446744073709551615 --budget 128",
+        &[("p", TRIANGLE), ("t", FOUR_CYCLE)],
+        1,
+        b"none\n",
+        "",
+        0,
+    ),
+    Ends(
+        "subgraph solve p t --book 0 --threads 8",
+        &[("p", TRIANGLE), ("t", FOUR_CYCLE)],
+        1,
+        b"none\n",
+        "",
+        0,
+    ),
+    Ends(
+        "subgraph solve p t --threads 64",
+        &[("p", TRIANGLE), ("t", FOUR_CYCLE)],
+        1,
+        b"none\n",
+        "",
+        0,
+    ),
+    Ends(
+        "subgraph solve p t --threads 64",
+        &[("p", "3\n0\n0\n0\n"), ("t", "2\n0\n0\n")],
+        1,
+        b"none\n",
+        "",
+        0,
+    ),
+    Ends(
+        "subgraph solve p t --threads 64",
+        &[("p", "0\n"), ("t", "0\n")],
+        0,
+        b"yes\n",
+        "",
+        0,
+    ),
+    Ends(
+        "subgraph solve p p",
+        &[("p", "0\n"), ("t", "x\n")],
+        0,
+        b"yes\n",
+        "",
+        0,
+    ),
+    Ends(
+        "subgraph solve t p",
+        &[("p", "1\n0\n"), ("t", "0\n")],
+        0,
+        b"yes\n",
+        "",
+        0,
+    ),
 ];
 
 #[test]
 fn each_pair_has_its_answer(rt: HostRuntime) -> Result<(), Fail> {
-    none_wrong(first_wrong_answered(&rt, rt.alloc(), &ANSWERED)?)
+    all_end(&rt, rt.alloc(), &ANSWERED)
 }
 
-/// Words by which a triangle is not found in a cycle of four vertices.
-struct Spent {
-    line: &'static str,
-    /// How many accounts are left; where it is none, the answer is another.
-    accounts: usize,
-}
+/// A triangle and a cycle of four vertices, in which it is not found.
+const UNLIKE: &[(&str, &str)] = &[("p", TRIANGLE), ("t", FOUR_CYCLE)];
 
-/// Whether the runs of a row end so.
-fn holds_spent<R: Threads + Sync>(rt: &R, alloc: Global, row: &Spent) -> Result<bool, AllocError> {
-    let ran = run_pair(rt, alloc, row.line, TRIANGLE, FOUR_CYCLE)?;
-    Ok(ran.accounts == row.accounts && (ran.status == 2) == (row.accounts > 0))
-}
-
-/// The place, from 0, of the first row that does not hold.
-fn first_wrong_spent<R: Threads + Sync>(
-    rt: &R,
-    alloc: Global,
-    rows: &[Spent],
-) -> Result<Option<usize>, AllocError> {
-    for (at, row) in rows.iter().enumerate() {
-        if !holds_spent(rt, alloc, row)? {
-            return Ok(Some(at));
-        }
-    }
-    Ok(None)
-}
-
-static SPENT: [Spent; 4] = [
-    Spent {
-        line: "subgraph solve p t --budget 3",
-        accounts: 1,
-    },
-    Spent {
-        line: "subgraph solve p t --budget 3 --threads 8",
-        accounts: 8,
-    },
-    Spent {
-        line: "subgraph solve p t --threads 64 --budget 3 --book 0",
-        accounts: 64,
-    },
-    Spent {
-        line: "subgraph solve p t --budget 4 --threads 2",
-        accounts: 0,
-    },
+static SPENT: [Ends; 4] = [
+    Ends(
+        "subgraph solve p t --budget 3",
+        UNLIKE,
+        2,
+        b"unknown\n",
+        "",
+        1,
+    ),
+    Ends(
+        "subgraph solve p t --budget 3 --threads 8",
+        UNLIKE,
+        2,
+        b"unknown\n",
+        "",
+        8,
+    ),
+    Ends(
+        "subgraph solve p t --threads 64 --budget 3 --book 0",
+        UNLIKE,
+        2,
+        b"unknown\n",
+        "",
+        64,
+    ),
+    Ends(
+        "subgraph solve p t --budget 4 --threads 2",
+        UNLIKE,
+        1,
+        b"none\n",
+        "",
+        0,
+    ),
 ];
 
 #[test]
 fn each_thread_leaves_an_account(rt: HostRuntime) -> Result<(), Fail> {
-    none_wrong(first_wrong_spent(&rt, rt.alloc(), &SPENT)?)
+    all_end(&rt, rt.alloc(), &SPENT)
 }
 
 /// So many vertices without an edge.
@@ -291,33 +279,21 @@ fn is_told(ran: &Ran, lines: usize) -> bool {
 #[test]
 fn the_largest_pattern_is_found(rt: HostRuntime) -> Result<(), Fail> {
     let text = points(rt.alloc(), 1024)?;
-    let line = "subgraph solve p t";
-    let ran = run_pair(&rt, rt.alloc(), line, text.as_str(), text.as_str())?;
+    let ran = run_pair(&rt, rt.alloc(), SOLVE, text.as_str(), text.as_str())?;
     assert!(rt; is_told(&ran, 1025));
     Ok(())
 }
 
-/// A pattern and a target with an embedding.
-struct Embedded {
-    pattern: &'static str,
-    target: &'static str,
-    /// Whether it is to be an induced one.
-    induced: bool,
-}
+/// The words that ask for an embedding, those that test one, and a pattern and a target that have one.
+struct Embedded(&'static str, &'static str, &'static str, &'static str);
 
-impl Embedded {
-    /// The words that ask for an embedding, and those that test one.
-    fn words(&self) -> (&'static str, &'static str) {
-        if self.induced {
-            (
-                "subgraph solve p t --induced",
-                "subgraph verify p t m --induced",
-            )
-        } else {
-            ("subgraph solve p t", "subgraph verify p t m")
-        }
-    }
-}
+const SOLVE: &str = "subgraph solve p t";
+
+const SOLVE_INDUCED: &str = "subgraph solve p t --induced";
+
+const VERIFY: &str = "subgraph verify p t m";
+
+const VERIFY_INDUCED: &str = "subgraph verify p t m --induced";
 
 /// Whether the runs of a row end so.
 fn holds_embedded<R: Threads + Sync>(
@@ -325,10 +301,8 @@ fn holds_embedded<R: Threads + Sync>(
     alloc: Global,
     row: &Embedded,
 ) -> Result<bool, AllocError> {
-    let (solve, verify) = row.words();
-    let solved = run_pair(rt, alloc, solve, row.pattern, row.target)?;
-    let map = solved.out.bytes();
-    let verified = run_three(rt, alloc, verify, row.pattern, row.target, map)?;
+    let solved = run_pair(rt, alloc, row.0, row.2, row.3)?;
+    let verified = run_three(rt, alloc, row.1, row.2, row.3, solved.out.bytes())?;
     Ok(solved.status == 0 && verified.gave(0, "embedding\n", ""))
 }
 
@@ -347,46 +321,14 @@ fn first_wrong_embedded<R: Threads + Sync>(
 }
 
 static EMBEDDED: [Embedded; 8] = [
-    Embedded {
-        pattern: "0\n",
-        target: "0\n",
-        induced: false,
-    },
-    Embedded {
-        pattern: PATH,
-        target: TRIANGLE,
-        induced: false,
-    },
-    Embedded {
-        pattern: "1\n1 0\n",
-        target: "2\n0\n1 1\n",
-        induced: false,
-    },
-    Embedded {
-        pattern: "1\n0\n",
-        target: "2\n0\n1 1\n",
-        induced: true,
-    },
-    Embedded {
-        pattern: EDGE,
-        target: "2\n1 1\n0\n",
-        induced: false,
-    },
-    Embedded {
-        pattern: EDGE,
-        target: FOUR_CYCLE,
-        induced: true,
-    },
-    Embedded {
-        pattern: PATH,
-        target: FOUR_CYCLE,
-        induced: true,
-    },
-    Embedded {
-        pattern: FOUR_CYCLE,
-        target: FOUR_CYCLE,
-        induced: true,
-    },
+    Embedded(SOLVE, VERIFY, "0\n", "0\n"),
+    Embedded(SOLVE, VERIFY, PATH, TRIANGLE),
+    Embedded(SOLVE, VERIFY, "1\n1 0\n", "2\n0\n1 1\n"),
+    Embedded(SOLVE_INDUCED, VERIFY_INDUCED, "1\n0\n", "2\n0\n1 1\n"),
+    Embedded(SOLVE, VERIFY, EDGE, "2\n1 1\n0\n"),
+    Embedded(SOLVE_INDUCED, VERIFY_INDUCED, EDGE, FOUR_CYCLE),
+    Embedded(SOLVE_INDUCED, VERIFY_INDUCED, PATH, FOUR_CYCLE),
+    Embedded(SOLVE_INDUCED, VERIFY_INDUCED, FOUR_CYCLE, FOUR_CYCLE),
 ];
 
 #[test]

@@ -335,11 +335,6 @@ fn first_out_of_order<R: Threads + Sync>(
 #[test]
 fn each_fault_of_a_file_leaves_what_came_before(rt: HostRuntime) -> Result<(), Fail> {
     assert!(rt; first_out_of_order(&rt, rt.alloc(), REFUTES)? == 0);
-    Ok(())
-}
-
-#[test]
-fn so_it_does_without_hints(rt: HostRuntime) -> Result<(), Fail> {
     assert!(rt; first_out_of_order(&rt, rt.alloc(), REFUTES_WITHOUT_HINTS)? == 0);
     Ok(())
 }
@@ -364,15 +359,6 @@ fn call_after_the_head<R: Threads + Sync>(rt: &R, alloc: Global) -> Result<u64, 
     Ok(0)
 }
 
-#[test]
-fn a_log_of_two_lines_ends_early(rt: HostRuntime) -> Result<(), Fail> {
-    let number = call_after_the_head(&rt, rt.alloc())?;
-    let ran = refute_but(&rt, rt.alloc(), number)?;
-    let is_early = is_checked(&rt, rt.alloc(), &ran, 7, "", "log: line 3: EndsEarly\n")?;
-    assert!(rt; is_early);
-    Ok(())
-}
-
 /// Whether a fault of the call before that one leaves the log empty.
 fn is_empty_before<R: Threads + Sync>(
     rt: &R,
@@ -386,13 +372,6 @@ fn is_empty_before<R: Threads + Sync>(
     Ok(ran.file("l").is_empty())
 }
 
-#[test]
-fn the_head_of_a_log_is_added_at_once(rt: HostRuntime) -> Result<(), Fail> {
-    let number = call_after_the_head(&rt, rt.alloc())?;
-    assert!(rt; is_empty_before(&rt, rt.alloc(), number)?);
-    Ok(())
-}
-
 /// Refutes again over the files that a run left.
 fn refute_again<R: Threads + Sync>(rt: &R, alloc: Global, ran: &Ran) -> Result<Ran, AllocError> {
     let mut files = parts(alloc, &[("p", TRIANGLE), ("t", FOUR_CYCLE)])?;
@@ -401,12 +380,28 @@ fn refute_again<R: Threads + Sync>(rt: &R, alloc: Global, ran: &Ran) -> Result<R
     run_over(rt, alloc, REFUTES, files, CLEAN)
 }
 
+/// Whether a second run over the files that a run left makes the log whole.
+fn is_made_whole<R: Threads + Sync>(rt: &R, alloc: Global, ran: &Ran) -> Result<bool, AllocError> {
+    let again = refute_again(rt, alloc, ran)?;
+    Ok(again.gave(1, "none\n", "") && again.file("l") == REFUTATION.as_bytes())
+}
+
+/// Whether the log that a fault of that call leaves ends early for its check, and a second run makes it whole.
+fn is_mended<R: Threads + Sync>(rt: &R, alloc: Global, number: u64) -> Result<bool, AllocError> {
+    let ran = refute_but(rt, alloc, number)?;
+    Ok(
+        is_checked(rt, alloc, &ran, 7, "", "log: line 3: EndsEarly\n")?
+            && is_made_whole(rt, alloc, &ran)?,
+    )
+}
+
 #[test]
-fn a_second_run_makes_the_log_whole(rt: HostRuntime) -> Result<(), Fail> {
+fn the_head_of_a_log_is_added_at_once_ends_early_and_is_made_whole_by_a_second_run(
+    rt: HostRuntime,
+) -> Result<(), Fail> {
     let number = call_after_the_head(&rt, rt.alloc())?;
-    let stopped = refute_but(&rt, rt.alloc(), number)?;
-    let ran = refute_again(&rt, rt.alloc(), &stopped)?;
-    assert!(rt; ran.gave(1, "none\n", "") && ran.file("l") == REFUTATION.as_bytes());
+    assert!(rt; is_empty_before(&rt, rt.alloc(), number)?);
+    assert!(rt; is_mended(&rt, rt.alloc(), number)?);
     Ok(())
 }
 
@@ -457,13 +452,8 @@ fn is_untouched<R: Threads + Sync>(
 }
 
 #[test]
-fn nothing_is_written_where_the_pattern_is_refused(rt: HostRuntime) -> Result<(), Fail> {
+fn nothing_is_written_where_a_graph_is_refused(rt: HostRuntime) -> Result<(), Fail> {
     assert!(rt; is_untouched(&rt, rt.alloc(), "1\nx\n", "0\n")?);
-    Ok(())
-}
-
-#[test]
-fn nothing_is_written_where_the_target_is_refused(rt: HostRuntime) -> Result<(), Fail> {
     assert!(rt; is_untouched(&rt, rt.alloc(), "0\n", "1\nx\n")?);
     Ok(())
 }

@@ -11,26 +11,28 @@ use worked_examples::none_wrong;
 const NO_THIRD: &[u8] = b"embedding proof 1\nm 8\np 0.1 1 3 + 5 + 7 + 8 + 3 d ;\ne 0.1\n";
 
 /// Words, two graphs, and what a check writes of a log over the encoding that the words come to.
-struct Accepted {
+struct Whole {
     line: &'static str,
     pattern: &'static str,
     target: &'static str,
     log: &'static [u8],
+    status: u8,
     out: &'static str,
+    err: &'static str,
 }
 
 /// Whether the runs of a row end so.
-fn holds<R: Threads + Sync>(rt: &R, alloc: Global, row: &Accepted) -> Result<bool, AllocError> {
+fn holds<R: Threads + Sync>(rt: &R, alloc: Global, row: &Whole) -> Result<bool, AllocError> {
     let encoded = run_pair(rt, alloc, row.line, row.pattern, row.target)?;
     let checked = check_over(rt, alloc, encoded.out.bytes(), row.log)?;
-    Ok(encoded.status == 0 && checked.gave(0, row.out, ""))
+    Ok(encoded.status == 0 && checked.gave(row.status, row.out, row.err))
 }
 
 /// The place, from 0, of the first row that does not hold.
 fn first_wrong<R: Threads + Sync>(
     rt: &R,
     alloc: Global,
-    rows: &[Accepted],
+    rows: &[Whole],
 ) -> Result<Option<usize>, AllocError> {
     for (at, row) in rows.iter().enumerate() {
         if !holds(rt, alloc, row)? {
@@ -40,70 +42,85 @@ fn first_wrong<R: Threads + Sync>(
     Ok(None)
 }
 
-static ACCEPTED: [Accepted; 7] = [
-    Accepted {
+static WHOLE: [Whole; 8] = [
+    Whole {
         line: "subgraph encode p t",
         pattern: "0\n",
         target: "0\n",
         log: b"embedding proof 1\nm 0\ny\n",
+        status: 0,
         out: "accepted satisfiable\n",
+        err: "",
     },
-    Accepted {
+    Whole {
         line: "subgraph encode p t",
         pattern: "1\n0\n",
         target: "0\n",
         log: b"embedding proof 1\nm 2\ne 1\n",
+        status: 0,
         out: "accepted unsatisfiable\n",
+        err: "",
     },
-    Accepted {
+    Whole {
         line: "subgraph encode p t",
         pattern: "3\n0\n0\n0\n",
         target: "2\n0\n0\n",
         log: NO_THIRD,
+        status: 0,
         out: "accepted unsatisfiable\n",
+        err: "",
     },
-    Accepted {
+    Whole {
         line: "subgraph encode p t",
         pattern: TRIANGLE,
         target: FOUR_CYCLE,
         log: NO_TRIANGLE,
+        status: 0,
         out: "accepted unsatisfiable\n",
+        err: "",
     },
-    Accepted {
+    Whole {
         line: "subgraph encode p t",
         pattern: TRIANGLE,
         target: FOUR_CYCLE,
         log: NO_TRIANGLE_WITHOUT_HINTS,
+        status: 0,
         out: "accepted unsatisfiable\n",
+        err: "",
     },
-    Accepted {
+    Whole {
         line: "subgraph encode p t",
         pattern: "1\n1 0\n",
         target: "2\n0\n1 1\n",
         log: b"embedding proof 1\nm 5\ny x2\n",
+        status: 0,
         out: "accepted satisfiable\n",
+        err: "",
     },
-    Accepted {
+    Whole {
         line: "subgraph encode p t --induced",
         pattern: "1\n0\n",
         target: "2\n0\n1 1\n",
         log: b"embedding proof 1\nm 5\ny x1\n",
+        status: 0,
         out: "accepted satisfiable\n",
+        err: "",
+    },
+    // one step is missing
+    Whole {
+        line: "subgraph encode p t",
+        pattern: EDGE,
+        target: EDGE,
+        log: b"embedding proof 1\nm 10\nu 0.1 ; 1 ;\ne 0.1\n",
+        status: 7,
+        out: "",
+        err: "log: line 3: NoConflict\n",
     },
 ];
 
 #[test]
-fn each_log_is_accepted_over_the_encoding(rt: HostRuntime) -> Result<(), Fail> {
-    none_wrong(first_wrong(&rt, rt.alloc(), &ACCEPTED)?)
-}
-
-#[test]
-fn a_log_that_misses_a_step_is_refused(rt: HostRuntime) -> Result<(), Fail> {
-    let encoded = run_pair(&rt, rt.alloc(), "subgraph encode p t", EDGE, EDGE)?;
-    let log = b"embedding proof 1\nm 10\nu 0.1 ; 1 ;\ne 0.1\n";
-    let checked = check_over(&rt, rt.alloc(), encoded.out.bytes(), log)?;
-    assert!(rt; checked.gave(7, "", "log: line 3: NoConflict\n"));
-    Ok(())
+fn each_log_is_accepted_over_the_encoding_or_refused(rt: HostRuntime) -> Result<(), Fail> {
+    none_wrong(first_wrong(&rt, rt.alloc(), &WHOLE)?)
 }
 
 /// Whether a front of a log over the encoding ends early at this line.
@@ -149,13 +166,8 @@ fn is_whole_at_last<R: Threads + Sync>(
 }
 
 #[test]
-fn each_front_of_a_log_ends_early(rt: HostRuntime) -> Result<(), Fail> {
+fn each_front_of_a_log_ends_early_with_hints_and_without(rt: HostRuntime) -> Result<(), Fail> {
     assert!(rt; is_whole_at_last(&rt, rt.alloc(), NO_TRIANGLE)?);
-    Ok(())
-}
-
-#[test]
-fn each_front_of_a_log_without_hints_ends_early(rt: HostRuntime) -> Result<(), Fail> {
     assert!(rt; is_whole_at_last(&rt, rt.alloc(), NO_TRIANGLE_WITHOUT_HINTS)?);
     Ok(())
 }
