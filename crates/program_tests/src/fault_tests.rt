@@ -1,6 +1,8 @@
 //! Each call failing in turn.
 
-use memory_runs::{CLEAN, EDGE, FOUR_CYCLE, Failing, Ran, TRIANGLE, part, parts, run_over};
+use crate::ends::{Gives, Judge, is_judged, output_of};
+use memory_runs::{CLEAN, EDGE, FOUR_CYCLE, Failing, Ran, TRIANGLE, part, parts};
+use outer_io::MemoryPart;
 use std::alloc::{AllocError, Global};
 use std::test::Fail;
 use std::thread::Threads;
@@ -54,58 +56,65 @@ fn failing(stream: Stream, number: u64) -> Failing {
     }
 }
 
-/// Runs the words of a row, with this call failing.
-fn run_but<R: Threads + Sync>(
-    rt: &R,
-    alloc: Global,
-    row: &Faults,
-    number: u64,
-) -> Result<Ran, AllocError> {
-    run_over(
-        rt,
-        alloc,
-        row.0,
-        parts(alloc, TEXTS)?,
-        failing(row.1, number),
-    )
-}
+/// A row, the number of the call that fails, and the output of a run of which none fails.
+#[derive(Drop)]
+struct But<'a>(&'a Faults, u64, &'a [u8]);
 
-/// Whether a run tells a fault of its output, and has written a part of the whole, from its beginning.
-fn is_cut_off(ran: &Ran, whole: &Ran) -> bool {
-    let (written, all) = (ran.out.bytes(), whole.out.bytes());
-    ran.ended(5, "output: fault\n") && written.len() < all.len() && all.starts_with(written)
-}
+impl<'a> But<'a> {
+    /// Whether a run tells a fault of its output, and has written a part of the whole, from its beginning.
+    fn is_cut_off(&self, ran: &Ran) -> bool {
+        let written = ran.out.bytes();
+        ran.ended(5, "output: fault\n")
+            && written.len() < self.2.len()
+            && self.2.starts_with(written)
+    }
 
-/// Whether a run ended as it should whose call failed: with a fault of the files, with a part of its output, or, where the error stream failed, with
-/// the same status.
-fn is_told(row: &Faults, ran: &Ran, whole: &Ran) -> bool {
-    match row.1 {
-        Stream::Files => ran.gave(5, "", "files: fault\n"),
-        Stream::Output => is_cut_off(ran, whole),
-        Stream::Errors => ran.status == row.3,
+    /// Whether a run ended as it should whose call failed: with a fault of the files, with a part of its output, or, where the error stream failed,
+    /// with the same status.
+    fn is_told(&self, ran: &Ran) -> bool {
+        match self.0.1 {
+            Stream::Files => ran.gave(5, "", "files: fault\n"),
+            Stream::Output => self.is_cut_off(ran),
+            Stream::Errors => ran.status == self.0.3,
+        }
     }
 }
 
-/// Whether the run of a row ends so with each earlier call failing.
-fn are_told<R: Threads + Sync>(
+impl<'a> Judge for But<'a> {
+    fn judges(&self, ran: &Ran) -> bool {
+        if self.1 < self.0.2 {
+            self.is_told(ran)
+        } else {
+            ran.status == self.0.3
+        }
+    }
+}
+
+/// Whether the run of a row ends so.
+fn is_so<R: Threads + Sync>(rt: &R, alloc: Global, but: &But) -> Result<bool, AllocError> {
+    let failing = failing(but.0.1, but.1);
+    is_judged(rt, alloc, but.0.0, parts(alloc, TEXTS)?, failing, but)
+}
+
+/// Whether the run of a row ends so with each of the calls failing.
+fn are_so<R: Threads + Sync>(
     rt: &R,
     alloc: Global,
     row: &Faults,
-    whole: &Ran,
+    whole: &[u8],
 ) -> Result<bool, AllocError> {
     for number in 1..row.2 {
-        if !is_told(row, &run_but(rt, alloc, row, number)?, whole) {
+        if !is_so(rt, alloc, &But(row, number, whole))? {
             return Ok(false);
         }
     }
-    Ok(true)
+    is_so(rt, alloc, &But(row, row.2, whole))
 }
 
 /// Whether the runs of a row end so.
 fn holds<R: Threads + Sync>(rt: &R, alloc: Global, row: &Faults) -> Result<bool, AllocError> {
-    let whole = run_but(rt, alloc, row, 0)?;
-    let beyond = run_but(rt, alloc, row, row.2)?;
-    Ok(beyond.status == row.3 && are_told(rt, alloc, row, &whole)?)
+    let (_, whole) = output_of(rt, alloc, row.0, parts(alloc, TEXTS)?)?;
+    are_so(rt, alloc, row, &whole)
 }
 
 /// The place, from 0, of the first row that does not hold.
@@ -160,6 +169,13 @@ fn each_fault_is_told_where_it_can_be_and_none_of_the_error_stream_changes_the_s
     none_wrong(first_wrong(&rt, rt.alloc(), &FAULTS)?)
 }
 
+/// Files of a pattern, and of a front of a target's text.
+fn front_files(alloc: Global, front: &[u8]) -> Result<Vec<MemoryPart>, AllocError> {
+    let mut files = parts(alloc, &[("p", TRIANGLE)])?;
+    files.push(part(alloc, "t", front)?)?;
+    Ok(files)
+}
+
 /// Whether a front of a target's text ends early, in place of this word.
 fn ends_early<R: Threads + Sync>(
     rt: &R,
@@ -167,11 +183,16 @@ fn ends_early<R: Threads + Sync>(
     front: &[u8],
     word: u64,
 ) -> Result<bool, AllocError> {
-    let mut files = parts(alloc, &[("p", TRIANGLE)])?;
-    files.push(part(alloc, "t", front)?)?;
-    let ran = run_over(rt, alloc, "subgraph solve p t", files, CLEAN)?;
     let told = format!(in alloc; "target: word {word}: EndsEarly\n")?;
-    Ok(ran.gave(4, "", told.as_str()))
+    let judge = Gives(4, "", told.as_str());
+    is_judged(
+        rt,
+        alloc,
+        "subgraph solve p t",
+        front_files(alloc, front)?,
+        CLEAN,
+        &judge,
+    )
 }
 
 /// How many bytes the first front of a text of words of one byte has that does not end early, at the word after its last one.

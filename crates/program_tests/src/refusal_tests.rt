@@ -1,8 +1,11 @@
 //! What `solve` refuses.
 
-use crate::ends::{Ends, all_end};
-use memory_runs::{CLEAN, part, run_over};
+use crate::ends::{Ends, Gives, all_end, is_judged};
+use memory_runs::{CLEAN, part};
+use outer_io::MemoryPart;
+use std::alloc::{AllocError, Global};
 use std::test::Fail;
+use std::thread::Threads;
 
 static REFUSED: [Ends; 11] = [
     Ends(
@@ -128,12 +131,23 @@ fn a_missing_file_is_a_fault(rt: HostRuntime) -> Result<(), Fail> {
     all_end(&rt, rt.alloc(), &MISSING)
 }
 
+/// A file of a pattern of this text.
+fn pattern_file(alloc: Global, text: &[u8]) -> Result<Vec<MemoryPart>, AllocError> {
+    let mut files = Vec::new(alloc);
+    files.push(part(alloc, "p", text)?)?;
+    Ok(files)
+}
+
+/// Whether this text of a pattern is too long.
+fn is_too_long<R: Threads + Sync>(rt: &R, alloc: Global, text: &[u8]) -> Result<bool, AllocError> {
+    let files = pattern_file(alloc, text)?;
+    let judge = Gives(4, "", "pattern: too long\n");
+    is_judged(rt, alloc, "subgraph solve p t", files, CLEAN, &judge)
+}
+
 #[test]
 fn files_have_a_longest(rt: HostRuntime) -> Result<(), Fail> {
     let long = vec![in rt.alloc(); b' '; 67_108_865]?;
-    let mut files = Vec::new(rt.alloc());
-    files.push(part(rt.alloc(), "p", &long)?)?;
-    let ran = run_over(&rt, rt.alloc(), "subgraph solve p t", files, CLEAN)?;
-    assert!(rt; ran.gave(4, "", "pattern: too long\n"));
+    assert!(rt; is_too_long(&rt, rt.alloc(), &long)?);
     Ok(())
 }

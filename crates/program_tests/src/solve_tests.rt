@@ -1,7 +1,8 @@
 //! What `solve` answers.
 
-use crate::ends::{Ends, all_end};
-use memory_runs::{EDGE, FOUR_CYCLE, Ran, TRIANGLE, run_pair, run_three};
+use crate::ends::{Ends, Gives, Judge, all_end, is_judged, output_of};
+use memory_runs::{CLEAN, EDGE, FOUR_CYCLE, Ran, TRIANGLE, part, parts};
+use outer_io::MemoryPart;
 use std::alloc::{AllocError, Global};
 use std::test::Fail;
 use std::thread::Threads;
@@ -271,16 +272,32 @@ fn line_ends(bytes: &[u8]) -> usize {
     bytes.iter().filter(|byte| **byte == 10).count()
 }
 
-/// Whether a run told an embedding of so many lines.
-fn is_told(ran: &Ran, lines: usize) -> bool {
-    ran.status == 0 && ran.out.bytes().starts_with(b"yes\n") && line_ends(ran.out.bytes()) == lines
+/// So many lines, of which a run told an embedding.
+#[derive(Drop)]
+struct Told(usize);
+
+impl Judge for Told {
+    fn judges(&self, ran: &Ran) -> bool {
+        let out = ran.out.bytes();
+        ran.status == 0 && out.starts_with(b"yes\n") && line_ends(out) == self.0
+    }
+}
+
+/// Whether a text is found in itself, and the embedding told in so many lines.
+fn is_found<R: Threads + Sync>(
+    rt: &R,
+    alloc: Global,
+    text: &str,
+    lines: usize,
+) -> Result<bool, AllocError> {
+    let files = parts(alloc, &[("p", text), ("t", text)])?;
+    is_judged(rt, alloc, SOLVE, files, CLEAN, &Told(lines))
 }
 
 #[test]
 fn the_largest_pattern_is_found(rt: HostRuntime) -> Result<(), Fail> {
     let text = points(rt.alloc(), 1024)?;
-    let ran = run_pair(&rt, rt.alloc(), SOLVE, text.as_str(), text.as_str())?;
-    assert!(rt; is_told(&ran, 1025));
+    assert!(rt; is_found(&rt, rt.alloc(), text.as_str(), 1025)?);
     Ok(())
 }
 
@@ -295,15 +312,34 @@ const VERIFY: &str = "subgraph verify p t m";
 
 const VERIFY_INDUCED: &str = "subgraph verify p t m --induced";
 
+/// The files of a row, with this mapping.
+fn files_of(alloc: Global, row: &Embedded, mapping: &[u8]) -> Result<Vec<MemoryPart>, AllocError> {
+    let mut files = parts(alloc, &[("p", row.2), ("t", row.3)])?;
+    files.push(part(alloc, "m", mapping)?)?;
+    Ok(files)
+}
+
+/// Whether this mapping is found to be an embedding.
+fn verifies<R: Threads + Sync>(
+    rt: &R,
+    alloc: Global,
+    row: &Embedded,
+    mapping: &[u8],
+) -> Result<bool, AllocError> {
+    let files = files_of(alloc, row, mapping)?;
+    let judge = Gives(0, "embedding\n", "");
+    is_judged(rt, alloc, row.1, files, CLEAN, &judge)
+}
+
 /// Whether the runs of a row end so.
 fn holds_embedded<R: Threads + Sync>(
     rt: &R,
     alloc: Global,
     row: &Embedded,
 ) -> Result<bool, AllocError> {
-    let solved = run_pair(rt, alloc, row.0, row.2, row.3)?;
-    let verified = run_three(rt, alloc, row.1, row.2, row.3, solved.out.bytes())?;
-    Ok(solved.status == 0 && verified.gave(0, "embedding\n", ""))
+    let files = parts(alloc, &[("p", row.2), ("t", row.3)])?;
+    let (status, out) = output_of(rt, alloc, row.0, files)?;
+    Ok(status == 0 && verifies(rt, alloc, row, &out)?)
 }
 
 /// The place, from 0, of the first row that does not hold.

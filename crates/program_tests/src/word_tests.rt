@@ -1,7 +1,7 @@
 //! Words that are no command, and how long a name may be.
 
-use crate::ends::{Ends, all_end};
-use memory_runs::run_pair;
+use crate::ends::{Ends, Gives, all_end, is_judged};
+use memory_runs::{CLEAN, parts};
 use std::alloc::{AllocError, Global};
 use std::test::Fail;
 use std::thread::Threads;
@@ -131,8 +131,15 @@ fn end_so<R: Threads + Sync>(
     err: &str,
 ) -> Result<bool, AllocError> {
     let line = words_with_name(alloc, bytes)?;
-    let ran = run_pair(rt, alloc, line.as_str(), "0\n", "0\n")?;
-    Ok(ran.gave(status, "", err))
+    let judge = Gives(status, "", err);
+    is_judged(
+        rt,
+        alloc,
+        line.as_str(),
+        parts(alloc, POINTS)?,
+        CLEAN,
+        &judge,
+    )
 }
 
 #[test]

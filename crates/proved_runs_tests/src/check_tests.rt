@@ -1,6 +1,7 @@
 //! What `check` answers.
 
-use memory_runs::{CLEAN, check_over, parts, run_over};
+use crate::judged::{Gives, Judge, checks_so, runs_so};
+use memory_runs::{Ran, parts};
 use std::alloc::{AllocError, Global};
 use std::test::Fail;
 use std::thread::Threads;
@@ -12,10 +13,15 @@ const BOTH_WAYS: &str = "* #variable= 1 #constraint= 2\n+1 x1 >= 1 ;\n-1 x1 >= 0
 /// An encoding, a log over it, and what its check ends with: its status, its output and its error line.
 struct Checked(&'static str, &'static str, u8, &'static str, &'static str);
 
+impl Judge for Checked {
+    fn is_so(&self, ran: &Ran) -> bool {
+        ran.gave(self.2, self.3, self.4)
+    }
+}
+
 /// Whether the run of a row ends so.
 fn holds<R: Threads + Sync>(rt: &R, alloc: Global, row: &Checked) -> Result<bool, AllocError> {
-    let ran = check_over(rt, alloc, row.0.as_bytes(), row.1.as_bytes())?;
-    Ok(ran.gave(row.2, row.3, row.4))
+    checks_so(rt, alloc, row.0.as_bytes(), row.1.as_bytes(), row)
 }
 
 /// The place, from 0, of the first row that does not hold.
@@ -169,16 +175,16 @@ fn each_log_has_its_answer(rt: HostRuntime) -> Result<(), Fail> {
 #[test]
 fn a_missing_log_is_a_fault(rt: HostRuntime) -> Result<(), Fail> {
     let files = parts(rt.alloc(), &[("e", BOTH_WAYS)])?;
-    let ran = run_over(&rt, rt.alloc(), "subgraph check e l", files, CLEAN)?;
-    assert!(rt; ran.gave(5, "", "files: fault\n"));
+    let judge = Gives(5, "", "files: fault\n");
+    assert!(rt; runs_so(&rt, rt.alloc(), "subgraph check e l", files, &judge)?);
     Ok(())
 }
 
 #[test]
 fn a_bad_encoding_comes_before_a_missing_log(rt: HostRuntime) -> Result<(), Fail> {
     let files = parts(rt.alloc(), &[("e", "x"), ("l", "")])?;
-    let ran = run_over(&rt, rt.alloc(), "subgraph check e absent", files, CLEAN)?;
-    assert!(rt; ran.gave(4, "", "encoding: line 1: Header\n"));
+    let judge = Gives(4, "", "encoding: line 1: Header\n");
+    assert!(rt; runs_so(&rt, rt.alloc(), "subgraph check e absent", files, &judge)?);
     Ok(())
 }
 

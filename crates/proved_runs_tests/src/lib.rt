@@ -8,6 +8,10 @@
 #[cfg(test)]
 mod check_tests;
 #[cfg(test)]
+mod judged;
+#[cfg(test)]
 mod proof_tests;
+#[cfg(test)]
+mod shown_tests;
 #[cfg(test)]
 mod whole_tests;

@@ -1,6 +1,7 @@
 //! Logs that are checked over the encodings that the program writes.
 
-use memory_runs::{EDGE, FOUR_CYCLE, Ran, TRIANGLE, check_over, run_pair};
+use crate::judged::{Asked, Gives, Judge, checks_so, encoding};
+use memory_runs::{EDGE, FOUR_CYCLE, Ran, TRIANGLE};
 use std::alloc::{AllocError, Global};
 use std::test::Fail;
 use std::thread::Threads;
@@ -21,11 +22,16 @@ struct Whole {
     err: &'static str,
 }
 
+impl Judge for Whole {
+    fn is_so(&self, ran: &Ran) -> bool {
+        ran.gave(self.status, self.out, self.err)
+    }
+}
+
 /// Whether the runs of a row end so.
 fn holds<R: Threads + Sync>(rt: &R, alloc: Global, row: &Whole) -> Result<bool, AllocError> {
-    let encoded = run_pair(rt, alloc, row.line, row.pattern, row.target)?;
-    let checked = check_over(rt, alloc, encoded.out.bytes(), row.log)?;
-    Ok(encoded.status == 0 && checked.gave(row.status, row.out, row.err))
+    let (status, encoded) = encoding(rt, alloc, &Asked(row.line, row.pattern, row.target))?;
+    Ok(status == 0 && checks_so(rt, alloc, &encoded, row.log, row)?)
 }
 
 /// The place, from 0, of the first row that does not hold.
@@ -127,20 +133,20 @@ fn each_log_is_accepted_over_the_encoding_or_refused(rt: HostRuntime) -> Result<
 fn ends_early<R: Threads + Sync>(
     rt: &R,
     alloc: Global,
-    encoded: &Ran,
+    encoded: &[u8],
     front: &[u8],
     line: u64,
 ) -> Result<bool, AllocError> {
-    let checked = check_over(rt, alloc, encoded.out.bytes(), front)?;
     let told = format!(in alloc; "log: line {line}: EndsEarly\n")?;
-    Ok(checked.gave(7, "", told.as_str()))
+    let judge = Gives(7, "", told.as_str());
+    checks_so(rt, alloc, encoded, front, &judge)
 }
 
 /// How many bytes the first front of a log has that does not end early, at the line after its last whole one.
 fn first_front_that_ends<R: Threads + Sync>(
     rt: &R,
     alloc: Global,
-    encoded: &Ran,
+    encoded: &[u8],
     log: &[u8],
 ) -> Result<usize, AllocError> {
     let mut line: u64 = 1;
@@ -161,7 +167,8 @@ fn is_whole_at_last<R: Threads + Sync>(
     alloc: Global,
     log: &[u8],
 ) -> Result<bool, AllocError> {
-    let encoded = run_pair(rt, alloc, "subgraph encode p t", TRIANGLE, FOUR_CYCLE)?;
+    let asked = Asked("subgraph encode p t", TRIANGLE, FOUR_CYCLE);
+    let (_, encoded) = encoding(rt, alloc, &asked)?;
     Ok(first_front_that_ends(rt, alloc, &encoded, log)? == log.len())
 }
 
