@@ -151,6 +151,36 @@ pub fn run_over<R: Threads + Sync>(
     })
 }
 
+/// What tells whether a run left what it should. Few functions own what a run leaves, and lend it to a judge: that it is dropped wherever its owner
+/// ends is the costly part of a test's proof.
+pub trait Judge {
+    /// Whether it did.
+    fn judges(&self, ran: &Ran) -> bool;
+}
+
+/// A status, and what a run that ends with it writes to its output and to its error stream.
+#[derive(Drop)]
+pub struct Gives<'a>(pub u8, pub &'a str, pub &'a str);
+
+impl<'a> Judge for Gives<'a> {
+    fn judges(&self, ran: &Ran) -> bool {
+        ran.gave(self.0, self.1, self.2)
+    }
+}
+
+/// Runs the program on the words of a line, over these files, and asks the judge.
+pub fn is_judged<R: Threads + Sync, J: Judge>(
+    rt: &R,
+    alloc: Global,
+    line: &str,
+    files: Vec<MemoryPart>,
+    failing: Failing,
+    judge: &J,
+) -> Result<bool, AllocError> {
+    let ran = run_over(rt, alloc, line, files, failing)?;
+    Ok(judge.judges(&ran))
+}
+
 /// Runs the program over a pattern in the file `p` and a target in the file `t`.
 pub fn run_pair<R: Threads + Sync>(
     rt: &R,
@@ -168,20 +198,6 @@ pub fn run_pair<R: Threads + Sync>(
     )
 }
 
-/// Runs the program over such files and a mapping in the file `m`.
-pub fn run_three<R: Threads + Sync>(
-    rt: &R,
-    alloc: Global,
-    line: &str,
-    pattern: &str,
-    target: &str,
-    mapping: &[u8],
-) -> Result<Ran, AllocError> {
-    let mut files = parts(alloc, &[("p", pattern), ("t", target)])?;
-    files.push(part(alloc, "m", mapping)?)?;
-    run_over(rt, alloc, line, files, CLEAN)
-}
-
 /// Runs the program over a pattern in the file `p`, a target in the file `t`, and two files `e` and `l` that are not there yet.
 pub fn run_proof<R: Threads + Sync>(
     rt: &R,
@@ -195,17 +211,4 @@ pub fn run_proof<R: Threads + Sync>(
     files.push(absent(alloc, "e")?)?;
     files.push(absent(alloc, "l")?)?;
     run_over(rt, alloc, line, files, failing)
-}
-
-/// Checks the log over the encoding.
-pub fn check_over<R: Threads + Sync>(
-    rt: &R,
-    alloc: Global,
-    encoding: &[u8],
-    log: &[u8],
-) -> Result<Ran, AllocError> {
-    let mut files = Vec::new(alloc);
-    files.push(part(alloc, "e", encoding)?)?;
-    files.push(part(alloc, "l", log)?)?;
-    run_over(rt, alloc, "subgraph check e l", files, CLEAN)
 }

@@ -1,7 +1,7 @@
 //! What `demo` answers.
 
-use crate::ends::{Ends, Judge, all_end, is_judged};
-use memory_runs::{CLEAN, Failing, Ran};
+use crate::ends::{Ends, all_end};
+use memory_runs::{CLEAN, Failing, Judge, Ran, is_judged};
 use std::alloc::{AllocError, Global};
 use std::test::Fail;
 use std::thread::Threads;

@@ -1,7 +1,9 @@
 //! Each call failing in turn.
 
-use crate::ends::{Gives, Judge, is_judged, output_of};
-use memory_runs::{CLEAN, EDGE, FOUR_CYCLE, Failing, Ran, TRIANGLE, part, parts};
+use crate::ends::output_of;
+use memory_runs::{
+    CLEAN, EDGE, FOUR_CYCLE, Failing, Gives, Judge, Ran, TRIANGLE, is_judged, part, parts,
+};
 use outer_io::MemoryPart;
 use std::alloc::{AllocError, Global};
 use std::test::Fail;

@@ -1,7 +1,7 @@
 //! What `solve` refuses.
 
-use crate::ends::{Ends, Gives, all_end, is_judged};
-use memory_runs::{CLEAN, part};
+use crate::ends::{Ends, all_end};
+use memory_runs::{CLEAN, Gives, is_judged, part};
 use outer_io::MemoryPart;
 use std::alloc::{AllocError, Global};
 use std::test::Fail;

@@ -1,7 +1,7 @@
 //! What `solve` answers.
 
-use crate::ends::{Ends, Gives, Judge, all_end, is_judged, output_of};
-use memory_runs::{CLEAN, EDGE, FOUR_CYCLE, Ran, TRIANGLE, part, parts};
+use crate::ends::{Ends, all_end, output_of};
+use memory_runs::{CLEAN, EDGE, FOUR_CYCLE, Gives, Judge, Ran, TRIANGLE, is_judged, part, parts};
 use outer_io::MemoryPart;
 use std::alloc::{AllocError, Global};
 use std::test::Fail;

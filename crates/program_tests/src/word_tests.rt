@@ -1,7 +1,7 @@
 //! Words that are no command, and how long a name may be.
 
-use crate::ends::{Ends, Gives, all_end, is_judged};
-use memory_runs::{CLEAN, parts};
+use crate::ends::{Ends, all_end};
+use memory_runs::{CLEAN, Gives, is_judged, parts};
 use std::alloc::{AllocError, Global};
 use std::test::Fail;
 use std::thread::Threads;

@@ -1,7 +1,7 @@
 //! What `check` answers.
 
-use crate::judged::{Gives, Judge, checks_so, runs_so};
-use memory_runs::{Ran, parts};
+use crate::judged::checks_so;
+use memory_runs::{CLEAN, Gives, Judge, Ran, is_judged, parts};
 use std::alloc::{AllocError, Global};
 use std::test::Fail;
 use std::thread::Threads;
@@ -14,7 +14,7 @@ const BOTH_WAYS: &str = "* #variable= 1 #constraint= 2\n+1 x1 >= 1 ;\n-1 x1 >= 0
 struct Checked(&'static str, &'static str, u8, &'static str, &'static str);
 
 impl Judge for Checked {
-    fn is_so(&self, ran: &Ran) -> bool {
+    fn judges(&self, ran: &Ran) -> bool {
         ran.gave(self.2, self.3, self.4)
     }
 }
@@ -176,7 +176,7 @@ fn each_log_has_its_answer(rt: HostRuntime) -> Result<(), Fail> {
 fn a_missing_log_is_a_fault(rt: HostRuntime) -> Result<(), Fail> {
     let files = parts(rt.alloc(), &[("e", BOTH_WAYS)])?;
     let judge = Gives(5, "", "files: fault\n");
-    assert!(rt; runs_so(&rt, rt.alloc(), "subgraph check e l", files, &judge)?);
+    assert!(rt; is_judged(&rt, rt.alloc(), "subgraph check e l", files, CLEAN, &judge)?);
     Ok(())
 }
 
@@ -184,7 +184,16 @@ fn a_missing_log_is_a_fault(rt: HostRuntime) -> Result<(), Fail> {
 fn a_bad_encoding_comes_before_a_missing_log(rt: HostRuntime) -> Result<(), Fail> {
     let files = parts(rt.alloc(), &[("e", "x"), ("l", "")])?;
     let judge = Gives(4, "", "encoding: line 1: Header\n");
-    assert!(rt; runs_so(&rt, rt.alloc(), "subgraph check e absent", files, &judge)?);
+    assert!(rt;
+        is_judged(
+            &rt,
+            rt.alloc(),
+            "subgraph check e absent",
+            files,
+            CLEAN,
+            &judge
+        )?
+    );
     Ok(())
 }
 

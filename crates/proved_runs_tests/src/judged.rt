@@ -1,40 +1,9 @@
-//! Runs of which a judge is asked, and the files that a run leaves.
-//!
-//! These few functions own what a run leaves and the tests do not, since that it is dropped wherever a function ends is the costly part of a
-//! proof.
+//! Checks and proofs of which a judge is asked, and the files that a run leaves.
 
-use memory_runs::{CLEAN, Failing, Ran, part, run_over, run_pair, run_proof};
+use memory_runs::{CLEAN, Failing, Judge, Ran, is_judged, part, run_pair, run_proof};
 use outer_io::MemoryPart;
 use std::alloc::{AllocError, Global};
 use std::thread::Threads;
-
-/// What tells whether a run left what it should.
-pub trait Judge {
-    /// Whether it did.
-    fn is_so(&self, ran: &Ran) -> bool;
-}
-
-/// A status, and what a run that ends with it writes to its output and to its error stream.
-#[derive(Drop)]
-pub struct Gives<'a>(pub u8, pub &'a str, pub &'a str);
-
-impl<'a> Judge for Gives<'a> {
-    fn is_so(&self, ran: &Ran) -> bool {
-        ran.gave(self.0, self.1, self.2)
-    }
-}
-
-/// Whether a run of these words over these files, of which no call fails, is as the judge tells.
-pub fn runs_so<R: Threads + Sync, J: Judge>(
-    rt: &R,
-    alloc: Global,
-    line: &str,
-    files: Vec<MemoryPart>,
-    judge: &J,
-) -> Result<bool, AllocError> {
-    let ran = run_over(rt, alloc, line, files, CLEAN)?;
-    Ok(judge.is_so(&ran))
-}
 
 /// An encoding and a log.
 fn check_files(alloc: Global, encoding: &[u8], log: &[u8]) -> Result<Vec<MemoryPart>, AllocError> {
@@ -53,7 +22,7 @@ pub fn checks_so<R: Threads + Sync, J: Judge>(
     judge: &J,
 ) -> Result<bool, AllocError> {
     let files = check_files(alloc, encoding, log)?;
-    runs_so(rt, alloc, "subgraph check e l", files, judge)
+    is_judged(rt, alloc, "subgraph check e l", files, CLEAN, judge)
 }
 
 /// Words, a pattern and a target.
@@ -69,7 +38,7 @@ pub fn proves_so<R: Threads + Sync, J: Judge>(
     judge: &J,
 ) -> Result<bool, AllocError> {
     let ran = run_proof(rt, alloc, asked.0, asked.1, asked.2, failing)?;
-    Ok(judge.is_so(&ran))
+    Ok(judge.judges(&ran))
 }
 
 /// What a run that writes a proof left: whether it was as a judge told, its encoding and its log.
@@ -85,7 +54,7 @@ fn left_by<J: Judge>(alloc: Global, ran: &Ran, judge: &J) -> Result<Left, AllocE
     let encoding = Vec::from_slice(alloc, ran.file("e"))?;
     let log = Vec::from_slice(alloc, ran.file("l"))?;
     Ok(Left {
-        is_so: judge.is_so(ran),
+        is_so: judge.judges(ran),
         encoding,
         log,
     })

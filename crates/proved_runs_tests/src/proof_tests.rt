@@ -1,7 +1,9 @@
 //! The files that show an answer of `solve`, where a call fails.
 
-use crate::judged::{Asked, Gives, Judge, checks_so, leaves, proves_so, runs_so};
-use memory_runs::{CLEAN, FOUR_CYCLE, Failing, Ran, TRIANGLE, part_to_write, parts};
+use crate::judged::{Asked, checks_so, leaves, proves_so};
+use memory_runs::{
+    CLEAN, FOUR_CYCLE, Failing, Gives, Judge, Ran, TRIANGLE, is_judged, part_to_write, parts,
+};
 use outer_io::MemoryPart;
 use std::alloc::{AllocError, Global};
 use std::test::Fail;
@@ -79,7 +81,7 @@ impl<'a> Fault<'a> {
 }
 
 impl<'a> Judge for Fault<'a> {
-    fn is_so(&self, ran: &Ran) -> bool {
+    fn judges(&self, ran: &Ran) -> bool {
         ran.gave(5, "", "files: fault\n") && self.is_in_order(ran)
     }
 }
@@ -89,7 +91,7 @@ impl<'a> Judge for Fault<'a> {
 struct Refutes;
 
 impl Judge for Refutes {
-    fn is_so(&self, ran: &Ran) -> bool {
+    fn judges(&self, ran: &Ran) -> bool {
         ran.status == 1
     }
 }
@@ -99,7 +101,7 @@ impl Judge for Refutes {
 struct Encodes<'a>(&'a [u8]);
 
 impl<'a> Judge for Encodes<'a> {
-    fn is_so(&self, ran: &Ran) -> bool {
+    fn judges(&self, ran: &Ran) -> bool {
         ran.file("e") == self.0
     }
 }
@@ -155,7 +157,7 @@ fn each_fault_of_a_file_leaves_what_came_before(rt: HostRuntime) -> Result<(), F
 struct Logs<'a>(&'a str);
 
 impl<'a> Judge for Logs<'a> {
-    fn is_so(&self, ran: &Ran) -> bool {
+    fn judges(&self, ran: &Ran) -> bool {
         ran.file("l") == self.0.as_bytes()
     }
 }
@@ -197,7 +199,7 @@ fn is_empty_before<R: Threads + Sync>(
 struct MadeWhole;
 
 impl Judge for MadeWhole {
-    fn is_so(&self, ran: &Ran) -> bool {
+    fn judges(&self, ran: &Ran) -> bool {
         ran.gave(1, "none\n", "") && ran.file("l") == REFUTATION.as_bytes()
     }
 }
@@ -218,7 +220,7 @@ fn is_made_whole<R: Threads + Sync>(
     log: &[u8],
 ) -> Result<bool, AllocError> {
     let files = files_again(alloc, encoding, log)?;
-    runs_so(rt, alloc, REFUTES, files, &MadeWhole)
+    is_judged(rt, alloc, REFUTES, files, CLEAN, &MadeWhole)
 }
 
 /// What a check tells of a log that has only its head.
@@ -248,7 +250,7 @@ fn the_head_of_a_log_is_added_at_once_ends_early_and_is_made_whole_by_a_second_r
 struct Untold<'a>(&'a [u8], &'a [u8]);
 
 impl<'a> Judge for Untold<'a> {
-    fn is_so(&self, ran: &Ran) -> bool {
+    fn judges(&self, ran: &Ran) -> bool {
         ran.gave(5, "", "output: fault\n") && ran.file("e") == self.0 && ran.file("l") == self.1
     }
 }
@@ -292,7 +294,7 @@ fn each_fault_of_the_output_leaves_the_proof_whole(rt: HostRuntime) -> Result<()
 struct Untouched;
 
 impl Judge for Untouched {
-    fn is_so(&self, ran: &Ran) -> bool {
+    fn judges(&self, ran: &Ran) -> bool {
         let is_written = ran.files.content("e").is_some() || ran.files.content("l").is_some();
         ran.status == 4 && !is_written
     }

@@ -1,8 +1,8 @@
 //! Answers of `solve`, and the files that show them.
 
-use crate::judged::{Asked, Gives, Judge, checks_so, leaves};
+use crate::judged::{Asked, checks_so, leaves};
 use crate::proof_tests::{HEAD, REFUTATION};
-use memory_runs::{CLEAN, FOUR_CYCLE, Ran, TRIANGLE};
+use memory_runs::{CLEAN, FOUR_CYCLE, Gives, Judge, Ran, TRIANGLE};
 use std::alloc::{AllocError, Global};
 use std::test::Fail;
 use std::thread::Threads;
@@ -42,7 +42,7 @@ struct Shown {
 }
 
 impl Judge for Shown {
-    fn is_so(&self, ran: &Ran) -> bool {
+    fn judges(&self, ran: &Ran) -> bool {
         ran.gave(self.status, self.out, "")
             && ran.file("e").starts_with(self.encoding.as_bytes())
             && ran.file("l").starts_with(self.log.as_bytes())

@@ -1,7 +1,7 @@
 //! Logs that are checked over the encodings that the program writes.
 
-use crate::judged::{Asked, Gives, Judge, checks_so, encoding};
-use memory_runs::{EDGE, FOUR_CYCLE, Ran, TRIANGLE};
+use crate::judged::{Asked, checks_so, encoding};
+use memory_runs::{EDGE, FOUR_CYCLE, Gives, Judge, Ran, TRIANGLE};
 use std::alloc::{AllocError, Global};
 use std::test::Fail;
 use std::thread::Threads;
@@ -23,7 +23,7 @@ struct Whole {
 }
 
 impl Judge for Whole {
-    fn is_so(&self, ran: &Ran) -> bool {
+    fn judges(&self, ran: &Ran) -> bool {
         ran.gave(self.status, self.out, self.err)
     }
 }
