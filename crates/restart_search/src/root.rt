@@ -97,6 +97,44 @@ fn settle_root<T: Trail, R: Recorder>(
     propagate(q, filters, d, waiting, undecided, told)
 }
 
+/// The same, in room that is made for it, with at most so many words of rows of pairs. Cost: that of `FirstRows::new` beside it.
+fn settle_full<T: Trail, R: Recorder>(
+    alloc: Global,
+    q: &Problem,
+    kinds: &PairKinds,
+    most: usize,
+    d: &mut Domains<T>,
+    told: &mut R,
+) -> Result<Result<(), Failure>, AllocError>
+    requires kinds { kinds.now.problem ≡ q.now }
+    requires is_full { d.old ≡ full (size q.now.pattern) (size q.now.target) }
+    ensures roots { IfOk result (λ settled. Roots (is_ok settled) q.now d.new) }
+    ensures is_of { IfOk result (λ _. IsOf q.now d.new) }
+    ensures fails { IfOk result (λ settled. IfErr settled
+        (Fails q.now None d.new (R.changes told.new) (R.short told.new))) }
+    ensures told { IfOk result (λ _. Tells q.now None d.old (R.changes told.old)
+        → Tells q.now None d.new (R.changes told.new)) }
+    ensures guesses { IfOk result (λ _. NoNewGuess (R.changes told.old) (R.changes told.new)) }
+{
+    let vertices = q.pattern().size();
+    let mut waiting = vec![in alloc; false; usize::from(vertices)]?;
+    let mut undecided = SparseSet::new(alloc, vertices)?;
+    let row = vec![in alloc; 0u64; words_for(usize::from(q.target().size()))]?;
+    let kept = FirstRows::new(alloc, q)?;
+    let mut first = FirstRoom { kept, row };
+    let mut filters = Filters::new(alloc, q, kinds, most)?;
+    let settled = settle_root(
+        q,
+        &mut first,
+        &mut filters,
+        d,
+        &mut waiting,
+        &mut undecided,
+        told,
+    );
+    Ok(settled)
+}
+
 /// The first domains and what follows from them, with at most so many words of rows of pairs; all changes are told. Cost: that of
 /// `FirstRows::new`, for each vertex that of `fill_first`, and the propagation.
 pub fn root<T: Trail, R: Recorder>(
@@ -134,21 +172,8 @@ fn take_root<T: Trail, R: Recorder>(
     let values = q.target().size();
     let mut told = told;
     let mut domains = Domains::<T>::with_trail(alloc, vertices, values)?;
-    let mut waiting = vec![in alloc; false; usize::from(vertices)]?;
-    let mut undecided = SparseSet::new(alloc, vertices)?;
-    let row = vec![in alloc; 0u64; words_for(usize::from(values))]?;
-    let kept = FirstRows::new(alloc, q)?;
-    let mut first = FirstRoom { kept, row };
-    let mut filters = Filters::new(alloc, q, kinds, most)?;
-    match settle_root(
-        q,
-        &mut first,
-        &mut filters,
-        &mut domains,
-        &mut waiting,
-        &mut undecided,
-        &mut told,
-    ) {
+    let settled = settle_full(alloc, q, kinds, most, &mut domains, &mut told)?;
+    match settled {
         Ok(()) => Ok(Rooted::Quiet(domains, told)),
         Err(failure) => Ok(Rooted::Failed(failure, told)),
     }
