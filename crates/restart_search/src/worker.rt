@@ -1,10 +1,11 @@
 //! A worker: one search beside others over the same problem, which share a book of nogoods and a cell for the first answer.
 
-ghost use Rattle.std.specs.Prelude.{◌≡◌, ℕ, [], ◌^◌, ◌<◌, ◌≤◌, ◌≢◌, None, IfOk};
+ghost use Rattle.std.specs.Prelude.{◌≡◌, ℕ, [], ◌^◌, ◌<◌, ◌≤◌, ◌≢◌, None, IfOk, length, vec_capacity};
 ghost use Rattle.graph_theory.specs.Graph.{size};
 ghost use Rattle.graph_theory.specs.Embedding.{Embeds};
 ghost use Rattle.domain_bits.specs.Removals.{in_domain};
-ghost use Rattle.search_theory.specs.Account.{fresh};
+ghost use Rattle.bit_rows.specs.BitRows.{words_for};
+ghost use Rattle.search_theory.specs.Account.{fresh, Honest};
 ghost use Rattle.search_theory.specs.Claims.{Quiet};
 ghost use Rattle.propagation.specs.Learning.{unlearned};
 ghost use Rattle.propagation.specs.Propagation.{IsOf, LeavesPast};
@@ -13,7 +14,7 @@ ghost use Rattle.restart_search.specs.Logging.{IsTold, IfRefuted};
 ghost use Rattle.restart_search.specs.Searching.{AtRest, Ends, IfMemory, IsNotStopped, IsPaused, IsTrueFor, Leaves, stage_after};
 
 use crate::outcome::{Outcome, Stage, stage_of};
-use crate::position::{Position, Propagator, present};
+use crate::position::{Moment, Position, Propagator, present};
 use crate::search::{Signals, Walk, run};
 use crate::sharing::Author;
 use crate::value_choice::ValueChoice;
@@ -88,6 +89,56 @@ fn undecided_of<T: Trail>(
     Ok(undecided)
 }
 
+/// What a walk has beside its domains and its filters, as it is before the first guess.
+#[derive(Drop)]
+struct WalkRoom {
+    account: Account,
+    marks: Vec<Moment>,
+    waiting: Vec<bool>,
+    untried: Vec<u64>,
+    choice: ValueChoice,
+    undecided: SparseSet,
+}
+
+/// Room for a walk that begins with these domains. Cost: that of its account and of its choice of values, and one step for each vertex.
+fn walk_room<T: Trail>(
+    alloc: Global,
+    q: &Problem,
+    d: &Domains<T>,
+    settings: WorkerSettings,
+) -> Result<WalkRoom, AllocError>
+    requires is_of { IsOf q.now d.now }
+    requires quiet { Quiet q.now (in_domain d.now) }
+    requires some { 1 ≤ settings.number }
+    requires budget { settings.budget < 2 ^ 63 }
+    ensures account { IfOk result
+        (λ r. r.account ≡ fresh (size q.now.pattern) (size q.now.target) settings.budget) }
+    ensures honest { IfOk result (λ r. Honest q.now r.account) }
+    ensures none { IfOk result (λ r. r.marks.items ≡ []) }
+    ensures room { IfOk result (λ r. size q.now.pattern ≤ vec_capacity r.marks) }
+    ensures long { IfOk result (λ r. length r.waiting.items ≡ size q.now.pattern) }
+    ensures words { IfOk result (λ r. length r.untried.items ≡ words_for (size q.now.target)) }
+    ensures degrees { IfOk result (λ r. r.choice ≡ size q.now.target) }
+    ensures left { IfOk result (λ r. LeavesPast q.now d.now r.undecided) }
+{
+    let account = Account::new(alloc, q, settings.budget)?;
+    let vertices = usize::from(q.pattern().size());
+    let marks = Vec::with_capacity(alloc, vertices)?;
+    let waiting = vec![in alloc; false; vertices]?;
+    let words = words_for(usize::from(q.target().size()));
+    let untried = vec![in alloc; 0u64; words]?;
+    let choice = ValueChoice::new(alloc, q, settings.seed, settings.number)?;
+    let undecided = undecided_of(alloc, q, d)?;
+    Ok(WalkRoom {
+        account,
+        marks,
+        waiting,
+        untried,
+        choice,
+        undecided,
+    })
+}
+
 impl<'a, T: Trail, R: Recorder> Equipment<'a, T, R> {
     /// The equipment of one worker, with what was told of the domains. It reserves a mark for each pattern vertex; the worker's choices of
     /// values are those of its own stream.
@@ -112,15 +163,14 @@ impl<'a, T: Trail, R: Recorder> Equipment<'a, T, R> {
             (λ e. e.account
             ≡ fresh (size q.entry.now.pattern) (size q.entry.now.target) settings.budget) }
     {
-        let number = settings.number;
-        let account = Account::new(alloc, q, settings.budget)?;
-        let vertices = usize::from(q.pattern().size());
-        let marks = Vec::with_capacity(alloc, vertices)?;
-        let waiting = vec![in alloc; false; vertices]?;
-        let words = words_for(usize::from(q.target().size()));
-        let untried = vec![in alloc; 0u64; words]?;
-        let choice = ValueChoice::new(alloc, q, settings.seed, number)?;
-        let undecided = undecided_of(alloc, q, &domains)?;
+        let WalkRoom {
+            account,
+            marks,
+            waiting,
+            untried,
+            choice,
+            undecided,
+        } = walk_room(alloc, q, &domains, settings)?;
         let root = present(&domains, &undecided);
         let position = Position {
             domains,
@@ -138,7 +188,7 @@ impl<'a, T: Trail, R: Recorder> Equipment<'a, T, R> {
         };
         Ok(Equipment {
             problem: q,
-            number,
+            number: settings.number,
             walk,
         })
     }
