@@ -41,7 +41,7 @@ pub struct WorkerSettings {
     pub budget: u64,
 }
 
-/// What a worker searches with, before it has a seat: all of its memory. So a seat is asked for only where a worker will have it.
+/// What a worker searches with, before it has a seat: all of its memory.
 #[derive(Drop)]
 pub struct Equipment<'a, T: Trail, R: Recorder> {
     problem: &'a Problem,
