@@ -2,6 +2,8 @@
 
 ghost use Rattle.std.specs.Prelude.{◌≡◌, [], ◌≤◌, ◌<◌, ◌^◌, ◌+◌, true, false, None, length, All, IfOk, OnOk};
 ghost use Rattle.std.specs.List.{Any};
+ghost use Rattle.graph_theory.specs.Graph.{size};
+ghost use Rattle.search_theory.specs.Account.{fresh};
 ghost use Rattle.propagation.specs.Propagation.{IsOf};
 ghost use Rattle.nogood_book.specs.Seats.{IsSeatOf};
 ghost use Rattle.restart_search.specs.Searching.{AtRest, IsNotStopped};
@@ -69,7 +71,41 @@ pub(crate) struct Root<'r, 'a, M> {
     pub(crate) settings: &'r Settings,
 }
 
-/// The worker of this number, its seat split from the first one. All that may be refused for memory is made before the seat.
+/// What the worker of this number works with: domains and a record of what was told of its own, and its part of the room for rows of pairs.
+fn equip<'a, M, R: Recorder>(
+    root: &Root<'_, 'a, M>,
+    domains: &Domains<WordTrail>,
+    told: &R,
+    number: u8,
+) -> Result<Equipment<'a, WordTrail, R>, AllocError>
+    requires kinds { root.now.kinds.now.problem ≡ root.now.q.now }
+    requires is_of { IsOf root.now.q.now domains.now }
+    requires rest { AtRest root.now.q.now [] domains.now }
+    requires told { IsTold root.now.q.now None domains.now [] [] (R.changes told.now) }
+    requires threads { 1 ≤ root.now.settings.now.threads }
+    requires some { 1 ≤ number }
+    requires few { number ≤ 64 }
+    requires budget { root.now.settings.now.budget < 2 ^ 63 }
+    ensures problem { IfOk result (λ e. e.problem ≡ root.now.q.now) }
+    ensures number { IfOk result (λ e. e.number ≡ number) }
+    ensures account { IfOk result
+        (λ e. e.account
+        ≡ fresh (size root.now.q.now.pattern) (size root.now.q.now.target)
+        root.now.settings.now.budget) }
+{
+    let alloc = root.alloc;
+    let copy = domains.copy(alloc)?;
+    let words = MOST_WORDS / root.settings.threads as usize;
+    let filters = Filters::new(alloc, root.q, root.kinds, words)?;
+    let settings = WorkerSettings {
+        number,
+        seed: root.settings.seed,
+        budget: root.settings.budget,
+    };
+    Equipment::new(alloc, root.q, copy, told.copy(alloc), filters, settings)
+}
+
+/// The worker of this number, its seat split from the first one. Where memory is refused behind that, nobody writes rows under this number.
 fn make_job<'a, L: ProofLogger, M: ProofMaker<L>>(
     root: &Root<'_, 'a, M>,
     domains: &Domains<WordTrail>,
@@ -99,17 +135,9 @@ fn make_job<'a, L: ProofLogger, M: ProofMaker<L>>(
     ensures made { OnOk result (HasMade (number + 1) first.new.view) }
 {
     let alloc = root.alloc;
-    let copy = domains.copy(alloc)?;
-    let words = MOST_WORDS / root.settings.threads as usize;
-    let filters = Filters::new(alloc, root.q, root.kinds, words)?;
-    let settings = WorkerSettings {
-        number,
-        seed: root.settings.seed,
-        budget: root.settings.budget,
-    };
-    let equipment = Equipment::new(alloc, root.q, copy, told.copy(alloc), filters, settings)?;
     let log = root.maker.logger(alloc, number)?;
     let seat = book.split(alloc, first, number)?;
+    let equipment = equip(root, domains, told, number)?;
     Ok(Worker::new(equipment, seat, log))
 }
 
