@@ -73,8 +73,9 @@ impl<'a> ProofMaker<OwnerLog<'a>> for KeepsLines<'a> {
     }
 
     fn of_root(&self, alloc: Global, log: OwnerLog<'a>) -> Result<Proof, AllocError> {
+        let journal = log.into_journal();
         let mut journals = Vec::with_capacity(alloc, 1)?;
-        journals.push_reserved(log.into_journal());
+        journals.push_reserved(journal);
         let parts = Logged {
             rows: Vec::new(alloc),
             journals,

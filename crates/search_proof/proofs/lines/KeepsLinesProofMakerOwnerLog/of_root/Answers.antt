@@ -7,5 +7,5 @@ pub proof_of-requires : goal.proof_of-requires
 proof_of-requires c =
     let j = c.args.log.kept.journal in
     let journals : c.push_reserved.new.self.items ≡ j ∷ [] =
-    c.push_reserved.ensures.items ∙ ap (λ (js : List Keeping). js ++ c.into_journal.result ∷ []) c.in_ok-journals.ensures.items ∙ ap (λ (k : Keeping). k ∷ []) c.into_journal.ensures in
+    c.push_reserved.ensures.items ∙ ap (λ (js : List Keeping). js ++ c.into_journal-journal.result ∷ []) c.in_ok-journals.ensures.items ∙ ap (λ (k : Keeping). k ∷ []) c.into_journal-journal.ensures in
     root_parts c.args.self.now.problem.now c.args.log.kept.lines.now _ j journals c.new.ensures.items refl c.requires.owner c.requires.refutes
