@@ -13,6 +13,7 @@ use crate::stop::Stop;
 use command_line::DemoWords;
 use demo_instances::{Words, cycle_has_none, cycle_problem, planted_embeds, planted_problem};
 use fail_account::account::Account;
+use graph_rows::Problem;
 use outer_io::sink::Sink;
 use parallel_solve::{Settings, Solved, solve};
 use search_proof::Proof;
@@ -59,26 +60,23 @@ fn settings_of(asked: &DemoWords, prove: bool) -> Settings
     }
 }
 
-/// Decides the planted problem, and says whether it was decided within the budget. It embeds, so that no other answer can
+/// Decides a planted problem, and says whether it was decided within the budget. It embeds, so that no other answer can
 /// come. A mapping is tested before it counts.
-fn show_planted<R: Threads + Sync>(
+fn decide_planted<R: Threads + Sync>(
     rt: &R,
     alloc: Global,
-    words: &Words,
+    q: &Problem,
     asked: &DemoWords,
     spent: &mut Vec<Account>,
 ) -> Result<bool, Stop>
     requires ranges { IsDemoInRange asked.now }
-    requires words { words.now ≡ asked.now.seed }
+    requires planted { IsPlanted asked.now.seed q.now }
     ensures shows { ShowsOne result
         (IsPlanted asked.now.seed) asked.now spent.old.items spent.new.items }
     ensures memory { IfErr result (λ stop. stop ≡ Stop.NoMemory) }
 {
     planted_embeds();
-    let Ok(q) = planted_problem(alloc, words) else {
-        return Err(Stop::NoMemory);
-    };
-    match solve(rt, alloc, &q, &settings_of(asked, false)) {
+    match solve(rt, alloc, q, &settings_of(asked, false)) {
         Solved::Yes(map) => {
             if q.is_embedding(&map) {
                 Ok(true)
@@ -92,8 +90,56 @@ fn show_planted<R: Threads + Sync>(
     }
 }
 
-/// Decides the cycle's problem, and says whether it was decided within the budget. It does not embed, so that no other
+/// Makes the planted problem of the seed, and decides it.
+fn show_planted<R: Threads + Sync>(
+    rt: &R,
+    alloc: Global,
+    words: &Words,
+    asked: &DemoWords,
+    spent: &mut Vec<Account>,
+) -> Result<bool, Stop>
+    requires ranges { IsDemoInRange asked.now }
+    requires words { words.now ≡ asked.now.seed }
+    ensures shows { ShowsOne result
+        (IsPlanted asked.now.seed) asked.now spent.old.items spent.new.items }
+    ensures memory { IfErr result (λ stop. stop ≡ Stop.NoMemory) }
+{
+    let Ok(q) = planted_problem(alloc, words) else {
+        return Err(Stop::NoMemory);
+    };
+    decide_planted(rt, alloc, &q, asked, spent)
+}
+
+/// Decides a cycle's problem, and says whether it was decided within the budget. It does not embed, so that no other
 /// answer can come. The log that shows this is written to memory and checked before the answer counts.
+fn decide_cycle<R: Threads + Sync>(
+    rt: &R,
+    alloc: Global,
+    q: &Problem,
+    asked: &DemoWords,
+    spent: &mut Vec<Account>,
+) -> Result<bool, Stop>
+    requires ranges { IsDemoInRange asked.now }
+    requires cycle { IsCycle asked.now.seed q.now }
+    ensures shows { ShowsOne result
+        (IsCycle asked.now.seed) asked.now spent.old.items spent.new.items }
+    ensures logged { IfOk result (λ decided. IsLogged decided asked.now) }
+    ensures memory { IfErr result (λ stop. stop ≡ Stop.NoMemory) }
+{
+    cycle_has_none();
+    match solve(rt, alloc, q, &settings_of(asked, true)) {
+        Solved::Yes(_) => unreachable!(),
+        Solved::NoEmbedding(Proof::Unlogged) => unreachable!(),
+        Solved::NoEmbedding(Proof::Logged(parts)) => match accept(alloc, q, &parts) {
+            Ok(()) => Ok(true),
+            Err(_) => Err(Stop::NoMemory),
+        },
+        Solved::Unknown(accounts) => keep_undecided(accounts, spent),
+        Solved::NoMemory => Err(Stop::NoMemory),
+    }
+}
+
+/// Makes the cycle's problem of the seed, and decides it.
 fn show_cycle<R: Threads + Sync>(
     rt: &R,
     alloc: Global,
@@ -108,20 +154,10 @@ fn show_cycle<R: Threads + Sync>(
     ensures logged { IfOk result (λ decided. IsLogged decided asked.now) }
     ensures memory { IfErr result (λ stop. stop ≡ Stop.NoMemory) }
 {
-    cycle_has_none();
     let Ok(q) = cycle_problem(alloc, words) else {
         return Err(Stop::NoMemory);
     };
-    match solve(rt, alloc, &q, &settings_of(asked, true)) {
-        Solved::Yes(_) => unreachable!(),
-        Solved::NoEmbedding(Proof::Unlogged) => unreachable!(),
-        Solved::NoEmbedding(Proof::Logged(parts)) => match accept(alloc, &q, &parts) {
-            Ok(()) => Ok(true),
-            Err(_) => Err(Stop::NoMemory),
-        },
-        Solved::Unknown(accounts) => keep_undecided(accounts, spent),
-        Solved::NoMemory => Err(Stop::NoMemory),
-    }
+    decide_cycle(rt, alloc, &q, asked, spent)
 }
 
 /// The lines of both.

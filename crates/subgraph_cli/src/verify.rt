@@ -90,7 +90,10 @@ pub fn verify<F: Files, O: Sink>(
     } = words;
     let q = load_problem(alloc, files, pattern, target, *format, *induced)?;
     let map = load_map(alloc, files, mapping)?;
-    if !q.is_embedding(&map) {
+    let is_embedding = q.is_embedding(&map);
+    drop(map);
+    drop(q);
+    if !is_embedding {
         return Ok(Tested::NotAnEmbedding);
     }
     match out.put(b"embedding\n") {

@@ -1,22 +1,8 @@
--- No other answer can come, spent budgets are shown by their accounts, and a refutation by its log.
+-- What is made is the problem of the seed.
 
 use Rattle.std.proofs.Common.{ℕ, subst}
 use Rattle.demo_instances.specs.SeedProblems.{IsCycle}
-use Rattle.subgraph_cli.proofs.DemoStatuses.{kept_shows}
 use Rattle.subgraph_cli.proofs.demo.show_cycle.Goals as goal
 
-pub unreachable-requires : goal.unreachable-requires
-unreachable-requires g c = c.cycle_has_none.ensures c.args.words.now c.in-Ok.q c.in-Ok.ensures.cycle c.in-Yes.field-0.items c.in-Yes.ensures
-
-pub returns-in-Unknown-clause-shows : goal.returns-in-Unknown-clause-shows
-returns-in-Unknown-clause-shows g c =
-    kept_shows c.keep_undecided.result (IsCycle c.args.asked.now.seed) c.args.asked.now c.in-Unknown.accounts.items c.args.spent.now.items
-    c.keep_undecided.new.spent.items c.keep_undecided.ensures.kept record {
-      problem = c.in-Ok.q;
-      is_described = subst (λ (seed : ℕ). IsCycle seed c.in-Ok.q) c.requires.words c.in-Ok.ensures.cycle;
-      spent = rw (c.settings_of.ensures.threads, c.settings_of.ensures.budget) at c.in-Unknown.ensures;
-    }
-
-pub returns-in-Ok-accept-clause-logged : goal.returns-in-Ok-accept-clause-logged
-returns-in-Ok-accept-clause-logged g c =
-    (c.in-Ok.q, subst (λ (seed : ℕ). IsCycle seed c.in-Ok.q) c.requires.words c.in-Ok.ensures.cycle, c.in-Ok-accept.ensures.accepted)
+pub decide_cycle-requires-clause-cycle : goal.decide_cycle-requires-clause-cycle
+decide_cycle-requires-clause-cycle g c κs within = subst (λ (seed : ℕ). IsCycle seed c.in-Ok.q) c.requires.words c.in-Ok.ensures.cycle

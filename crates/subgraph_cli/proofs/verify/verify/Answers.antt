@@ -42,9 +42,9 @@ returns-then-not-is_embedding-clause-files g c = keeps_on _ _ _ _ _ _ c.in_ok-q.
 pub returns-then-not-is_embedding-clause-says : goal.returns-then-not-is_embedding-clause-says
 returns-then-not-is_embedding-clause-says g c told =
     let held = mapping_held _ _ _ (c.in_ok-q.ensures.files.same _) (c.in_ok-map.ensures.says (rw c.in_ok-q.ensures.files.told told)) in
-    let no : c.is_embedding.result ≡ false = search rules in
+    let no : c.is_embedding-is_embedding.result ≡ false = search rules in
     is_bad c.in_ok-q.q _ c.args.words.now _ _ _ (c.in_ok-q.ensures.says told) held
-    (λ embeds. let yes : c.is_embedding.result ≡ true = c.is_embedding.ensures.1 (rw c.deref.ensures.value embeds) in let e : false ≡ true = sym no ∙ yes in cc)
+    (λ embeds. let yes : c.is_embedding-is_embedding.result ≡ true = c.is_embedding-is_embedding.ensures.1 (rw c.deref.ensures.value embeds) in let e : false ≡ true = sym no ∙ yes in cc)
 
 pub returns-in_err-q-clause-says : goal.returns-in_err-q-clause-says
 returns-in_err-q-clause-says g c told =
@@ -115,20 +115,20 @@ returns-in-Ok-clause-bad g c = tt
 pub returns-in-Ok-clause-quiet : goal.returns-in-Ok-clause-quiet
 returns-in-Ok-clause-quiet g c = inr (ok_quiet _ _ _ _ c.in_ok-map.ensures.quiet ∙ ok_quiet _ _ _ _ c.in_ok-q.ensures.quiet)
 
-pub returns-clause-files : goal.returns-clause-files
-returns-clause-files g c = keeps_on _ _ _ _ _ _ c.in_ok-q.ensures.files c.in_ok-map.ensures.files
+pub returns-in-Err-clause-files : goal.returns-in-Err-clause-files
+returns-in-Err-clause-files g c = keeps_on _ _ _ _ _ _ c.in_ok-q.ensures.files c.in_ok-map.ensures.files
 
-pub returns-clause-cause : goal.returns-clause-cause
-returns-clause-cause g c = tt
+pub returns-in-Err-clause-cause : goal.returns-in-Err-clause-cause
+returns-in-Err-clause-cause g c = tt
 
-pub returns-clause-bad : goal.returns-clause-bad
-returns-clause-bad g c = tt
+pub returns-in-Err-clause-bad : goal.returns-in-Err-clause-bad
+returns-in-Err-clause-bad g c = tt
 
-pub returns-clause-quiet : goal.returns-clause-quiet
-returns-clause-quiet g c = inr (ok_quiet _ _ _ _ c.in_ok-map.ensures.quiet ∙ ok_quiet _ _ _ _ c.in_ok-q.ensures.quiet)
+pub returns-in-Err-clause-quiet : goal.returns-in-Err-clause-quiet
+returns-in-Err-clause-quiet g c = inr (ok_quiet _ _ _ _ c.in_ok-map.ensures.quiet ∙ ok_quiet _ _ _ _ c.in_ok-q.ensures.quiet)
 
 pub returns-in-Ok-clause-spares : goal.returns-in-Ok-clause-spares
 returns-in-Ok-clause-spares g c = tt
 
-pub returns-clause-quiet_output : goal.returns-clause-quiet_output
-returns-clause-quiet_output g c = inl refl
+pub returns-in-Err-clause-quiet_output : goal.returns-in-Err-clause-quiet_output
+returns-in-Err-clause-quiet_output g c = inl refl
