@@ -147,6 +147,8 @@ fn worker_over<'a>(
     ensures seat { IfOk result (λ w. IsSeatOf w.0 w.1.seat) }
     ensures stage { IfOk result (λ w. w.1.stage ≡ Stage.Fresh) }
 {
+    let (book, mut first) = RowBook::new(alloc, q, u32::from(rows))?;
+    let seat = book.split(alloc, &mut first, 1)?;
     let filters = Filters::new(alloc, q, kinds, WORDS)?;
     let budget = u64::from(budget);
     let settings = WorkerSettings {
@@ -155,8 +157,6 @@ fn worker_over<'a>(
         budget,
     };
     let equipment = Equipment::new(alloc, q, domains, Silent, filters, settings)?;
-    let (book, mut first) = RowBook::new(alloc, q, u32::from(rows))?;
-    let seat = book.split(alloc, &mut first, 1)?;
     Ok((book, Worker::new(equipment, seat, Unlogged::new(1))))
 }
 
@@ -169,7 +169,7 @@ fn found(q: &Problem, map: &[u32]) -> End {
     }
 }
 
-/// How a run ended that spent the worker's budget.
+/// How a run ended if it spent the worker's budget.
 fn spent(worker: Worker<BookSeat, WordTrail, Unlogged>) -> End {
     let (account, seat, _log) = worker.into_parts();
     End::Spent(account.fails(), !seat.rows().is_empty())
@@ -177,10 +177,11 @@ fn spent(worker: Worker<BookSeat, WordTrail, Unlogged>) -> End {
 
 /// How a run ended.
 fn end_of(q: &Problem, outcome: Outcome, worker: Worker<BookSeat, WordTrail, Unlogged>) -> End {
+    let spent = spent(worker);
     match outcome {
         Outcome::Found(map) => found(q, &map),
         Outcome::Refuted => End::None,
-        Outcome::Spent => spent(worker),
+        Outcome::Spent => spent,
         Outcome::Stopped(_) => End::Stopped,
         Outcome::NoMemory => End::Other,
     }
