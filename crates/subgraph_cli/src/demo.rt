@@ -90,26 +90,6 @@ fn decide_planted<R: Threads + Sync>(
     }
 }
 
-/// Makes the planted problem of the seed, and decides it.
-fn show_planted<R: Threads + Sync>(
-    rt: &R,
-    alloc: Global,
-    words: &Words,
-    asked: &DemoWords,
-    spent: &mut Vec<Account>,
-) -> Result<bool, Stop>
-    requires ranges { IsDemoInRange asked.now }
-    requires words { words.now ≡ asked.now.seed }
-    ensures shows { ShowsOne result
-        (IsPlanted asked.now.seed) asked.now spent.old.items spent.new.items }
-    ensures memory { IfErr result (λ stop. stop ≡ Stop.NoMemory) }
-{
-    let Ok(q) = planted_problem(alloc, words) else {
-        return Err(Stop::NoMemory);
-    };
-    decide_planted(rt, alloc, &q, asked, spent)
-}
-
 /// Decides a cycle's problem, and says whether it was decided within the budget. It does not embed, so that no other
 /// answer can come. The log that shows this is written to memory and checked before the answer counts.
 fn decide_cycle<R: Threads + Sync>(
@@ -128,15 +108,35 @@ fn decide_cycle<R: Threads + Sync>(
 {
     cycle_has_none();
     match solve(rt, alloc, q, &settings_of(asked, true)) {
+        Solved::NoMemory => Err(Stop::NoMemory),
+        Solved::Unknown(accounts) => keep_undecided(accounts, spent),
         Solved::Yes(_) => unreachable!(),
         Solved::NoEmbedding(Proof::Unlogged) => unreachable!(),
         Solved::NoEmbedding(Proof::Logged(parts)) => match accept(alloc, q, &parts) {
             Ok(()) => Ok(true),
             Err(_) => Err(Stop::NoMemory),
         },
-        Solved::Unknown(accounts) => keep_undecided(accounts, spent),
-        Solved::NoMemory => Err(Stop::NoMemory),
     }
+}
+
+/// Makes the planted problem of the seed, and decides it.
+fn show_planted<R: Threads + Sync>(
+    rt: &R,
+    alloc: Global,
+    words: &Words,
+    asked: &DemoWords,
+    spent: &mut Vec<Account>,
+) -> Result<bool, Stop>
+    requires ranges { IsDemoInRange asked.now }
+    requires words { words.now ≡ asked.now.seed }
+    ensures shows { ShowsOne result
+        (IsPlanted asked.now.seed) asked.now spent.old.items spent.new.items }
+    ensures memory { IfErr result (λ stop. stop ≡ Stop.NoMemory) }
+{
+    let Ok(q) = planted_problem(alloc, words) else {
+        return Err(Stop::NoMemory);
+    };
+    decide_planted(rt, alloc, &q, asked, spent)
 }
 
 /// Makes the cycle's problem of the seed, and decides it.
