@@ -87,18 +87,28 @@ fn the_first_answer_stays_and_images_that_share_a_vertex_make_none(rt: HostRunti
     assert!(rt; are_answers(rt.alloc()));
 }
 
-/// Whether the answer of an edge into an edge is one to the problem of an edge into this target.
-fn answers_into(alloc: Global, target: &[u8]) -> Option<bool> {
-    let q = problem(alloc, EDGE, EDGE, false)?;
+/// Whether the answer that exchanges two vertices of one problem is one to another.
+fn answers_to(alloc: Global, q: &Problem, asked: &Problem) -> Option<bool> {
+    let answer = answer_of(alloc, q, &[1, 0]).ok()??;
+    Some(answer.answers(asked))
+}
+
+/// Whether it is one to the problem of an edge into this target.
+fn answers_into(alloc: Global, q: &Problem, target: &[u8]) -> Option<bool> {
     let asked = problem(alloc, EDGE, target, false)?;
-    let answer = answer_of(alloc, &q, &[1, 0]).ok()??;
-    Some(answer.answers(&asked))
+    answers_to(alloc, q, &asked)
+}
+
+/// The same, of the problem of an edge into an edge.
+fn answers_from_an_edge(alloc: Global, target: &[u8]) -> Option<bool> {
+    let q = problem(alloc, EDGE, EDGE, false)?;
+    answers_into(alloc, &q, target)
 }
 
 #[test]
 fn an_answer_is_one_to_an_equal_problem_and_none_to_another(rt: HostRuntime) {
-    assert!(rt; answers_into(rt.alloc(), EDGE) == Some(true));
-    assert!(rt; answers_into(rt.alloc(), TRIANGLE) == Some(false));
+    assert!(rt; answers_from_an_edge(rt.alloc(), EDGE) == Some(true));
+    assert!(rt; answers_from_an_edge(rt.alloc(), TRIANGLE) == Some(false));
 }
 
 #[test]

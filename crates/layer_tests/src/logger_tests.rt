@@ -25,25 +25,37 @@ fn log_of<L: ProofLogger, M: ProofMaker<L>>(alloc: Global, maker: &M) -> Result<
     maker.logger(alloc, 1)
 }
 
-#[test]
-fn nothing_is_kept(rt: HostRuntime) -> Result<(), Fail> {
-    let alloc = rt.alloc();
-    let q = edge_into_edge(alloc).ok_or("no problem")?;
-    let maker = KeepsNothing::new(&q);
+/// Whether what keeps nothing proves an edge into an edge so.
+fn keeps_nothing(alloc: Global, q: &Problem) -> Result<bool, AllocError> {
+    let maker = KeepsNothing::new(q);
     let _log = log_of(alloc, &maker)?;
     let proof = maker.of_root(alloc, maker.logger(alloc, 0)?)?;
-    assert!(rt; matches!(proof, Proof::Unlogged));
+    Ok(matches!(proof, Proof::Unlogged))
+}
+
+#[test]
+fn nothing_is_kept(rt: HostRuntime) -> Result<(), Fail> {
+    let q = edge_into_edge(rt.alloc()).ok_or("no problem")?;
+    assert!(rt; keeps_nothing(rt.alloc(), &q)?);
     Ok(())
+}
+
+/// Whether the log that a maker gives has neither line nor note.
+fn gives_nothing(alloc: Global, maker: &KeepsLines) -> Result<bool, AllocError> {
+    let journal = log_of(alloc, maker)?.into_journal();
+    Ok(journal.text().is_empty() && journal.notes().is_empty())
+}
+
+/// Whether a log over the encoding of a problem begins so.
+fn begins_with_nothing(alloc: Global, q: &Problem) -> Result<bool, AllocError> {
+    let encoding = Encoding::new(alloc, q)?;
+    let ground = Ground::new(alloc, &encoding);
+    gives_nothing(alloc, &KeepsLines::new(q, &ground))
 }
 
 #[test]
 fn a_log_begins_with_no_line(rt: HostRuntime) -> Result<(), Fail> {
-    let alloc = rt.alloc();
-    let q = edge_into_edge(alloc).ok_or("no problem")?;
-    let encoding = Encoding::new(alloc, &q)?;
-    let ground = Ground::new(alloc, &encoding);
-    let maker = KeepsLines::new(&q, &ground);
-    let journal = log_of(alloc, &maker)?.into_journal();
-    assert!(rt; journal.text().is_empty() && journal.notes().is_empty());
+    let q = edge_into_edge(rt.alloc()).ok_or("no problem")?;
+    assert!(rt; begins_with_nothing(rt.alloc(), &q)?);
     Ok(())
 }
