@@ -1,9 +1,20 @@
 -- The grammar of the words, as the command that `clap` reads them by: one level of subcommands, without help and version.
 
-use Rattle.std.specs.Prelude.{Some, true, codes}
-use Rattle.clap.specs.Words.{App, Rule, Text, new_app, new_rule, with_rule, with_subcommand}
+use Rattle.std.specs.Prelude.{◌≡◌, Some, Result, IfOk, true, false, codes}
+use Rattle.std.specs.declared.alloc.AllocError.{AllocError}
+use Rattle.clap.specs.Words.{App, Rule, Text, app_of, new_app, new_rule, with_rule, with_subcommand}
 use Rattle.clap.specs.Simple.{on_top}
 use Rattle.clap.specs.declared.builder.action.ArgAction.TheVariants.{Set, SetTrue}
+use Rattle.clap.specs.declared.builder.command.Command.{Command}
+use Rattle.clap.specs.declared.builder.command.Command.TheViews.{out-Command}
+
+-- Where a command was made, it is this one.
+abbrev pub Makes : App → Result Command AllocError → Type 0
+Makes a made = IfOk made (λ c. app_of c ≡ a)
+
+-- Where a command was made, none of its arguments is one of its subcommands too.
+abbrev pub IsLocal : Result Command AllocError → Type 0
+IsLocal made = IfOk made (λ c. (out-Command c).has_globals ≡ false)
 
 -- A word that must be there, in its place.
 abbrev pub positional : Text → Rule

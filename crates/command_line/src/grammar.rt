@@ -1,157 +1,166 @@
 //! The grammar of the words, built for `clap`.
 
-ghost use Rattle.std.specs.Prelude.{◌≡◌, IfOk, false, codes};
-ghost use Rattle.clap.specs.Words.{app_of, new_app, rule_of, with_rule, with_subcommand};
-ghost use Rattle.clap.specs.declared.builder.command.Command.TheViews.{out-Command as fields_of};
+ghost use Rattle.std.specs.Prelude.{◌≡◌, false, codes};
+ghost use Rattle.clap.specs.Words.{App, Rule, app_of, rule_of, with_rule, with_subcommand};
+ghost use Rattle.command_line.specs.Grammar.{Makes, IsLocal};
 ghost use Rattle.command_line.specs.Grammar as spec;
 
 use clap::{Arg, ArgAction, Command};
 use std::alloc::{AllocError, Global};
 
-/// A word that must be there, in its place.
-fn positional<'a>(alloc: Global, name: &'a str) -> Arg<'a>
-    ensures rule { rule_of result ≡ spec.positional name.entry.now }
-    ensures local { result.global ≡ false }
-{
-    Arg::new(alloc, name).required(true).action(ArgAction::Set)
-}
-
-/// An option with one word after it.
-fn option<'a>(alloc: Global, name: &'a str) -> Arg<'a>
-    ensures rule { rule_of result ≡ spec.option name.entry.now }
-    ensures local { result.global ≡ false }
-{
-    Arg::new(alloc, name).long(name).action(ArgAction::Set)
-}
-
-/// An option with no word after it.
-fn flag<'a>(alloc: Global, name: &'a str) -> Arg<'a>
-    ensures rule { rule_of result ≡ spec.flag name.entry.now }
-    ensures local { result.global ≡ false }
-{
-    Arg::new(alloc, name).long(name).action(ArgAction::SetTrue)
-}
+/// A command as far as it was made, or that memory was refused for it.
+type Made<'a> = Result<Command<'a>, AllocError>;
 
 /// The command with one more argument.
-fn add<'a>(command: Command<'a>, arg: Arg<'a>) -> Result<Command<'a>, AllocError>
+fn add<'a>(made: Made<'a>, arg: Arg<'a>) -> Made<'a>
     requires { arg.global ≡ false }
-    ensures app { IfOk result
-        (λ c. app_of c ≡ with_rule (app_of command.entry) (rule_of arg.entry)) }
-    ensures local { IfOk result
-        (λ c. (fields_of c).has_globals ≡ (fields_of command.entry).has_globals) }
+    ensures app { (a : App) → (r : Rule) → Makes a made.entry → rule_of arg.entry ≡ r
+        → Makes (with_rule a r) result }
+    ensures local { IsLocal made.entry → IsLocal result }
 {
-    command.arg(arg)
+    made?.arg(arg)
+}
+
+/// The command with one more word that must be there, in its place.
+fn add_positional<'a>(alloc: Global, made: Made<'a>, name: &'a str) -> Made<'a>
+    ensures app { (a : App) → Makes a made.entry
+        → Makes (with_rule a (spec.positional name.entry.now)) result }
+    ensures local { IsLocal made.entry → IsLocal result }
+{
+    add(
+        made,
+        Arg::new(alloc, name).required(true).action(ArgAction::Set),
+    )
+}
+
+/// The command with one more option, which has one word after it.
+fn add_option<'a>(alloc: Global, made: Made<'a>, name: &'a str) -> Made<'a>
+    ensures app { (a : App) → Makes a made.entry
+        → Makes (with_rule a (spec.option name.entry.now)) result }
+    ensures local { IsLocal made.entry → IsLocal result }
+{
+    add(
+        made,
+        Arg::new(alloc, name).long(name).action(ArgAction::Set),
+    )
+}
+
+/// The command with one more option, which has no word after it.
+fn add_flag<'a>(alloc: Global, made: Made<'a>, name: &'a str) -> Made<'a>
+    ensures app { (a : App) → Makes a made.entry
+        → Makes (with_rule a (spec.flag name.entry.now)) result }
+    ensures local { IsLocal made.entry → IsLocal result }
+{
+    add(
+        made,
+        Arg::new(alloc, name).long(name).action(ArgAction::SetTrue),
+    )
 }
 
 /// The command with the two graphs.
 #[tactic(auto, unfolding(crate::specs::Grammar::with_graphs))]
-fn add_graphs<'a>(alloc: Global, command: Command<'a>) -> Result<Command<'a>, AllocError>
-    ensures app { IfOk result (λ c. app_of c ≡ spec.with_graphs (app_of command.entry)) }
-    ensures local { IfOk result
-        (λ c. (fields_of c).has_globals ≡ (fields_of command.entry).has_globals) }
+fn add_graphs<'a>(alloc: Global, made: Made<'a>) -> Made<'a>
+    ensures app { (a : App) → Makes a made.entry → Makes (spec.with_graphs a) result }
+    ensures local { IsLocal made.entry → IsLocal result }
 {
-    let with_pattern = add(command, positional(alloc, "pattern"))?;
-    add(with_pattern, positional(alloc, "target"))
+    let with_pattern = add_positional(alloc, made, "pattern");
+    add_positional(alloc, with_pattern, "target")
 }
 
 /// The command with the kind of embedding and the format.
 #[tactic(auto, unfolding(crate::specs::Grammar::with_kind))]
-fn add_kind<'a>(alloc: Global, command: Command<'a>) -> Result<Command<'a>, AllocError>
-    ensures app { IfOk result (λ c. app_of c ≡ spec.with_kind (app_of command.entry)) }
-    ensures local { IfOk result
-        (λ c. (fields_of c).has_globals ≡ (fields_of command.entry).has_globals) }
+fn add_kind<'a>(alloc: Global, made: Made<'a>) -> Made<'a>
+    ensures app { (a : App) → Makes a made.entry → Makes (spec.with_kind a) result }
+    ensures local { IsLocal made.entry → IsLocal result }
 {
-    let with_induced = add(command, flag(alloc, "induced"))?;
-    add(with_induced, option(alloc, "format"))
+    let with_induced = add_flag(alloc, made, "induced");
+    add_option(alloc, with_induced, "format")
 }
 
 /// The command with the mapping.
 #[tactic(auto, unfolding(crate::specs::Grammar::with_mapping))]
-fn add_mapping<'a>(alloc: Global, command: Command<'a>) -> Result<Command<'a>, AllocError>
-    ensures app { IfOk result (λ c. app_of c ≡ spec.with_mapping (app_of command.entry)) }
-    ensures local { IfOk result
-        (λ c. (fields_of c).has_globals ≡ (fields_of command.entry).has_globals) }
+fn add_mapping<'a>(alloc: Global, made: Made<'a>) -> Made<'a>
+    ensures app { (a : App) → Makes a made.entry → Makes (spec.with_mapping a) result }
+    ensures local { IsLocal made.entry → IsLocal result }
 {
-    add(command, positional(alloc, "mapping"))
+    add_positional(alloc, made, "mapping")
 }
 
 /// The command with what steers the search and bounds it.
 #[tactic(auto, unfolding(crate::specs::Grammar::with_search))]
-fn add_search<'a>(alloc: Global, command: Command<'a>) -> Result<Command<'a>, AllocError>
-    ensures app { IfOk result (λ c. app_of c ≡ spec.with_search (app_of command.entry)) }
-    ensures local { IfOk result
-        (λ c. (fields_of c).has_globals ≡ (fields_of command.entry).has_globals) }
+fn add_search<'a>(alloc: Global, made: Made<'a>) -> Made<'a>
+    ensures app { (a : App) → Makes a made.entry → Makes (spec.with_search a) result }
+    ensures local { IsLocal made.entry → IsLocal result }
 {
-    let with_threads = add(command, option(alloc, "threads"))?;
-    let with_seed = add(with_threads, option(alloc, "seed"))?;
-    add(with_seed, option(alloc, "budget"))
+    let with_threads = add_option(alloc, made, "threads");
+    let with_seed = add_option(alloc, with_threads, "seed");
+    add_option(alloc, with_seed, "budget")
 }
 
 /// The command with the files of a proof, and the profile of its log.
 #[tactic(auto, unfolding(crate::specs::Grammar::with_proof))]
-fn add_proof<'a>(alloc: Global, command: Command<'a>) -> Result<Command<'a>, AllocError>
-    ensures app { IfOk result (λ c. app_of c ≡ spec.with_proof (app_of command.entry)) }
-    ensures local { IfOk result
-        (λ c. (fields_of c).has_globals ≡ (fields_of command.entry).has_globals) }
+fn add_proof<'a>(alloc: Global, made: Made<'a>) -> Made<'a>
+    ensures app { (a : App) → Makes a made.entry → Makes (spec.with_proof a) result }
+    ensures local { IsLocal made.entry → IsLocal result }
 {
-    let with_prove = add(command, option(alloc, "prove"))?;
-    let with_log = add(with_prove, option(alloc, "log"))?;
-    add(with_log, option(alloc, "profile"))
+    let with_prove = add_option(alloc, made, "prove");
+    let with_log = add_option(alloc, with_prove, "log");
+    add_option(alloc, with_log, "profile")
 }
 
 /// `solve P T [--induced] [--format F] [--threads N] [--seed N] [--budget N] [--book N] [--prove ENC --log LOG [--profile N]]`
 #[tactic(auto, unfolding(crate::specs::Grammar::solve_grammar))]
-fn solve_command<'a>(alloc: Global) -> Result<Command<'a>, AllocError>
-    ensures app { IfOk result (λ c. app_of c ≡ spec.solve_grammar) }
-    ensures local { IfOk result (λ c. (fields_of c).has_globals ≡ false) }
+fn solve_command<'a>(alloc: Global) -> Made<'a>
+    ensures app { Makes spec.solve_grammar result }
+    ensures local { IsLocal result }
 {
-    let with_graphs = add_graphs(alloc, Command::new(alloc, "solve"))?;
-    let with_kind = add_kind(alloc, with_graphs)?;
-    let with_search = add_search(alloc, with_kind)?;
-    let with_book = add(with_search, option(alloc, "book"))?;
+    let with_graphs = add_graphs(alloc, Ok(Command::new(alloc, "solve")));
+    let with_kind = add_kind(alloc, with_graphs);
+    let with_search = add_search(alloc, with_kind);
+    let with_book = add_option(alloc, with_search, "book");
     add_proof(alloc, with_book)
 }
 
 /// `verify P T MAP [--induced] [--format F]`
 #[tactic(auto, unfolding(crate::specs::Grammar::verify_grammar))]
-fn verify_command<'a>(alloc: Global) -> Result<Command<'a>, AllocError>
-    ensures app { IfOk result (λ c. app_of c ≡ spec.verify_grammar) }
-    ensures local { IfOk result (λ c. (fields_of c).has_globals ≡ false) }
+fn verify_command<'a>(alloc: Global) -> Made<'a>
+    ensures app { Makes spec.verify_grammar result }
+    ensures local { IsLocal result }
 {
-    let with_graphs = add_graphs(alloc, Command::new(alloc, "verify"))?;
-    let with_mapping = add_mapping(alloc, with_graphs)?;
+    let with_graphs = add_graphs(alloc, Ok(Command::new(alloc, "verify")));
+    let with_mapping = add_mapping(alloc, with_graphs);
     add_kind(alloc, with_mapping)
 }
 
 /// `encode P T [--induced] [--format F]`
 #[tactic(auto, unfolding(crate::specs::Grammar::encode_grammar))]
-fn encode_command<'a>(alloc: Global) -> Result<Command<'a>, AllocError>
-    ensures app { IfOk result (λ c. app_of c ≡ spec.encode_grammar) }
-    ensures local { IfOk result (λ c. (fields_of c).has_globals ≡ false) }
+fn encode_command<'a>(alloc: Global) -> Made<'a>
+    ensures app { Makes spec.encode_grammar result }
+    ensures local { IsLocal result }
 {
-    let with_graphs = add_graphs(alloc, Command::new(alloc, "encode"))?;
+    let with_graphs = add_graphs(alloc, Ok(Command::new(alloc, "encode")));
     add_kind(alloc, with_graphs)
 }
 
 /// `check ENC LOG`
 #[tactic(auto, unfolding(crate::specs::Grammar::check_grammar))]
-fn check_command<'a>(alloc: Global) -> Result<Command<'a>, AllocError>
-    ensures app { IfOk result (λ c. app_of c ≡ spec.check_grammar) }
-    ensures local { IfOk result (λ c. (fields_of c).has_globals ≡ false) }
+fn check_command<'a>(alloc: Global) -> Made<'a>
+    ensures app { Makes spec.check_grammar result }
+    ensures local { IsLocal result }
 {
-    let with_encoding = add(Command::new(alloc, "check"), positional(alloc, "encoding"))?;
-    add(with_encoding, positional(alloc, "log"))
+    let with_encoding = add_positional(alloc, Ok(Command::new(alloc, "check")), "encoding");
+    add_positional(alloc, with_encoding, "log")
 }
 
 /// `demo K [--threads N] [--budget N]`
 #[tactic(auto, unfolding(crate::specs::Grammar::demo_grammar))]
-fn demo_command<'a>(alloc: Global) -> Result<Command<'a>, AllocError>
-    ensures app { IfOk result (λ c. app_of c ≡ spec.demo_grammar) }
-    ensures local { IfOk result (λ c. (fields_of c).has_globals ≡ false) }
+fn demo_command<'a>(alloc: Global) -> Made<'a>
+    ensures app { Makes spec.demo_grammar result }
+    ensures local { IsLocal result }
 {
-    let with_seed = add(Command::new(alloc, "demo"), positional(alloc, "seed"))?;
-    let with_threads = add(with_seed, option(alloc, "threads"))?;
-    add(with_threads, option(alloc, "budget"))
+    let with_seed = add_positional(alloc, Ok(Command::new(alloc, "demo")), "seed");
+    let with_threads = add_option(alloc, with_seed, "threads");
+    add_option(alloc, with_threads, "budget")
 }
 
 /// The command without help and version, which its subcommands take from it.
@@ -165,41 +174,39 @@ fn quiet<'a>(command: Command<'a>) -> Command<'a>
 }
 
 /// The command with one more subcommand.
-fn enter<'a>(command: Command<'a>, entered: Command<'a>) -> Result<Command<'a>, AllocError>
-    requires { (fields_of entered).has_globals ≡ false }
-    ensures { IfOk result
-        (λ c. app_of c ≡ with_subcommand (app_of command.entry) (app_of entered.entry).top) }
+fn enter<'a>(made: Made<'a>, entered: Made<'a>) -> Made<'a>
+    requires { IsLocal entered }
+    ensures { (a : App) → (e : App) → Makes a made.entry → Makes e entered.entry
+        → Makes (with_subcommand a e.top) result }
 {
-    command.subcommand(entered)
+    let command = made?;
+    command.subcommand(entered?)
 }
 
 /// The commands that answer questions of a pattern and a target.
 #[tactic(auto, unfolding(crate::specs::Grammar::answering))]
-fn answering<'a>(alloc: Global) -> Result<Command<'a>, AllocError>
-    ensures { IfOk result (λ c. app_of c ≡ spec.answering) }
+fn answering<'a>(alloc: Global) -> Made<'a>
+    ensures { Makes spec.answering result }
 {
-    let solve = solve_command(alloc)?;
-    let verify = verify_command(alloc)?;
-    let with_solve = enter(quiet(Command::new(alloc, "subgraph")), solve)?;
-    enter(with_solve, verify)
+    let none = quiet(Command::new(alloc, "subgraph"));
+    let with_solve = enter(Ok(none), solve_command(alloc));
+    enter(with_solve, verify_command(alloc))
 }
 
 /// The commands that read files.
 #[tactic(auto, unfolding(crate::specs::Grammar::reading))]
-fn reading<'a>(alloc: Global) -> Result<Command<'a>, AllocError>
-    ensures { IfOk result (λ c. app_of c ≡ spec.reading) }
+fn reading<'a>(alloc: Global) -> Made<'a>
+    ensures { Makes spec.reading result }
 {
-    let encode = encode_command(alloc)?;
-    let check = check_command(alloc)?;
-    let with_encode = enter(answering(alloc)?, encode)?;
-    enter(with_encode, check)
+    let with_encode = enter(answering(alloc), encode_command(alloc));
+    enter(with_encode, check_command(alloc))
 }
 
 /// All commands. It takes memory for each argument, and is to be built once a run.
+/// Where memory is refused for one part, those behind it are still made, and are dropped.
 #[tactic(auto, unfolding(crate::specs::Grammar::grammar))]
 pub(crate) fn whole_grammar<'a>(alloc: Global) -> Result<Command<'a>, AllocError>
-    ensures { IfOk result (λ c. app_of c ≡ spec.grammar) }
+    ensures { Makes spec.grammar result }
 {
-    let demo = demo_command(alloc)?;
-    enter(reading(alloc)?, demo)
+    enter(reading(alloc), demo_command(alloc))
 }

@@ -1,10 +1,8 @@
--- Where an argument could not be added nothing has to be so.
+-- Each argument that is added is the one of its grammar.
 
-use Rattle.command_line.proofs.Failing.{if_ok_failed}
+use Rattle.command_line.specs.Grammar.{check_grammar}
 use Rattle.command_line.proofs.grammar.check_command.Goals as goal
 
-pub returns-in_err-with_encoding-clause-app : goal.returns-in_err-with_encoding-clause-app
-returns-in_err-with_encoding-clause-app c = if_ok_failed c.from_residual.result _ _ c.from_residual.ensures.1
-
-pub returns-in_err-with_encoding-clause-local : goal.returns-in_err-with_encoding-clause-local
-returns-in_err-with_encoding-clause-local c = if_ok_failed c.from_residual.result _ _ c.from_residual.ensures.1
+pub returns-clause-app : goal.returns-clause-app
+unfolding check_grammar
+returns-clause-app c = c.add_positional.ensures.app _ (c.add_positional-with_encoding.ensures.app _ c.new.ensures.app)

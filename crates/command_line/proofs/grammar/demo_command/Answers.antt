@@ -1,16 +1,8 @@
--- Where an argument could not be added nothing has to be so.
+-- Each argument that is added is the one of its grammar.
 
-use Rattle.command_line.proofs.Failing.{if_ok_failed}
+use Rattle.command_line.specs.Grammar.{demo_grammar}
 use Rattle.command_line.proofs.grammar.demo_command.Goals as goal
 
-pub returns-in_err-with_seed-clause-app : goal.returns-in_err-with_seed-clause-app
-returns-in_err-with_seed-clause-app c = if_ok_failed c.from_residual.result _ _ c.from_residual.ensures.1
-
-pub returns-in_err-with_seed-clause-local : goal.returns-in_err-with_seed-clause-local
-returns-in_err-with_seed-clause-local c = if_ok_failed c.from_residual.result _ _ c.from_residual.ensures.1
-
-pub returns-in_err-with_threads-clause-app : goal.returns-in_err-with_threads-clause-app
-returns-in_err-with_threads-clause-app c = if_ok_failed c.from_residual-in_err-with_threads.result _ _ c.from_residual-in_err-with_threads.ensures.1
-
-pub returns-in_err-with_threads-clause-local : goal.returns-in_err-with_threads-clause-local
-returns-in_err-with_threads-clause-local c = if_ok_failed c.from_residual-in_err-with_threads.result _ _ c.from_residual-in_err-with_threads.ensures.1
+pub returns-clause-app : goal.returns-clause-app
+unfolding demo_grammar
+returns-clause-app c = c.add_option.ensures.app _ (c.add_option-with_threads.ensures.app _ (c.add_positional-with_seed.ensures.app _ c.new.ensures.app))
