@@ -4,3 +4,4 @@ pub mod JoinedPieces
 pub mod OtherFiles
 pub mod FilesInMemory
 pub mod ReadingInMemory
+pub mod MemoryFaults

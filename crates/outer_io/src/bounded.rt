@@ -149,6 +149,16 @@ impl FaultCount {
     }
 }
 
+/// What files keep beside them before any call: no failed one, and two names that are not set. It takes the memory for three names.
+pub(crate) fn no_calls(alloc: Global) -> Result<(FaultCount, StoredName, StoredName), AllocError>
+    ensures { IfOk result (λ made. made.0 ≡ record { count = 0; last = None }) }
+{
+    let fault = FaultCount::new(alloc)?;
+    let name = StoredName::new(alloc)?;
+    let other = StoredName::new(alloc)?;
+    Ok((fault, name, other))
+}
+
 /// How many calls were made, counted from 1, and the numbers of those that are to fail.
 #[derive(Drop)]
 pub(crate) struct CallCount {

@@ -10,7 +10,7 @@ ghost use Rattle.outer_io.specs.Bounded.{counted, IsToFail};
 ghost use Rattle.outer_io.specs.Memory.{is_named, file_in, content_in, HasRoom, SameLabels};
 ghost use Rattle.outer_io.specs.MemoryTold.{kept_part, files_kept, files_calls, files_tell, files_content, files_faults, files_fault_at, files_chosen, files_left, files_begun};
 
-use crate::bounded::{BoundedBytes, CallCount, FaultCount, StoredName};
+use crate::bounded::{BoundedBytes, CallCount, FaultCount, StoredName, no_calls};
 use crate::fault::{Failed, Purpose};
 use crate::files::{Files, NAME_LIMIT};
 use std::alloc::{AllocError, Global};
@@ -171,7 +171,6 @@ fn copy_from(bytes: &[u8], from: usize, buffer: &mut [u8]) -> usize
 /// A call fails where its number, counted from 1 over the calls of all four kinds, is one of those that are to fail: it then
 /// changes no file. `start` also fails at a file that is not there, `begin` at a name that no part has, and `add` where the
 /// piece has no room: then what there is room for is appended. Of parts of one name the first counts.
-#[derive(Drop)]
 pub struct MemoryFiles {
     files: Vec<MemoryFile>,
     calls: CallCount,
@@ -180,6 +179,21 @@ pub struct MemoryFiles {
     read_name: StoredName,
     is_begun: bool,
     write_name: StoredName,
+}
+
+impl Drop for MemoryFiles {
+    /// In one call, for whoever lets one go.
+    fn drop(self) {
+        let MemoryFiles {
+            files: _,
+            calls: _,
+            fault: _,
+            read_at: _,
+            read_name: _,
+            is_begun: _,
+            write_name: _,
+        } = self;
+    }
 }
 
 impl MemoryFiles {
@@ -194,18 +208,16 @@ impl MemoryFiles {
             (λ files. files_calls files ≡ record { made = 0; failing = failing.items }) }
         ensures no_fault { IfOk result (λ files. files_faults files ≡ 0) }
     {
-        let mut files = Vec::new(alloc);
-        for part in parts {
-            files.push(MemoryFile::new(alloc, part)?)?;
-        }
+        let files = files_of(alloc, parts)?;
+        let (fault, read_name, write_name) = no_calls(alloc)?;
         Ok(MemoryFiles {
             files,
             calls: CallCount::new(failing),
-            fault: FaultCount::new(alloc)?,
+            fault,
             read_at: None,
-            read_name: StoredName::new(alloc)?,
+            read_name,
             is_begun: false,
-            write_name: StoredName::new(alloc)?,
+            write_name,
         })
     }
 
@@ -215,6 +227,17 @@ impl MemoryFiles {
     {
         content_of(&self.files, name.as_bytes())
     }
+}
+
+/// The files of the parts, in order.
+fn files_of(alloc: Global, parts: Vec<MemoryPart>) -> Result<Vec<MemoryFile>, AllocError>
+    ensures { IfOk result (λ files. files.items ≡ map kept_part parts.items) }
+{
+    let mut files = Vec::new(alloc);
+    for part in parts {
+        files.push(MemoryFile::new(alloc, part)?)?;
+    }
+    Ok(files)
 }
 
 impl Files for MemoryFiles {

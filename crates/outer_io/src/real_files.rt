@@ -1,7 +1,7 @@
 //! The system's files: the trusted edge.
 ghost use Rattle.std.specs.Prelude.{◌≡◌, false, None, option_map, IfOk};
 
-use crate::bounded::{FaultCount, StoredName};
+use crate::bounded::{FaultCount, StoredName, no_calls};
 use crate::fault::{Failed, Purpose};
 use crate::files::Files;
 use std::alloc::{AllocError, Global};
@@ -27,13 +27,14 @@ impl<'a, R: System> RealFiles<'a, R> {
     pub fn new(alloc: Global, system: &'a R) -> Result<RealFiles<'a, R>, AllocError>
         ensures { IfOk result (λ files. files.fault ≡ record { count = 0; last = None }) }
     {
+        let (fault, read_name, write_name) = no_calls(alloc)?;
         Ok(RealFiles {
             system,
-            fault: FaultCount::new(alloc)?,
+            fault,
             read: None,
-            read_name: StoredName::new(alloc)?,
+            read_name,
             written: None,
-            write_name: StoredName::new(alloc)?,
+            write_name,
         })
     }
 }
