@@ -16,7 +16,7 @@ use Rattle.bit_rows.specs.BitRows.{has}
 use Rattle.graph_rows.specs.Held.{marked, marks_other, edge_held, graph_held, label_kept, AreMarks, AreMutual, AreTurned, AreBack, AreBeside, AreListed, AreLoops}
 use Rattle.graph_rows.specs.Labels.{HasZeroLabels}
 use Rattle.bit_rows.proofs.Rows.{has_past}
-use Rattle.graph_rows.proofs.Places.{has-row}
+use Rattle.graph_rows.proofs.Places.{has-row, vertices_in_words}
 use Rattle.graph_rows.proofs.Marking.{room_in_row}
 
 -- tables of functions that agree are equal
@@ -52,6 +52,20 @@ edge_is labels words label_at width g a b m l is a_in b_in e f =
     let same : length labels ≡ size g = ap size is in
     ap (λ (n : Bool). edge_held n l) e ∙ ap (edge_held (marked words width a b)) f
     ∙ sym (edge-held labels words label_at width a b (rw same a_in) (rw same b_in)) ∙ ap (λ (h : Graph). edge h a b) is
+
+-- a vertex is low
+pub vertex_low : (labels words : List ℕ) (label_at : ℕ → ℕ → ℕ) (degrees : List ℕ) (width : ℕ) (g : Graph) (a i : ℕ) → graph_held labels words label_at width ≡ g → AreMarks (length labels) width words degrees
+    → a < size g → i ≡ a → i < 8192
+vertex_low labels words label_at degrees width g a i is marks a_in e =
+    let same : length labels ≡ size g = ap size is in
+    omega (arith, same, marks.few, a_in, e)
+
+-- and the place of the mark of two is in the words
+pub mark_within : (labels words : List ℕ) (label_at : ℕ → ℕ → ℕ) (degrees ws : List ℕ) (width : ℕ) (g : Graph) (a b i j : ℕ) → graph_held labels words label_at width ≡ g
+    → AreMarks (length labels) width words degrees → a < size g → b < size g → i ≡ a → j ≡ b → ws ≡ words → i * (64 * width) + j < 64 * length ws
+mark_within labels words label_at degrees ws width g a b i j is marks a_in b_in e f put =
+    let same : length labels ≡ size g = ap size is in
+    rw (e, f, put) (vertices_in_words (length labels) width a b (length words) marks.width_is marks.words_are (rw same a_in) (rw same b_in))
 
 -- the count of marks is the degree
 pub degree_is : (labels words : List ℕ) (label_at : ℕ → ℕ → ℕ) (degrees : List ℕ) (width : ℕ) (g : Graph) (a i d : ℕ) → graph_held labels words label_at width ≡ g → AreMarks (length labels) width words degrees

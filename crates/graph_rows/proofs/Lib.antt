@@ -7,3 +7,5 @@ pub mod LabelsBeside
 pub mod SameGraphs
 pub mod MappingPut
 pub mod Reversing
+pub mod Looping
+pub mod Pairing

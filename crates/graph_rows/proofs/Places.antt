@@ -5,7 +5,9 @@ use Rattle.std.proofs.Math.Nat.{mul_left_comm}
 use Rattle.std.proofs.lemmas.Bool.{cases_eq, cases_order, eq-eqb, ne_eqb}
 use Rattle.std.proofs.lemmas.List.{get_or-take, get_or-drop}
 use native.Mathlib.Nat.{mul-le-mul, mul-le-mul_right, suc-mul}
-use Rattle.bit_rows.specs.BitRows.{has}
+use mir.Syntax.{w64}
+use mir.Val.{Fits}
+use Rattle.bit_rows.specs.BitRows.{has, words_for}
 use Rattle.graph_rows.specs.Held.{marked}
 use Rattle.bit_rows.proofs.Rows.{has_same_at}
 
@@ -49,3 +51,21 @@ has-row words width a b from is b_in =
 -- the first place of a row is small
 pub fits_place : (a width : ℕ) → a < 8192 → width ≤ 128 → a * (64 * width) ≤ 8192 * 8192
 fits_place a width a_in narrow = mul-le-mul {n₁ = a} {m₁ = 64 * width} {n₂ = 8192} {m₂ = 8192} (omega arith) (omega arith)
+
+-- the words of a row are few
+pub row_narrow : (n width : ℕ) → n ≤ 8192 → width ≡ words_for n → width ≤ 128
+row_narrow n width few is = omega (arith, is)
+
+-- so are those of all rows
+pub rows_fit : (n width : ℕ) → n ≤ 8192 → width ≡ words_for n → Fits w64 (n * width)
+rows_fit n width few is =
+    let m = mul-le-mul {n₁ = n} {m₁ = width} {n₂ = 8192} {m₂ = 128} few (row_narrow n width few is) in
+    omega (arith, m)
+
+-- there is a bit for each vertex in a row
+pub vertex_in_row : (n width a len : ℕ) → width ≡ words_for n → len ≡ width → a < n → a < 64 * len
+vertex_in_row n width a len is long a_in = omega (arith, is)
+
+-- and for each two in the words of all rows
+pub vertices_in_words : (n width a b len : ℕ) → width ≡ words_for n → len ≡ n * width → a < n → b < n → a * (64 * width) + b < 64 * len
+vertices_in_words n width a b len is long a_in b_in = place_in_words n width a b len long a_in (vertex_in_row n width b width is refl b_in)

@@ -23,7 +23,6 @@ use std::marker::Model;
 ///
 /// Beside a bit row for each vertex a graph with directions has another for the edges that lead in, which costs as much again, and one
 /// with labels of edges four bytes for each edge and each vertex. Other graphs pay for neither.
-#[derive(Drop)]
 pub struct Graph {
     labels: Vec<u32>,
     words: Vec<u64>,
@@ -33,6 +32,22 @@ pub struct Graph {
     in_degrees: Vec<u16>,
     loops: Vec<u64>,
     edge_labels: EdgeLabels,
+}
+
+impl Drop for Graph {
+    /// In one call, for whoever lets one go.
+    fn drop(self) {
+        let Graph {
+            labels: _,
+            words: _,
+            width: _,
+            degrees: _,
+            back: _,
+            in_degrees: _,
+            loops: _,
+            edge_labels: _,
+        } = self;
+    }
 }
 
 impl Model for Graph {

@@ -12,11 +12,21 @@ use graph_theory::embedding::embeds_by_pairs;
 use std::marker::Model;
 
 /// A pattern of at most 1,024 vertices, a target of at most 8,192, and whether the copy is to be an induced one.
-#[derive(Drop)]
 pub struct Problem {
     pattern: Graph,
     target: Graph,
     induced: bool,
+}
+
+impl Drop for Problem {
+    /// In one call, for whoever lets one go.
+    fn drop(self) {
+        let Problem {
+            pattern: _,
+            target: _,
+            induced: _,
+        } = self;
+    }
 }
 
 impl Model for Problem {
