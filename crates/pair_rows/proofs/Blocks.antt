@@ -7,7 +7,7 @@ use Rattle.std.proofs.lemmas.List.{get_or-set_same, get_or-set_other, length-set
 use Rattle.std.proofs.lemmas.List.FromFn.{get_or-map-range_with_len}
 use Rattle.std.proofs.lemmas.Option.{slice_get_within, get_or_from_slice_get}
 use Rattle.std.proofs.Math.Seq.{take-length}
-use native.Mathlib.Nat.{mul-le-mul_right, suc-mul}
+use native.Mathlib.Nat.{mul-le-mul, mul-le-mul_right, suc-mul}
 use Rattle.bit_rows.specs.BitRows.{has, words_for}
 use Rattle.graph_rows.proofs.Places.{place_within}
 use Rattle.graph_theory.specs.Graph.{Graph, size}
@@ -16,7 +16,7 @@ use Rattle.graph_theory.specs.Neighbours.{is_neighbour}
 use Rattle.graph_rows.specs.Held.{stands_in}
 use Rattle.search_theory.specs.Consistency.{AreConsistent}
 use Rattle.pair_rows.specs.declared.kinds.PairKind.{PairKind}
-use Rattle.pair_rows.specs.Kinds.{kind_of, Joins, RowIs, HasRow, WordsStay}
+use Rattle.pair_rows.specs.Kinds.{kind_of, AreKinds, Joins, RowIs, HasRow, WordsStay}
 use Rattle.pair_rows.specs.Held.{owns, made_in, Held, HeldAt, IsAdded}
 use Rattle.pair_rows.specs.Rows.{At}
 use Rattle.pair_rows.specs.Shape.{Shape, Shaped}
@@ -55,6 +55,55 @@ block_ends q vertices width kinds places most block_of owners counts in_counts p
     let s_in : s < length block_of = omega (arith, held.block_of_are) in
     let block : b ≡ get_or block_of t 0 = get_or_read block_of s b s_in b_is 0 ∙ ap (λ v. get_or block_of v 0) s_is in
     rw (block, n_is, words_is) (omega (arith, held.pool_is, next_row (get_or block_of t 0) (length owners) (length kinds * width) (held.blocks_in t t_in)))
+
+-- kinds are few
+pub kinds_few : (q : Problem) (kinds : List PairKind) (places : List ℕ) → size q.pattern ≤ 1024 → AreKinds q kinds places (size q.pattern * size q.pattern) → length kinds ≤ 1048576
+kinds_few q kinds places few classed =
+    omega (arith, classed.few, mul-le-mul {n₁ = size q.pattern} {m₁ = size q.pattern} {n₂ = 1024} {m₂ = 1024} few few)
+
+-- so are the words of a block
+pub words_few : (q : Problem) (vertices width : ℕ) (kinds : List PairKind) (places : List ℕ) (most : ℕ) (block_of owners counts in_counts pool : List ℕ) (both_ways : Bool)
+    → Held q vertices width kinds places most block_of owners counts in_counts pool both_ways → (n : ℕ) → n ≡ length kinds * width → n ≤ 134217728
+words_few q vertices width kinds places most block_of owners counts in_counts pool both_ways held n n_is =
+    let narrow : width ≤ 128 = omega (arith, held.width_is, held.few_target) in
+    let all = mul-le-mul {n₁ = length kinds} {m₁ = width} {n₂ = 1048576} {m₂ = 128} (kinds_few q kinds places held.few_pattern held.classed) narrow in
+    omega (arith, n_is, all)
+
+-- and those up to the end of a vertex's block
+pub block_few : (q : Problem) (vertices width : ℕ) (kinds : List PairKind) (places : List ℕ) (most : ℕ) (block_of owners counts in_counts pool : List ℕ) (both_ways : Bool)
+    → Held q vertices width kinds places most block_of owners counts in_counts pool both_ways → (t s b n : ℕ) → t < size q.target → s ≡ t → b ≡ get_or block_of s b
+    → n ≡ length kinds * width → b * n + n ≤ 1099511627776
+block_few q vertices width kinds places most block_of owners counts in_counts pool both_ways held t s b n t_in s_is b_is n_is =
+    let s_in : s < length block_of = omega (arith, held.block_of_are) in
+    let block : b ≡ get_or block_of t 0 = get_or_read block_of s b s_in b_is 0 ∙ ap (λ v. get_or block_of v 0) s_is in
+    let ends = next_row b (length owners) n (rw block (held.blocks_in t t_in)) in
+    let all = mul-le-mul_right {m = length owners} {n = 8192} n (omega (arith, held.owners_few, held.most_few, held.few_target)) in
+    omega (arith, ends, all, words_few q vertices width kinds places most block_of owners counts in_counts pool both_ways held n n_is)
+
+-- and the number of a block's first row
+pub first_few : (block blocks n : ℕ) → block < blocks → blocks ≤ 8192 → n ≤ 1048576 → block * n ≤ 8589934592
+first_few block blocks n b_in few n_few = mul-le-mul {n₁ = block} {m₁ = n} {n₂ = 8192} {m₂ = 1048576} (omega (arith, b_in, few)) n_few
+
+pub start_before : (x y : ℕ) → x ≤ x + y
+start_before x y = omega arith
+
+-- and there is room for the rows of a block
+pub room_of : (block blocks n kinds width words pool : ℕ) → block < blocks → n ≡ kinds → words ≡ kinds * width → blocks * words ≤ pool → (block * n + kinds) * width ≤ pool
+room_of block blocks n kinds width words pool b_in n_is words_is room =
+    let all : blocks * (kinds * width) ≤ pool = subst (λ (w : ℕ). blocks * w ≤ pool) words_is room in
+    rw n_is (omega (arith, all, mul-le-mul_right {m = block * kinds + kinds} {n = blocks * kinds} width (next_row block blocks kinds b_in)))
+
+-- and the places of a vertex's pairs, which end within them
+pub own_few : (q : Problem) (vertices width : ℕ) (kinds : List PairKind) (places : List ℕ) (most : ℕ) (block_of owners counts in_counts pool : List ℕ) (both_ways : Bool)
+    → Held q vertices width kinds places most block_of owners counts in_counts pool both_ways → (p s : ℕ) → p < size q.pattern → s ≡ p → s * vertices + vertices ≤ 1048576
+own_few q vertices width kinds places most block_of owners counts in_counts pool both_ways held p s p_in s_is =
+    let pairs = mul-le-mul {n₁ = size q.pattern} {m₁ = size q.pattern} {n₂ = 1024} {m₂ = 1024} held.few_pattern held.few_pattern in
+    rw (s_is, held.vertices_are) (omega (arith, pairs, next_row p (size q.pattern) (size q.pattern) p_in))
+
+pub own_ends : (q : Problem) (vertices width : ℕ) (kinds : List PairKind) (places : List ℕ) (most : ℕ) (block_of owners counts in_counts pool : List ℕ) (both_ways : Bool)
+    → Held q vertices width kinds places most block_of owners counts in_counts pool both_ways → (p s : ℕ) (kept : List ℕ) → p < size q.pattern → s ≡ p → kept ≡ places → s * vertices + vertices ≤ length kept
+own_ends q vertices width kinds places most block_of owners counts in_counts pool both_ways held p s kept p_in s_is kept_is =
+    rw (s_is, kept_is, held.vertices_are) (omega (arith, held.classed.long, next_row p (size q.pattern) (size q.pattern) p_in))
 
 -- what stands for one vertex at a value that owns its block: its part of the places, and that block
 pub held_at : (q : Problem) (vertices width : ℕ) (kinds : List PairKind) (places : List ℕ) (most : ℕ) (block_of owners counts in_counts pool : List ℕ) (both_ways : Bool)
@@ -399,3 +448,15 @@ held_none q vertices width kinds places counted in_counted both_ways shaped n mo
     no_owner t t_in owned =
         let is : get_or owners (get_or block_of t 0) 0 ≡ t = eqb-true (get_or owners (get_or block_of t 0) 0) t owned in
         omega (arith, owner t t_in, shaped.few_target)
+
+-- the same of kinds by their parts, where what is held is said of them as they are seen
+pub own_few_seen : (x s : Shape) (most : ℕ) (block_of owners counts in_counts pool : List ℕ) → s ≡ x
+    → Held x.problem x.vertices x.width x.kinds x.places most block_of owners counts in_counts pool x.both_ways → (p r : ℕ) → p < size x.problem.pattern → r ≡ p → r * s.vertices + s.vertices ≤ 1048576
+own_few_seen x s most block_of owners counts in_counts pool is held p r p_in r_is =
+    subst (λ (y : Shape). r * y.vertices + y.vertices ≤ 1048576) (sym is) (own_few x.problem x.vertices x.width x.kinds x.places most block_of owners counts in_counts pool x.both_ways held p r p_in r_is)
+
+pub block_few_seen : (x s : Shape) (most : ℕ) (block_of owners counts in_counts pool : List ℕ) → s ≡ x
+    → Held x.problem x.vertices x.width x.kinds x.places most block_of owners counts in_counts pool x.both_ways → (t r b n : ℕ) → t < size x.problem.target → r ≡ t → b ≡ get_or block_of r b
+    → n ≡ length s.kinds * s.width → b * n + n ≤ 1099511627776
+block_few_seen x s most block_of owners counts in_counts pool is held t r b n t_in r_is b_is n_is =
+    block_few x.problem x.vertices x.width x.kinds x.places most block_of owners counts in_counts pool x.both_ways held t r b n t_in r_is b_is (n_is ∙ ap (λ (y : Shape). length y.kinds * y.width) is)

@@ -1,12 +1,14 @@
 -- Rows of kinds with an edge, and of kinds without.
 
-use Rattle.std.proofs.Common.{◌≡◌, ◌↔◌, ℕ, ◌<◌, ◌≤◌, Bool, true, false, ◌==◌, nat_lt, ◌&&◌, ◌||◌, not, is_some, List, Option, Some, None, get_or, refl, sym, ap, ◌∙◌, subst, arith, inl, inr, ◌⊎◌}
+use Rattle.std.proofs.Common.{◌≡◌, ◌↔◌, ℕ, ◌+◌, ◌*◌, ◌<◌, ◌≤◌, Bool, true, false, ◌==◌, nat_lt, ◌&&◌, ◌||◌, not, is_some, List, Option, Some, None, get_or, refl, sym, ap, ◌∙◌, subst, arith, inl, inr, ◌⊎◌}
+use mir.Syntax.{w16}
+use mir.Val.{Fits}
 use Rattle.std.proofs.lemmas.Bool.{cases_lt, eq-eqb, ne_eqb, lt-ltb, le-ltb, ltb-true, false≢true, and_parts}
 use Rattle.graph_theory.specs.Graph.{Graph, size, edge}
 use Rattle.graph_theory.specs.Embedding.{Problem, KeepsEdge, Matches}
 use Rattle.graph_theory.specs.Neighbours.{is_neighbour, common}
 use Rattle.graph_theory.specs.Reversed.{reversed, IsMutual, MutualShared}
-use Rattle.bit_rows.specs.BitRows.{has}
+use Rattle.bit_rows.specs.BitRows.{has, words_for}
 use Rattle.graph_rows.specs.Labels.{HasZeroLabels, agree}
 use Rattle.pair_rows.specs.declared.kinds.PairKind.{PairKind}
 use Rattle.pair_rows.specs.Kinds.{Joins, RowIs, Shares, MatchEdges, IsTold, AreTold, Serve}
@@ -249,3 +251,14 @@ bare_joins q k t u induced ways none shared t_in u_in = (
 -- a row of vertices is within the counts
 pub row_in_counts : (row : List ℕ) (n m : ℕ) (f : ℕ → Bool) → n ≡ m → ((u : ℕ) → has row u ≡ (nat_lt u n && f u)) → (u : ℕ) → has row u ≡ true → u < m
 row_in_counts row n m f same is u h = let both = and_parts (nat_lt u n) (f u) (sym (is u) ∙ h) in omega (arith, ltb-true u n both.0)
+
+-- and no longer than they are, but for the last word
+pub row_fits_counts : (row counts n : ℕ) → row ≡ words_for n → counts ≡ n → 64 * row < counts + 64
+row_fits_counts row counts n row_is counts_are = omega (arith, row_is, counts_are)
+
+-- a row of vertices is short, and each of them a small number
+pub row_short : (row n : ℕ) → n ≤ 8192 → row ≡ words_for n → row ≤ 1024
+row_short row n few row_is = omega (arith, few, row_is)
+
+pub vertex_fits : (u n : ℕ) → n ≤ 8192 → u < n → Fits w16 u
+vertex_fits u n few u_in = omega (arith, few, u_in)

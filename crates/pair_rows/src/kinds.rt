@@ -1,6 +1,6 @@
 //! Kinds of pairs of pattern vertices: two pairs of one kind have the same consistent values.
 
-ghost use Rattle.std.specs.Prelude.{◌≡◌, ℕ, ◌+◌, ◌*◌, ◌^◌, ◌<◌, ◌≤◌, ◌↔◌, ◌&&◌, ◌||◌, not, true, false, is_some, IsTrue, IfOk, IfSome, Some, drop, length, slice_index, slice_get};
+ghost use Rattle.std.specs.Prelude.{◌≡◌, ℕ, ◌+◌, ◌*◌, ◌^◌, ◌<◌, ◌≤◌, ◌↔◌, ◌&&◌, ◌||◌, not, true, false, is_some, IsTrue, IfOk, IfSome, OnOk, Some, drop, length, slice_index, slice_get};
 ghost use Rattle.graph_theory.specs.Graph.{size, edge};
 ghost use Rattle.graph_theory.specs.Neighbours.{common};
 ghost use Rattle.graph_theory.specs.Embedding.{Matches};
@@ -65,13 +65,33 @@ pub(crate) fn classify(alloc: Global, q: &Problem) -> Result<(Vec<PairKind>, Vec
         out: Counts::new(alloc, q.pattern(), Direction::Out)?,
         back: Counts::new(alloc, q.pattern(), Direction::In)?,
     };
+    let mut guesses = vec![in alloc; 0u32; GUESSES]?;
     let mut kinds = Vec::new(alloc);
     let mut places = Vec::new(alloc);
-    let mut guesses = vec![in alloc; 0u32; GUESSES]?;
-    for p in 0..q.pattern().size() {
-        classify_from(q, &counts, p, &mut kinds, &mut places, &mut guesses)?;
-    }
+    classify_all(q, &counts, &mut kinds, &mut places, &mut guesses)?;
     Ok((kinds, places))
+}
+
+/// Adds the places of all pairs, and the kinds that occur.
+fn classify_all(
+    q: &Problem,
+    counts: &PatternCounts,
+    kinds: &mut Vec<PairKind>,
+    places: &mut Vec<u32>,
+    guesses: &mut [u32],
+) -> Result<(), AllocError>
+    requires few { size q.now.pattern ≤ 1024 }
+    requires same { counts.now.out ≡ q.now.pattern }
+    requires in_same { counts.now.back ≡ reversed q.now.pattern }
+    requires before { AreKinds q.now kinds.old.items places.old.items 0 }
+    requires guesses { length guesses.old ≡ 256 }
+    ensures { OnOk result (AreKinds
+        q.now kinds.new.items places.new.items (size q.now.pattern * size q.now.pattern)) }
+{
+    for p in 0..q.pattern().size() {
+        classify_from(q, counts, p, kinds, places, guesses)?;
+    }
+    Ok(())
 }
 
 /// Adds the places of the pairs whose first vertex is `p`, and the kinds that are new.

@@ -19,7 +19,6 @@ use std::alloc::{AllocError, Global};
 use std::marker::Model;
 
 /// The kinds of the pattern's pairs, and the neighbours of target vertices that have few. Contracts see what the rows are held by.
-#[derive(Drop)]
 pub struct PairKinds<'a> {
     pub(crate) problem: &'a Problem,
     pub(crate) vertices: usize,
@@ -32,6 +31,25 @@ pub struct PairKinds<'a> {
     pub(crate) asks_shared: bool,
     pub(crate) asks_in_shared: bool,
     near: NearLists<'a>,
+}
+
+impl Drop for PairKinds<'_> {
+    /// In one call, for whoever lets one go.
+    fn drop(self) {
+        let PairKinds {
+            problem: _,
+            vertices: _,
+            width: _,
+            kinds: _,
+            places: _,
+            sharing: _,
+            in_sharing: _,
+            both_ways: _,
+            asks_shared: _,
+            asks_in_shared: _,
+            near: _,
+        } = self;
+    }
 }
 
 impl<'a> Model for PairKinds<'a> {

@@ -26,7 +26,6 @@ const NO_OWNER: u16 = 65535;
 /// A block is the rows of all kinds at one target vertex. `block_of[t]` is the block of `t` where `owners` says so. Blocks are added as
 /// they are needed, in memory that was taken before and not touched till then; once there are `most` they are taken again in turn, so that
 /// the rows made last stay longest. The kinds are only read, so that the rows of several searches over one problem can share them.
-#[derive(Drop)]
 pub struct PairRows<'a> {
     kinds: &'a PairKinds<'a>,
     block_of: Vec<u32>,
@@ -36,6 +35,22 @@ pub struct PairRows<'a> {
     counts: Vec<u16>,
     in_counts: Vec<u16>,
     pool: Vec<u64>,
+}
+
+impl Drop for PairRows<'_> {
+    /// In one call, for whoever lets one go.
+    fn drop(self) {
+        let PairRows {
+            kinds: _,
+            block_of: _,
+            owners: _,
+            most: _,
+            next: _,
+            counts: _,
+            in_counts: _,
+            pool: _,
+        } = self;
+    }
 }
 
 impl<'a> Model for PairRows<'a> {

@@ -1,10 +1,10 @@
 use Rattle.std.proofs.Common.{◌≡◌, ◌*◌, length}
 use Rattle.graph_theory.specs.Graph.{size}
 use Rattle.pair_rows.specs.Kinds.{AreKinds}
-use Rattle.pair_rows.proofs.kinds.classify.Given as goal
+use Rattle.pair_rows.proofs.kinds.classify_all.Given as goal
 
 abbrev pub invariant-loop-p : goal.invariant-loop-p
 invariant-loop-p l = record {
   kinds : AreKinds l.q l.kinds.items l.places.items (l.p * size l.q.pattern);
-  guesses : length l.guesses.items ≡ 256;
+  guesses : length l.guesses ≡ 256;
 }
