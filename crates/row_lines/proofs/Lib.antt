@@ -7,3 +7,4 @@ pub mod Spreading
 pub mod Turning
 pub mod Following
 pub mod Joining
+pub mod Failing

@@ -1,5 +1,5 @@
 -- Walks from one number that passes a test to the next: a stretch of numbers that fail it adds no operation.
-use Rattle.std.proofs.Common.{◌≡◌, ℕ, zero, suc, ◌+◌, ◌<◌, ◌≤◌, Bool, true, false, List, [], ◌∷◌, ◌++◌, sym, ap, ◌∙◌, arith, inl, inr, ◌⊎◌}
+use Rattle.std.proofs.Common.{◌≡◌, ℕ, zero, suc, ◌+◌, ◌<◌, ◌≤◌, Bool, true, false, not, List, [], ◌∷◌, ◌++◌, sym, ap, ◌∙◌, arith, inl, inr, ◌⊎◌}
 use Rattle.std.proofs.lemmas.Bool.{cases_eq, true≢false}
 use Rattle.std.proofs.lemmas.List.{append-nil, append_assoc}
 use Rattle.log_theory.specs.declared.step.Op.{Op}
@@ -42,3 +42,29 @@ adds_all test put n v first old high low before = before ∙ ap (λ (k : ℕ). f
 -- Before the first that passes none passes.
 pub none_before : (test : ℕ → Bool) (n next v : ℕ) → IsNext test 0 n next → v < next → test v ≡ true → ⊥
 none_before test n next v is low passes = true≢false (sym passes ∙ is.none v (omega arith) low)
+
+-- Where those that fail are added, one before the next that passes is.
+pub adds_other : (test : ℕ → Bool) (put : ℕ → Op) (n v next : ℕ) (first old new : List Op) → IsNext test v n next → v < next → old ≡ first ++ adds_where (λ i. not (test i)) put v → new ≡ old ++ put v ∷ Add ∷ []
+    → new ≡ first ++ adds_where (λ i. not (test i)) put (v + 1)
+adds_other test put n v next first old new is before =
+    adds_next (λ i. not (test i)) put (v + 1) v (v + 1) first old new (ap not (is.none v (omega arith) before)) (record {
+      low = omega arith;
+      high = omega arith;
+      none = λ u low high. absurd (let no : ⊥ = omega (arith, low, high) in no);
+      passes = λ past. absurd (let no : ⊥ = omega (arith, past) in no);
+    })
+
+-- One that passes is not.
+pub adds_no_other : (test : ℕ → Bool) (put : ℕ → Op) (v : ℕ) (first old : List Op) → test v ≡ true → old ≡ first ++ adds_where (λ i. not (test i)) put v → old ≡ first ++ adds_where (λ i. not (test i)) put (v + 1)
+adds_no_other test put v first old passes before =
+    before ∙ ap (λ (ops : List Op). first ++ ops) (sym (skipped (λ i. not (test i)) put v (v + 1) (omega arith)
+    (λ u low high. ap (λ k. not (test k)) (let e : u ≡ v = omega (arith, low, high) in e) ∙ ap not passes)))
+
+-- Behind one that fails the next that passes is the same.
+pub next_later : (test : ℕ → Bool) (n v next : ℕ) → IsNext test v n next → v < next → IsNext test (v + 1) n next
+next_later test n v next is before = record {
+  low = omega (arith, before);
+  high = is.high;
+  none = λ u low high. is.none u (omega (arith, low)) high;
+  passes = is.passes;
+}

@@ -26,11 +26,21 @@ use pb_encoding::Encoding;
 use std::alloc::{AllocError, Global};
 
 /// The names of the lines for pairs of vertices and places that were made so far, and of those that they rest on.
-#[derive(Drop)]
 pub struct RowLines {
     rows: PairNames,
     edge_rows: PairNames,
     spreads: Spreads,
+}
+
+impl Drop for RowLines {
+    /// In one call, for whoever lets one go.
+    fn drop(self) {
+        let RowLines {
+            rows: _,
+            edge_rows: _,
+            spreads: _,
+        } = self;
+    }
 }
 
 /// The line of the encoding that serves where nothing but the place itself is refused.

@@ -10,10 +10,16 @@ use crate::pair_names::PairNames;
 use std::alloc::Global;
 
 /// The names of the lines that count neighbours as edges lead to them, and as edges lead from them.
-#[derive(Drop)]
 pub struct Spreads {
     pub(crate) out: PairNames,
     pub(crate) back: PairNames,
+}
+
+impl Drop for Spreads {
+    /// In one call, for whoever lets one go.
+    fn drop(self) {
+        let Spreads { out: _, back: _ } = self;
+    }
 }
 
 impl Spreads {
