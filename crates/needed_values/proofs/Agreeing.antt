@@ -1,5 +1,7 @@
 -- Edges that agree, and values that are consistent.
-use Rattle.std.proofs.Common.{◌≡◌, ℕ, ◌<◌, ◌≤◌, ◌==◌, nat_lt, ◌&&◌, not, Bool, true, false, is_some, List, Option, Some, None, Result, Ok, Err, slice_index, ◌+◌, refl, sym, ap, subst, ◌∙◌, arith, inl, inr, ◌⊎◌}
+use Rattle.std.proofs.Common.{◌≡◌, ℕ, ◌<◌, ◌≤◌, ◌==◌, nat_lt, ◌&&◌, not, Bool, true, false, is_some, List, Option, Some, None, Result, Ok, Err, slice_index, ◌+◌, ◌*◌, refl, sym, ap, subst, ◌∙◌, arith, inl, inr, ◌⊎◌}
+use mir.Syntax.{w16, w64}
+use mir.Val.{Fits}
 use Rattle.std.specs.Prelude.{IfOk}
 use Rattle.std.specs.declared.alloc.AllocError.{AllocError}
 use Rattle.std.proofs.lemmas.Bool.{true≢false, eq-eqb, ne_eqb, eqb-true, eqb-false, cases_eq, cases_lt, ltb-true, ltb-false, or_parts}
@@ -10,7 +12,7 @@ use Rattle.graph_theory.specs.Reversed.{reversed, reversed_problem, AreMutual}
 use Rattle.graph_theory.proofs.ReversedGraphs.{edge-reversed}
 use Rattle.search_theory.specs.Consistency.{AreConsistent}
 use Rattle.search_theory.proofs.Pairs.{mutual_consistent}
-use Rattle.bit_rows.specs.BitRows.{has}
+use Rattle.bit_rows.specs.BitRows.{has, words_for}
 use Rattle.needed_values.specs.Consistent.{agree, edges_agree, are_joined, HaveZeroLabels, Goes, AllGo, Leaves, AllConsistent, Shares, AllShare}
 
 agreed : (induced : Bool) (e f : Option ℕ) → Matches induced e f → agree (is_some e) induced (is_some f) ≡ true
@@ -284,3 +286,33 @@ pub back_all : (q : Problem) (p t r : ℕ) (p_in : p < size q.pattern) (r_in : r
 back_all q p t r p_in r_in t_in row within all along (Err e) back = tt
 back_all q p t r p_in r_in t_in row within all along (Ok b) back =
     both_all q p t r p_in r_in t_in row row row within all (shares_itself q.target t (common q.pattern p r) row) (shares_itself (reversed q.target) t (common (reversed q.pattern) p r) row) true b along back
+
+-- ---- rows of vertices are short
+
+pub row_short : (row n : ℕ) → n ≤ 8192 → row ≡ words_for n → row ≤ 1024
+row_short row n few is = omega (arith, few, is)
+
+pub row_fits : (row n : ℕ) → n ≤ 8192 → row ≡ words_for n → Fits w64 (64 * row)
+row_fits row n few is = omega (arith, few, is)
+
+pub vertex_fits : (u n : ℕ) → n ≤ 8192 → u < n → Fits w16 u
+vertex_fits u n few u_in = omega (arith, few, u_in)
+
+-- a vertex is before the end of the row
+pub is_before : (u n row at : ℕ) → u < n → row ≡ words_for n → 64 * row ≤ at → u < at
+is_before u n row at u_in is past = omega (arith, u_in, is, past)
+
+-- there is room for each in it, and it is no longer than their counts but for the last word
+pub row_room : (row n : ℕ) → row ≡ words_for n → n ≤ 64 * row
+row_room row n is = omega (arith, is)
+
+pub vertex_in_row : (u n row : ℕ) → u < n → row ≡ words_for n → u < 64 * row
+vertex_in_row u n row u_in is = omega (arith, u_in, is)
+
+pub row_counted : (row counts n : ℕ) → row ≡ words_for n → counts ≡ n → 64 * row < counts + 64
+row_counted row counts n is long = omega (arith, is, long)
+
+-- what cannot be true is false
+pub never_true : (b : Bool) → (b ≡ true → ⊥) → b ≡ false
+never_true true never = absurd (never refl)
+never_true false never = refl

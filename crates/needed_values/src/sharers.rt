@@ -39,12 +39,23 @@ struct SharedCount {
 /// For each value of a problem the rows of the other values that share at least so many neighbours with it along edges, by how many, and for each
 /// two pattern vertices how many they share. Contracts see the problem. It takes at most 512 values times 33 rows of eight words and 512 times 512
 /// counts, with lengths less than 5 MiB.
-#[derive(Drop)]
 pub struct Sharers<'a> {
     problem: &'a Problem,
     rows: Vec<SharerRow>,
     counts: Vec<SharedCount>,
     most: u16,
+}
+
+impl Drop for Sharers<'_> {
+    /// In one call, for whoever lets one go.
+    fn drop(self) {
+        let Sharers {
+            problem: _,
+            rows: _,
+            counts: _,
+            most: _,
+        } = self;
+    }
 }
 
 impl<'a> Model for Sharers<'a> {
