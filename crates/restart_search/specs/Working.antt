@@ -15,12 +15,16 @@ pub record Outfit : Type 0 where
   pub domains : State
   pub account : Account
 
--- What a worker has made is of its problem, and it has a number.
-pub record Equipped {T R : Type 0} (q : Problem) (number : ℕ) (w : Walk T R) : Type 0 where
-  pub some : 1 ≤ number
-  pub few : number ≤ 64
+-- What a walk is made with is of its problem.
+pub record IsWalkOf {T R : Type 0} (q : Problem) (w : Walk T R) : Type 0 where
   pub problem : w.propagator.filters.problem ≡ q
   pub long : length w.propagator.waiting.items ≡ size q.pattern
   pub words : length w.untried.items ≡ words_for (size q.target)
   pub degrees : w.choice ≡ size q.target
   pub room : size q.pattern ≤ vec_capacity w.position.marks
+
+-- What a worker has made is of its problem, and it has a number.
+pub record Equipped {T R : Type 0} (q : Problem) (number : ℕ) (w : Walk T R) : Type 0 where
+  pub some : 1 ≤ number
+  pub few : number ≤ 64
+  pub walk : IsWalkOf q w

@@ -32,13 +32,49 @@ pub enum Rooted<T: Trail, R: Recorder> {
     NoMemory,
 }
 
-/// What first domains are made with.
-#[derive(Drop)]
-struct FirstRoom<'a> {
+/// What the root is settled with, beside the filters.
+struct RootRoom<'a> {
     /// What is kept of the problem's vertices for `fill_first`.
     kept: FirstRows<'a>,
     /// The row that a first domain is written to.
     row: Vec<u64>,
+    /// Which vertices wait for their consequences.
+    waiting: Vec<bool>,
+    /// Those not yet past.
+    undecided: SparseSet,
+}
+
+impl Drop for RootRoom<'_> {
+    /// In one call, for whoever lets one go.
+    fn drop(self) {
+        let RootRoom {
+            kept: _,
+            row: _,
+            waiting: _,
+            undecided: _,
+        } = self;
+    }
+}
+
+/// Room for the root of a problem: no vertex waits, and none is past. Cost: that of `FirstRows::new`.
+fn root_room<'a>(alloc: Global, q: &'a Problem) -> Result<RootRoom<'a>, AllocError>
+    ensures rows { IfOk result (λ r. r.kept ≡ q.entry.now) }
+    ensures words { IfOk result
+        (λ r. length r.row.items ≡ words_for (size q.entry.now.target)) }
+    ensures long { IfOk result (λ r. length r.waiting.items ≡ size q.entry.now.pattern) }
+    ensures whole { IfOk result (λ r. r.undecided ≡ whole (size q.entry.now.pattern)) }
+{
+    let vertices = q.pattern().size();
+    let waiting = vec![in alloc; false; usize::from(vertices)]?;
+    let row = vec![in alloc; 0u64; words_for(usize::from(q.target().size()))]?;
+    let undecided = SparseSet::new(alloc, vertices)?;
+    let kept = FirstRows::new(alloc, q)?;
+    Ok(RootRoom {
+        kept,
+        row,
+        waiting,
+        undecided,
+    })
 }
 
 /// Leaves each vertex its first domain; fails where one is empty. Cost: for each vertex that of `fill_first`, and the values that leave.
@@ -72,19 +108,17 @@ fn begin<T: Trail, R: Recorder>(
 /// Leaves each vertex its first domain, and takes the consequences; fails where no embedding is left.
 fn settle_root<T: Trail, R: Recorder>(
     q: &Problem,
-    first: &mut FirstRoom,
+    room: &mut RootRoom,
     filters: &mut Filters,
     d: &mut Domains<T>,
-    waiting: &mut [bool],
-    undecided: &mut SparseSet,
     told: &mut R,
 ) -> Result<(), Failure>
-    requires rows { first.old.kept ≡ q.now }
+    requires rows { room.old.kept ≡ q.now }
+    requires words { length room.old.row.items ≡ words_for (size q.now.target) }
+    requires long { length room.old.waiting.items ≡ size q.now.pattern }
+    requires whole { room.old.undecided ≡ whole (size q.now.pattern) }
     requires filters { filters.old ≡ unlearned q.now }
     requires is_full { d.old ≡ full (size q.now.pattern) (size q.now.target) }
-    requires whole { undecided.old ≡ whole (size q.now.pattern) }
-    requires long { length waiting.old ≡ size q.now.pattern }
-    requires words { length first.old.row.items ≡ words_for (size q.now.target) }
     ensures roots { Roots (is_ok result) q.now d.new }
     ensures filters { filters.new ≡ unlearned q.now }
     ensures is_of { IsOf q.now d.new }
@@ -93,11 +127,39 @@ fn settle_root<T: Trail, R: Recorder>(
         → Tells q.now None d.new (R.changes told.new) }
     ensures guesses { NoNewGuess (R.changes told.old) (R.changes told.new) }
 {
-    begin(q, &first.kept, d, waiting, told, &mut first.row)?;
-    propagate(q, filters, d, waiting, undecided, told)
+    begin(q, &room.kept, d, &mut room.waiting, told, &mut room.row)?;
+    propagate(q, filters, d, &mut room.waiting, &mut room.undecided, told)
 }
 
-/// The same, in room that is made for it, with at most so many words of rows of pairs. Cost: that of `FirstRows::new` beside it.
+/// The same, by filters that are made for it, with at most so many words of rows of pairs. Cost: that of `Filters::new` beside it.
+fn settle_filtered<T: Trail, R: Recorder>(
+    alloc: Global,
+    q: &Problem,
+    kinds: &PairKinds,
+    most: usize,
+    room: &mut RootRoom,
+    d: &mut Domains<T>,
+    told: &mut R,
+) -> Result<Result<(), Failure>, AllocError>
+    requires kinds { kinds.now.problem ≡ q.now }
+    requires rows { room.old.kept ≡ q.now }
+    requires words { length room.old.row.items ≡ words_for (size q.now.target) }
+    requires long { length room.old.waiting.items ≡ size q.now.pattern }
+    requires whole { room.old.undecided ≡ whole (size q.now.pattern) }
+    requires is_full { d.old ≡ full (size q.now.pattern) (size q.now.target) }
+    ensures roots { IfOk result (λ settled. Roots (is_ok settled) q.now d.new) }
+    ensures is_of { IfOk result (λ _. IsOf q.now d.new) }
+    ensures fails { IfOk result (λ settled. IfErr settled
+        (Fails q.now None d.new (R.changes told.new) (R.short told.new))) }
+    ensures told { IfOk result (λ _. Tells q.now None d.old (R.changes told.old)
+        → Tells q.now None d.new (R.changes told.new)) }
+    ensures guesses { IfOk result (λ _. NoNewGuess (R.changes told.old) (R.changes told.new)) }
+{
+    let mut filters = Filters::new(alloc, q, kinds, most)?;
+    Ok(settle_root(q, room, &mut filters, d, told))
+}
+
+/// The same, in room that is made for it too. Cost: that of `FirstRows::new` beside it.
 fn settle_full<T: Trail, R: Recorder>(
     alloc: Global,
     q: &Problem,
@@ -116,23 +178,8 @@ fn settle_full<T: Trail, R: Recorder>(
         → Tells q.now None d.new (R.changes told.new)) }
     ensures guesses { IfOk result (λ _. NoNewGuess (R.changes told.old) (R.changes told.new)) }
 {
-    let vertices = q.pattern().size();
-    let mut waiting = vec![in alloc; false; usize::from(vertices)]?;
-    let mut undecided = SparseSet::new(alloc, vertices)?;
-    let row = vec![in alloc; 0u64; words_for(usize::from(q.target().size()))]?;
-    let kept = FirstRows::new(alloc, q)?;
-    let mut first = FirstRoom { kept, row };
-    let mut filters = Filters::new(alloc, q, kinds, most)?;
-    let settled = settle_root(
-        q,
-        &mut first,
-        &mut filters,
-        d,
-        &mut waiting,
-        &mut undecided,
-        told,
-    );
-    Ok(settled)
+    let mut room = root_room(alloc, q)?;
+    settle_filtered(alloc, q, kinds, most, &mut room, d, told)
 }
 
 /// The first domains and what follows from them, with at most so many words of rows of pairs; all changes are told. Cost: that of

@@ -15,6 +15,7 @@ ghost use Rattle.restart_search.specs.Logging.{IfRefuted};
 ghost use Rattle.restart_search.specs.Positions.{Acts, GoesOn, IsAtStage, IsSound, LogsAt};
 ghost use Rattle.restart_search.specs.Searching.{Ends, FoundOf, IfMemory, IsNotStopped, Knows, Leaves};
 ghost use Rattle.restart_search.specs.Sharing.{GoesWithinRun, IsSeatFor, LearnedInRuns, LearnedPart};
+ghost use Rattle.restart_search.specs.Working.{IsWalkOf};
 
 use crate::outcome::{Outcome, Stage};
 use crate::position::{Position, Propagator, present};
@@ -23,6 +24,7 @@ use crate::sharing::Author;
 use crate::value_choice::{ValueChoice, fill_untried, has_value};
 use crate::vertex_choice::level_vertex;
 use domain_bits::{Domains, Trail};
+use fail_account::Account;
 use graph_rows::Problem;
 use nogood_book::{Book, Row, RowSeat};
 use proof_logger::{DeadEnd, ProofLogger};
@@ -31,7 +33,6 @@ use std::alloc::{AllocError, Global};
 use worker_gate::{AnswerCell, Gate, Note, Point};
 
 /// All that a search owns: where it stands, what consequences are taken with, and how values are chosen.
-#[derive(Drop)]
 pub(crate) struct Walk<'a, T: Trail, R: Recorder> {
     /// Where it stands.
     pub position: Position<T, R>,
@@ -41,6 +42,41 @@ pub(crate) struct Walk<'a, T: Trail, R: Recorder> {
     pub untried: Vec<u64>,
     /// How one of these is chosen.
     pub choice: ValueChoice,
+}
+
+impl<T: Trail, R: Recorder> Drop for Walk<'_, T, R> {
+    /// In one call, for whoever lets one go.
+    fn drop(self) {
+        let Walk {
+            position: _,
+            propagator: _,
+            untried: _,
+            choice: _,
+        } = self;
+    }
+}
+
+impl<'a, T: Trail, R: Recorder> Walk<'a, T, R> {
+    /// Its account; the rest is let go.
+    pub(crate) fn into_account(self) -> Account
+        ensures { result ≡ self.entry.position.account }
+    {
+        let Walk {
+            position,
+            propagator: _,
+            untried: _,
+            choice: _,
+        } = self;
+        let Position {
+            domains: _,
+            undecided: _,
+            account,
+            marks: _,
+            root: _,
+            told: _,
+        } = position;
+        account
+    }
 }
 
 /// What a run looks to between its guesses: a cell for the first answer, if there is one, and a gate.
@@ -185,18 +221,13 @@ pub(crate) fn run<'a, T: Trail, B: Book, L: ProofLogger, G: Gate>(
     requires open { stage ≢ Stage.Over }
     requires seat { IsSeatFor author.now.problem.now author.now.owner (B.Seat.shows seat.old) }
     requires narrow { author.now.owner < 128 }
-    requires problem { walk.old.propagator.filters.problem ≡ author.now.problem.now }
+    requires walk { IsWalkOf author.now.problem.now walk.old }
     requires stands { IsAtStage stage author.now.problem.now walk.old.propagator.filters.nogoods
         walk.old.position (B.Seat.shows seat.old) }
     requires owner { L.owner log.old ≡ author.now.owner }
     requires logged { LogsAt author.now.problem.now (B.Seat.shows seat.old).seen
         walk.old.propagator.filters.nogoods walk.old.position
         (L.Told.changes walk.old.position.told) (L.writes log.old) }
-    requires long { length walk.old.propagator.waiting.items ≡ size author.now.problem.now.pattern }
-    requires words { length walk.old.untried.items
-        ≡ words_for (size author.now.problem.now.target) }
-    requires choice { walk.old.choice ≡ size author.now.problem.now.target }
-    requires room { size author.now.problem.now.pattern ≤ vec_capacity walk.old.position.marks }
     ensures fits { B.fits author.now.book.now seat.new }
     ensures seat { IsSeatFor author.now.problem.now author.now.owner (B.Seat.shows seat.new) }
     ensures ends { Ends result author.now.problem.now walk.new.position.account }
@@ -218,11 +249,7 @@ pub(crate) fn run<'a, T: Trail, B: Book, L: ProofLogger, G: Gate>(
     ensures steps { L.steps log.new author.now.problem.now (B.Seat.shows seat.new).seen }
     ensures refutes { IfRefuted result
         (L.refutes log.new author.now.problem.now (B.Seat.shows seat.new).seen) }
-    ensures problem { walk.new.propagator.filters.problem ≡ author.now.problem.now }
-    ensures long { length walk.new.propagator.waiting.items ≡ size author.now.problem.now.pattern }
-    ensures words { length walk.new.untried.items ≡ words_for (size author.now.problem.now.target) }
-    ensures choice { walk.new.choice ≡ size author.now.problem.now.target }
-    ensures room { size author.now.problem.now.pattern ≤ vec_capacity walk.new.position.marks }
+    ensures walk { IsWalkOf author.now.problem.now walk.new }
 {
     let q = author.problem;
     let number = u32::from(author.owner);

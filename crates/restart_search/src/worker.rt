@@ -195,7 +195,6 @@ impl<'a, T: Trail, R: Recorder> Equipment<'a, T, R> {
 }
 
 /// One search, with where it stands, its seat at the book, and who is told of it.
-#[derive(Drop)]
 pub struct Worker<'a, S: RowSeat + Drop, T: Trail, L: ProofLogger> {
     problem: &'a Problem,
     number: u8,
@@ -203,6 +202,20 @@ pub struct Worker<'a, S: RowSeat + Drop, T: Trail, L: ProofLogger> {
     log: L,
     walk: Walk<'a, T, L::Told>,
     stage: Stage,
+}
+
+impl<S: RowSeat + Drop, T: Trail, L: ProofLogger> Drop for Worker<'_, S, T, L> {
+    /// In one call, for whoever lets one go.
+    fn drop(self) {
+        let Worker {
+            problem: _,
+            number: _,
+            seat: _,
+            log: _,
+            walk: _,
+            stage: _,
+        } = self;
+    }
 }
 
 impl<'a, S: RowSeat + Drop, T: Trail, L: ProofLogger> Model for Worker<'a, S, T, L> {
@@ -340,21 +353,7 @@ impl<'a, S: RowSeat + Drop, T: Trail, L: ProofLogger> Worker<'a, S, T, L> {
             walk,
             stage: _,
         } = self;
-        let Walk {
-            position,
-            propagator: _,
-            untried: _,
-            choice: _,
-        } = walk;
-        let Position {
-            domains: _,
-            undecided: _,
-            account,
-            marks: _,
-            root: _,
-            told: _,
-        } = position;
-        (account, seat, log)
+        (walk.into_account(), seat, log)
     }
 }
 

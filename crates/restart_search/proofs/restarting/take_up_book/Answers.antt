@@ -11,6 +11,7 @@ use Rattle.restart_search.proofs.BetweenRuns.{at_root_again, take_seen}
 use Rattle.propagation.proofs.Narrowing.{is_of_narrowed}
 use Rattle.restart_search.proofs.Logging.{told_on, told_named, ends_path}
 use Rattle.restart_search.proofs.Noting.{beside_caught}
+use Rattle.restart_search.proofs.Written.{kept_long}
 use Rattle.restart_search.proofs.restarting.take_up_book.Goals as goal
 
 few_seen : (f : Facts) (rows : List Row) → rows ≡ f.seen → length rows ≤ f.size → length f.seen ≤ f.size
@@ -185,3 +186,45 @@ propagate_again-requires-clause-left g c = c.requires.at_root.left
 
 pub propagate_again-requires-clause-quiet : goal.propagate_again-requires-clause-quiet
 propagate_again-requires-clause-quiet g c = c.requires.at_root.rest.quiet
+
+pub take_rows-requires-clause-problem : goal.take_rows-requires-clause-problem
+take_rows-requires-clause-problem g c = c.requires.problem
+
+pub returns-in_err-take_rows-clause-account : goal.returns-in_err-take_rows-clause-account
+returns-in_err-take_rows-clause-account g c = refl
+
+pub returns-in_err-take_rows-clause-marks : goal.returns-in_err-take_rows-clause-marks
+returns-in_err-take_rows-clause-marks g c = refl
+
+pub returns-in-Ok-clause-account : goal.returns-in-Ok-clause-account
+returns-in-Ok-clause-account g c = refl
+
+pub returns-in-Ok-clause-marks : goal.returns-in-Ok-clause-marks
+returns-in-Ok-clause-marks g c = refl
+
+pub returns-in_ok-close-in-Err-clause-account : goal.returns-in_ok-close-in-Err-clause-account
+returns-in_ok-close-in-Err-clause-account g c = refl
+
+pub returns-in_ok-close-in-Err-clause-marks : goal.returns-in_ok-close-in-Err-clause-marks
+returns-in_ok-close-in-Err-clause-marks g c = refl
+
+pub returns-in_err-close-in-Err-clause-account : goal.returns-in_err-close-in-Err-clause-account
+returns-in_err-close-in-Err-clause-account g c = refl
+
+pub returns-in_err-close-in-Err-clause-marks : goal.returns-in_err-close-in-Err-clause-marks
+returns-in_err-close-in-Err-clause-marks g c = refl
+
+pub returns-in_err-take_rows-clause-long : goal.returns-in_err-take_rows-clause-long
+returns-in_err-take_rows-clause-long g c = c.requires.long
+
+pub returns-in-Ok-clause-long : goal.returns-in-Ok-clause-long
+returns-in-Ok-clause-long g c = kept_long c.args.propagator.now.waiting.len _ _ _ (c.propagate_again.auto.waiting ∙ c.deref_mut.ensures.len) (c.args.propagator.now.waiting.ok.0 ∙ c.requires.long)
+
+pub returns-in_ok-close-in-Err-clause-long : goal.returns-in_ok-close-in-Err-clause-long
+returns-in_ok-close-in-Err-clause-long g c = kept_long c.args.propagator.now.waiting.len _ _ _ (c.lower.ensures ∙ c.deref_mut-in-Err.ensures.len) (c.args.propagator.now.waiting.ok.0 ∙ c.requires.long)
+
+pub returns-in_err-close-in-Err-clause-long : goal.returns-in_err-close-in-Err-clause-long
+returns-in_err-close-in-Err-clause-long g c = kept_long c.args.propagator.now.waiting.len _ _ _ (c.lower.ensures ∙ c.deref_mut-in-Err.ensures.len) (c.args.propagator.now.waiting.ok.0 ∙ c.requires.long)
+
+pub propagate_again-requires-clause-long : goal.propagate_again-requires-clause-long
+propagate_again-requires-clause-long g c = ap length c.deref_mut.ensures.value ∙ c.requires.long

@@ -1,5 +1,4 @@
-use Rattle.std.proofs.Common.{◌≡◌, ℕ, ◌<◌, ◌++◌, take, Bool, true, List, IfSome, slice_set, length, ◌∷◌, [], length-append, refl, ap, subst, sym, ◌∙◌, arith}
-use Rattle.std.proofs.Math.Seq.{take-append_seam}
+use Rattle.std.proofs.Common.{ℕ, ◌<◌, Bool, true, List, IfSome, slice_set, length, ◌∷◌, [], length-append, refl, ap, subst, sym, ◌∙◌, arith}
 use Rattle.graph_theory.specs.Path.{Dead}
 use Rattle.search_theory.specs.Account.{Account, Honest, path}
 use Rattle.restart_search.specs.declared.position.Moment.{Moment}
@@ -18,11 +17,8 @@ use Rattle.propagation.proofs.Narrowing.{is_of_narrowed}
 use Rattle.propagation.specs.Propagation.{IsOf, Ready}
 use Rattle.propagation.specs.Acting.{WatchesWait}
 use Rattle.propagation.specs.Learning.{Filtering}
+use Rattle.restart_search.proofs.Written.{kept_long}
 use Rattle.restart_search.proofs.search.guess.Goals as goal
-
--- flags that were written in place of a vector's are as many as they were
-kept_long : (n m : ℕ) (xs ys : List Bool) → length xs ≡ n → n ≡ m → length (take n (xs ++ ys)) ≡ m
-kept_long n m xs ys long is = ap length (subst (λ (k : ℕ). take k (xs ++ ys) ≡ xs) long (take-append_seam xs ys)) ∙ (long ∙ is)
 
 pub push_reserved-requires : goal.push_reserved-requires
 push_reserved-requires g c =

@@ -80,11 +80,11 @@ loop-p-init g c = record {
   budget = ap (λ (a : Account). a.budget) c.begin.ensures.account;
   learned = learned_none c.args.author.now.problem.now _ _ _ _ c.args.author.now.owner c.begin.ensures.account c.requires.seat.owner_is c.begin.ensures.learned;
   long = c.begin.ensures.long;
-  words = c.requires.words;
-  choice = c.requires.choice;
+  words = c.requires.walk.words;
+  choice = c.requires.walk.degrees;
   owner = c.begin.ensures.owner ∙ c.requires.owner;
   logged = logs_true c.in-Ok-true.field-0 _ _ _ _ _ _ _ _ _ c.in-Ok-true.field-0-test c.in-Ok-true.ensures.logged;
-  room = omega (arith, c.requires.room, ap vec_capacity c.begin.ensures.marks);
+  room = omega (arith, c.requires.walk.room, ap vec_capacity c.begin.ensures.marks);
 }
 
 pub loop-p-preserved-then-not-has_value : goal.loop-p-preserved-then-not-has_value
@@ -229,11 +229,14 @@ loop-p-preserved-in-Ok-true-begin_again g c =
       room = omega (arith, c.loop-p.invariant.room, c.begin_again.ensures.room);
     }
 
-pub returns-in-Ok-false-clause-problem : goal.returns-in-Ok-false-clause-problem
-returns-in-Ok-false-clause-problem g c = c.begin.ensures.problem
-
-pub returns-in-Ok-false-clause-long : goal.returns-in-Ok-false-clause-long
-returns-in-Ok-false-clause-long g c = c.begin.ensures.long
+pub returns-in-Ok-false-clause-walk : goal.returns-in-Ok-false-clause-walk
+returns-in-Ok-false-clause-walk g c = record {
+  problem = c.begin.ensures.problem;
+  long = c.begin.ensures.long;
+  words = c.requires.walk.words;
+  degrees = c.requires.walk.degrees;
+  room = omega (arith, c.requires.walk.room, ap vec_capacity c.begin.ensures.marks);
+}
 
 pub returns-in-Ok-false-clause-budget : goal.returns-in-Ok-false-clause-budget
 returns-in-Ok-false-clause-budget g c = ap (λ (a : Account). a.budget) c.begin.ensures.account
@@ -241,23 +244,17 @@ returns-in-Ok-false-clause-budget g c = ap (λ (a : Account). a.budget) c.begin.
 pub returns-in-Ok-false-clause-owner : goal.returns-in-Ok-false-clause-owner
 returns-in-Ok-false-clause-owner g c = c.begin.ensures.owner
 
-pub returns-in-Ok-false-clause-choice : goal.returns-in-Ok-false-clause-choice
-returns-in-Ok-false-clause-choice g c = c.requires.choice
-
-pub returns-in-Ok-false-clause-words : goal.returns-in-Ok-false-clause-words
-returns-in-Ok-false-clause-words g c = c.requires.words
-
-pub returns-in-Ok-false-clause-room : goal.returns-in-Ok-false-clause-room
-returns-in-Ok-false-clause-room g c = omega (arith, c.requires.room, ap vec_capacity c.begin.ensures.marks)
-
 pub returns-in-Ok-false-clause-steps : goal.returns-in-Ok-false-clause-steps
 returns-in-Ok-false-clause-steps g c = c.begin.ensures.steps
 
-pub returns-in-Err-clause-problem : goal.returns-in-Err-clause-problem
-returns-in-Err-clause-problem g c = c.begin.ensures.problem
-
-pub returns-in-Err-clause-long : goal.returns-in-Err-clause-long
-returns-in-Err-clause-long g c = c.begin.ensures.long
+pub returns-in-Err-clause-walk : goal.returns-in-Err-clause-walk
+returns-in-Err-clause-walk g c = record {
+  problem = c.begin.ensures.problem;
+  long = c.begin.ensures.long;
+  words = c.requires.walk.words;
+  degrees = c.requires.walk.degrees;
+  room = omega (arith, c.requires.walk.room, ap vec_capacity c.begin.ensures.marks);
+}
 
 pub returns-in-Err-clause-budget : goal.returns-in-Err-clause-budget
 returns-in-Err-clause-budget g c = ap (λ (a : Account). a.budget) c.begin.ensures.account
@@ -265,23 +262,17 @@ returns-in-Err-clause-budget g c = ap (λ (a : Account). a.budget) c.begin.ensur
 pub returns-in-Err-clause-owner : goal.returns-in-Err-clause-owner
 returns-in-Err-clause-owner g c = c.begin.ensures.owner
 
-pub returns-in-Err-clause-choice : goal.returns-in-Err-clause-choice
-returns-in-Err-clause-choice g c = c.requires.choice
-
-pub returns-in-Err-clause-words : goal.returns-in-Err-clause-words
-returns-in-Err-clause-words g c = c.requires.words
-
-pub returns-in-Err-clause-room : goal.returns-in-Err-clause-room
-returns-in-Err-clause-room g c = omega (arith, c.requires.room, ap vec_capacity c.begin.ensures.marks)
-
 pub returns-in-Err-clause-steps : goal.returns-in-Err-clause-steps
 returns-in-Err-clause-steps g c = c.begin.ensures.steps
 
-pub returns-in_default-clause-problem : goal.returns-in_default-clause-problem
-returns-in_default-clause-problem g c = c.loop-p.invariant.problem
-
-pub returns-in_default-clause-long : goal.returns-in_default-clause-long
-returns-in_default-clause-long g c = c.loop-p.invariant.long
+pub returns-in_default-clause-walk : goal.returns-in_default-clause-walk
+returns-in_default-clause-walk g c = record {
+  problem = c.loop-p.invariant.problem;
+  long = c.loop-p.invariant.long;
+  words = c.loop-p.invariant.words;
+  degrees = c.loop-p.invariant.choice;
+  room = c.loop-p.invariant.room;
+}
 
 pub returns-in_default-clause-budget : goal.returns-in_default-clause-budget
 returns-in_default-clause-budget g c = c.loop-p.invariant.budget
@@ -289,20 +280,14 @@ returns-in_default-clause-budget g c = c.loop-p.invariant.budget
 pub returns-in_default-clause-owner : goal.returns-in_default-clause-owner
 returns-in_default-clause-owner g c = c.loop-p.invariant.owner ∙ sym c.requires.owner
 
-pub returns-in_default-clause-choice : goal.returns-in_default-clause-choice
-returns-in_default-clause-choice g c = c.loop-p.invariant.choice
-
-pub returns-in_default-clause-words : goal.returns-in_default-clause-words
-returns-in_default-clause-words g c = c.loop-p.invariant.words
-
-pub returns-in_default-clause-room : goal.returns-in_default-clause-room
-returns-in_default-clause-room g c = c.loop-p.invariant.room
-
-pub returns-in_default-close-clause-problem : goal.returns-in_default-close-clause-problem
-returns-in_default-close-clause-problem g c = c.loop-p.invariant.problem
-
-pub returns-in_default-close-clause-long : goal.returns-in_default-close-clause-long
-returns-in_default-close-clause-long g c = c.loop-p.invariant.long
+pub returns-in_default-close-clause-walk : goal.returns-in_default-close-clause-walk
+returns-in_default-close-clause-walk g c = record {
+  problem = c.loop-p.invariant.problem;
+  long = c.loop-p.invariant.long;
+  words = kept_words _ _ c.loop-p.walk.untried.len _ _ _ c.fill_untried.ensures.long c.loop-p.invariant.begun.sound.based.is_of.values_is c.loop-p.invariant.words c.loop-p.walk.untried.ok.0;
+  degrees = c.loop-p.invariant.choice;
+  room = c.loop-p.invariant.room;
+}
 
 pub returns-in_default-close-clause-budget : goal.returns-in_default-close-clause-budget
 returns-in_default-close-clause-budget g c = c.loop-p.invariant.budget
@@ -310,23 +295,17 @@ returns-in_default-close-clause-budget g c = c.loop-p.invariant.budget
 pub returns-in_default-close-clause-owner : goal.returns-in_default-close-clause-owner
 returns-in_default-close-clause-owner g c = c.close.ensures.owner ∙ (c.loop-p.invariant.owner ∙ sym c.requires.owner)
 
-pub returns-in_default-close-clause-choice : goal.returns-in_default-close-clause-choice
-returns-in_default-close-clause-choice g c = c.loop-p.invariant.choice
-
-pub returns-in_default-close-clause-words : goal.returns-in_default-close-clause-words
-returns-in_default-close-clause-words g c = kept_words _ _ c.loop-p.walk.untried.len _ _ _ c.fill_untried.ensures.long c.loop-p.invariant.begun.sound.based.is_of.values_is c.loop-p.invariant.words c.loop-p.walk.untried.ok.0
-
-pub returns-in_default-close-clause-room : goal.returns-in_default-close-clause-room
-returns-in_default-close-clause-room g c = c.loop-p.invariant.room
-
 pub returns-in_default-close-clause-steps : goal.returns-in_default-close-clause-steps
 returns-in_default-close-clause-steps g c = subst (λ (rows : List Row). g.L.ProofLogger.steps c.close.new.self c.args.author.now.problem.now rows) c.rows-rows.ensures.seen c.close.ensures.steps
 
-pub returns-then-is_empty-clause-problem : goal.returns-then-is_empty-clause-problem
-returns-then-is_empty-clause-problem g c = c.loop-p.invariant.problem
-
-pub returns-then-is_empty-clause-long : goal.returns-then-is_empty-clause-long
-returns-then-is_empty-clause-long g c = c.loop-p.invariant.long
+pub returns-then-is_empty-clause-walk : goal.returns-then-is_empty-clause-walk
+returns-then-is_empty-clause-walk g c = record {
+  problem = c.loop-p.invariant.problem;
+  long = c.loop-p.invariant.long;
+  words = kept_words _ _ c.loop-p.walk.untried.len _ _ _ c.fill_untried.ensures.long c.loop-p.invariant.begun.sound.based.is_of.values_is c.loop-p.invariant.words c.loop-p.walk.untried.ok.0;
+  degrees = c.loop-p.invariant.choice;
+  room = c.loop-p.invariant.room;
+}
 
 pub returns-then-is_empty-clause-budget : goal.returns-then-is_empty-clause-budget
 returns-then-is_empty-clause-budget g c = c.loop-p.invariant.budget
@@ -334,41 +313,26 @@ returns-then-is_empty-clause-budget g c = c.loop-p.invariant.budget
 pub returns-then-is_empty-clause-owner : goal.returns-then-is_empty-clause-owner
 returns-then-is_empty-clause-owner g c = c.close.ensures.owner ∙ (c.loop-p.invariant.owner ∙ sym c.requires.owner)
 
-pub returns-then-is_empty-clause-choice : goal.returns-then-is_empty-clause-choice
-returns-then-is_empty-clause-choice g c = c.loop-p.invariant.choice
-
-pub returns-then-is_empty-clause-words : goal.returns-then-is_empty-clause-words
-returns-then-is_empty-clause-words g c = kept_words _ _ c.loop-p.walk.untried.len _ _ _ c.fill_untried.ensures.long c.loop-p.invariant.begun.sound.based.is_of.values_is c.loop-p.invariant.words c.loop-p.walk.untried.ok.0
-
-pub returns-then-is_empty-clause-room : goal.returns-then-is_empty-clause-room
-returns-then-is_empty-clause-room g c = c.loop-p.invariant.room
-
 pub returns-then-is_empty-clause-learned : goal.returns-then-is_empty-clause-learned
 returns-then-is_empty-clause-learned g c = c.loop-p.invariant.learned
 
 pub returns-then-is_empty-clause-steps : goal.returns-then-is_empty-clause-steps
 returns-then-is_empty-clause-steps g c = subst (λ (rows : List Row). g.L.ProofLogger.steps c.close.new.self c.args.author.now.problem.now rows) c.rows-rows.ensures.seen c.close.ensures.steps
 
-pub returns-in-Some-stop_at-clause-problem : goal.returns-in-Some-stop_at-clause-problem
-returns-in-Some-stop_at-clause-problem g c = c.loop-p.invariant.problem
-
-pub returns-in-Some-stop_at-clause-long : goal.returns-in-Some-stop_at-clause-long
-returns-in-Some-stop_at-clause-long g c = c.loop-p.invariant.long
+pub returns-in-Some-stop_at-clause-walk : goal.returns-in-Some-stop_at-clause-walk
+returns-in-Some-stop_at-clause-walk g c = record {
+  problem = c.loop-p.invariant.problem;
+  long = c.loop-p.invariant.long;
+  words = kept_words _ _ c.loop-p.walk.untried.len _ _ _ c.fill_untried.ensures.long c.loop-p.invariant.begun.sound.based.is_of.values_is c.loop-p.invariant.words c.loop-p.walk.untried.ok.0;
+  degrees = c.loop-p.invariant.choice;
+  room = c.loop-p.invariant.room;
+}
 
 pub returns-in-Some-stop_at-clause-budget : goal.returns-in-Some-stop_at-clause-budget
 returns-in-Some-stop_at-clause-budget g c = c.loop-p.invariant.budget
 
 pub returns-in-Some-stop_at-clause-owner : goal.returns-in-Some-stop_at-clause-owner
 returns-in-Some-stop_at-clause-owner g c = c.loop-p.invariant.owner ∙ sym c.requires.owner
-
-pub returns-in-Some-stop_at-clause-choice : goal.returns-in-Some-stop_at-clause-choice
-returns-in-Some-stop_at-clause-choice g c = c.loop-p.invariant.choice
-
-pub returns-in-Some-stop_at-clause-words : goal.returns-in-Some-stop_at-clause-words
-returns-in-Some-stop_at-clause-words g c = kept_words _ _ c.loop-p.walk.untried.len _ _ _ c.fill_untried.ensures.long c.loop-p.invariant.begun.sound.based.is_of.values_is c.loop-p.invariant.words c.loop-p.walk.untried.ok.0
-
-pub returns-in-Some-stop_at-clause-room : goal.returns-in-Some-stop_at-clause-room
-returns-in-Some-stop_at-clause-room g c = c.loop-p.invariant.room
 
 pub returns-in-Some-stop_at-clause-steps : goal.returns-in-Some-stop_at-clause-steps
 returns-in-Some-stop_at-clause-steps g c = c.stays.ensures.steps _ _ _ c.loop-p.invariant.logged.writes
@@ -382,26 +346,20 @@ returns-in-Some-stop_at-clause-logged g c = c.loop-p.invariant.logged
 pub returns-in-Some-stop_at-clause-begun : goal.returns-in-Some-stop_at-clause-begun
 returns-in-Some-stop_at-clause-begun g c = c.loop-p.invariant.begun
 
-pub returns-then-spent-clause-problem : goal.returns-then-spent-clause-problem
-returns-then-spent-clause-problem g c = c.loop-p.invariant.problem
-
-pub returns-then-spent-clause-long : goal.returns-then-spent-clause-long
-returns-then-spent-clause-long g c = c.loop-p.invariant.long
+pub returns-then-spent-clause-walk : goal.returns-then-spent-clause-walk
+returns-then-spent-clause-walk g c = record {
+  problem = c.loop-p.invariant.problem;
+  long = c.loop-p.invariant.long;
+  words = kept_words _ _ c.loop-p.walk.untried.len _ _ _ c.fill_untried.ensures.long c.loop-p.invariant.begun.sound.based.is_of.values_is c.loop-p.invariant.words c.loop-p.walk.untried.ok.0;
+  degrees = c.loop-p.invariant.choice;
+  room = c.loop-p.invariant.room;
+}
 
 pub returns-then-spent-clause-budget : goal.returns-then-spent-clause-budget
 returns-then-spent-clause-budget g c = c.loop-p.invariant.budget
 
 pub returns-then-spent-clause-owner : goal.returns-then-spent-clause-owner
 returns-then-spent-clause-owner g c = c.loop-p.invariant.owner ∙ sym c.requires.owner
-
-pub returns-then-spent-clause-choice : goal.returns-then-spent-clause-choice
-returns-then-spent-clause-choice g c = c.loop-p.invariant.choice
-
-pub returns-then-spent-clause-words : goal.returns-then-spent-clause-words
-returns-then-spent-clause-words g c = kept_words _ _ c.loop-p.walk.untried.len _ _ _ c.fill_untried.ensures.long c.loop-p.invariant.begun.sound.based.is_of.values_is c.loop-p.invariant.words c.loop-p.walk.untried.ok.0
-
-pub returns-then-spent-clause-room : goal.returns-then-spent-clause-room
-returns-then-spent-clause-room g c = c.loop-p.invariant.room
 
 pub returns-then-spent-clause-steps : goal.returns-then-spent-clause-steps
 returns-then-spent-clause-steps g c = c.stays.ensures.steps _ _ _ c.loop-p.invariant.logged.writes
@@ -415,11 +373,14 @@ returns-then-spent-clause-logged g c = c.loop-p.invariant.logged
 pub returns-then-spent-clause-begun : goal.returns-then-spent-clause-begun
 returns-then-spent-clause-begun g c = c.loop-p.invariant.begun
 
-pub returns-in-Ok-false-begin_again-clause-problem : goal.returns-in-Ok-false-begin_again-clause-problem
-returns-in-Ok-false-begin_again-clause-problem g c = c.begin_again.ensures.problem
-
-pub returns-in-Ok-false-begin_again-clause-long : goal.returns-in-Ok-false-begin_again-clause-long
-returns-in-Ok-false-begin_again-clause-long g c = c.begin_again.ensures.long
+pub returns-in-Ok-false-begin_again-clause-walk : goal.returns-in-Ok-false-begin_again-clause-walk
+returns-in-Ok-false-begin_again-clause-walk g c = record {
+  problem = c.begin_again.ensures.problem;
+  long = c.begin_again.ensures.long;
+  words = kept_words _ _ c.loop-p.walk.untried.len _ _ _ c.fill_untried.ensures.long c.loop-p.invariant.begun.sound.based.is_of.values_is c.loop-p.invariant.words c.loop-p.walk.untried.ok.0;
+  degrees = c.loop-p.invariant.choice;
+  room = omega (arith, c.loop-p.invariant.room, c.begin_again.ensures.room);
+}
 
 pub returns-in-Ok-false-begin_again-clause-budget : goal.returns-in-Ok-false-begin_again-clause-budget
 returns-in-Ok-false-begin_again-clause-budget g c = c.begin_again.ensures.budget ∙ c.loop-p.invariant.budget
@@ -427,23 +388,17 @@ returns-in-Ok-false-begin_again-clause-budget g c = c.begin_again.ensures.budget
 pub returns-in-Ok-false-begin_again-clause-owner : goal.returns-in-Ok-false-begin_again-clause-owner
 returns-in-Ok-false-begin_again-clause-owner g c = c.begin_again.ensures.owner ∙ (c.loop-p.invariant.owner ∙ sym c.requires.owner)
 
-pub returns-in-Ok-false-begin_again-clause-choice : goal.returns-in-Ok-false-begin_again-clause-choice
-returns-in-Ok-false-begin_again-clause-choice g c = c.loop-p.invariant.choice
-
-pub returns-in-Ok-false-begin_again-clause-words : goal.returns-in-Ok-false-begin_again-clause-words
-returns-in-Ok-false-begin_again-clause-words g c = kept_words _ _ c.loop-p.walk.untried.len _ _ _ c.fill_untried.ensures.long c.loop-p.invariant.begun.sound.based.is_of.values_is c.loop-p.invariant.words c.loop-p.walk.untried.ok.0
-
-pub returns-in-Ok-false-begin_again-clause-room : goal.returns-in-Ok-false-begin_again-clause-room
-returns-in-Ok-false-begin_again-clause-room g c = omega (arith, c.loop-p.invariant.room, c.begin_again.ensures.room)
-
 pub returns-in-Ok-false-begin_again-clause-steps : goal.returns-in-Ok-false-begin_again-clause-steps
 returns-in-Ok-false-begin_again-clause-steps g c = c.begin_again.ensures.steps
 
-pub returns-in-Err-begin_again-clause-problem : goal.returns-in-Err-begin_again-clause-problem
-returns-in-Err-begin_again-clause-problem g c = c.begin_again.ensures.problem
-
-pub returns-in-Err-begin_again-clause-long : goal.returns-in-Err-begin_again-clause-long
-returns-in-Err-begin_again-clause-long g c = c.begin_again.ensures.long
+pub returns-in-Err-begin_again-clause-walk : goal.returns-in-Err-begin_again-clause-walk
+returns-in-Err-begin_again-clause-walk g c = record {
+  problem = c.begin_again.ensures.problem;
+  long = c.begin_again.ensures.long;
+  words = kept_words _ _ c.loop-p.walk.untried.len _ _ _ c.fill_untried.ensures.long c.loop-p.invariant.begun.sound.based.is_of.values_is c.loop-p.invariant.words c.loop-p.walk.untried.ok.0;
+  degrees = c.loop-p.invariant.choice;
+  room = omega (arith, c.loop-p.invariant.room, c.begin_again.ensures.room);
+}
 
 pub returns-in-Err-begin_again-clause-budget : goal.returns-in-Err-begin_again-clause-budget
 returns-in-Err-begin_again-clause-budget g c = c.begin_again.ensures.budget ∙ c.loop-p.invariant.budget
@@ -451,23 +406,17 @@ returns-in-Err-begin_again-clause-budget g c = c.begin_again.ensures.budget ∙ 
 pub returns-in-Err-begin_again-clause-owner : goal.returns-in-Err-begin_again-clause-owner
 returns-in-Err-begin_again-clause-owner g c = c.begin_again.ensures.owner ∙ (c.loop-p.invariant.owner ∙ sym c.requires.owner)
 
-pub returns-in-Err-begin_again-clause-choice : goal.returns-in-Err-begin_again-clause-choice
-returns-in-Err-begin_again-clause-choice g c = c.loop-p.invariant.choice
-
-pub returns-in-Err-begin_again-clause-words : goal.returns-in-Err-begin_again-clause-words
-returns-in-Err-begin_again-clause-words g c = kept_words _ _ c.loop-p.walk.untried.len _ _ _ c.fill_untried.ensures.long c.loop-p.invariant.begun.sound.based.is_of.values_is c.loop-p.invariant.words c.loop-p.walk.untried.ok.0
-
-pub returns-in-Err-begin_again-clause-room : goal.returns-in-Err-begin_again-clause-room
-returns-in-Err-begin_again-clause-room g c = omega (arith, c.loop-p.invariant.room, c.begin_again.ensures.room)
-
 pub returns-in-Err-begin_again-clause-steps : goal.returns-in-Err-begin_again-clause-steps
 returns-in-Err-begin_again-clause-steps g c = c.begin_again.ensures.steps
 
-pub returns-in_default-guess-clause-problem : goal.returns-in_default-guess-clause-problem
-returns-in_default-guess-clause-problem g c = c.guess.ensures.problem
-
-pub returns-in_default-guess-clause-long : goal.returns-in_default-guess-clause-long
-returns-in_default-guess-clause-long g c = c.guess.ensures.long
+pub returns-in_default-guess-clause-walk : goal.returns-in_default-guess-clause-walk
+returns-in_default-guess-clause-walk g c = record {
+  problem = c.guess.ensures.problem;
+  long = c.guess.ensures.long;
+  words = kept_words _ _ c.loop-p.walk.untried.len _ _ _ c.fill_untried.ensures.long c.loop-p.invariant.begun.sound.based.is_of.values_is c.loop-p.invariant.words c.loop-p.walk.untried.ok.0;
+  degrees = c.choose-t.ensures.same ∙ c.loop-p.invariant.choice;
+  room = omega (arith, c.loop-p.invariant.room, c.guess.ensures.room);
+}
 
 pub returns-in_default-guess-clause-budget : goal.returns-in_default-guess-clause-budget
 returns-in_default-guess-clause-budget g c = c.guess.ensures.budget ∙ c.loop-p.invariant.budget
@@ -475,18 +424,15 @@ returns-in_default-guess-clause-budget g c = c.guess.ensures.budget ∙ c.loop-p
 pub returns-in_default-guess-clause-owner : goal.returns-in_default-guess-clause-owner
 returns-in_default-guess-clause-owner g c = c.guess.ensures.owner ∙ (c.loop-p.invariant.owner ∙ sym c.requires.owner)
 
-pub returns-in_default-guess-clause-choice : goal.returns-in_default-guess-clause-choice
-returns-in_default-guess-clause-choice g c = c.choose-t.ensures.same ∙ c.loop-p.invariant.choice
-
-pub returns-in_default-guess-clause-words : goal.returns-in_default-guess-clause-words
-returns-in_default-guess-clause-words g c = kept_words _ _ c.loop-p.walk.untried.len _ _ _ c.fill_untried.ensures.long c.loop-p.invariant.begun.sound.based.is_of.values_is c.loop-p.invariant.words c.loop-p.walk.untried.ok.0
-
-pub returns-in_default-guess-clause-room : goal.returns-in_default-guess-clause-room
-returns-in_default-guess-clause-room g c = omega (arith, c.loop-p.invariant.room, c.guess.ensures.room)
-
 pub returns-in_default-guess-clause-steps : goal.returns-in_default-guess-clause-steps
 returns-in_default-guess-clause-steps g c = subst (λ (rows : List Row). g.L.ProofLogger.steps c.guess.new.log c.args.author.now.problem.now rows) c.rows.ensures.seen c.guess.ensures.steps
 
 pub choose-t-requires-clause-some : goal.choose-t-requires-clause-some
 choose-t-requires-clause-some g c =
     subst (λ (ws : List ℕ). (t : ℕ) × (has ws t ≡ true)) (c.deref.ensures.value ∙ sym c.deref-in-loop-p.ensures.value) (c.if-not-has_value.ensures.some refl)
+
+pub begin-requires-clause-problem : goal.begin-requires-clause-problem
+begin-requires-clause-problem g c = c.requires.walk.problem
+
+pub begin-requires-clause-long : goal.begin-requires-clause-long
+begin-requires-clause-long g c = c.requires.walk.long

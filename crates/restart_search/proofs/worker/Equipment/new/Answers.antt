@@ -9,11 +9,13 @@ invariant_of-result g c = (
   record {
     some = c.requires.some;
     few = c.requires.few;
-    problem = ap (λ (f : Filtering). f.problem) c.requires.filters;
-    long = c.in_ok-account.ensures.long;
-    words = c.in_ok-account.ensures.words;
-    degrees = c.in_ok-account.ensures.degrees;
-    room = c.in_ok-account.ensures.room;
+    walk = record {
+      problem = ap (λ (f : Filtering). f.problem) c.requires.filters;
+      long = c.in_ok-account.ensures.long;
+      words = c.in_ok-account.ensures.words;
+      degrees = c.in_ok-account.ensures.degrees;
+      room = c.in_ok-account.ensures.room;
+    };
   },
   record {
     at_root = record {
