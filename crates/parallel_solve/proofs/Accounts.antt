@@ -1,10 +1,8 @@
 -- Accounts of workers that were spent.
-use Rattle.std.proofs.Common.{◌≡◌, ℕ, ◌<◌, List, length, refl}
-use Rattle.std.specs.Prelude.{All, slice_index_or}
-use Rattle.graph_theory.specs.Graph.{size}
+use Rattle.std.proofs.Common.{ℕ, ◌<◌, List, length, refl}
+use Rattle.std.specs.Prelude.{All}
 use Rattle.graph_theory.specs.Embedding.{Problem}
-use Rattle.search_theory.specs.Bounds.{enough}
-use Rattle.search_theory.specs.Account.{Account, Spends, fresh}
+use Rattle.search_theory.specs.Account.{Account, fresh}
 use Rattle.parallel_solve.specs.Solving.{AreSpent}
 use Rattle.parallel_solve.specs.Teaming.{IsSpent}
 

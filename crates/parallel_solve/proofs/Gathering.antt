@@ -1,14 +1,13 @@
 -- What the first seat knows as it takes in the seats that were split from it.
 use Rattle.std.proofs.Common.{◌≡◌, inl, inr, ℕ, zero, suc, ◌+◌, ◌<◌, ◌≤◌, Bool, true, false, eq-eqb, List, [], ◌∷◌, ◌++◌, refl, sym, ap, subst, ◌∙◌, arith, ◌⊎◌}
 use Rattle.std.specs.Prelude.{if◌then◌else◌, ◌==◌, None, Some, slice_get}
-use Rattle.std.proofs.lemmas.Bool.{cases_lt, true≢false}
+use Rattle.std.proofs.lemmas.Bool.{cases_lt}
 use Rattle.graph_theory.specs.Embedding.{Problem}
 use Rattle.nogood_book.specs.declared.row.Row.{Row}
 use Rattle.nogood_book.specs.declared.view.View.{View}
 use Rattle.nogood_book.specs.Rows.{Sound}
 use Rattle.nogood_book.specs.Places.{place_or, places, places_from}
 use Rattle.nogood_book.specs.Facts.{Facts}
-use Rattle.nogood_book.specs.Plays.{Shown}
 use Rattle.nogood_book.specs.Seats.{SeatName, Gathered, IsHonest, facts_of}
 use Rattle.nogood_book.specs.Views.{Part, parts, Told, HasPart, HasNumber, Owned, gathers, maker}
 use Rattle.nogood_book.proofs.Lists.{starts_on}

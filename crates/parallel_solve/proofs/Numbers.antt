@@ -1,5 +1,5 @@
 -- Numbers of owners, all below the next one.
-use Rattle.std.proofs.Common.{◌≡◌, ℕ, ◌+◌, ◌<◌, List, [], ◌∷◌, arith, inl, inr, ◌⊎◌}
+use Rattle.std.proofs.Common.{ℕ, ◌+◌, ◌<◌, List, [], ◌∷◌, arith, inl, inr}
 use Rattle.nogood_book.specs.Views.{HasNumber}
 use Rattle.parallel_solve.specs.Teaming.{AreBelow}
 

@@ -1,6 +1,6 @@
 -- The workers of one solve: before they run, after it, and what their outcomes say together.
 
-use Rattle.std.specs.Prelude.{◌≡◌, ◌≢◌, ◌⊎◌, ℕ, ◌<◌, ◌≤◌, Bool, true, List, [], ◌∷◌, length, All, Option, Some, IfSome, unwrap_or}
+use Rattle.std.specs.Prelude.{◌≡◌, ◌≢◌, ◌⊎◌, ℕ, ◌<◌, ◌≤◌, true, List, [], ◌∷◌, length, All, Option, Some, IfSome, unwrap_or}
 use Rattle.std.specs.List.{Any}
 use Rattle.graph_theory.specs.Graph.{size}
 use Rattle.graph_theory.specs.Embedding.{Problem, Embeds, HasNone}
@@ -11,7 +11,6 @@ use Rattle.nogood_book.specs.Seats.{BookName, SeatName, IsSeatOf, facts_of}
 use Rattle.proof_logger.specs.Logging.{GrowsBeside}
 use Rattle.restart_search.specs.declared.outcome.Outcome.{Outcome}
 use Rattle.restart_search.specs.declared.outcome.Outcome.TheVariants.{Found, Refuted, Spent, Stopped, NoMemory}
-use Rattle.restart_search.specs.declared.outcome.Stage.{Stage}
 use Rattle.restart_search.specs.declared.outcome.Stage.TheVariants.{Over}
 use Rattle.parallel_solve.specs.declared.tally.Tally.{Tally}
 use Rattle.restart_search.specs.Searching.{Search, Ends, IsNotStopped, stage_after}

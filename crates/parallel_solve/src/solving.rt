@@ -1,29 +1,34 @@
 //! Deciding a problem by several workers.
 
-ghost use Rattle.std.specs.Prelude.{◌≡◌, [], ◌≤◌, ◌<◌, ◌^◌, true, None, IsTrue, IfOk};
+ghost use Rattle.std.specs.Prelude.{◌≡◌, [], ◌≤◌, ◌<◌, ◌+◌, ◌^◌, true, None, IsTrue, length, All, IfOk, vec_capacity};
 ghost use Rattle.graph_theory.specs.Graph.{size};
 ghost use Rattle.graph_theory.specs.Embedding.{HasNone};
 ghost use Rattle.domain_bits.specs.Removals.{full};
 ghost use Rattle.propagation.specs.Propagation.{IsOf};
 ghost use Rattle.propagation.specs.Telling.{Tells};
+ghost use Rattle.nogood_book.specs.Seats.{IsSeatOf};
 ghost use Rattle.restart_search.specs.Logging.{IsTold};
 ghost use Rattle.restart_search.specs.Searching.{AtRest, RootFails};
+ghost use Rattle.search_proof.specs.Making.{AreOfOwners};
 ghost use Rattle.search_proof.specs.Proofs.{IsProven};
+ghost use Rattle.parallel_solve.specs.Gathering.{HasMade};
 ghost use Rattle.parallel_solve.specs.Solving.{IsSolved};
+ghost use Rattle.parallel_solve.specs.Teaming.{IsJob};
 
 use crate::answers::{Settings, Solved};
 use crate::tally::conclude;
-use crate::team::{Root, make_jobs, run_team};
+use crate::team::{Root, make_team, run_team};
 use dead_paths::Ground;
 use domain_bits::{Domains, WordTrail};
 use fail_account::Account;
 use graph_rows::Problem;
-use nogood_book::RowBook;
+use nogood_book::{BookSeat, RowBook};
 use pair_rows::{MOST_WORDS, PairKinds};
 use pb_encoding::Encoding;
 use proof_logger::{DeadEnd, ProofLogger, Unlogged};
 use propagation::{Causes, Failure, Silent};
-use restart_search::root::{Rooted, root};
+use restart_search::Worker;
+use restart_search::root::{Rooted, root as take_root};
 use search_proof::{KeepsLines, KeepsNothing, OwnerLog, Proof, ProofMaker};
 use std::alloc::{AllocError, Global};
 use std::thread::Threads;
@@ -111,22 +116,59 @@ where
     let Ok(kinds) = PairKinds::new(alloc, q) else {
         return Solved::NoMemory;
     };
-    match root::<WordTrail, L::Told>(alloc, q, &kinds, MOST_WORDS, told) {
-        Rooted::Quiet(domains, told) => {
-            let root = Root {
-                alloc,
-                q,
-                kinds: &kinds,
-                maker,
-                settings: s,
-            };
-            solve_from(rt, &root, domains, told, gate)
-        }
-        Rooted::Failed(failure, told) => match root_proof(alloc, q, &told, failure, maker) {
-            Ok(proof) => Solved::NoEmbedding(proof),
-            Err(_) => Solved::NoMemory,
-        },
+    let root = Root {
+        alloc,
+        q,
+        kinds: &kinds,
+        maker,
+        settings: s,
+    };
+    solve_root(rt, &root, told, gate)
+}
+
+/// Takes the root, with a recorder that was told nothing, and decides the problem from there.
+fn solve_root<'a, R: Threads + Sync, G: Gate + Sync, L: ProofLogger + Send, M: ProofMaker<L>>(
+    rt: &R,
+    root: &Root<'_, 'a, M>,
+    told: L::Told,
+    gate: &G,
+) -> Solved
+where
+    L::Told: Send,
+    requires kinds { root.now.kinds.now.problem ≡ root.now.q.now }
+    requires maker { M.problem root.now.maker.now ≡ root.now.q.now }
+    requires told { Tells root.now.q.now None
+        (full (size root.now.q.now.pattern) (size root.now.q.now.target)) (L.Told.changes told) }
+    requires some { 1 ≤ root.now.settings.now.threads }
+    requires few { root.now.settings.now.threads ≤ 64 }
+    requires budget { root.now.settings.now.budget < 2 ^ 63 }
+    requires rows { root.now.settings.now.rows ≤ 4194304 }
+    ensures { IsSolved result root.now.q.now root.now.settings.now.threads
+        root.now.settings.now.budget (M.logged root.now.maker.now) }
+{
+    match take_root::<WordTrail, L::Told>(root.alloc, root.q, root.kinds, MOST_WORDS, told) {
+        Rooted::Quiet(domains, told) => solve_from(rt, root, domains, told, gate),
+        Rooted::Failed(failure, told) => answer_root(root, &told, failure),
         Rooted::NoMemory => Solved::NoMemory,
+    }
+}
+
+/// The answer where the root's domains failed so, with what was told of them.
+fn answer_root<L: ProofLogger, M: ProofMaker<L>>(
+    root: &Root<'_, '_, M>,
+    told: &L::Told,
+    failure: Failure,
+) -> Solved
+    requires maker { M.problem root.now.maker.now ≡ root.now.q.now }
+    requires none { HasNone root.now.q.now }
+    requires fails { RootFails root.now.q.now (L.Told.changes told.now) (L.Told.short told.now)
+        failure }
+    ensures { IsSolved result root.now.q.now root.now.settings.now.threads
+        root.now.settings.now.budget (M.logged root.now.maker.now) }
+{
+    match root_proof(root.alloc, root.q, told, failure, root.maker) {
+        Ok(proof) => Solved::NoEmbedding(proof),
+        Err(_) => Solved::NoMemory,
     }
 }
 
@@ -170,25 +212,54 @@ where
     ensures { IsSolved result root.now.q.now root.now.settings.now.threads
         root.now.settings.now.budget (M.logged root.now.maker.now) }
 {
-    let alloc = root.alloc;
-    let s = root.settings;
-    let Ok(accounts) = Vec::with_capacity(alloc, s.threads as usize) else {
+    let Ok((book, mut first)) = RowBook::new(root.alloc, root.q, root.settings.rows) else {
         return Solved::NoMemory;
     };
-    let Ok(logs) = Vec::with_capacity(alloc, s.threads as usize) else {
+    match make_team(root, domains, told, &book, &mut first) {
+        Ok(jobs) => solve_by_team(rt, root, &book, &mut first, jobs, gate),
+        Err(_) => Solved::NoMemory,
+    }
+}
+
+/// Room for an account and a log of each of so many workers.
+fn rooms<L: ProofLogger>(alloc: Global, threads: u32) -> Result<(Vec<Account>, Vec<L>), AllocError>
+    ensures accounts { IfOk result (λ r. (r.0.items ≡ []) × (threads ≤ vec_capacity r.0)) }
+    ensures logs { IfOk result (λ r. (r.1.items ≡ []) × (threads ≤ vec_capacity r.1)) }
+{
+    let accounts = Vec::with_capacity(alloc, threads as usize)?;
+    let logs = Vec::with_capacity(alloc, threads as usize)?;
+    Ok((accounts, logs))
+}
+
+/// Runs the workers, and answers what they say together.
+fn solve_by_team<'a, R: Threads + Sync, G: Gate + Sync, L: ProofLogger + Send, M: ProofMaker<L>>(
+    rt: &R,
+    root: &Root<'_, 'a, M>,
+    book: &RowBook,
+    first: &mut BookSeat,
+    jobs: Vec<Worker<'a, BookSeat, WordTrail, L>>,
+    gate: &G,
+) -> Solved
+where
+    L::Told: Send,
+    requires maker { M.problem root.now.maker.now ≡ root.now.q.now }
+    requires some { 1 ≤ root.now.settings.now.threads }
+    requires few { root.now.settings.now.threads ≤ 64 }
+    requires jobs { All
+        (λ w. IsJob L.owner book.now root.now.q.now root.now.settings.now.budget w) jobs.items }
+    requires numbers { AreOfOwners (λ w. w.number) jobs.items }
+    requires count { length jobs.items ≡ root.now.settings.now.threads }
+    requires of { IsSeatOf book.now first.old }
+    requires made { HasMade (root.now.settings.now.threads + 1) first.old.view }
+    ensures { IsSolved result root.now.q.now root.now.settings.now.threads
+        root.now.settings.now.budget (M.logged root.now.maker.now) }
+{
+    let Ok((accounts, logs)) = rooms(root.alloc, root.settings.threads) else {
         return Solved::NoMemory;
     };
-    let Ok((book, mut first)) = RowBook::new(alloc, root.q, s.rows) else {
-        return Solved::NoMemory;
-    };
-    let mut jobs = Vec::new(alloc);
-    let Ok(()) = make_jobs(root, &domains, &told, &book, &mut first, &mut jobs) else {
-        return Solved::NoMemory;
-    };
-    drop(domains);
-    drop(told);
-    let Ok(done) = run_team(rt, alloc, root.q, s.budget, &book, gate, jobs) else {
-        return Solved::NoMemory;
-    };
-    conclude(root, &book, &mut first, accounts, logs, done)
+    let budget = root.settings.budget;
+    match run_team(rt, root.alloc, root.q, budget, book, gate, jobs) {
+        Ok(done) => conclude(root, book, first, accounts, logs, done),
+        Err(_) => Solved::NoMemory,
+    }
 }

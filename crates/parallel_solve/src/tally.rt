@@ -1,6 +1,6 @@
 //! What the outcomes of all workers say together.
 
-ghost use Rattle.std.specs.Prelude.{◌≡◌, [], ◌≤◌, ◌<◌, ◌+◌, length, map, All, IfSome, vec_capacity};
+ghost use Rattle.std.specs.Prelude.{◌≡◌, [], ◌∷◌, ◌++◌, ◌≤◌, ◌<◌, ◌+◌, length, map, All, IfSome, vec_capacity};
 ghost use Rattle.nogood_book.specs.Seats.{IsHonest, IsSeatOf};
 ghost use Rattle.restart_search.specs.Searching.{Ends};
 ghost use Rattle.search_proof.specs.Making.{AreBy, AreOfOwners};
@@ -65,6 +65,42 @@ fn take_in(book: &RowBook, first: &mut BookSeat, seat: BookSeat)
     let _all = first.rows();
 }
 
+/// Takes the seat of one worker into the first one, hears its outcome and takes its log.
+fn take_one<'a, L: ProofLogger>(
+    q: &Problem,
+    budget: u64,
+    book: &RowBook,
+    first: &mut BookSeat,
+    tally: &mut Tally,
+    logs: &mut Vec<L>,
+    one: Done<'a, L>,
+)
+    requires tally { IsTally q.now budget tally.old }
+    requires room { length tally.old.accounts.items < vec_capacity tally.old.accounts }
+    requires log_room { length logs.old.items < vec_capacity logs.old }
+    requires of { IsSeatOf book.now first.old }
+    requires honest { IsHonest first.old }
+    requires ran { HasRun L.owner L.steps L.refutes book.now q.now budget one.worker one.outcome }
+    ensures tally { IsTally q.now budget tally.new }
+    ensures refuted { tally.new.refuted
+        ≡ refuted_by tally.old.refuted one.entry.worker.number one.entry.outcome }
+    ensures count { length tally.new.accounts.items ≡ length tally.old.accounts.items + 1 }
+    ensures room { vec_capacity tally.new.accounts ≡ vec_capacity tally.old.accounts }
+    ensures logs { logs.new.items ≡ logs.old.items ++ one.entry.worker.log ∷ [] }
+    ensures log_room { vec_capacity logs.new ≡ vec_capacity logs.old }
+    ensures of { IsSeatOf book.now first.new }
+    ensures honest { IsHonest first.new }
+    ensures taken { TookIn one.entry.worker.seat.view first.new.view }
+    ensures kept { Keeps first.old.view first.new.view }
+{
+    let Done { worker, outcome } = one;
+    let number = worker.number();
+    let (account, seat, log) = worker.into_parts();
+    take_in(book, first, seat);
+    logs.push_reserved(log);
+    hear(tally, q, budget, number, account, outcome);
+}
+
 /// Takes all seats into the first one, hears all outcomes and takes all logs, in the workers' order.
 fn gather_all<'a, L: ProofLogger>(
     q: &Problem,
@@ -102,12 +138,7 @@ fn gather_all<'a, L: ProofLogger>(
         accounts,
     };
     for one in done {
-        let Done { worker, outcome } = one;
-        let number = worker.number();
-        let (account, seat, log) = worker.into_parts();
-        take_in(book, first, seat);
-        logs.push_reserved(log);
-        hear(&mut tally, q, budget, number, account, outcome);
+        take_one(q, budget, book, first, &mut tally, logs, one);
     }
     tally
 }

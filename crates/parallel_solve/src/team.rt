@@ -142,7 +142,7 @@ fn make_job<'a, L: ProofLogger, M: ProofMaker<L>>(
 }
 
 /// Adds the workers of a solve. Where memory is refused, those that were made so far are there.
-pub(crate) fn make_jobs<'a, L: ProofLogger, M: ProofMaker<L>>(
+fn make_jobs<'a, L: ProofLogger, M: ProofMaker<L>>(
     root: &Root<'_, 'a, M>,
     domains: &Domains<WordTrail>,
     told: &L::Told,
@@ -177,6 +177,38 @@ pub(crate) fn make_jobs<'a, L: ProofLogger, M: ProofMaker<L>>(
         jobs.push_reserved(job);
     }
     Ok(())
+}
+
+/// The workers of a solve, from the domains of the root, with what was told of them: each takes a copy, and they are dropped.
+pub(crate) fn make_team<'a, L: ProofLogger, M: ProofMaker<L>>(
+    root: &Root<'_, 'a, M>,
+    domains: Domains<WordTrail>,
+    told: L::Told,
+    book: &RowBook,
+    first: &mut BookSeat,
+) -> Result<Vec<Worker<'a, BookSeat, WordTrail, L>>, AllocError>
+    requires kinds { root.now.kinds.now.problem ≡ root.now.q.now }
+    requires is_of { IsOf root.now.q.now domains }
+    requires rest { AtRest root.now.q.now [] domains }
+    requires told { IsTold root.now.q.now None domains [] [] (L.Told.changes told) }
+    requires maker { M.problem root.now.maker.now ≡ root.now.q.now }
+    requires some { 1 ≤ root.now.settings.now.threads }
+    requires few { root.now.settings.now.threads ≤ 64 }
+    requires budget { root.now.settings.now.budget < 2 ^ 63 }
+    requires book { book.now.problem ≡ root.now.q.now }
+    requires of { IsSeatOf book.now first.old }
+    requires made { HasMade 1 first.old.view }
+    requires unseen { first.old.view.seen ≡ [] }
+    ensures jobs { IfOk result (λ v. All
+        (λ w. IsJob L.owner book.now root.now.q.now root.now.settings.now.budget w) v.items) }
+    ensures numbers { IfOk result (λ v. AreOfOwners (λ w. w.number) v.items) }
+    ensures count { IfOk result (λ v. length v.items ≡ root.now.settings.now.threads) }
+    ensures of { IsSeatOf book.now first.new }
+    ensures made { OnOk result (HasMade (root.now.settings.now.threads + 1) first.new.view) }
+{
+    let mut jobs = Vec::new(root.alloc);
+    make_jobs(root, &domains, &told, book, first, &mut jobs)?;
+    Ok(jobs)
 }
 
 /// Whether the outcome decides the problem.

@@ -1,4 +1,4 @@
-use Rattle.std.proofs.Common.{◌≡◌, List, Option, None, ap, sym, subst}
+use Rattle.std.proofs.Common.{List, Option, None, ap, sym, subst}
 use Rattle.graph_theory.specs.Graph.{size}
 use Rattle.domain_bits.specs.Removals.{full}
 use Rattle.propagation.specs.Recording.{Change, Recorded}

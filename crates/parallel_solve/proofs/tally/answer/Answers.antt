@@ -1,4 +1,4 @@
-use Rattle.std.proofs.Common.{◌≡◌, ℕ, Option, sym, subst}
+use Rattle.std.proofs.Common.{ℕ, Option, sym, subst}
 use Rattle.std.specs.Prelude.{All, IfSome}
 use Rattle.graph_theory.specs.Embedding.{Problem}
 use Rattle.search_proof.specs.Making.{IsFinisher}

@@ -1,10 +1,7 @@
-use Rattle.std.proofs.Common.{◌≡◌, ℕ, ◌+◌, ◌∷◌, [], ◌++◌, List, length, map, append_assoc, append-nil, length-append, Option, sym, subst, ap, ◌∙◌, arith, rules}
+use Rattle.std.proofs.Common.{◌≡◌, ℕ, ◌∷◌, [], ◌++◌, List, length, map, append_assoc, append-nil, length-append, Option, refl, sym, subst, ap, ◌∙◌, arith, rules}
 use Rattle.std.specs.Prelude.{All, IfSome, slice_index_or}
 use Rattle.std.specs.Vec.Iter.{into_iter_items}
 use Rattle.std.proofs.lemmas.List.Elements.{All-push}
-use Rattle.search_theory.specs.Account.{Account}
-use Rattle.nogood_book.specs.Seats.{SeatName, IsSeatOf}
-use Rattle.restart_search.specs.Searching.{Ends}
 use Rattle.parallel_solve.specs.declared.team.Done.{Done}
 use Rattle.parallel_solve.specs.Gathering.{TookIn}
 use Rattle.parallel_solve.specs.Teaming.{HasRun, IsRefuter}
@@ -29,23 +26,10 @@ loop-one-init g c = record {
   taken = λ k d lt. absurd (omega (arith, lt));
 }
 
-pub take_in-requires-clause-seat : goal.take_in-requires-clause-seat
-take_in-requires-clause-seat g c =
+pub take_one-requires-clause-ran : goal.take_one-requires-clause-ran
+take_one-requires-clause-ran g c =
     let there = one_there c.loop-one.yielded c.in-Some.one (into_iter_items c.loop-one.one-iterator) (into_iter_items c.next.new.self) c.args.done.items c.in-Some.ensures.steps.0 c.loop-one.invariant.whole in
-    let ran = at_place (λ (d : Done g.row.L.Denot g.row.L-Told.Denot). HasRun g.L.ProofLogger.owner g.L.ProofLogger.steps g.L.ProofLogger.refutes c.args.book.now c.args.q.now c.args.budget d.worker d.outcome) c.args.done.items (length c.loop-one.yielded) c.in-Some.one c.requires.ran there in
-    subst (λ (s : SeatName). IsSeatOf c.args.book.now s) (sym c.into_parts-account.ensures.seat) ran.seat_of
-
-pub hear-requires-clause-ends : goal.hear-requires-clause-ends
-hear-requires-clause-ends g c =
-    let there = one_there c.loop-one.yielded c.in-Some.one (into_iter_items c.loop-one.one-iterator) (into_iter_items c.next.new.self) c.args.done.items c.in-Some.ensures.steps.0 c.loop-one.invariant.whole in
-    let ran = at_place (λ (d : Done g.row.L.Denot g.row.L-Told.Denot). HasRun g.L.ProofLogger.owner g.L.ProofLogger.steps g.L.ProofLogger.refutes c.args.book.now c.args.q.now c.args.budget d.worker d.outcome) c.args.done.items (length c.loop-one.yielded) c.in-Some.one c.requires.ran there in
-    subst (λ (a : Account). Ends c.in-Some.one.outcome c.args.q.now a) (sym c.into_parts-account.ensures.account) ran.ends
-
-pub hear-requires-clause-budget : goal.hear-requires-clause-budget
-hear-requires-clause-budget g c =
-    let there = one_there c.loop-one.yielded c.in-Some.one (into_iter_items c.loop-one.one-iterator) (into_iter_items c.next.new.self) c.args.done.items c.in-Some.ensures.steps.0 c.loop-one.invariant.whole in
-    let ran = at_place (λ (d : Done g.row.L.Denot g.row.L-Told.Denot). HasRun g.L.ProofLogger.owner g.L.ProofLogger.steps g.L.ProofLogger.refutes c.args.book.now c.args.q.now c.args.budget d.worker d.outcome) c.args.done.items (length c.loop-one.yielded) c.in-Some.one c.requires.ran there in
-    ap (λ (a : Account). a.budget) c.into_parts-account.ensures.account ∙ ran.budget_is
+    at_place (λ (d : Done g.row.L.Denot g.row.L-Told.Denot). HasRun g.L.ProofLogger.owner g.L.ProofLogger.steps g.L.ProofLogger.refutes c.args.book.now c.args.q.now c.args.budget d.worker d.outcome) c.args.done.items (length c.loop-one.yielded) c.in-Some.one c.requires.ran there
 
 pub loop-one-preserved : goal.loop-one-preserved
 loop-one-preserved g c =
@@ -59,23 +43,22 @@ loop-one-preserved g c =
     let more = length-append at.yielded (one ∷ []) in
     let there = one_there c.loop-one.yielded c.in-Some.one (into_iter_items c.loop-one.one-iterator) (into_iter_items c.next.new.self) c.args.done.items c.in-Some.ensures.steps.0 c.loop-one.invariant.whole in
     let ran = at_place (λ (d : Done g.row.L.Denot g.row.L-Told.Denot). HasRun g.L.ProofLogger.owner g.L.ProofLogger.steps g.L.ProofLogger.refutes c.args.book.now c.args.q.now c.args.budget d.worker d.outcome) c.args.done.items (length c.loop-one.yielded) c.in-Some.one c.requires.ran there in
-    let number = c.number-number.ensures ∙ c.requires.numbers (length at.yielded) one there in
+    let number = c.requires.numbers (length at.yielded) one there in
     let refutes = λ (d : Done g.row.L.Denot g.row.L-Told.Denot). g.L.ProofLogger.refutes d.worker.log c.args.q.now d.worker.facts.seen in
-    let taken = subst (λ (s : SeatName). TookIn s.view c.take_in.new.first.view) c.into_parts-account.ensures.seat c.take_in.ensures.taken in
     record {
       whole = append_assoc at.yielded (one ∷ []) left ∙ (ap (λ (ds : List (Done g.row.L.Denot g.row.L-Told.Denot)). at.yielded ++ ds) (sym steps) ∙ before.whole);
       left = omega (arith, before.left, gone, short);
-      tally = c.hear.ensures.tally;
-      count = omega (arith, c.hear.ensures.count, before.count, more);
-      room = omega (arith, c.hear.ensures.room, before.room);
-      logs = c.push_reserved.ensures.items ∙ pushed_map (λ (d : Done g.row.L.Denot g.row.L-Told.Denot). d.worker.log) at.yielded one at.logs.items c.into_parts-account.result.2 before.logs c.into_parts-account.ensures.log;
-      log_room = omega (arith, c.push_reserved.ensures.capacity, before.log_room);
-      refuter = subst (λ (o : Option ℕ). IfSome o (IsRefuter refutes (at.yielded ++ one ∷ []))) (sym c.hear.ensures.refuted)
-          (refuter_heard refutes at.yielded one at.tally.refuted c.number-number.result one.outcome number ran.refutes_of before.refuter);
-      of = c.take_in.ensures.first;
-      honest = c.take_in.ensures.told;
-      made = c.take_in.ensures.kept.made _ before.made;
-      taken = All-push (λ (d : Done g.row.L.Denot g.row.L-Told.Denot). TookIn d.worker.seat.view c.take_in.new.first.view) at.yielded one (λ k d k_in. c.take_in.ensures.kept.taken _ (before.taken k d k_in)) taken;
+      tally = c.take_one.ensures.tally;
+      count = omega (arith, c.take_one.ensures.count, before.count, more);
+      room = omega (arith, c.take_one.ensures.room, before.room);
+      logs = c.take_one.ensures.logs ∙ pushed_map (λ (d : Done g.row.L.Denot g.row.L-Told.Denot). d.worker.log) at.yielded one at.logs.items one.worker.log before.logs refl;
+      log_room = omega (arith, c.take_one.ensures.log_room, before.log_room);
+      refuter = subst (λ (o : Option ℕ). IfSome o (IsRefuter refutes (at.yielded ++ one ∷ []))) (sym c.take_one.ensures.refuted)
+          (refuter_heard refutes at.yielded one at.tally.refuted one.worker.number one.outcome number ran.refutes_of before.refuter);
+      of = c.take_one.ensures.of;
+      honest = c.take_one.ensures.honest;
+      made = c.take_one.ensures.kept.made _ before.made;
+      taken = All-push (λ (d : Done g.row.L.Denot g.row.L-Told.Denot). TookIn d.worker.seat.view c.take_one.new.first.view) at.yielded one (λ k d k_in. c.take_one.ensures.kept.taken _ (before.taken k d k_in)) c.take_one.ensures.taken;
     }
 
 pub returns-clause-count : goal.returns-clause-count

@@ -1,4 +1,4 @@
-use Rattle.std.proofs.Common.{◌≡◌, ap, ◌∙◌}
+use Rattle.std.proofs.Common.{ap, ◌∙◌}
 use Rattle.nogood_book.specs.declared.view.View.{View}
 use Rattle.parallel_solve.proofs.Gathering.{took_in, keeps}
 use Rattle.parallel_solve.proofs.tally.take_in.Goals as goal

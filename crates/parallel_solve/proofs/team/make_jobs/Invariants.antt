@@ -1,4 +1,4 @@
-use Rattle.std.specs.Prelude.{◌≡◌, ◌+◌, ◌≤◌, [], length, All}
+use Rattle.std.specs.Prelude.{◌≡◌, ◌+◌, [], length, All}
 use Rattle.nogood_book.specs.Seats.{IsSeatOf}
 use Rattle.search_proof.specs.Making.{AreOfOwners}
 use Rattle.parallel_solve.specs.Gathering.{HasMade}
