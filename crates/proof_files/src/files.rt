@@ -9,7 +9,7 @@ ghost use Rattle.merged_log.specs.Steps.{log_text};
 ghost use Rattle.encoding_theory.specs.Variables.{variables};
 ghost use Rattle.encoding_theory.specs.Encoding.{encoding as encoding_of};
 ghost use Rattle.proof_files.specs.Findings.{IsFound, IsAccepted, texts};
-ghost use Rattle.proof_files.specs.Parts.{MayBeWritten, part_steps, part_verdict};
+ghost use Rattle.proof_files.specs.Parts.{MayBeWritten, part_steps, part_texts, part_verdict};
 ghost use Rattle.proof_files.specs.OneFile.{IsCutShort, FailsAt, KeepsAllBut};
 ghost use Rattle.proof_files.specs.TwoFiles.{two_files, WritingSays, KeepsOthers};
 
@@ -125,6 +125,44 @@ fn put_log<F: Files>(
     add_log(profile, q, encoding, parts, name, room, files)
 }
 
+/// How a proof is written: in which profile, and the names of its two files.
+#[derive(Drop)]
+struct Order<'n> {
+    profile: Profile,
+    encoding: &'n str,
+    log: &'n str,
+}
+
+/// Writes the encoding, and then the log of these parts. All memory but that of a constraint is there.
+fn write_both<F: Files>(
+    alloc: Global,
+    q: &Problem,
+    lines: &Encoding,
+    parts: Parts,
+    order: &Order,
+    room: &mut PieceRoom,
+    files: &mut F,
+) -> Result<(), PutFault>
+    requires same { lines.now ≡ q.now }
+    requires ready { MayBeWritten q.now parts }
+    requires encoding { length order.now.encoding.now ≤ 4095 }
+    requires log { length order.now.log.now ≤ 4095 }
+    requires apart { order.now.encoding.now ≢ order.now.log.now }
+    ensures says { WritingSays result (two_files F.tells F.content F.faults F.fault_at
+        order.now.encoding.now order.now.log.now files.old files.new)
+        (part_texts order.now.profile q.now parts.entry) }
+    ensures accepted { OnOk result (Accepts (variables q.now) (encoding_of q.now)
+        (in_profile order.now.profile (log_text (part_steps q.now parts.entry)))
+        (part_verdict parts.entry)) }
+    ensures quiet { IsErrOf result PutFault.Failed ⊎ (F.faults files.new ≡ F.faults files.old) }
+    ensures files { KeepsOthers F.tells F.content F.faults order.now.encoding.now
+        order.now.log.now files.old files.new }
+{
+    put_encoding(alloc, lines, order.encoding, room, files)?;
+    put_log(order.profile, q, lines, parts, order.log, room, files)?;
+    Ok(())
+}
+
 /// Writes the encoding of the problem whole, and then the log of what was found of it in a profile, each in pieces of 65,536 bytes and a last one. The
 /// first piece that is added to the log's file is the log's two head lines alone. Neither text is whole in memory.
 ///
@@ -151,9 +189,12 @@ pub fn write_proof<F: Files>(
         files.new }
 {
     let lines = Encoding::new(alloc, q)?;
-    let parts = parts_of(alloc, q, finding)?;
     let mut room = PieceRoom::new(alloc)?;
-    put_encoding(alloc, &lines, encoding, &mut room, files)?;
-    put_log(profile, q, &lines, parts, log, &mut room, files)?;
-    Ok(())
+    let parts = parts_of(alloc, q, finding)?;
+    let order = Order {
+        profile,
+        encoding,
+        log,
+    };
+    write_both(alloc, q, &lines, parts, &order, &mut room, files)
 }

@@ -14,7 +14,7 @@ use Rattle.subgraph_cli.specs.Streams.{Stream, IsAsBefore}
 use Rattle.subgraph_cli.specs.Questions.{Asks, AskSays, IsFaultOfTwo}
 use Rattle.subgraph_cli.specs.Stops.{HasCause, IsOfFiles, SparesOutput}
 use Rattle.subgraph_cli.specs.Solving.{IsAnswer, IsWritten, SolveSays}
-use Rattle.subgraph_cli.specs.Verifying.{HoldsMapping, MappingSays, IsFaultOfThree, IsBad, VerifySays}
+use Rattle.subgraph_cli.specs.Verifying.{HoldsMapping, MappingSays, IsFaultOfThree, IsGood, IsBad, VerifySays}
 use Rattle.subgraph_cli.specs.declared.deciding.Answer.{Answer}
 use Rattle.subgraph_cli.specs.declared.deciding.Answer.TheVariants as answer
 use Rattle.subgraph_cli.specs.declared.stop.Role.TheVariants.{Pattern, Target, Mapping, Encoding, Log}
@@ -183,3 +183,22 @@ mapping_held held before m same holds = subst (λ (o : Option (List ℕ)). Holds
 -- A mapping that is no embedding is bad.
 pub is_bad : (q : Problem) (m : List ℕ) (w : VerifyWords) (p t c : Option (List ℕ)) → Asks p t w.format w.induced q → HoldsMapping c m → (Embeds q m → ⊥) → IsBad w p t c
 is_bad q m w p t c asks holds none = record { problem = q; map = m; asks = record { problem_is = asks; mapping_is = holds }; no_embedding = none }
+
+-- A mapping that is an embedding is good.
+pub is_good : (q : Problem) (m : List ℕ) (w : VerifyWords) (p t c : Option (List ℕ)) → Asks p t w.format w.induced q → HoldsMapping c m → Embeds q m → IsGood w p t c
+is_good q m w p t c asks holds embeds = record { problem = q; map = m; asks = record { problem_is = asks; mapping_is = holds }; embeds = embeds }
+
+-- Files that hold the same ask the same problem.
+pub asks_on : (before after : List ℕ → Option (List ℕ)) (w : SolveWords) (q : Problem) → ((file : List ℕ) → after file ≡ before file)
+    → Asks (before w.pattern) (before w.target) w.format w.induced q → Asks (after w.pattern) (after w.target) w.format w.induced q
+asks_on before after w q same asks =
+    subst (λ (p : Option (List ℕ)). Asks p (after w.target) w.format w.induced q) (sym (same w.pattern))
+    (subst (λ (t : Option (List ℕ)). Asks (before w.pattern) t w.format w.induced q) (sym (same w.target)) asks)
+
+-- And a solve says the same of them.
+pub solve_says_on : (before after : List ℕ → Option (List ℕ)) (r : Result Decision Stop) (w : SolveWords) (accounts : List Account) (d e : Disk) (out : Stream) → ((file : List ℕ) → after file ≡ before file) → d ≡ e
+    → SolveSays r w (after w.pattern) (after w.target) accounts d out → SolveSays r w (before w.pattern) (before w.target) accounts e out
+solve_says_on before after r w accounts d e out same disks says =
+    subst (λ (p : Option (List ℕ)). SolveSays r w p (before w.target) accounts e out) (same w.pattern)
+    (subst (λ (t : Option (List ℕ)). SolveSays r w (after w.pattern) t accounts e out) (same w.target)
+    (subst (λ (f : Disk). SolveSays r w (after w.pattern) (after w.target) accounts f out) disks says))

@@ -5,6 +5,7 @@ ghost use Rattle.command_line.specs.CommandLine.{IsSolveInRange};
 ghost use Rattle.subgraph_cli.specs.Disk.{disk, KeepsAllBut};
 ghost use Rattle.subgraph_cli.specs.Deciding.{TellingSays};
 ghost use Rattle.subgraph_cli.specs.Proving.{IsOfProof, IsFaultOfSolve};
+ghost use Rattle.subgraph_cli.specs.Questions.{Asks};
 ghost use Rattle.subgraph_cli.specs.Solving.{SolveSays, OneVerdict};
 ghost use Rattle.subgraph_cli.specs.Stops.{HasCause, SparesOutput};
 ghost use Rattle.subgraph_cli.specs.Streams.{stream, IsSameSink};
@@ -16,6 +17,7 @@ use crate::stop::Stop;
 use command_line::SolveWords;
 use fail_account::account::Account;
 use graph_rows::mapping::write_mapping;
+use graph_rows::problem::Problem;
 use outer_io::files::Files;
 use outer_io::sink::Sink;
 use std::alloc::Global;
@@ -50,6 +52,41 @@ fn tell<O: Sink>(answer: &Answer, out: &mut O) -> Result<Decision, Stop>
         Ok(()) => Ok(decision),
         Err(_) => Err(Stop::OutputFault),
     }
+}
+
+/// Decides the problem that the files ask, which was loaded: a proof is written where one is asked for, and then the answer.
+fn solve_problem<R: Threads + Sync, F: Files, O: Sink>(
+    rt: &R,
+    alloc: Global,
+    q: &Problem,
+    words: &SolveWords,
+    files: &mut F,
+    out: &mut O,
+    spent: &mut Vec<Account>,
+) -> Result<Decision, Stop>
+    requires ranges { IsSolveInRange words.now }
+    requires empty { spent.old.items ≡ [] }
+    requires asks { IsTrue (F.tells files.old)
+        → Asks (F.content files.old words.now.pattern) (F.content files.old words.now.target)
+        words.now.format words.now.induced q.now }
+    ensures cause { IfErr result (λ stop. HasCause stop (IsFaultOfSolve words.now)
+        (disk F.tells F.content F.faults F.fault_at files.old files.new)) }
+    ensures spares { IfErr result (λ stop. SparesOutput stop
+        (stream O.spot O.contents O.faults out.old out.new)) }
+    ensures quiet { IsErrOf result Stop.FilesFault ⊎ (F.faults files.new ≡ F.faults files.old) }
+    ensures quiet_output { IsErrOf result Stop.OutputFault ⊎ (O.faults out.new ≡ O.faults out.old) }
+    ensures files { KeepsAllBut F.tells F.content F.faults (IsOfProof words.now.prove)
+        files.old files.new }
+    ensures sink { IsSameSink O.spot O.rest O.faults out.old out.new }
+    ensures says { IsTrue (F.tells files.old)
+        → SolveSays result words.now (F.content files.old words.now.pattern)
+        (F.content files.old words.now.target) spent.new.items
+        (disk F.tells F.content F.faults F.fault_at files.old files.new)
+        (stream O.spot O.contents O.faults out.old out.new) }
+{
+    let answer = decide(rt, alloc, q, words, spent)?;
+    leave_proof(alloc, q, &answer, words, files)?;
+    tell(&answer, out)
 }
 
 /// Decides the problem of the files: both are loaded and read, the problem is decided, a proof is written where one is asked for, the
@@ -87,9 +124,7 @@ pub fn solve<R: Threads + Sync, F: Files, O: Sink>(
         ..
     } = words;
     let q = load_problem(alloc, files, pattern, target, *format, *induced)?;
-    let answer = decide(rt, alloc, &q, words, spent)?;
-    leave_proof(alloc, &q, &answer, words, files)?;
-    tell(&answer, out)
+    solve_problem(rt, alloc, &q, words, files, out, spent)
 }
 
 /// Two runs over the same files with the same options that choose the problem decide alike, whatever their threads, seeds, budgets, books and

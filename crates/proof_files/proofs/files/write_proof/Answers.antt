@@ -1,37 +1,27 @@
--- Where writing stopped, and what the files hold then.
-use Rattle.std.proofs.Common.{◌≡◌, List, Some, subst, sym}
-use Rattle.std.specs.Prelude.{IsTrue}
-use Rattle.std.proofs.lemmas.Result.{err_from_is_err_and}
+-- The log of the parts is that of the finding.
+use Rattle.std.proofs.Common.{List, subst}
+use Rattle.std.specs.Prelude.{OnOk}
 use Rattle.log_theory.specs.declared.step.Step.{Step}
-use Rattle.graph_theory.specs.Embedding.{Problem}
+use Rattle.log_theory.specs.declared.step.Verdict.{Verdict}
+use Rattle.log_theory.specs.Acceptance.{Accepts}
+use Rattle.encoding_theory.specs.Variables.{variables}
+use Rattle.encoding_theory.specs.Encoding.{encoding}
 use Rattle.pb_encoding.specs.Writing.{encoding_text}
 use Rattle.merged_log.specs.Profiles.{in_profile}
 use Rattle.merged_log.specs.Steps.{log_text}
-use Rattle.proof_files.specs.OneFile.{IsCutShort}
-use Rattle.proof_files.specs.TwoFiles.{two_files}
-use Rattle.proof_files.specs.Findings.{texts}
-use Rattle.proof_files.proofs.Stopping.{quiet_at_ok, stops_in_encoding, stops_in_log}
+use Rattle.proof_files.specs.TwoFiles.{WritingSays, two_files}
+use Rattle.proof_files.specs.Findings.{steps_of}
+use Rattle.proof_files.specs.Parts.{part_verdict}
 use Rattle.proof_files.proofs.files.write_proof.Goals as goal
 
-pub returns-in_err-put_encoding-clause-says : goal.returns-in_err-put_encoding-clause-says
-returns-in_err-put_encoding-clause-says g c =
-    let p = err_from_is_err_and c.from_residual-in_err-put_encoding.result c.from_residual-in_err-put_encoding.ensures.1 in
-    let name = c.args.encoding.now in
-    let content = g.F.Files.content in
-    let d = two_files g.F.Files.tells content g.F.Files.faults g.F.Files.fault_at name c.args.log.now c.args.files.now c.put_encoding.new.files in
-    rw (p.1, p.2) (stops_in_encoding c.in_err-put_encoding.field-0.0 d (texts c.args.profile c.args.q.now c.args.finding.now) (λ e. c.requires.apart (sym e))
-    (subst (λ (q : Problem). IsTrue d.tells → IsCutShort (content c.args.files.now name) (content c.put_encoding.new.files name) (encoding_text q)) c.in_ok-lines.ensures c.in_err-put_encoding.ensures.cut)
-    c.in_err-put_encoding.ensures.fault c.put_encoding.ensures.files.others)
+pub returns-clause-says : goal.returns-clause-says
+returns-clause-says g c =
+    let q = c.args.q.now in
+    let d = two_files g.F.Files.tells g.F.Files.content g.F.Files.faults g.F.Files.fault_at c.args.encoding.now c.args.log.now c.args.files.now c.write_both.new.files in
+    subst (λ (steps : List Step). WritingSays c.write_both.result d (record { encoding = encoding_text q; log = in_profile c.args.profile (log_text steps) })) c.in_ok-parts.ensures.steps c.write_both.ensures.says
 
-pub returns-in_err-put_log-clause-says : goal.returns-in_err-put_log-clause-says
-returns-in_err-put_log-clause-says g c =
-    let p = err_from_is_err_and c.from_residual-in_err-put_log.result c.from_residual-in_err-put_log.ensures.1 in
-    let name = c.args.log.now in
-    let content = g.F.Files.content in
-    let between = content c.put_encoding.new.files in
-    let d = two_files g.F.Files.tells content g.F.Files.faults g.F.Files.fault_at c.args.encoding.now name c.args.files.now c.put_log.new.files in
-    let told : IsTrue d.tells → IsTrue (g.F.Files.tells c.put_encoding.new.files) = subst (λ t. IsTrue t) (sym c.put_encoding.ensures.files.told) in
-    rw (p.1, p.2) (stops_in_log d (texts c.args.profile c.args.q.now c.args.finding.now) between (g.F.Files.faults c.put_encoding.new.files) c.requires.apart
-    (subst (λ (q : Problem). IsTrue d.tells → between c.args.encoding.now ≡ Some (encoding_text q)) c.in_ok-lines.ensures c.in_ok-put_encoding.ensures.whole)
-    (subst (λ (steps : List Step). IsTrue d.tells → IsCutShort (between name) (content c.put_log.new.files name) (in_profile c.args.profile (log_text steps))) c.in_ok-parts.ensures.steps (λ t. c.in_err-put_log.ensures.cut (told t)))
-    c.in_err-put_log.ensures.fault (quiet_at_ok _ c.in_ok-put_encoding.ensures.quiet) c.put_encoding.ensures.files.others c.put_log.ensures.files.others)
+pub returns-clause-accepted : goal.returns-clause-accepted
+returns-clause-accepted g c =
+    let q = c.args.q.now in
+    let on_steps = subst (λ (steps : List Step). OnOk c.write_both.result (Accepts (variables q) (encoding q) (in_profile c.args.profile (log_text steps)) (part_verdict c.in_ok-parts.parts))) c.in_ok-parts.ensures.steps c.write_both.ensures.accepted in
+    subst (λ (verdict : Verdict). OnOk c.write_both.result (Accepts (variables q) (encoding q) (in_profile c.args.profile (log_text (steps_of q c.args.finding.now))) verdict)) c.in_ok-parts.ensures.verdict on_steps

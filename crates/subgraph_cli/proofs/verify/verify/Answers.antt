@@ -3,11 +3,12 @@
 use Rattle.std.specs.Prelude.{◌≡◌, ℕ, true, false, List, Option, Err, refl}
 use Rattle.std.proofs.Common.{inl, inr, subst, sym, rules, ◌∙◌}
 use Rattle.std.proofs.lemmas.Result.{err_from_is_err_and}
+use Rattle.graph_theory.specs.Embedding.{Embeds}
 use Rattle.subgraph_cli.specs.Disk.{Disk, IsReadingOf}
 use Rattle.subgraph_cli.specs.Stops.{HasCause}
 use Rattle.subgraph_cli.specs.Verifying.{MappingSays}
 use Rattle.subgraph_cli.proofs.Ends.{ok_quiet}
-use Rattle.subgraph_cli.proofs.Told.{disk_on, keeps_on, loading_spares, mapping_stops, mapping_cause, mapping_held, is_bad}
+use Rattle.subgraph_cli.proofs.Told.{disk_on, keeps_on, loading_spares, mapping_stops, mapping_cause, mapping_held, is_bad, is_good}
 use Rattle.subgraph_cli.proofs.Passing.{if_err_passed, quiet_passed, sink_kept, bad_passed, asking_stops, asking_cause}
 use Rattle.subgraph_cli.proofs.verify.verify.Goals as goal
 
@@ -132,3 +133,17 @@ returns-in-Ok-clause-spares g c = tt
 
 pub returns-in-Err-clause-quiet_output : goal.returns-in-Err-clause-quiet_output
 returns-in-Err-clause-quiet_output g c = inl refl
+
+pub returns-in-Ok-clause-says : goal.returns-in-Ok-clause-says
+returns-in-Ok-clause-says g c told =
+    let held = mapping_held _ _ _ (c.in_ok-q.ensures.files.same _) (c.in_ok-map.ensures.says (rw c.in_ok-q.ensures.files.told told)) in
+    let yes : c.is_embedding-is_embedding.result ≡ true = search rules in
+    let embeds = subst (λ (m : List ℕ). Embeds c.in_ok-q.q m) c.deref.ensures.value (c.is_embedding-is_embedding.ensures.0 yes) in
+    (is_good c.in_ok-q.q _ c.args.words.now _ _ _ (c.in_ok-q.ensures.says told) held embeds, search rules)
+
+pub returns-in-Err-clause-says : goal.returns-in-Err-clause-says
+returns-in-Err-clause-says g c told =
+    let held = mapping_held _ _ _ (c.in_ok-q.ensures.files.same _) (c.in_ok-map.ensures.says (rw c.in_ok-q.ensures.files.told told)) in
+    let yes : c.is_embedding-is_embedding.result ≡ true = search rules in
+    let embeds = subst (λ (m : List ℕ). Embeds c.in_ok-q.q m) c.deref.ensures.value (c.is_embedding-is_embedding.ensures.0 yes) in
+    (is_good c.in_ok-q.q _ c.args.words.now _ _ _ (c.in_ok-q.ensures.says told) held embeds, search rules)
