@@ -49,21 +49,37 @@ fn offers<'a>(
     }
 }
 
+/// Whether a cell without an answer takes the one that exchanges two vertices.
+fn takes_first<'a>(alloc: Global, q: &'a Problem, cell: &AnswerCell<'a>, own: &mut Note<'a>) -> bool
+    requires { own.old.cell ≡ cell.now }
+    ensures { own.new.cell ≡ own.old.cell }
+{
+    cell.seen(own).is_none() && offers(alloc, q, cell, own, &[1, 0])
+}
+
+/// Whether a second answer is offered then, and who offered either sees the first.
+fn keeps_first<'a>(alloc: Global, q: &'a Problem, cell: &AnswerCell<'a>, own: &mut Note<'a>) -> bool
+    requires { own.old.cell ≡ cell.now }
+{
+    let mut other = cell.note();
+    offers(alloc, q, cell, &mut other, &[0, 1])
+        && is_map(cell.seen(own), &[1, 0])
+        && is_map(cell.seen(&mut other), &[1, 0])
+}
+
+/// Whether a fresh note sees the first answer.
+fn is_seen_afresh(cell: &AnswerCell) -> bool {
+    let mut fresh = cell.note();
+    is_map(cell.seen(&mut fresh), &[1, 0])
+}
+
 /// Whether two answers can be offered to a cell of a problem of an edge into an edge, and each note sees the first.
 fn is_first_seen(alloc: Global, q: &Problem) -> bool {
     let cell = AnswerCell::new(alloc);
     let mut own = cell.note();
-    if cell.seen(&mut own).is_some() || !offers(alloc, q, &cell, &mut own, &[1, 0]) {
-        return false;
-    }
-    let mut other = cell.note();
-    if !offers(alloc, q, &cell, &mut other, &[0, 1]) {
-        return false;
-    }
-    let mut fresh = cell.note();
-    is_map(cell.seen(&mut own), &[1, 0])
-        && is_map(cell.seen(&mut other), &[1, 0])
-        && is_map(cell.seen(&mut fresh), &[1, 0])
+    takes_first(alloc, q, &cell, &mut own)
+        && keeps_first(alloc, q, &cell, &mut own)
+        && is_seen_afresh(&cell)
 }
 
 /// Whether images make no answer.

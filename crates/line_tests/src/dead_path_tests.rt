@@ -58,20 +58,29 @@ fn add<M: LineMaker>(
     Ok(())
 }
 
+/// The same, by a maker of its own.
+fn add_made(
+    alloc: Global,
+    lines: &Encoding,
+    case: &Deaths,
+    journal: &mut Journal,
+) -> Result<(), AllocError> {
+    let ground = Ground::new(alloc, lines);
+    let mut maker = MadeLines::new(alloc, lines.problem(), lines)?;
+    add(alloc, &ground, case, &mut maker, journal)
+}
+
 /// Whether the lines are these, and a checker takes them.
-fn are_explained(alloc: Global, q: &Problem, case: &Deaths) -> Result<bool, AllocError> {
-    let lines = Encoding::new(alloc, q)?;
+fn are_explained(alloc: Global, lines: &Encoding, case: &Deaths) -> Result<bool, AllocError> {
     let mut journal = Journal::new(alloc, 1);
-    let mut maker = MadeLines::new(alloc, q, &lines)?;
-    let ground = Ground::new(alloc, &lines);
-    add(alloc, &ground, case, &mut maker, &mut journal)?;
-    is_log(alloc, &lines, &journal, &case.log)
+    add_made(alloc, lines, case, &mut journal)?;
+    is_log(alloc, lines, &journal, &case.log)
 }
 
 impl<R> Example<R> for Deaths {
     fn holds(&self, _rt: &R, alloc: Global) -> Result<bool, AllocError> {
         match self.sample.problem(alloc) {
-            Some(q) => are_explained(alloc, &q, self),
+            Some(q) => are_explained(alloc, &Encoding::new(alloc, &q)?, self),
             None => Ok(false),
         }
     }

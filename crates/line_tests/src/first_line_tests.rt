@@ -13,35 +13,38 @@ use std::alloc::{AllocError, Global};
 use std::test::Fail;
 use worked_examples::{Example, all_hold};
 
-/// The lines for the first domains of so many pattern vertices, in order.
-fn made(alloc: Global, q: &Problem, lines: &Encoding, count: u16) -> Result<Journal, AllocError>
-    requires { lines.now ≡ q.now }
-{
-    let first = FirstLines::new(alloc, q, lines)?;
-    let mut journal = Journal::new(alloc, 1);
+/// Adds the lines for the first domains of so many pattern vertices, in order.
+fn add_first(
+    alloc: Global,
+    lines: &Encoding,
+    count: u16,
+    journal: &mut Journal,
+) -> Result<(), AllocError> {
+    let q = lines.problem();
     let mut units = Units::new(alloc);
+    let first = FirstLines::new(alloc, q, lines)?;
     for p in 0..q.pattern().size() {
         if p < count {
-            let _name = first.first_line(alloc, &mut journal, &mut units, p)?;
+            let _name = first.first_line(alloc, journal, &mut units, p)?;
         }
     }
-    Ok(journal)
+    Ok(())
 }
 
 /// A problem, of how many of its vertices the lines are made, and a log with them.
 struct Firsts(Sample, u16, Log);
 
 /// Whether the lines are these, and a checker takes them.
-fn are_made(alloc: Global, q: &Problem, count: u16, log: &Log) -> Result<bool, AllocError> {
-    let lines = Encoding::new(alloc, q)?;
-    let journal = made(alloc, q, &lines, count)?;
-    is_log(alloc, &lines, &journal, log)
+fn are_made(alloc: Global, lines: &Encoding, count: u16, log: &Log) -> Result<bool, AllocError> {
+    let mut journal = Journal::new(alloc, 1);
+    add_first(alloc, lines, count, &mut journal)?;
+    is_log(alloc, lines, &journal, log)
 }
 
 impl<R> Example<R> for Firsts {
     fn holds(&self, _rt: &R, alloc: Global) -> Result<bool, AllocError> {
         match self.0.problem(alloc) {
-            Some(q) => are_made(alloc, &q, self.1, &self.2),
+            Some(q) => are_made(alloc, &Encoding::new(alloc, &q)?, self.1, &self.2),
             None => Ok(false),
         }
     }

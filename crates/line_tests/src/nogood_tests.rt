@@ -113,23 +113,36 @@ fn add<M: LineMaker>(
     Ok(())
 }
 
-/// The lines of dead paths by this owner.
-fn lines_of(
+/// The same, by a maker of its own.
+fn add_made(
     alloc: Global,
-    q: &Problem,
-    lines: &Ground<'_>,
+    lines: &Encoding,
+    paths: &[Dead],
+    journal: &mut Journal,
+) -> Result<(), AllocError>
+    requires pattern { size lines.now.pattern ≡ 3 }
+    requires target { size lines.now.target ≡ 2 }
+{
+    let ground = Ground::new(alloc, lines);
+    let mut maker = MadeLines::new(alloc, lines.problem(), lines)?;
+    add(alloc, &ground, paths, &mut maker, journal)
+}
+
+/// Whether the lines of the dead paths by this owner are these.
+fn are_lines(
+    alloc: Global,
+    lines: &Encoding,
     owner: u8,
     paths: &[Dead],
-) -> Result<Journal, AllocError>
+    text: &[u8],
+) -> Result<bool, AllocError>
     requires owner { owner ≤ 64 }
-    requires encoding { lines.now ≡ q.now }
-    requires pattern { size q.now.pattern ≡ 3 }
-    requires target { size q.now.target ≡ 2 }
+    requires pattern { size lines.now.pattern ≡ 3 }
+    requires target { size lines.now.target ≡ 2 }
 {
     let mut journal = Journal::new(alloc, owner);
-    let mut maker = MadeLines::new(alloc, q, lines.encoding())?;
-    add(alloc, lines, paths, &mut maker, &mut journal)?;
-    Ok(journal)
+    add_made(alloc, lines, paths, &mut journal)?;
+    Ok(journal.text() == text)
 }
 
 static OF_2: [Dead; 2] = [
@@ -199,11 +212,11 @@ fn is_refuted(alloc: Global, q: &Problem) -> Result<bool, AllocError>
     requires target { size q.now.target ≡ 2 }
 {
     let lines = Encoding::new(alloc, q)?;
-    let ground = Ground::new(alloc, &lines);
-    let of_2 = lines_of(alloc, q, &ground, 2, &OF_2)?;
-    let of_1 = lines_of(alloc, q, &ground, 1, &OF_1)?;
-    let are_these = of_2.text() == LINES_OF_2 && of_1.text() == LINES_OF_1;
-    Ok(are_these && is_accepted(alloc, &lines, &BOTH)?)
+    Ok(
+        are_lines(alloc, &lines, 2, &OF_2, LINES_OF_2)?
+            && are_lines(alloc, &lines, 1, &OF_1, LINES_OF_1)?
+            && is_accepted(alloc, &lines, &BOTH)?,
+    )
 }
 
 #[test]

@@ -38,14 +38,12 @@ fn placed(pair: (u16, u16, u16)) -> PlacedPair {
 /// A reference to the line for a vertex, its place and another vertex, which is made if it is not there.
 fn ask(
     alloc: Global,
-    q: &Problem,
     lines: &Encoding,
     made: &mut RowLines,
     journal: &mut Journal,
     pair: PlacedPair,
-) -> Result<Ref, AllocError>
-    requires lines { lines.now ≡ q.now }
-{
+) -> Result<Ref, AllocError> {
+    let q = lines.problem();
     if is_pair(q, pair) {
         made.row(alloc, q, lines, journal, false, pair)
     } else {
@@ -77,24 +75,36 @@ struct Asked {
     log: Log,
 }
 
-/// Whether the answers are these, and so are the lines, which a checker takes.
-fn are_answered(alloc: Global, q: &Problem, case: &Asked) -> Result<bool, AllocError> {
-    let lines = Encoding::new(alloc, q)?;
+/// Whether the answers are these.
+fn are_answered(
+    alloc: Global,
+    lines: &Encoding,
+    pairs: &[((u16, u16, u16), Answer)],
+    journal: &mut Journal,
+) -> Result<bool, AllocError> {
     let mut made = RowLines::new(alloc);
-    let mut journal = Journal::new(alloc, 1);
-    for (pair, answer) in case.pairs {
-        let line = ask(alloc, q, &lines, &mut made, &mut journal, placed(*pair))?;
+    for (pair, answer) in pairs {
+        let line = ask(alloc, lines, &mut made, journal, placed(*pair))?;
         if line != reference(answer) {
             return Ok(false);
         }
     }
-    is_log(alloc, &lines, &journal, &case.log)
+    Ok(true)
+}
+
+/// Whether the answers are these, and so are the lines, which a checker takes.
+fn are_made(alloc: Global, lines: &Encoding, case: &Asked) -> Result<bool, AllocError> {
+    let mut journal = Journal::new(alloc, 1);
+    Ok(
+        are_answered(alloc, lines, case.pairs, &mut journal)?
+            && is_log(alloc, lines, &journal, &case.log)?,
+    )
 }
 
 impl<R> Example<R> for Asked {
     fn holds(&self, _rt: &R, alloc: Global) -> Result<bool, AllocError> {
         match self.sample.problem(alloc) {
-            Some(q) => are_answered(alloc, &q, self),
+            Some(q) => are_made(alloc, &Encoding::new(alloc, &q)?, self),
             None => Ok(false),
         }
     }

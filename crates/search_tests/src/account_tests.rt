@@ -150,12 +150,19 @@ fn the_sequence_begins(rt: HostRuntime) -> Result<(), Fail> {
     all_hold(&rt, rt.alloc(), &TERMS)
 }
 
-#[test]
-fn each_guess_of_a_triangle_in_a_four_cycle_fails(rt: HostRuntime) -> Result<(), Fail> {
-    let q = &worked_problem(rt.alloc())?;
-    let mut account = Account::new(rt.alloc(), q, 4)?;
+/// Whether a fresh account is spent once all four values are guessed in vain.
+fn each_guess_fails(alloc: Global, q: &Problem) -> Result<bool, AllocError>
+    requires { q.now ≡ triangle_into_four_cycle }
+{
+    let mut account = Account::new(alloc, q, 4)?;
     let is_fresh = account.path().is_empty() && account.vertex().is_none();
     let all_fail = all_are_guessed_in_vain(&mut account, q);
-    assert!(rt; is_fresh && all_fail && is_spent_at_the_root(&account));
+    Ok(is_fresh && all_fail && is_spent_at_the_root(&account))
+}
+
+#[test]
+fn each_guess_of_a_triangle_in_a_four_cycle_fails(rt: HostRuntime) -> Result<(), Fail> {
+    let q = worked_problem(rt.alloc())?;
+    assert!(rt; each_guess_fails(rt.alloc(), &q)?);
     Ok(())
 }

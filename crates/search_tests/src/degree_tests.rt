@@ -2,15 +2,15 @@
 
 ghost use Rattle.graph_theory.specs.Graph.{size};
 
+use crate::asked::{AskedOfProblem, Texts, all_problems_are_so};
 use bit_rows::fill_below;
 use degree_filter::{keep_degrees, keeps};
 use graph_rows::Problem;
 use graph_theory::direction::Direction;
 use lad_reader::LadKind;
-use sample_graphs::{PATH, TRIANGLE, graph_in};
-use std::alloc::{AllocError, Global};
+use sample_graphs::{PATH, TRIANGLE};
+use std::alloc::Global;
 use std::test::Fail;
-use worked_examples::{Example, all_hold};
 
 const PLAIN: LadKind = LadKind::Lad;
 
@@ -21,28 +21,6 @@ const FORK: &[u8] = b"3 2 1 2 0 0";
 
 /// Edges from 0 to 1 and 2, from 1 to itself and 2, and from 3 to 2.
 const MIXED: &[u8] = b"4 2 1 2 2 1 2 0 1 2";
-
-/// The problem of two texts, each of a kind.
-pub(crate) fn problem_of(
-    alloc: Global,
-    pattern: (LadKind, &[u8]),
-    target: (LadKind, &[u8]),
-    induced: bool,
-) -> Option<Problem> {
-    let pattern = graph_in(alloc, pattern.1, pattern.0)?;
-    let target = graph_in(alloc, target.1, target.0)?;
-    Some(Problem::new(pattern, target, induced))
-}
-
-/// The problem of two texts of this kind.
-pub(crate) fn problem(
-    alloc: Global,
-    kind: LadKind,
-    pattern: &[u8],
-    target: &[u8],
-) -> Option<Problem> {
-    problem_of(alloc, (kind, pattern), (kind, target), false)
-}
 
 /// The texts of a pattern and a target, a vertex of each, and whether the degrees of the second keep the first.
 struct Kept(LadKind, &'static [u8], &'static [u8], u16, u16, bool);
@@ -55,13 +33,13 @@ fn is_kept(q: &Problem, p: u16, t: u16) -> Option<bool> {
     Some(keeps(q, p, t))
 }
 
-impl<R> Example<R> for Kept {
-    fn holds(&self, _rt: &R, alloc: Global) -> Result<bool, AllocError> {
-        let Kept(kind, pattern, target, p, t, expected) = *self;
-        match problem(alloc, kind, pattern, target) {
-            Some(q) => Ok(is_kept(&q, p, t) == Some(expected)),
-            None => Ok(false),
-        }
+impl AskedOfProblem for Kept {
+    fn texts(&self) -> Texts {
+        Texts((self.0, self.1), (self.0, self.2), false)
+    }
+
+    fn is_so(&self, _alloc: Global, q: &Problem) -> bool {
+        is_kept(q, self.3, self.4) == Some(self.5)
     }
 }
 
@@ -79,7 +57,7 @@ static KEPT: [Kept; 7] = [
 
 #[test]
 fn a_vertex_keeps_values_of_its_degrees_or_more(rt: HostRuntime) -> Result<(), Fail> {
-    all_hold(&rt, rt.alloc(), &KEPT)
+    all_problems_are_so(rt.alloc(), &KEPT)
 }
 
 /// The values whose degrees of a direction keep `p`, as one word.
@@ -97,16 +75,14 @@ fn kept_row(q: &Problem, direction: Direction, p: u16) -> Option<u64> {
 /// The texts of a pattern and a target, a pattern vertex, the values whose out-degrees keep it, and those whose in-degrees do.
 struct KeptRows(LadKind, &'static [u8], &'static [u8], u16, u64, u64);
 
-impl<R> Example<R> for KeptRows {
-    fn holds(&self, _rt: &R, alloc: Global) -> Result<bool, AllocError> {
-        let KeptRows(kind, pattern, target, p, outward, inward) = *self;
-        match problem(alloc, kind, pattern, target) {
-            Some(q) => Ok(
-                kept_row(&q, Direction::Out, p) == Some(outward)
-                    && kept_row(&q, Direction::In, p) == Some(inward),
-            ),
-            None => Ok(false),
-        }
+impl AskedOfProblem for KeptRows {
+    fn texts(&self) -> Texts {
+        Texts((self.0, self.1), (self.0, self.2), false)
+    }
+
+    fn is_so(&self, _alloc: Global, q: &Problem) -> bool {
+        kept_row(q, Direction::Out, self.3) == Some(self.4)
+            && kept_row(q, Direction::In, self.3) == Some(self.5)
     }
 }
 
@@ -119,5 +95,5 @@ static KEPT_ROWS: [KeptRows; 4] = [
 
 #[test]
 fn a_row_keeps_values_by_the_degrees_of_its_direction(rt: HostRuntime) -> Result<(), Fail> {
-    all_hold(&rt, rt.alloc(), &KEPT_ROWS)
+    all_problems_are_so(rt.alloc(), &KEPT_ROWS)
 }

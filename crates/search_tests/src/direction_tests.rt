@@ -2,14 +2,15 @@
 
 ghost use Rattle.graph_theory.specs.Graph.{size};
 
-use crate::degree_tests::problem_of;
-use graph_rows::Graph;
+use crate::asked::{
+    AskedOfGraph, AskedOfProblem, Text, Texts, all_graphs_are_so, all_problems_are_so,
+};
+use graph_rows::{Graph, Problem};
 use graph_theory::direction::Direction;
 use lad_reader::LadKind;
-use sample_graphs::{PATH, graph_in};
-use std::alloc::{AllocError, Global};
+use sample_graphs::PATH;
+use std::alloc::Global;
 use std::test::Fail;
-use worked_examples::{Example, all_hold};
 
 const PLAIN: LadKind = LadKind::Lad;
 
@@ -36,13 +37,13 @@ fn are_degrees(graph: &Graph, direction: Direction, a: u16, degree: u16, back: u
 /// A graph's text, a direction, a vertex, its row, and the row the other way round.
 struct Rows(LadKind, &'static [u8], Direction, u16, u64, u64);
 
-impl<R> Example<R> for Rows {
-    fn holds(&self, _rt: &R, alloc: Global) -> Result<bool, AllocError> {
-        let Rows(kind, text, direction, a, row, back) = *self;
-        match graph_in(alloc, text, kind) {
-            Some(graph) => Ok(are_rows(&graph, direction, a, row, back)),
-            None => Ok(false),
-        }
+impl AskedOfGraph for Rows {
+    fn text(&self) -> Text {
+        (self.0, self.1)
+    }
+
+    fn is_so(&self, _alloc: Global, graph: &Graph) -> bool {
+        are_rows(graph, self.2, self.3, self.4, self.5)
     }
 }
 
@@ -58,19 +59,19 @@ static ROWS: [Rows; 6] = [
 
 #[test]
 fn rows_are_those_of_their_direction(rt: HostRuntime) -> Result<(), Fail> {
-    all_hold(&rt, rt.alloc(), &ROWS)
+    all_graphs_are_so(rt.alloc(), &ROWS)
 }
 
 /// A direction, a vertex of a few edges, its degree, and the degree the other way round.
 struct Degrees(Direction, u16, u16, u16);
 
-impl<R> Example<R> for Degrees {
-    fn holds(&self, _rt: &R, alloc: Global) -> Result<bool, AllocError> {
-        let Degrees(direction, a, degree, back) = *self;
-        match graph_in(alloc, MIXED, DIRECTED) {
-            Some(graph) => Ok(are_degrees(&graph, direction, a, degree, back)),
-            None => Ok(false),
-        }
+impl AskedOfGraph for Degrees {
+    fn text(&self) -> Text {
+        (DIRECTED, MIXED)
+    }
+
+    fn is_so(&self, _alloc: Global, graph: &Graph) -> bool {
+        are_degrees(graph, self.0, self.1, self.2, self.3)
     }
 }
 
@@ -83,18 +84,19 @@ static DEGREES: [Degrees; 4] = [
 
 #[test]
 fn degrees_are_those_of_their_direction(rt: HostRuntime) -> Result<(), Fail> {
-    all_hold(&rt, rt.alloc(), &DEGREES)
+    all_graphs_are_so(rt.alloc(), &DEGREES)
 }
 
 /// The formats of a pattern and a target, and whether edges of such a problem are known to stand both ways.
 struct Mutual(LadKind, LadKind, bool);
 
-impl<R> Example<R> for Mutual {
-    fn holds(&self, _rt: &R, alloc: Global) -> Result<bool, AllocError> {
-        match problem_of(alloc, (self.0, PATH), (self.1, PATH), false) {
-            Some(q) => Ok(q.is_mutual() == self.2),
-            None => Ok(false),
-        }
+impl AskedOfProblem for Mutual {
+    fn texts(&self) -> Texts {
+        Texts((self.0, PATH), (self.1, PATH), false)
+    }
+
+    fn is_so(&self, _alloc: Global, q: &Problem) -> bool {
+        q.is_mutual() == self.2
     }
 }
 
@@ -106,5 +108,5 @@ static MUTUAL: [Mutual; 3] = [
 
 #[test]
 fn a_problem_is_mutual_where_neither_format_has_directions(rt: HostRuntime) -> Result<(), Fail> {
-    all_hold(&rt, rt.alloc(), &MUTUAL)
+    all_problems_are_so(rt.alloc(), &MUTUAL)
 }

@@ -29,6 +29,16 @@ enum Act {
     Is(u16, &'static [u64]),
 }
 
+/// Whether there is such a value, and it leaves the domain or was not there, as told.
+fn removes<T: Trail>(domains: &mut Domains<T>, p: u16, t: u16, was_there: bool) -> bool {
+    p < domains.vertices() && t < domains.values() && domains.remove(p, t) == was_there
+}
+
+/// Whether there is such a value, and the domain has it.
+fn has<T: Trail>(domains: &Domains<T>, p: u16, t: u16) -> bool {
+    p < domains.vertices() && t < domains.values() && domains.has(p, t)
+}
+
 /// Whether the vertex could go to the value.
 fn assigns<T: Trail>(domains: &mut Domains<T>, p: u16, t: u16) -> bool {
     if p >= domains.vertices() || t >= domains.values() || !domains.has(p, t) {
@@ -60,15 +70,11 @@ impl Act {
     /// Whether it can be done, or is so.
     fn holds<T: Trail>(&self, domains: &mut Domains<T>, mark: Mark) -> bool {
         match *self {
-            Act::Removes(p, t, was_there) => {
-                p < domains.vertices() && t < domains.values() && domains.remove(p, t) == was_there
-            }
+            Act::Removes(p, t, was_there) => removes(domains, p, t, was_there),
             Act::Assigns(p, t) => assigns(domains, p, t),
             Act::Meets(p, row) => meets(domains, p, row),
             Act::Undoes => undoes(domains, mark),
-            Act::Has(p, t) => {
-                p < domains.vertices() && t < domains.values() && domains.has(p, t)
-            }
+            Act::Has(p, t) => has(domains, p, t),
             Act::Sizes(p, size) => p < domains.vertices() && domains.size(p) == size,
             Act::Only(p, value) => p < domains.vertices() && domains.only(p) == value,
             Act::Is(p, row) => p < domains.vertices() && domains.row(p) == row,
@@ -96,19 +102,28 @@ struct Life {
     of_copy: &'static [Act],
 }
 
-/// Whether all holds of domains of this kind.
-fn lives<T: Trail>(alloc: Global, life: &Life) -> Result<bool, AllocError> {
-    let mut domains: Domains<T> = Domains::with_trail(alloc, 2, life.values)?;
+/// Whether all holds of these domains, and of their copy.
+fn hold_all<T: Trail>(
+    alloc: Global,
+    domains: &mut Domains<T>,
+    life: &Life,
+) -> Result<bool, AllocError> {
     let start = domains.mark();
-    if !hold(&mut domains, start, life.first) {
+    if !hold(domains, start, life.first) {
         return Ok(false);
     }
     let mark = domains.mark();
-    if !hold(&mut domains, mark, life.then) {
+    if !hold(domains, mark, life.then) {
         return Ok(false);
     }
     let mut copy = domains.copy(alloc)?;
-    Ok(hold(&mut domains, mark, life.last) && hold(&mut copy, mark, life.of_copy))
+    Ok(hold(domains, mark, life.last) && hold(&mut copy, mark, life.of_copy))
+}
+
+/// Whether all holds of domains of this kind.
+fn lives<T: Trail>(alloc: Global, life: &Life) -> Result<bool, AllocError> {
+    let mut domains: Domains<T> = Domains::with_trail(alloc, 2, life.values)?;
+    hold_all(alloc, &mut domains, life)
 }
 
 impl<R> Example<R> for Life {

@@ -4,16 +4,15 @@ ghost use Rattle.std.specs.Prelude.{◌≡◌, ◌<◌, IfSome};
 ghost use Rattle.graph_theory.specs.Graph.{size};
 ghost use Rattle.nds_filter.specs.Sequences.{sequences};
 
-use crate::degree_tests::problem_of;
+use crate::asked::{AskedOfProblem, Texts, all_problems_are_so};
 use first_rows::{FirstRows, fill_first, is_first};
 use graph_rows::{Graph, Problem};
 use graph_theory::direction::Direction;
 use lad_reader::LadKind;
 use nds_filter::Sequences;
 use sample_graphs::{PATH, TRIANGLE};
-use std::alloc::{AllocError, Global};
+use std::alloc::Global;
 use std::test::Fail;
-use worked_examples::{Example, all_hold};
 
 const LOOP: &[u8] = b"1 1 0";
 
@@ -36,15 +35,14 @@ const MEET: &[u8] = b"3 0 1 0 1 0";
 
 /// The first domain of `p`, as one word, and whether it has what the test of single values lets through.
 fn first(alloc: Global, q: &Problem, p: u16) -> Option<(u64, bool)> {
-    let Ok(kept) = FirstRows::new(alloc, q) else {
-        return None;
-    };
     if p >= q.pattern().size() || q.target().size() == 0 || q.target().size() > 64 {
         return None;
     }
+    let by_values = first_by_values(alloc, q, p)?;
+    let kept = FirstRows::new(alloc, q).ok()?;
     let mut row = [u64::MAX];
     fill_first(q, &kept, p, &mut row);
-    Some((row[0], row[0] == first_by_values(alloc, q, p)?))
+    Some((row[0], row[0] == by_values))
 }
 
 /// The sequences of a graph along its edges.
@@ -71,16 +69,6 @@ fn first_by_values(alloc: Global, q: &Problem, p: u16) -> Option<u64>
     Some(word)
 }
 
-/// The problem of two texts, with directions or without.
-fn problem(alloc: Global, row: &FirstRow) -> Option<Problem> {
-    let kind = if row.directed {
-        LadKind::DirectedLad
-    } else {
-        LadKind::Lad
-    };
-    problem_of(alloc, (kind, row.pattern), (kind, row.target), row.induced)
-}
-
 /// Two texts, with directions or without, a pattern vertex, and its first domain as one word.
 struct FirstRow {
     directed: bool,
@@ -91,12 +79,18 @@ struct FirstRow {
     row: u64,
 }
 
-impl<R> Example<R> for FirstRow {
-    fn holds(&self, _rt: &R, alloc: Global) -> Result<bool, AllocError> {
-        match problem(alloc, self) {
-            Some(q) => Ok(first(alloc, &q, self.vertex) == Some((self.row, true))),
-            None => Ok(false),
-        }
+impl AskedOfProblem for FirstRow {
+    fn texts(&self) -> Texts {
+        let kind = if self.directed {
+            LadKind::DirectedLad
+        } else {
+            LadKind::Lad
+        };
+        Texts((kind, self.pattern), (kind, self.target), self.induced)
+    }
+
+    fn is_so(&self, alloc: Global, q: &Problem) -> bool {
+        first(alloc, q, self.vertex) == Some((self.row, true))
     }
 }
 
@@ -185,5 +179,5 @@ static FIRST_ROWS: [FirstRow; 10] = [
 
 #[test]
 fn first_domains_are_cut_by_each_filter(rt: HostRuntime) -> Result<(), Fail> {
-    all_hold(&rt, rt.alloc(), &FIRST_ROWS)
+    all_problems_are_so(rt.alloc(), &FIRST_ROWS)
 }

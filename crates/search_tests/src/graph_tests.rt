@@ -1,7 +1,7 @@
 //! Worked problems, on which the test over bit rows and the plain program must agree, and worked texts of mappings.
 
-use crate::degree_tests::problem_of;
-use graph_rows::{Graph, read_mapping, write_mapping};
+use crate::asked::{AskedOfProblem, Texts, all_problems_are_so};
+use graph_rows::{Graph, Problem, read_mapping, write_mapping};
 use graph_theory::listed_graph::ListedGraph;
 use graph_theory::mapping_text::MapFault;
 use graph_theory::plain_lad::vertices_in;
@@ -68,20 +68,20 @@ impl Decided {
             None => false,
         }
     }
-
-    /// Whether the test over bit rows does.
-    fn holds_by_rows(&self, alloc: Global) -> bool {
-        let pattern = (self.kind, self.pattern);
-        match problem_of(alloc, pattern, (self.kind, self.target), self.induced) {
-            Some(q) => q.is_embedding(self.map) == self.embeds,
-            None => false,
-        }
-    }
 }
 
-impl<R> Example<R> for Decided {
-    fn holds(&self, _rt: &R, alloc: Global) -> Result<bool, AllocError> {
-        Ok(self.holds_plainly(alloc) && self.holds_by_rows(alloc))
+impl AskedOfProblem for Decided {
+    fn texts(&self) -> Texts {
+        Texts(
+            (self.kind, self.pattern),
+            (self.kind, self.target),
+            self.induced,
+        )
+    }
+
+    /// Whether the plain program decides so, and the test over bit rows does.
+    fn is_so(&self, alloc: Global, q: &Problem) -> bool {
+        self.holds_plainly(alloc) && q.is_embedding(self.map) == self.embeds
     }
 }
 
@@ -238,7 +238,7 @@ static DECIDED: [Decided; 16] = [
 
 #[test]
 fn decides_embeddings_as_the_plain_program(rt: HostRuntime) -> Result<(), Fail> {
-    all_hold(&rt, rt.alloc(), &DECIDED)
+    all_problems_are_so(rt.alloc(), &DECIDED)
 }
 
 /// A text that is no mapping, and its first faulty line.

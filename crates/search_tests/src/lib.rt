@@ -7,6 +7,8 @@
 #[cfg(test)]
 mod account_tests;
 #[cfg(test)]
+mod asked;
+#[cfg(test)]
 mod book_tests;
 #[cfg(test)]
 mod choice_tests;

@@ -2,14 +2,14 @@
 
 ghost use Rattle.graph_theory.specs.Graph.{size};
 
+use crate::asked::{AskedOfGraph, Text, all_graphs_are_so};
 use common_neighbour::Counts;
 use graph_rows::Graph;
 use graph_theory::direction::Direction;
 use lad_reader::LadKind;
-use sample_graphs::{FOUR_CYCLE, TRIANGLE, graph, graph_in};
-use std::alloc::{AllocError, Global};
+use sample_graphs::{FOUR_CYCLE, TRIANGLE};
+use std::alloc::Global;
 use std::test::Fail;
-use worked_examples::{Example, all_hold};
 
 const PLAIN: LadKind = LadKind::Lad;
 
@@ -27,10 +27,13 @@ const PATH: &[u8] = b"4 1 1 3 0 1 2 1 1 0";
 /// Two vertices of a text's graph, and their count.
 struct Counted(&'static [u8], u16, u16, u16);
 
-impl<R> Example<R> for Counted {
-    fn holds(&self, _rt: &R, alloc: Global) -> Result<bool, AllocError> {
-        let Counted(text, a, b, count) = *self;
-        Ok(count_of(alloc, text, a, b) == Some(count))
+impl AskedOfGraph for Counted {
+    fn text(&self) -> Text {
+        (PLAIN, self.0)
+    }
+
+    fn is_so(&self, alloc: Global, graph: &Graph) -> bool {
+        count_of(alloc, graph, self.1, self.2) == Some(self.3)
     }
 }
 
@@ -42,33 +45,30 @@ static COUNTED: [Counted; 5] = [
     Counted(b"2 2 0 1 2 0 1", 0, 1, 0),
 ];
 
-/// The count of two vertices of a text's graph.
-fn count_of(alloc: Global, text: &[u8], a: u16, b: u16) -> Option<u16> {
-    let graph = graph(alloc, text)?;
-    let Ok(counts) = Counts::new(alloc, &graph, Direction::Out) else {
-        return None;
-    };
+/// The count of two vertices of a graph.
+fn count_of(alloc: Global, graph: &Graph, a: u16, b: u16) -> Option<u16> {
     if a >= graph.size() || b >= graph.size() || a == b {
         return None;
     }
+    let counts = Counts::new(alloc, graph, Direction::Out).ok()?;
     Some(counts.count(a, b))
 }
 
 #[test]
 fn counts_are_those_of_the_graph(rt: HostRuntime) -> Result<(), Fail> {
-    all_hold(&rt, rt.alloc(), &COUNTED)
+    all_graphs_are_so(rt.alloc(), &COUNTED)
 }
 
 /// A vertex of a graph of four vertices, a direction, and its counts with all others.
 struct AllCounted(LadKind, &'static [u8], Direction, u16, [u16; 4]);
 
-impl<R> Example<R> for AllCounted {
-    fn holds(&self, _rt: &R, alloc: Global) -> Result<bool, AllocError> {
-        let AllCounted(kind, text, direction, t, counts) = *self;
-        match graph_in(alloc, text, kind) {
-            Some(graph) => Ok(counts_by(alloc, &graph, direction, t) == Some(counts)),
-            None => Ok(false),
-        }
+impl AskedOfGraph for AllCounted {
+    fn text(&self) -> Text {
+        (self.0, self.1)
+    }
+
+    fn is_so(&self, alloc: Global, graph: &Graph) -> bool {
+        counts_by(alloc, graph, self.2, self.3) == Some(self.4)
     }
 }
 
@@ -84,12 +84,10 @@ static ALL_COUNTED: [AllCounted; 7] = [
 
 /// The counts of a vertex with all others in a direction, in a graph of four vertices.
 fn counts_by(alloc: Global, graph: &Graph, direction: Direction, t: u16) -> Option<[u16; 4]> {
-    let Ok(counts) = Counts::new(alloc, graph, direction) else {
-        return None;
-    };
     if t >= graph.size() || graph.size() != 4 {
         return None;
     }
+    let counts = Counts::new(alloc, graph, direction).ok()?;
     let mut found = [9u16; 4];
     counts.fill_counts(t, &mut found);
     Some(found)
@@ -97,19 +95,19 @@ fn counts_by(alloc: Global, graph: &Graph, direction: Direction, t: u16) -> Opti
 
 #[test]
 fn counts_of_a_direction_are_those_of_its_neighbours(rt: HostRuntime) -> Result<(), Fail> {
-    all_hold(&rt, rt.alloc(), &ALL_COUNTED)
+    all_graphs_are_so(rt.alloc(), &ALL_COUNTED)
 }
 
 /// A graph's text, a direction, a vertex, a number, and the vertices that share so many neighbours with it, as one word.
 struct Near(LadKind, &'static [u8], Direction, u16, u16, u64);
 
-impl<R> Example<R> for Near {
-    fn holds(&self, _rt: &R, alloc: Global) -> Result<bool, AllocError> {
-        let Near(kind, text, direction, t, shared, row) = *self;
-        match graph_in(alloc, text, kind) {
-            Some(graph) => Ok(near_row(alloc, &graph, direction, t, shared) == Some(row)),
-            None => Ok(false),
-        }
+impl AskedOfGraph for Near {
+    fn text(&self) -> Text {
+        (self.0, self.1)
+    }
+
+    fn is_so(&self, alloc: Global, graph: &Graph) -> bool {
+        near_row(alloc, graph, self.2, self.3, self.4) == Some(self.5)
     }
 }
 
@@ -121,12 +119,10 @@ fn near_row(
     t: u16,
     shared: u16,
 ) -> Option<u64> {
-    let Ok(counts) = Counts::new(alloc, graph, direction) else {
-        return None;
-    };
     if t >= graph.size() || graph.size() > 64 {
         return None;
     }
+    let counts = Counts::new(alloc, graph, direction).ok()?;
     let mut row = [u64::MAX];
     counts.fill_at_least(t, shared, &mut row);
     Some(row[0])
@@ -144,5 +140,5 @@ static NEAR: [Near; 7] = [
 
 #[test]
 fn rows_hold_those_that_share_enough(rt: HostRuntime) -> Result<(), Fail> {
-    all_hold(&rt, rt.alloc(), &NEAR)
+    all_graphs_are_so(rt.alloc(), &NEAR)
 }

@@ -2,15 +2,14 @@
 
 ghost use Rattle.graph_theory.specs.Graph.{size};
 
-use crate::degree_tests::problem;
+use crate::asked::{AskedOfProblem, Texts, all_problems_are_so};
 use graph_rows::{Graph, Problem};
 use graph_theory::direction::Direction;
 use lad_reader::LadKind;
 use nds_filter::{KeptRows, SequenceAnswer, Sequences, keeps};
 use sample_graphs::{EDGE, TRIANGLE};
-use std::alloc::{AllocError, Global};
+use std::alloc::Global;
 use std::test::Fail;
-use worked_examples::{Example, all_hold};
 
 const PLAIN: LadKind = LadKind::Lad;
 
@@ -24,6 +23,14 @@ const ALONG: &[u8] = b"3 1 1 1 2 0";
 /// Edges from 0 to 1 and 2, from 1 to itself and 2, and from 3 to 2.
 const MIXED: &[u8] = b"4 2 1 2 2 1 2 0 1 2";
 
+/// The answer for two vertices, by the sequences of their graphs.
+fn answer_for(ps: &Sequences, ts: &Sequences, p: u16, t: u16) -> Option<SequenceAnswer> {
+    if usize::from(p) >= ps.len() || usize::from(t) >= ts.len() {
+        return None;
+    }
+    Some(keeps(ps, ts, p, t))
+}
+
 /// The answer for two vertices of two graphs in a direction.
 fn answer_by(
     alloc: Global,
@@ -33,16 +40,9 @@ fn answer_by(
     p: u16,
     t: u16,
 ) -> Option<SequenceAnswer> {
-    let Ok(ps) = Sequences::new(alloc, pattern, direction) else {
-        return None;
-    };
-    let Ok(ts) = Sequences::new(alloc, target, direction) else {
-        return None;
-    };
-    if usize::from(p) >= ps.len() || usize::from(t) >= ts.len() {
-        return None;
-    }
-    Some(keeps(&ps, &ts, p, t))
+    let ps = Sequences::new(alloc, pattern, direction).ok()?;
+    let ts = Sequences::new(alloc, target, direction).ok()?;
+    answer_for(&ps, &ts, p, t)
 }
 
 /// The texts of a pattern and a target, a direction, a vertex of each, and the answer for them.
@@ -55,16 +55,14 @@ struct Compared(
     SequenceAnswer,
 );
 
-impl<R> Example<R> for Compared {
-    fn holds(&self, _rt: &R, alloc: Global) -> Result<bool, AllocError> {
-        let Compared(kind, pattern, target, direction, (p, t), answer) = *self;
-        match problem(alloc, kind, pattern, target) {
-            Some(q) => {
-                let found = answer_by(alloc, q.pattern(), q.target(), direction, p, t);
-                Ok(found == Some(answer))
-            }
-            None => Ok(false),
-        }
+impl AskedOfProblem for Compared {
+    fn texts(&self) -> Texts {
+        Texts((self.0, self.1), (self.0, self.2), false)
+    }
+
+    fn is_so(&self, alloc: Global, q: &Problem) -> bool {
+        let (p, t) = self.4;
+        answer_by(alloc, q.pattern(), q.target(), self.3, p, t) == Some(self.5)
     }
 }
 
@@ -88,30 +86,28 @@ static COMPARED: [Compared; 9] = [
 
 #[test]
 fn sequences_are_compared_place_by_place(rt: HostRuntime) -> Result<(), Fail> {
-    all_hold(&rt, rt.alloc(), &COMPARED)
+    all_problems_are_so(rt.alloc(), &COMPARED)
 }
 
 /// The values whose sequences of a direction keep that of `p`, as one word.
 fn kept_by(alloc: Global, q: &Problem, direction: Direction, p: u16) -> Option<u64> {
-    let Ok(rows) = KeptRows::new(alloc, q, direction) else {
-        return None;
-    };
     if p >= q.pattern().size() {
         return None;
     }
+    let rows = KeptRows::new(alloc, q, direction).ok()?;
     rows.row(p).first().copied()
 }
 
 /// The texts of a pattern and a target, a direction, a pattern vertex, and the values whose sequences keep its own.
 struct KeptRow(LadKind, &'static [u8], &'static [u8], Direction, u16, u64);
 
-impl<R> Example<R> for KeptRow {
-    fn holds(&self, _rt: &R, alloc: Global) -> Result<bool, AllocError> {
-        let KeptRow(kind, pattern, target, direction, p, row) = *self;
-        match problem(alloc, kind, pattern, target) {
-            Some(q) => Ok(kept_by(alloc, &q, direction, p) == Some(row)),
-            None => Ok(false),
-        }
+impl AskedOfProblem for KeptRow {
+    fn texts(&self) -> Texts {
+        Texts((self.0, self.1), (self.0, self.2), false)
+    }
+
+    fn is_so(&self, alloc: Global, q: &Problem) -> bool {
+        kept_by(alloc, q, self.3, self.4) == Some(self.5)
     }
 }
 
@@ -133,5 +129,5 @@ static KEPT_ROWS: [KeptRow; 10] = [
 
 #[test]
 fn rows_hold_the_values_whose_sequences_keep_a_vertex(rt: HostRuntime) -> Result<(), Fail> {
-    all_hold(&rt, rt.alloc(), &KEPT_ROWS)
+    all_problems_are_so(rt.alloc(), &KEPT_ROWS)
 }

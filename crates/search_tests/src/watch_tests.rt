@@ -4,6 +4,7 @@ ghost use Rattle.std.specs.Prelude.{◌≡◌};
 
 use domain_bits::{Domains, Mark};
 use nogood_watch::{WatchAnswer, Watched};
+use std::alloc::{AllocError, Global};
 use std::test::Fail;
 
 /// What is done to domains and to the nogoods over them, or found of these.
@@ -113,6 +114,21 @@ fn hold(watched: &mut Watched, domains: &mut Domains, acts: &[Act]) -> bool
     true
 }
 
+/// Whether one after the other holds, from full domains on.
+fn hold_from_full(
+    alloc: Global,
+    watched: &mut Watched,
+    vertices: u16,
+    values: u16,
+    acts: &[Act],
+) -> Result<bool, AllocError>
+    requires vertices { watched.old.vertices ≡ vertices }
+    requires values { watched.old.values ≡ values }
+{
+    let mut domains = Domains::new(alloc, vertices, values)?;
+    Ok(hold(watched, &mut domains, acts))
+}
+
 static FORCED_OUT: [Act; 6] = [
     Act::Assigns(0, 0),
     Act::Looks(0, 0, WatchAnswer::Forced),
@@ -126,8 +142,7 @@ static FORCED_OUT: [Act; 6] = [
 fn the_last_literal_is_forced_out(rt: HostRuntime) -> Result<(), Fail> {
     let mut watched = Watched::new(rt.alloc(), 2, 2)?;
     watched.add(&[(0, 0), (1, 1)], 7)?;
-    let mut domains = Domains::new(rt.alloc(), 2, 2)?;
-    assert!(rt; hold(&mut watched, &mut domains, &FORCED_OUT));
+    assert!(rt; hold_from_full(rt.alloc(), &mut watched, 2, 2, &FORCED_OUT)?);
     Ok(())
 }
 
@@ -153,8 +168,7 @@ static ON_AND_BACK: [Act; 15] = [
 fn a_watch_moves_on_and_back(rt: HostRuntime) -> Result<(), Fail> {
     let mut watched = Watched::new(rt.alloc(), 4, 3)?;
     watched.add(&[(0, 0), (1, 1), (2, 2), (3, 0)], 0)?;
-    let mut domains = Domains::new(rt.alloc(), 4, 3)?;
-    assert!(rt; hold(&mut watched, &mut domains, &ON_AND_BACK));
+    assert!(rt; hold_from_full(rt.alloc(), &mut watched, 4, 3, &ON_AND_BACK)?);
     Ok(())
 }
 
@@ -173,8 +187,7 @@ fn a_whole_nogood_fails(rt: HostRuntime) -> Result<(), Fail> {
     let mut watched = Watched::new(rt.alloc(), 3, 2)?;
     watched.add(&[(0, 1), (2, 0)], 3)?;
     watched.add(&[(0, 0), (1, 1), (2, 0)], 4)?;
-    let mut domains = Domains::new(rt.alloc(), 3, 2)?;
-    assert!(rt; hold(&mut watched, &mut domains, &WHOLE));
+    assert!(rt; hold_from_full(rt.alloc(), &mut watched, 3, 2, &WHOLE)?);
     Ok(())
 }
 
@@ -195,8 +208,7 @@ fn each_of_two_assigned_watches_moves_at_its_own_look(rt: HostRuntime) -> Result
     watched.add(&[(0, 0), (1, 0), (2, 0)], 0)?;
     watched.add(&[(0, 0), (1, 0), (2, 0)], 1)?;
     watched.add(&[(0, 0), (1, 0), (2, 1), (3, 1)], 9)?;
-    let mut domains = Domains::new(rt.alloc(), 4, 2)?;
-    assert!(rt; hold(&mut watched, &mut domains, &AT_ITS_OWN_LOOK));
+    assert!(rt; hold_from_full(rt.alloc(), &mut watched, 4, 2, &AT_ITS_OWN_LOOK)?);
     Ok(())
 }
 
@@ -216,8 +228,7 @@ static BESIDE_ONE_THAT_LEFT: [Act; 9] = [
 fn a_watch_moves_also_where_the_other_one_has_left(rt: HostRuntime) -> Result<(), Fail> {
     let mut watched = Watched::new(rt.alloc(), 3, 2)?;
     watched.add(&[(0, 0), (1, 1), (2, 0)], 5)?;
-    let mut domains = Domains::new(rt.alloc(), 3, 2)?;
-    assert!(rt; hold(&mut watched, &mut domains, &BESIDE_ONE_THAT_LEFT));
+    assert!(rt; hold_from_full(rt.alloc(), &mut watched, 3, 2, &BESIDE_ONE_THAT_LEFT)?);
     Ok(())
 }
 

@@ -22,6 +22,8 @@ mod plain_log;
 #[cfg(test)]
 mod plain_rows;
 #[cfg(test)]
+mod plain_stops;
+#[cfg(test)]
 mod plain_values;
 #[cfg(test)]
 mod plain_words;

@@ -116,7 +116,7 @@ fn behind(due: Due, word: Word, variables: u32) -> Result<Due, OpbCause> {
 }
 
 /// Whether the words are of the form.
-fn judge(words: &[&[u8]], variables: u32) -> Result<(), OpbCause> {
+fn judge_form(words: &[&[u8]], variables: u32) -> Result<(), OpbCause> {
     let mut due = Due::First;
     for word in words {
         due = behind(due, word_of(word), variables)?;
@@ -143,11 +143,17 @@ fn terms_in(alloc: Global, words: &[&[u8]]) -> Result<Terms, AllocError> {
     Ok(Terms { terms, bound: last })
 }
 
-/// Whether the sum of the coefficients without their signs is too great.
-fn is_wide(terms: &[(u32, i128)]) -> bool {
+/// Whether the sum of the coefficients, without their signs, of words that are of the form is too
+/// great.
+fn is_wide(words: &[&[u8]]) -> bool {
     let mut sum: i128 = 0;
-    for (_, c) in terms {
-        sum = sum.saturating_add(size(*c));
+    let mut last: i128 = 0;
+    for word in words {
+        match word_of(word) {
+            Word::Number(number, _) => last = number,
+            Word::Variable(_) => sum = sum.saturating_add(size(last)),
+            _ => (),
+        }
     }
     sum > WIDEST
 }
@@ -165,26 +171,42 @@ fn fault(line: u64, cause: OpbCause) -> OpbFault {
     OpbFault::Line { line, cause }
 }
 
-/// The constraint that a line tells.
-fn constraint_in(
+/// Whether a line tells what is to be least or greatest.
+fn is_objective(words: &[&[u8]]) -> bool {
+    match words.first() {
+        Some(word) => word.starts_with(b"min:") || word.starts_with(b"max:"),
+        None => false,
+    }
+}
+
+/// Whether the words are a constraint that is not too wide.
+fn judge(words: &[&[u8]], variables: u32) -> Result<(), OpbCause> {
+    if is_objective(words) {
+        return Err(OpbCause::Objective);
+    }
+    judge_form(words, variables)?;
+    if is_wide(words) {
+        return Err(OpbCause::Wide);
+    }
+    Ok(())
+}
+
+/// Puts the constraint of a line behind these, if it is one and not passed over.
+fn add_constraint(
     alloc: Global,
+    constraints: &mut Vec<Terms>,
     words: &[&[u8]],
     variables: u32,
     line: u64,
-) -> Result<Terms, OpbFault> {
-    if let Some(word) = words.first()
-        && (word.starts_with(b"min:") || word.starts_with(b"max:"))
-    {
-        return Err(fault(line, OpbCause::Objective));
+) -> Result<(), OpbFault> {
+    if is_passed_over(words) {
+        return Ok(());
     }
     if let Err(cause) = judge(words, variables) {
         return Err(fault(line, cause));
     }
-    let terms = terms_in(alloc, words)?;
-    if is_wide(&terms.terms) {
-        return Err(fault(line, OpbCause::Wide));
-    }
-    Ok(terms)
+    constraints.push(terms_in(alloc, words)?)?;
+    Ok(())
 }
 
 /// The numbers of variables and of constraints that the first line tells.
@@ -195,61 +217,74 @@ fn head_in(words: &[&[u8]]) -> Option<(u32, u64)> {
     let are_there = *star == b"*".as_slice()
         && *variable == b"#variable=".as_slice()
         && *constraint == b"#constraint=".as_slice();
-    let count = u64::try_from(number_of(m)?).ok()?;
+    let (variables, count) = (number_of(n)?, number_of(m)?);
     if !are_there || count >= 1 << 63 {
         return None;
     }
-    Some((u32::try_from(number_of(n)?).ok()?, count))
+    Some((u32::try_from(variables).ok()?, u64::try_from(count).ok()?))
+}
+
+/// Takes the CR at the end off each piece but the last.
+fn strip_ends(pieces: &mut [&[u8]]) {
+    let ends = pieces.len().saturating_sub(1);
+    for piece in pieces.iter_mut().take(ends) {
+        if let [front @ .., b'\r'] = *piece {
+            *piece = front;
+        }
+    }
 }
 
 /// The lines of a text: a CR right before an LF is none of the line, and the last line may lack its LF.
 fn lines_of<'a>(alloc: Global, text: &'a [u8]) -> Result<Vec<&'a [u8]>, AllocError> {
-    let pieces = pieces_of(alloc, text, b"\n")?;
-    let mut lines = Vec::new(alloc);
-    let mut number: usize = 0;
-    for piece in &pieces {
-        number = number.wrapping_add(1);
-        if number == pieces.len() {
-            if !piece.is_empty() {
-                lines.push(*piece)?;
-            }
-        } else if let [front @ .., b'\r'] = *piece {
-            lines.push(front)?;
-        } else {
-            lines.push(*piece)?;
-        }
+    let mut lines = pieces_of(alloc, text, b"\n")?;
+    strip_ends(&mut lines);
+    if let Some([]) = lines.last() {
+        lines.pop();
     }
     Ok(lines)
 }
 
-/// The constraints of the lines behind the first one.
-fn constraints_in(alloc: Global, lines: &[&[u8]], variables: u32) -> Result<Vec<Terms>, OpbFault> {
-    let mut constraints = Vec::new(alloc);
+/// The numbers that the first of these lines tells.
+fn head_of(alloc: Global, lines: &[&[u8]]) -> Result<(u32, u64), OpbFault> {
+    let words = words_of(alloc, lines.first().copied().unwrap_or(b""))?;
+    head_in(&words).ok_or(fault(1, OpbCause::Header))
+}
+
+/// Puts the constraints of the lines behind the first one behind these.
+fn read_constraints(
+    alloc: Global,
+    constraints: &mut Vec<Terms>,
+    lines: &[&[u8]],
+    variables: u32,
+) -> Result<(), OpbFault> {
     let mut number: u64 = 0;
     for line in lines {
         number = number.wrapping_add(1);
-        let words = words_of(alloc, line)?;
-        if number > 1 && !is_passed_over(&words) {
-            constraints.push(constraint_in(alloc, &words, variables, number)?)?;
+        if number > 1 {
+            let words = words_of(alloc, line)?;
+            add_constraint(alloc, constraints, &words, variables, number)?;
         }
     }
-    Ok(constraints)
+    Ok(())
+}
+
+/// What the lines of a text say, or the first faulty one.
+fn encoding_of(alloc: Global, lines: &[&[u8]]) -> Result<Encoding, OpbFault> {
+    let (variables, count) = head_of(alloc, lines)?;
+    let mut read = Encoding {
+        variables,
+        constraints: Vec::new(alloc),
+    };
+    read_constraints(alloc, &mut read.constraints, lines, variables)?;
+    if read.constraints.len() as u64 != count {
+        let end = (lines.len() as u64).wrapping_add(1);
+        return Err(fault(end, OpbCause::Count));
+    }
+    Ok(read)
 }
 
 /// What a text says, or its first faulty line.
 pub fn encoding_in(alloc: Global, text: &[u8]) -> Result<Encoding, OpbFault> {
     let lines = lines_of(alloc, text)?;
-    let first = words_of(alloc, lines.first().copied().unwrap_or(b""))?;
-    let Some((variables, count)) = head_in(&first) else {
-        return Err(fault(1, OpbCause::Header));
-    };
-    let constraints = constraints_in(alloc, &lines, variables)?;
-    if constraints.len() as u64 != count {
-        let end = (lines.len() as u64).wrapping_add(1);
-        return Err(fault(end, OpbCause::Count));
-    }
-    Ok(Encoding {
-        variables,
-        constraints,
-    })
+    encoding_of(alloc, &lines)
 }

@@ -1,9 +1,10 @@
 //! The words of a log's lines, plainly.
 
+use crate::plain_stops::{Stop, of_form};
 use crate::plain_words::{cut_at, number_of};
 use log_theory::{Name, Op, Ref};
 use proof_theory::Literal;
-use std::alloc::{AllocError, Global};
+use std::alloc::Global;
 
 /// The greatest number.
 const MOST: i128 = (1 << 63) - 1;
@@ -87,11 +88,7 @@ fn operation_of(word: &[u8], after: &[u8], variables: u32) -> Option<Op> {
 }
 
 /// Operations, if all words are of their form.
-pub fn operations_of(
-    alloc: Global,
-    words: &[&[u8]],
-    variables: u32,
-) -> Result<Option<Vec<Op>>, AllocError> {
+pub fn operations_of(alloc: Global, words: &[&[u8]], variables: u32) -> Result<Vec<Op>, Stop> {
     let mut operations = Vec::new(alloc);
     let mut is_taken = false;
     for i in 0..words.len() {
@@ -100,57 +97,48 @@ pub fn operations_of(
             continue;
         }
         let after = words.get(i + 1).copied().unwrap_or(b"");
-        let Some(operation) = operation_of(words[i], after, variables) else {
-            return Ok(None);
-        };
+        let operation = of_form(operation_of(words[i], after, variables))?;
         is_taken = matches!(operation, Op::Times(_) | Op::Divide(_));
         operations.push(operation)?;
     }
-    Ok(Some(operations))
+    Ok(operations)
 }
 
-/// References, if all words are of their form.
-pub fn references_of(alloc: Global, words: &[&[u8]]) -> Result<Option<Vec<Ref>>, AllocError> {
-    let mut references = Vec::new(alloc);
-    for word in words {
-        let Some(reference) = reference_of(word) else {
-            return Ok(None);
-        };
-        references.push(reference)?;
+/// What a single word writes.
+pub trait Item: Sized {
+    /// What it writes where there are so many variables.
+    fn in_word(word: &[u8], variables: u32) -> Option<Self>;
+}
+
+impl Item for Ref {
+    fn in_word(word: &[u8], _variables: u32) -> Option<Ref> {
+        reference_of(word)
     }
-    Ok(Some(references))
 }
 
-/// Literals, if all words are of their form.
-pub fn literals_of(
+impl Item for Literal {
+    fn in_word(word: &[u8], variables: u32) -> Option<Literal> {
+        literal_of(word, variables)
+    }
+}
+
+impl Item for u32 {
+    fn in_word(word: &[u8], variables: u32) -> Option<u32> {
+        variable_of(word, variables)
+    }
+}
+
+/// What the words write, if all are of their form.
+pub fn all_of<T: Item + Drop>(
     alloc: Global,
     words: &[&[u8]],
     variables: u32,
-) -> Result<Option<Vec<Literal>>, AllocError> {
-    let mut literals = Vec::new(alloc);
-    for word in words {
-        let Some(literal) = literal_of(word, variables) else {
-            return Ok(None);
-        };
-        literals.push(literal)?;
-    }
-    Ok(Some(literals))
-}
-
-/// Variables, if all words are of their form.
-pub fn variables_of(
-    alloc: Global,
-    words: &[&[u8]],
-    variables: u32,
-) -> Result<Option<Vec<u32>>, AllocError> {
+) -> Result<Vec<T>, Stop> {
     let mut found = Vec::new(alloc);
     for word in words {
-        let Some(variable) = variable_of(word, variables) else {
-            return Ok(None);
-        };
-        found.push(variable)?;
+        found.push(of_form(T::in_word(word, variables))?)?;
     }
-    Ok(Some(found))
+    Ok(found)
 }
 
 /// The words in front of the first `;`, and those behind it.

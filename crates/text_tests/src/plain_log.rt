@@ -1,50 +1,18 @@
 //! A log judged plainly, by the page on the formats: whatever was made is kept under its name, and looked for from the first on.
 
+use crate::plain_encoding::Terms;
 use crate::plain_items::{
-    literals_of, name_of, numeral_of, operations_of, parted, reference_of, references_of,
-    row_number_of, variables_of,
+    all_of, name_of, numeral_of, operations_of, parted, reference_of, row_number_of,
 };
 use crate::plain_rows::{
     Row, divided, is_false, is_wide, row_of, row_of_literals, saturated, sum, times,
 };
-use crate::plain_values::{holds, is_contradicted, make_false, no_values};
+use crate::plain_stops::{Stop, of_form, refuse_if};
+use crate::plain_values::{holds, is_contradicted, values_without};
 use crate::plain_words::pieces_of;
 use log_theory::{Cause, Name, Op, Ref, Verdict};
 use proof_theory::Literal;
-use std::alloc::{AllocError, AllocFailed, Global};
-
-/// Why a line is refused.
-#[derive(Drop)]
-pub enum Stop {
-    Cause(Cause),
-    NoMemory,
-}
-
-impl From<AllocError> for Stop {
-    fn from(_: AllocError) -> Stop {
-        Stop::NoMemory
-    }
-}
-
-impl<T: Drop> From<AllocFailed<T>> for Stop {
-    fn from(_: AllocFailed<T>) -> Stop {
-        Stop::NoMemory
-    }
-}
-
-/// Refuses the line for this cause where something is wrong.
-fn refuse_if(is_wrong: bool, cause: Cause) -> Result<(), Stop> {
-    if is_wrong {
-        Err(Stop::Cause(cause))
-    } else {
-        Ok(())
-    }
-}
-
-/// What is there, or a refusal of the line for its form.
-fn of_form<T: Drop>(found: Option<T>) -> Result<T, Stop> {
-    found.ok_or(Stop::Cause(Cause::Form))
-}
+use std::alloc::{AllocError, Global};
 
 /// What stands while a log is gone through: the constraints by all that refers to them, those of the encoding in front.
 #[derive(Drop)]
@@ -96,61 +64,74 @@ fn expect_next(log: &Log, name: Name) -> Result<(), Stop> {
     expect_new(log, Ref::Made(name), name.number.wrapping_sub(1))
 }
 
-/// A copy of a row.
-fn copy(alloc: Global, row: &Row) -> Result<Row, AllocError> {
-    times(alloc, row, 1)
+/// Keeps a row under its name; a line that has one kept claims nothing.
+fn keep(log: &mut Log, reference: Ref, row: Row) -> Result<Option<Verdict>, Stop> {
+    log.named.push((reference, row))?;
+    Ok(None)
 }
 
-/// The upper row of a stack.
-fn pop(stack: &mut Vec<Row>) -> Result<Row, Stop> {
+/// The row that one operation makes of the upper ones of a stack.
+fn made_of(alloc: Global, log: &Log, stack: &[Row], op: Op) -> Result<Row, Stop> {
+    match (op, stack) {
+        (Op::Push(reference), _) => times(alloc, find(log, reference)?, 1),
+        (Op::Axiom(literal), _) => row_of_literals(alloc, log.variables, &[literal], 0),
+        (Op::Times(0) | Op::Divide(0), _) => Err(Stop::Cause(Cause::Zero)),
+        (Op::Add, [.., lower, upper]) => sum(alloc, lower, upper),
+        (Op::Times(n), [.., upper]) => times(alloc, upper, i128::from(n)),
+        (Op::Divide(n), [.., upper]) => divided(alloc, upper, i128::from(n)),
+        (Op::Saturate, [.., upper]) => saturated(alloc, upper),
+        _ => Err(Stop::Cause(Cause::Stack)),
+    }
+}
+
+/// How many rows of a stack an operation takes.
+fn taken_by(op: Op) -> usize {
+    match op {
+        Op::Push(_) | Op::Axiom(_) => 0,
+        Op::Times(_) | Op::Divide(_) | Op::Saturate => 1,
+        Op::Add => 2,
+    }
+}
+
+/// Puts a row on a stack, in place of its upper ones, and refuses one that is too wide.
+fn put(stack: &mut Vec<Row>, taken: usize, row: Row) -> Result<(), Stop> {
+    let is_wide = is_wide(&row);
+    stack.truncate(stack.len().saturating_sub(taken));
+    stack.push(row)?;
+    refuse_if(is_wide, Cause::Wide)
+}
+
+/// Leaves on a stack what operations make.
+fn operate(alloc: Global, log: &Log, stack: &mut Vec<Row>, operations: &[Op]) -> Result<(), Stop> {
+    for op in operations {
+        let row = made_of(alloc, log, stack, *op)?;
+        put(stack, taken_by(*op), row)?;
+    }
+    refuse_if(stack.len() != 1, Cause::Stack)
+}
+
+/// The one row that operations leave, to be known by this name.
+fn calculated(alloc: Global, log: &Log, name: Name, operations: &[Op]) -> Result<Row, Stop> {
+    expect_next(log, name)?;
+    let mut stack = Vec::new(alloc);
+    operate(alloc, log, &mut stack, operations)?;
     stack.pop().ok_or(Stop::Cause(Cause::Stack))
 }
 
-/// The row on which one operation leaves the stack.
-fn operate(alloc: Global, log: &Log, stack: &mut Vec<Row>, op: Op) -> Result<Row, Stop> {
-    match op {
-        Op::Push(reference) => Ok(copy(alloc, find(log, reference)?)?),
-        Op::Axiom(literal) => { Ok(row_of_literals(alloc, log.variables as usize, &[literal], 0)?) }
-        Op::Add => {
-            let upper = pop(stack)?;
-            Ok(sum(alloc, &pop(stack)?, &upper)?)
-        }
-        Op::Times(n) => {
-            refuse_if(n == 0, Cause::Zero)?;
-            Ok(times(alloc, &pop(stack)?, i128::from(n))?)
-        }
-        Op::Divide(n) => {
-            refuse_if(n == 0, Cause::Zero)?;
-            Ok(divided(alloc, &pop(stack)?, i128::from(n))?)
-        }
-        Op::Saturate => Ok(saturated(alloc, &pop(stack)?)?),
-    }
-}
-
-/// The one row that operations leave.
-fn calculated(alloc: Global, log: &Log, operations: &[Op]) -> Result<Row, Stop> {
-    let mut stack = Vec::new(alloc);
-    for op in operations {
-        let row = operate(alloc, log, &mut stack, *op)?;
-        refuse_if(is_wide(&row), Cause::Wide)?;
-        stack.push(row)?;
-    }
-    let only = pop(&mut stack)?;
-    refuse_if(!stack.is_empty(), Cause::Stack)?;
-    Ok(only)
+/// The row of a name and `OPERATIONS ;`.
+fn calculated_in(alloc: Global, log: &Log, name: Name, words: &[&[u8]]) -> Result<Row, Stop> {
+    let (front, behind) = of_form(parted(words))?;
+    refuse_if(!behind.is_empty(), Cause::Form)?;
+    let operations = operations_of(alloc, front, log.variables)?;
+    calculated(alloc, log, name, &operations)
 }
 
 /// `p NAME OPERATIONS ;`, from the name on.
-fn calculate(alloc: Global, log: &mut Log, words: &[&[u8]]) -> Result<(), Stop> {
+fn calculate(alloc: Global, log: &mut Log, words: &[&[u8]]) -> Result<Option<Verdict>, Stop> {
     let (word, rest) = of_form(words.split_first())?;
     let name = of_form(name_of(word))?;
-    let (front, behind) = of_form(parted(rest))?;
-    let operations = of_form(operations_of(alloc, front, log.variables)?)?;
-    refuse_if(!behind.is_empty(), Cause::Form)?;
-    expect_next(log, name)?;
-    let row = calculated(alloc, log, &operations)?;
-    log.named.push((Ref::Made(name), row))?;
-    Ok(())
+    let row = calculated_in(alloc, log, name, rest)?;
+    keep(log, Ref::Made(name), row)
 }
 
 /// Whether a variable stands twice among literals.
@@ -166,19 +147,12 @@ fn is_twice(literals: &[Literal]) -> bool {
     number != literals.len() as u64
 }
 
-/// Whether the references, one after another, come to a contradiction where the literals are false.
-fn contradict(
-    alloc: Global,
-    log: &Log,
-    literals: &[Literal],
-    references: &[Ref],
-) -> Result<bool, Stop> {
-    let mut values = no_values(alloc, log.variables as usize)?;
-    make_false(&mut values, literals);
+/// Whether the references, one after another, come to a contradiction under these values.
+fn contradict(log: &Log, values: &mut [Option<bool>], references: &[Ref]) -> Result<bool, Stop> {
     let mut is_found = false;
     for reference in references {
         let row = find(log, *reference)?;
-        is_found = is_found || is_contradicted(row, &mut values);
+        is_found = is_found || is_contradicted(row, values);
     }
     Ok(is_found)
 }
@@ -193,61 +167,84 @@ fn is_any_contradicted(log: &Log, values: &mut [Option<bool>]) -> bool {
     false
 }
 
-/// Whether all constraints, in whatever order, come to a contradiction where the literals are false. Each time that they are gone
-/// through and anything follows, one variable more has a value.
-fn spread(alloc: Global, log: &Log, literals: &[Literal]) -> Result<bool, AllocError> {
-    let mut values = no_values(alloc, log.variables as usize)?;
-    make_false(&mut values, literals);
+/// Whether all constraints, in whatever order, come to a contradiction under these values. Each
+/// time that they are gone through and anything follows, one variable more has a value.
+fn spread(log: &Log, values: &mut [Option<bool>]) -> bool {
     for _ in 0..=log.variables {
-        if is_any_contradicted(log, &mut values) {
-            return Ok(true);
+        if is_any_contradicted(log, values) {
+            return true;
         }
     }
-    Ok(false)
+    false
+}
+
+/// Whether there is a contradiction where the literals are false, by the references in a log with
+/// hints.
+fn is_implied(
+    alloc: Global,
+    log: &Log,
+    literals: &[Literal],
+    references: &[Ref],
+) -> Result<bool, Stop> {
+    let mut values = values_without(alloc, log.variables, literals)?;
+    if log.is_hinted {
+        contradict(log, &mut values, references)
+    } else {
+        Ok(spread(log, &mut values))
+    }
 }
 
 /// The words of references behind those of literals, in a log without hints none.
 fn references_in<'a, 'b>(log: &Log, behind: &'b [&'a [u8]]) -> Result<&'b [&'a [u8]], Stop> {
-    if !log.is_hinted {
-        refuse_if(!behind.is_empty(), Cause::Form)?;
-        return Ok(behind);
+    match (log.is_hinted, parted(behind)) {
+        (true, Some((front, []))) => Ok(front),
+        (false, _) if behind.is_empty() => Ok(behind),
+        _ => Err(Stop::Cause(Cause::Form)),
     }
-    let (front, rest) = of_form(parted(behind))?;
-    refuse_if(!rest.is_empty(), Cause::Form)?;
-    Ok(front)
+}
+
+/// The row of literals that follow, to be known by this name.
+fn followed(
+    alloc: Global,
+    log: &Log,
+    name: Name,
+    literals: &[Literal],
+    references: &[Ref],
+) -> Result<Row, Stop> {
+    expect_next(log, name)?;
+    refuse_if(is_twice(literals), Cause::Twice)?;
+    let is_found = is_implied(alloc, log, literals, references)?;
+    refuse_if(!is_found, Cause::NoConflict)?;
+    row_of_literals(alloc, log.variables, literals, 1)
+}
+
+/// The row of a name and `LITERALS ; REFERENCES ;`, or `LITERALS ;` in a log without hints.
+fn followed_in(alloc: Global, log: &Log, name: Name, words: &[&[u8]]) -> Result<Row, Stop> {
+    let (front, behind) = of_form(parted(words))?;
+    let behind = references_in(log, behind)?;
+    let literals = all_of(alloc, front, log.variables)?;
+    let references = all_of(alloc, behind, log.variables)?;
+    followed(alloc, log, name, &literals, &references)
 }
 
 /// `u NAME LITERALS ; REFERENCES ;`, or `u NAME LITERALS ;` in a log without hints, from the name on.
-fn follow(alloc: Global, log: &mut Log, words: &[&[u8]]) -> Result<(), Stop> {
+fn follow(alloc: Global, log: &mut Log, words: &[&[u8]]) -> Result<Option<Verdict>, Stop> {
     let (word, rest) = of_form(words.split_first())?;
     let name = of_form(name_of(word))?;
-    let (front, behind) = of_form(parted(rest))?;
-    let literals = of_form(literals_of(alloc, front, log.variables)?)?;
-    let references = of_form(references_of(alloc, references_in(log, behind)?)?)?;
-    expect_next(log, name)?;
-    refuse_if(is_twice(&literals), Cause::Twice)?;
-    let is_found = if log.is_hinted {
-        contradict(alloc, log, &literals, &references)?
-    } else {
-        spread(alloc, log, &literals)?
-    };
-    refuse_if(!is_found, Cause::NoConflict)?;
-    let row = row_of_literals(alloc, log.variables as usize, &literals, 1)?;
-    log.named.push((Ref::Made(name), row))?;
-    Ok(())
+    let row = followed_in(alloc, log, name, rest)?;
+    keep(log, Ref::Made(name), row)
 }
 
 /// `n K NAME`, from K on.
-fn rename(alloc: Global, log: &mut Log, words: &[&[u8]]) -> Result<(), Stop> {
+fn rename(alloc: Global, log: &mut Log, words: &[&[u8]]) -> Result<Option<Verdict>, Stop> {
     let [row, name] = words else {
         return Err(Stop::Cause(Cause::Form));
     };
     let row = of_form(row_number_of(row))?;
     let name = of_form(name_of(name))?;
     expect_new(log, Ref::Shared(row), 0)?;
-    let named = copy(alloc, find(log, Ref::Made(name))?)?;
-    log.named.push((Ref::Shared(row), named))?;
-    Ok(())
+    let named = times(alloc, find(log, Ref::Made(name))?, 1)?;
+    keep(log, Ref::Shared(row), named)
 }
 
 /// Whether a variable stands twice.
@@ -273,40 +270,48 @@ fn do_hold(log: &Log, ones: &[u32]) -> bool {
 }
 
 /// `e REFERENCE`, from the reference on.
-fn claim_none(log: &Log, words: &[&[u8]]) -> Result<Verdict, Stop> {
+fn claim_none(log: &Log, words: &[&[u8]]) -> Result<Option<Verdict>, Stop> {
     let [word] = words else {
         return Err(Stop::Cause(Cause::Form));
     };
     let row = find(log, of_form(reference_of(word))?)?;
     refuse_if(!is_false(row), Cause::NotFalse)?;
-    Ok(Verdict::Unsatisfiable)
+    Ok(Some(Verdict::Unsatisfiable))
 }
 
 /// `y VARIABLES`, from the variables on.
-fn claim_solution(alloc: Global, log: &Log, words: &[&[u8]]) -> Result<Verdict, Stop> {
-    let ones = of_form(variables_of(alloc, words, log.variables)?)?;
+fn claim_solution(alloc: Global, log: &Log, words: &[&[u8]]) -> Result<Option<Verdict>, Stop> {
+    let ones = all_of(alloc, words, log.variables)?;
     refuse_if(is_one_twice(&ones), Cause::Twice)?;
     refuse_if(!do_hold(log, &ones), Cause::NotSolution)?;
-    Ok(Verdict::Satisfiable)
+    Ok(Some(Verdict::Satisfiable))
+}
+
+/// What a last line claims, by its kind and the words behind that.
+fn claim(alloc: Global, log: &Log, kind: &[u8], words: &[&[u8]]) -> Result<Option<Verdict>, Stop> {
+    match kind {
+        b"e" => claim_none(log, words),
+        b"y" => claim_solution(alloc, log, words),
+        b"q" if words.is_empty() => Ok(Some(Verdict::Undecided)),
+        _ => Err(Stop::Cause(Cause::Form)),
+    }
+}
+
+/// Does what the words of a line behind the second say; what a last line claims.
+fn take_words(alloc: Global, log: &mut Log, all: &[&[u8]]) -> Result<Option<Verdict>, Stop> {
+    let (kind, words) = of_form(all.split_first())?;
+    match *kind {
+        b"p" => calculate(alloc, log, words),
+        b"u" => follow(alloc, log, words),
+        b"n" => rename(alloc, log, words),
+        _ => claim(alloc, log, kind, words),
+    }
 }
 
 /// Does what a line behind the second says; what a last line claims.
 fn take(alloc: Global, log: &mut Log, line: &[u8]) -> Result<Option<Verdict>, Stop> {
     let all = pieces_of(alloc, line, b" ")?;
-    let (kind, words) = of_form(all.split_first())?;
-    match *kind {
-        b"p" => calculate(alloc, log, words)?,
-        b"u" => follow(alloc, log, words)?,
-        b"n" => rename(alloc, log, words)?,
-        b"e" => return Ok(Some(claim_none(log, words)?)),
-        b"y" => return Ok(Some(claim_solution(alloc, log, words)?)),
-        b"q" => {
-            refuse_if(!words.is_empty(), Cause::Form)?;
-            return Ok(Some(Verdict::Undecided));
-        }
-        _ => return Err(Stop::Cause(Cause::Form)),
-    }
-    Ok(None)
+    take_words(alloc, log, &all)
 }
 
 /// Does what a line says that has this number, from 1.
@@ -372,16 +377,12 @@ pub fn verdict_of(alloc: Global, log: &mut Log, text: &[u8]) -> Result<Verdict, 
 }
 
 /// A log over constraints of an encoding before its first line.
-pub fn begun(
-    alloc: Global,
-    variables: u32,
-    constraints: &[crate::plain_encoding::Terms],
-) -> Result<Log, AllocError> {
+pub fn begun(alloc: Global, variables: u32, constraints: &[Terms]) -> Result<Log, AllocError> {
     let mut named = Vec::new(alloc);
     let mut number: u64 = 0;
     for terms in constraints {
         number = number.wrapping_add(1);
-        let row = row_of(alloc, variables as usize, &terms.terms, terms.bound)?;
+        let row = row_of(alloc, variables, &terms.terms, terms.bound)?;
         named.push((Ref::Line(number), row))?;
     }
     Ok(Log {

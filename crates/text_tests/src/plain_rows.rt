@@ -1,5 +1,6 @@
 //! Linear constraints with a coefficient for each variable, and the rules of a log on them, plainly.
 
+use crate::plain_stops::Stop;
 use proof_theory::Literal;
 use std::alloc::{AllocError, Global};
 
@@ -56,14 +57,11 @@ pub fn is_false(row: &Row) -> bool {
 /// The row of terms, coefficients of one variable being added.
 pub fn row_of(
     alloc: Global,
-    variables: usize,
+    variables: u32,
     terms: &[(u32, i128)],
     bound: i128,
 ) -> Result<Row, AllocError> {
-    let mut coefficients = Vec::new(alloc);
-    for _ in 0..variables {
-        coefficients.push(0i128)?;
-    }
+    let mut coefficients = vec![in alloc; 0i128; variables as usize]?;
     for (variable, c) in terms {
         let place = (*variable as usize).wrapping_sub(1);
         if let Some(sum) = coefficients.get_mut(place) {
@@ -79,21 +77,18 @@ pub fn row_of(
 /// That the sum of the literals is at least so much. For `~x` stands 1 - x.
 pub fn row_of_literals(
     alloc: Global,
-    variables: usize,
+    variables: u32,
     literals: &[Literal],
     least: i128,
-) -> Result<Row, AllocError> {
+) -> Result<Row, Stop> {
     let mut terms = Vec::new(alloc);
     let mut bound = least;
     for literal in literals {
-        if literal.negated {
-            terms.push((literal.variable, -1i128))?;
-            bound = bound.saturating_sub(1);
-        } else {
-            terms.push((literal.variable, 1i128))?;
-        }
+        let c: i128 = if literal.negated { -1 } else { 1 };
+        bound = bound.saturating_add(c.min(0));
+        terms.push((literal.variable, c))?;
     }
-    row_of(alloc, variables, &terms, bound)
+    Ok(row_of(alloc, variables, &terms, bound)?)
 }
 
 /// What becomes of each coefficient.
@@ -146,7 +141,7 @@ fn with_degree(coefficients: Vec<i128>, degree: i128) -> Row {
 }
 
 /// The row so many times.
-pub fn times(alloc: Global, row: &Row, n: i128) -> Result<Row, AllocError> {
+pub fn times(alloc: Global, row: &Row, n: i128) -> Result<Row, Stop> {
     let coefficients = all_changed(alloc, row, Change::Times(n))?;
     Ok(Row {
         coefficients,
@@ -155,20 +150,20 @@ pub fn times(alloc: Global, row: &Row, n: i128) -> Result<Row, AllocError> {
 }
 
 /// The row, its normal form divided and rounded up.
-pub fn divided(alloc: Global, row: &Row, n: i128) -> Result<Row, AllocError> {
+pub fn divided(alloc: Global, row: &Row, n: i128) -> Result<Row, Stop> {
     let coefficients = all_changed(alloc, row, Change::Divided(n))?;
     Ok(with_degree(coefficients, quotient(degree(row), n)))
 }
 
 /// The row, the coefficients of its normal form cut to the bound of that, or to 0.
-pub fn saturated(alloc: Global, row: &Row) -> Result<Row, AllocError> {
+pub fn saturated(alloc: Global, row: &Row) -> Result<Row, Stop> {
     let degree = degree(row);
     let coefficients = all_changed(alloc, row, Change::Cut(degree.max(0)))?;
     Ok(with_degree(coefficients, degree))
 }
 
 /// The sum of two rows.
-pub fn sum(alloc: Global, one: &Row, other: &Row) -> Result<Row, AllocError> {
+pub fn sum(alloc: Global, one: &Row, other: &Row) -> Result<Row, Stop> {
     let mut coefficients = Vec::new(alloc);
     let added = other.coefficients.as_slice();
     let mut place: usize = 0;

@@ -4,23 +4,25 @@ use crate::plain_rows::{Row, degree, size};
 use proof_theory::Literal;
 use std::alloc::{AllocError, Global};
 
-/// All variables without a value.
-pub fn no_values(alloc: Global, variables: usize) -> Result<Vec<Option<bool>>, AllocError> {
-    let mut values = Vec::new(alloc);
-    for _ in 0..variables {
-        values.push(None)?;
-    }
-    Ok(values)
-}
-
 /// Makes the literals false.
-pub fn make_false(values: &mut [Option<bool>], literals: &[Literal]) {
+fn make_false(values: &mut [Option<bool>], literals: &[Literal]) {
     for literal in literals {
         let place = (literal.variable as usize).wrapping_sub(1);
         if let Some(value) = values.get_mut(place) {
             *value = Some(literal.negated);
         }
     }
+}
+
+/// The values of so many variables, where the literals are false and no other variable has one.
+pub fn values_without(
+    alloc: Global,
+    variables: u32,
+    literals: &[Literal],
+) -> Result<Vec<Option<bool>>, AllocError> {
+    let mut values = vec![in alloc; None; variables as usize]?;
+    make_false(&mut values, literals);
+    Ok(values)
 }
 
 /// Whether the literal that a coefficient has in the normal form is not false.

@@ -32,12 +32,8 @@ pub fn pieces_of<'a>(
 
 /// The pieces that are not empty.
 pub fn words_of<'a>(alloc: Global, line: &'a [u8]) -> Result<Vec<&'a [u8]>, AllocError> {
-    let mut words = Vec::new(alloc);
-    for piece in &pieces_of(alloc, line, b" \t")? {
-        if !piece.is_empty() {
-            words.push(*piece)?;
-        }
-    }
+    let mut words = pieces_of(alloc, line, b" \t")?;
+    words.retain(|word| !word.is_empty());
     Ok(words)
 }
 

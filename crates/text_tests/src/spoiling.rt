@@ -124,21 +124,19 @@ fn joined(alloc: Global, parts: &[&[u8]]) -> Result<Vec<u8>, AllocError> {
 }
 
 /// The text with one piece doubled, the first of the bytes between pieces in front of it.
-fn with_double(
+fn with_double<'a>(
     alloc: Global,
     random: &mut Random,
-    text: &[u8],
-    between: &[u8],
+    text: &'a [u8],
+    between: &'a [u8],
 ) -> Result<Vec<u8>, AllocError> {
     let at = random.below(pieces_in(text, between));
     let found = around_piece(text, between, at);
-    let mut made = joined(alloc, &[found.front, found.piece])?;
-    if let Some(byte) = between.first() {
-        made.push(*byte)?;
-    }
-    made.extend_from_slice(found.piece)?;
-    made.extend_from_slice(found.behind)?;
-    Ok(made)
+    let first = between.get(..1).unwrap_or(&[]);
+    joined(
+        alloc,
+        &[found.front, found.piece, first, found.piece, found.behind],
+    )
 }
 
 /// The text without one piece and what stands right in front of it.
