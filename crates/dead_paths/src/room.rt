@@ -10,13 +10,25 @@ use propagation::Entry;
 use std::alloc::{AllocError, Global};
 
 /// Rows and lists that are filled anew for each change.
-#[derive(Drop)]
 pub(crate) struct Room {
     pub(crate) spare: Vec<u64>,
     pub(crate) other: Vec<u64>,
     pub(crate) set: Vec<u64>,
     pub(crate) counts: Vec<u16>,
     pub(crate) pairs: Vec<(u16, u16)>,
+}
+
+impl Drop for Room {
+    /// In one call, for whoever lets one go.
+    fn drop(self) {
+        let Room {
+            spare: _,
+            other: _,
+            set: _,
+            counts: _,
+            pairs: _,
+        } = self;
+    }
 }
 
 /// As many words as these.
@@ -76,13 +88,25 @@ pub(crate) struct ChosenEntry {
 }
 
 /// Memory that one dead path needs and the next can use again: a byte and a row of values for each pattern vertex, and a few rows.
-#[derive(Drop)]
 pub struct Scratch {
     pub(crate) marked: Vec<bool>,
     pub(crate) needed: Vec<u64>,
     pub(crate) at: Vec<u16>,
     pub(crate) chosen: Vec<ChosenEntry>,
     pub(crate) room: Room,
+}
+
+impl Drop for Scratch {
+    /// In one call, for whoever lets one go.
+    fn drop(self) {
+        let Scratch {
+            marked: _,
+            needed: _,
+            at: _,
+            chosen: _,
+            room: _,
+        } = self;
+    }
 }
 
 impl Scratch {

@@ -45,7 +45,6 @@ impl Mark {
 ///
 /// Row `p` is the words from `p * words` on of `rows`; `sizes[p]` is how many bits it has set. Where that is one bit, `singles[p]`
 /// is its value, so that nobody has to look for it; elsewhere `singles[p]` may be anything.
-#[derive(Drop)]
 pub struct Domains<T: Trail = PairTrail> {
     vertices: u16,
     values: u16,
@@ -54,6 +53,21 @@ pub struct Domains<T: Trail = PairTrail> {
     sizes: Vec<u16>,
     singles: Vec<u16>,
     trail: T,
+}
+
+impl<T: Trail> Drop for Domains<T> {
+    /// In one call, for whoever lets one go.
+    fn drop(self) {
+        let Domains {
+            vertices: _,
+            values: _,
+            words: _,
+            rows: _,
+            sizes: _,
+            singles: _,
+            trail: _,
+        } = self;
+    }
 }
 
 impl<T: Trail> Model for Domains<T> {

@@ -22,7 +22,6 @@ const FAILS_PER_TERM: u64 = 128;
 
 /// Where a search stands: a path of guesses, at each of its levels and at the one after it the values that are refuted
 /// there, and the counts of its fails. It keeps nothing of its problem but the sizes.
-#[derive(Drop)]
 pub struct Account {
     /// The pattern's size.
     pattern: u16,
@@ -46,6 +45,25 @@ pub struct Account {
     all: u64,
     /// The cutoff of this run.
     limit: u64,
+}
+
+impl Drop for Account {
+    /// In one call, for whoever lets one go.
+    fn drop(self) {
+        let Account {
+            pattern: _,
+            target: _,
+            budget: _,
+            path: _,
+            words: _,
+            width: _,
+            vertex: _,
+            count: _,
+            run: _,
+            all: _,
+            limit: _,
+        } = self;
+    }
 }
 
 impl Model for Account {

@@ -23,11 +23,21 @@ use std::marker::Model;
 
 /// What the lines of a problem's first domains are made from. Contracts see the problem. Where edges are known to stand both ways, the
 /// clauses of one direction are all.
-#[derive(Drop)]
 pub struct FirstLines<'a> {
     problem: &'a Problem,
     out: ValueClauses<'a>,
     back: Option<ValueClauses<'a>>,
+}
+
+impl Drop for FirstLines<'_> {
+    /// In one call, for whoever lets one go.
+    fn drop(self) {
+        let FirstLines {
+            problem: _,
+            out: _,
+            back: _,
+        } = self;
+    }
 }
 
 impl<'a> Model for FirstLines<'a> {

@@ -46,11 +46,21 @@ pub(crate) enum Lack {
 
 /// What the clauses against single values are made from, in one direction of edges. Contracts see the problem of the graphs that are
 /// turned so.
-#[derive(Drop)]
 pub(crate) struct ValueClauses<'a> {
     turned: Turned<'a>,
     pattern: Sequences,
     target: Sequences,
+}
+
+impl Drop for ValueClauses<'_> {
+    /// In one call, for whoever lets one go.
+    fn drop(self) {
+        let ValueClauses {
+            turned: _,
+            pattern: _,
+            target: _,
+        } = self;
+    }
 }
 
 impl<'a> Model for ValueClauses<'a> {

@@ -25,11 +25,21 @@ use std::marker::Model;
 
 /// For each pattern vertex the values whose neighbours' degrees are not too small, in each direction of edges. Contracts see the
 /// problem. Where edges are known to stand both ways, those of one direction are all.
-#[derive(Drop)]
 pub struct FirstRows<'a> {
     problem: &'a Problem,
     out: KeptRows<'a>,
     back: Option<KeptRows<'a>>,
+}
+
+impl Drop for FirstRows<'_> {
+    /// In one call, for whoever lets one go.
+    fn drop(self) {
+        let FirstRows {
+            problem: _,
+            out: _,
+            back: _,
+        } = self;
+    }
 }
 
 impl<'a> Model for FirstRows<'a> {

@@ -14,12 +14,23 @@ use std::alloc::{AllocError, Global};
 use std::marker::Model;
 
 /// The lines of an owner, from its number 1 on, and the notes of its rows. A line takes the bytes of its text and eight more.
-#[derive(Drop)]
 pub struct Journal {
     owner: u8,
     text: TextBuffer,
     ends: Vec<usize>,
     notes: Vec<(u32, u64)>,
+}
+
+impl Drop for Journal {
+    /// In one call, for whoever lets one go.
+    fn drop(self) {
+        let Journal {
+            owner: _,
+            text: _,
+            ends: _,
+            notes: _,
+        } = self;
+    }
 }
 
 impl Model for Journal {
@@ -107,15 +118,13 @@ fn renamed(step: Step, name: Name) -> Step
     ensures { (place : ℕ) → name ≡ own_name name.owner place
         → result ≡ named name.owner place step }
 {
-    match step {
-        Step::P { name: _, ops } => Step::P { name, ops },
-        Step::U {
-            name: _,
-            lits,
-            refs,
-        } => Step::U { name, lits, refs },
-        other => other,
+    let mut line = step;
+    match &mut line {
+        Step::P { name: old, .. } => *old = name,
+        Step::U { name: old, .. } => *old = name,
+        _ => (),
     }
+    line
 }
 
 impl Keeper for Journal {

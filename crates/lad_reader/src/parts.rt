@@ -118,7 +118,6 @@ impl EdgeLabels {
 
 /// What a graph's text says: its format, a label for each vertex, 0 where the text has none, the neighbours that it lists, and the
 /// labels of the edges to these, which are 0 where none are given.
-#[derive(Drop)]
 pub struct GraphParts {
     /// The format.
     pub kind: LadKind,
@@ -128,4 +127,16 @@ pub struct GraphParts {
     pub neighbours: NeighbourLists,
     /// The labels of the edges to them; they count in a format with such labels alone.
     pub edge_labels: EdgeLabels,
+}
+
+impl Drop for GraphParts {
+    /// In one call, for whoever lets one go.
+    fn drop(self) {
+        let GraphParts {
+            kind: _,
+            labels: _,
+            neighbours: _,
+            edge_labels: _,
+        } = self;
+    }
 }

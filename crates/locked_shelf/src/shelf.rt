@@ -33,6 +33,7 @@ impl<'a, R: Wait + Sync> Model for LockedShelf<'a, R> {
 }
 
 impl<'a, R: Wait + Sync> Drop for LockedShelf<'a, R> {
+    /// In one call, for whoever lets one go.
     fn drop(self) {
         let LockedShelf {
             rt: _,

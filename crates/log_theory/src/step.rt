@@ -185,7 +185,6 @@ impl Variables {
 
 /// A line of a log: the first two, a constraint made by operations or by unit propagation, one shared under a row, and the three last
 /// lines, unsatisfiable, satisfiable and undecided.
-#[derive(Drop)]
 pub enum Step {
     Head,
     Model(u64),
@@ -209,6 +208,26 @@ pub enum Step {
         ones: Variables,
     },
     Q,
+}
+
+impl Drop for Step {
+    /// In one call, for whoever lets one go.
+    fn drop(self) {
+        match self {
+            Step::Head => (),
+            Step::Model(_) => (),
+            Step::P { name: _, ops: _ } => (),
+            Step::U {
+                name: _,
+                lits: _,
+                refs: _,
+            } => (),
+            Step::N { row: _, name: _ } => (),
+            Step::E { at: _ } => (),
+            Step::Y { ones: _ } => (),
+            Step::Q => (),
+        }
+    }
 }
 
 /// Why a line is refused. Where several causes stand in one line, the first of this list is told; within a `p` line operation by

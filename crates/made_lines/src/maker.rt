@@ -19,7 +19,6 @@ use std::alloc::{AllocError, Global};
 
 /// The names of the lines that were made so far for a problem. Cost of a line that is there: one step for one of two vertices, which is found
 /// by hash, and for a set, found so too, a sort of its vertices and one step for each vertex and value.
-#[derive(Drop)]
 pub struct MadeLines<'a> {
     problem: &'a Problem,
     first: FirstLines<'a>,
@@ -28,6 +27,20 @@ pub struct MadeLines<'a> {
     rows: RowLines,
     sets: SetNames,
     ghost same: { first ≡ problem.now },
+}
+
+impl Drop for MadeLines<'_> {
+    /// In one call, for whoever lets one go.
+    fn drop(self) {
+        let MadeLines {
+            problem: _,
+            first: _,
+            units: _,
+            firsts: _,
+            rows: _,
+            sets: _,
+        } = self;
+    }
 }
 
 impl<'a> MadeLines<'a> {

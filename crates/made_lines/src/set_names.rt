@@ -20,11 +20,21 @@ pub(crate) struct Seat {
 
 /// The names of the lines of sets, that is of vertices that were counted together and their values. Contracts see the sets with their names.
 /// A set is looked for under a number that is mixed of its members; where two sets have one number, only the later one is found.
-#[derive(Drop)]
 pub(crate) struct SetNames {
     numbers: Vec<u16>,
     seats: Vec<Seat>,
     by_mixed: HashMap<u64, usize>,
+}
+
+impl Drop for SetNames {
+    /// In one call, for whoever lets one go.
+    fn drop(self) {
+        let SetNames {
+            numbers: _,
+            seats: _,
+            by_mixed: _,
+        } = self;
+    }
 }
 
 impl Model for SetNames {

@@ -40,13 +40,25 @@ pub const CLEAN: Failing = Failing {
 };
 
 /// What a run left.
-#[derive(Drop)]
 pub struct Ran {
     pub status: u8,
     pub accounts: usize,
     pub files: MemoryFiles,
     pub out: MemorySink,
     pub err: MemorySink,
+}
+
+impl Drop for Ran {
+    /// In one call, for whoever lets one go.
+    fn drop(self) {
+        let Ran {
+            status: _,
+            accounts: _,
+            files: _,
+            out: _,
+            err: _,
+        } = self;
+    }
 }
 
 impl Ran {

@@ -60,11 +60,21 @@ impl<'a> Turned<'a> {
 /// turned so.
 ///
 /// `classes[p]` is the class of `p`, and `rows` has a row for each class.
-#[derive(Drop)]
 pub struct KeptRows<'a> {
     turned: Turned<'a>,
     classes: Vec<usize>,
     rows: Vec<Vec<u64>>,
+}
+
+impl Drop for KeptRows<'_> {
+    /// In one call, for whoever lets one go.
+    fn drop(self) {
+        let KeptRows {
+            turned: _,
+            classes: _,
+            rows: _,
+        } = self;
+    }
 }
 
 impl<'a> Model for KeptRows<'a> {

@@ -37,7 +37,6 @@ pub(crate) struct Entry {
 ///
 /// The literals of all nogoods stand one after the other. Watches 2 i and 2 i + 1 are those of nogood i. There is a list of watches for
 /// each literal, at `vertex * values + value` of `heads`, and after these one of the watches that a walk has yet to visit.
-#[derive(Drop)]
 pub struct Watched {
     vertices: u16,
     values: u16,
@@ -48,6 +47,23 @@ pub struct Watched {
     next: Vec<u32>,
     units: Vec<(u16, u16, u32)>,
     forced: Vec<(u16, u16, u32)>,
+}
+
+impl Drop for Watched {
+    /// In one call, for whoever lets one go.
+    fn drop(self) {
+        let Watched {
+            vertices: _,
+            values: _,
+            literals: _,
+            entries: _,
+            watches: _,
+            heads: _,
+            next: _,
+            units: _,
+            forced: _,
+        } = self;
+    }
 }
 
 impl Model for Watched {

@@ -55,7 +55,6 @@ fn last_pair(path: &[(u16, u16)]) -> Option<(u16, u16)>
 
 /// Keeps the lines of one owner over the encoding of a problem, and for each refuted value of the position the number of
 /// its line. Cost beside the lines: an entry for each of these values, and a number for each row that was noted.
-#[derive(Drop)]
 pub struct PathJournal<'a, M: LineMaker> {
     lines: &'a Ground<'a>,
     journal: Journal,
@@ -63,6 +62,20 @@ pub struct PathJournal<'a, M: LineMaker> {
     entries: Vec<Refuted>,
     maker: M,
     scratch: Scratch,
+}
+
+impl<M: LineMaker> Drop for PathJournal<'_, M> {
+    /// In one call, for whoever lets one go.
+    fn drop(self) {
+        let PathJournal {
+            lines: _,
+            journal: _,
+            numbers: _,
+            entries: _,
+            maker: _,
+            scratch: _,
+        } = self;
+    }
 }
 
 impl<'a, M: LineMaker> PathJournal<'a, M> {

@@ -18,7 +18,6 @@ use std::marker::Model;
 
 /// The encoding of a problem, which it is seen as. It keeps the problem's sizes and the numbers of the pairs that have
 /// lines of their own, and makes each line from these and the problem's graphs when it is asked for.
-#[derive(Drop)]
 pub struct Encoding<'a> {
     problem: &'a Problem,
     vertices: u32,
@@ -26,6 +25,20 @@ pub struct Encoding<'a> {
     refused: Vec<u32>,
     edges: Vec<u32>,
     non_edges: Vec<u32>,
+}
+
+impl Drop for Encoding<'_> {
+    /// In one call, for whoever lets one go.
+    fn drop(self) {
+        let Encoding {
+            problem: _,
+            vertices: _,
+            targets: _,
+            refused: _,
+            edges: _,
+            non_edges: _,
+        } = self;
+    }
 }
 
 impl<'a> Model for Encoding<'a> {

@@ -31,13 +31,25 @@ pub(crate) enum Standing {
 
 /// A model, and a log over it of which a front part was fed. It keeps the lines' constraints, and of the text only the line that has not
 /// ended. Contracts speak of the verdict of that front part with each text behind it (`verdict_with`), and of whether memory was refused.
-#[derive(Drop)]
 pub struct Checker {
     lines: LineChecker,
     standing: Standing,
     number: u64,
     tail: Vec<u8>,
     is_dead: bool,
+}
+
+impl Drop for Checker {
+    /// In one call, for whoever lets one go.
+    fn drop(self) {
+        let Checker {
+            lines: _,
+            standing: _,
+            number: _,
+            tail: _,
+            is_dead: _,
+        } = self;
+    }
 }
 
 impl Model for Checker {

@@ -25,7 +25,6 @@ pub struct Counter {
 /// The counter and the name of each constraint, by its number; the uses of each literal; how many constraints of the model and of each
 /// owner have a number; up to which number all that they force at the root was set; and how many literals of the queue were taken
 /// from the counters.
-#[derive(Drop)]
 pub struct Counters {
     pub slacks: Vec<Counter>,
     pub names: Vec<Ref>,
@@ -33,6 +32,20 @@ pub struct Counters {
     counted: Vec<usize>,
     pub settled: usize,
     pub taken: usize,
+}
+
+impl Drop for Counters {
+    /// In one call, for whoever lets one go.
+    fn drop(self) {
+        let Counters {
+            slacks: _,
+            names: _,
+            uses: _,
+            counted: _,
+            settled: _,
+            taken: _,
+        } = self;
+    }
 }
 
 /// The greatest absolute coefficient. One pass.

@@ -31,13 +31,25 @@ enum Place {
 }
 
 /// The model and where a log over it stands. Contracts see both, with the table of what the log has made.
-#[derive(Drop)]
 pub struct LineChecker {
     variables: u32,
     model: Vec<PackedConstraint>,
     place: Place,
     table: Table,
     work: Propagator,
+}
+
+impl Drop for LineChecker {
+    /// In one call, for whoever lets one go.
+    fn drop(self) {
+        let LineChecker {
+            variables: _,
+            model: _,
+            place: _,
+            table: _,
+            work: _,
+        } = self;
+    }
 }
 
 impl Model for LineChecker {

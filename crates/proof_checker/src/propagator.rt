@@ -25,11 +25,21 @@ use pb_terms::{Literal, Literals};
 use std::alloc::{AllocError, Global};
 
 /// Literals, the same on two levels, and the counters of the constraints so far.
-#[derive(Drop)]
 pub struct Propagator {
     pub set: Literals,
     pub levels: Levels,
     pub counters: Counters,
+}
+
+impl Drop for Propagator {
+    /// In one call, for whoever lets one go.
+    fn drop(self) {
+        let Propagator {
+            set: _,
+            levels: _,
+            counters: _,
+        } = self;
+    }
 }
 
 impl Propagator {

@@ -24,11 +24,21 @@ struct Place {
 
 /// The constraints of each owner in the order of their numbers, and the shared rows, which rise. Contracts see the table of the
 /// definition. A name is looked up in constant time, and a row in a time logarithmic in the number of rows.
-#[derive(Drop)]
 pub struct Table {
     made: Vec<Vec<PackedConstraint>>,
     rows: Vec<u32>,
     places: Vec<Place>,
+}
+
+impl Drop for Table {
+    /// In one call, for whoever lets one go.
+    fn drop(self) {
+        let Table {
+            made: _,
+            rows: _,
+            places: _,
+        } = self;
+    }
 }
 
 impl Model for Table {

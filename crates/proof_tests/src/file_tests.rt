@@ -171,40 +171,66 @@ fn files_fail_where_told(rt: HostRuntime) -> Result<(), Fail> {
     all_hold(&rt, rt.alloc(), &WRITTEN)
 }
 
-/// Whether loading a file of the system gives this.
-fn loads_really(
-    rt: &HostRuntime,
-    name: &str,
-    most: u64,
-    expected: Content,
-) -> Result<bool, AllocError> {
-    let mut files = RealFiles::new(rt.alloc(), rt)?;
-    Ok(loads(rt.alloc(), &mut files, name, most, expected))
+/// What is asked of a file.
+enum Asked {
+    /// Whether a line in it succeeds.
+    Writes(bool),
+    /// What loading at most so many bytes of it gives.
+    Loads(u64, Content),
 }
 
-/// Whether a line in a file of the system succeeds.
-fn writes_really(rt: &HostRuntime, name: &str) -> Result<bool, AllocError> {
-    let mut files = RealFiles::new(rt.alloc(), rt)?;
-    Ok(writes(&mut files, name))
+impl Asked {
+    /// Whether it is as told.
+    fn is_so<F: Files>(&self, alloc: Global, files: &mut F, name: &str) -> bool {
+        match *self {
+            Asked::Writes(is_written) => writes(files, name) == is_written,
+            Asked::Loads(most, expected) => loads(alloc, files, name, most, expected),
+        }
+    }
 }
+
+/// Whether one after the other is as told.
+fn are_so<F: Files>(alloc: Global, files: &mut F, name: &str, asked: &[Asked]) -> bool {
+    for one in asked {
+        if !one.is_so(alloc, files, name) {
+            return false;
+        }
+    }
+    true
+}
+
+/// The same of a file of the system.
+fn are_really_so(rt: &HostRuntime, name: &str, asked: &[Asked]) -> Result<bool, AllocError> {
+    let mut files = RealFiles::new(rt.alloc(), rt)?;
+    Ok(are_so(rt.alloc(), &mut files, name, asked))
+}
+
+static WRITTEN_AND_LOADED: [Asked; 3] = [
+    Asked::Writes(true),
+    Asked::Loads(5, Ok(b"< w >")),
+    Asked::Loads(4, Err(LoadFault::TooLong)),
+];
+
+static GONE: [Asked; 1] = [Asked::Loads(5, Err(LoadFault::Failed))];
 
 #[test]
 fn real_files_are_written_and_loaded(rt: HostRuntime) -> Result<(), Fail> {
     let name = "outer_io_written.txt";
-    let is_written = writes_really(&rt, name)?
-        && loads_really(&rt, name, 5, Ok(b"< w >"))?
-        && loads_really(&rt, name, 4, Err(LoadFault::TooLong))?;
+    let is_written = are_really_so(&rt, name, &WRITTEN_AND_LOADED)?;
     fs::remove_file(&rt, name)?;
-    let is_gone = loads_really(&rt, name, 5, Err(LoadFault::Failed))?;
+    let is_gone = are_really_so(&rt, name, &GONE)?;
     assert!(rt; is_written && is_gone);
     Ok(())
 }
 
+static NO_FILE: [Asked; 2] = [
+    Asked::Loads(5, Err(LoadFault::Failed)),
+    Asked::Writes(false),
+];
+
 #[test]
 fn a_directory_is_no_file(rt: HostRuntime) -> Result<(), Fail> {
-    let is_refused = loads_really(&rt, ".", 5, Err(LoadFault::Failed))?
-        && !writes_really(&rt, ".")?;
-    assert!(rt; is_refused);
+    assert!(rt; are_really_so(&rt, ".", &NO_FILE)?);
     Ok(())
 }
 

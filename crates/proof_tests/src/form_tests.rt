@@ -173,25 +173,30 @@ fn has_slack(c: &Constraint, set: &Literals, slack: i128, first: bool, second: b
         && c.forced(set, 1) == second
 }
 
-/// Whether slack forces the first term of `3 x1 - 2 x2 >= 1`, is a conflict where `x1` is zero, and comes back.
-fn forces_and_tells_conflicts(alloc: Global) -> Result<bool, PbFault> {
-    let c = first(alloc)?;
-    let mut set = Literals::new(alloc, 2)?;
-    if !has_slack(&c, &set, 2, true, false) {
-        return Ok(false);
+/// Whether slack forces the first term of `3 x1 - 2 x2 >= 1` where no literal is set, is a conflict where `x1` is zero, and comes back.
+fn tells_conflicts(c: &Constraint, set: &mut Literals) -> bool {
+    if !has_slack(c, set, 2, true, false) {
+        return false;
     }
     if set.values().len() != 3 || set.values()[1].is_some() {
-        return Ok(false);
+        return false;
     }
     set.set(Literal {
         variable: 1,
         negated: true,
     });
-    if c.slack(&set) != -1 || c.terms().len() != 2 || c.forced(&set, 0) {
-        return Ok(false);
+    if c.slack(set) != -1 || c.terms().len() != 2 || c.forced(set, 0) {
+        return false;
     }
     set.clear();
-    Ok(c.slack(&set) == 2)
+    c.slack(set) == 2
+}
+
+/// Whether it does over two variables.
+fn forces_and_tells_conflicts(alloc: Global) -> Result<bool, PbFault> {
+    let mut set = Literals::new(alloc, 2)?;
+    let c = first(alloc)?;
+    Ok(tells_conflicts(&c, &mut set))
 }
 
 #[test]

@@ -1,6 +1,8 @@
 //! Logs to the letter: a triangle into a cycle of four, whose refutation two owners share, and an edge into an edge.
 
-ghost use Rattle.std.specs.Prelude.{◌≡◌, ◌+◌, ◌≤◌, [], ◌∷◌, length, IfOk, OnOk};
+ghost use Rattle.std.specs.Prelude.{◌≡◌, ◌+◌, ◌≤◌, [], ◌∷◌, length, IsTrue, IfOk, OnOk};
+ghost use Rattle.journals.specs.Keeping.{IsLine};
+ghost use Rattle.log_theory.specs.LogText.{IsStep};
 
 use crate::checker_tests::Expected::{Is, Stops};
 use crate::checker_tests::Whole;
@@ -9,11 +11,23 @@ use journals::{Journal, Keeper};
 use log_theory::{Cause, Name, Profile, Step, Variables, Verdict};
 use merged_log::{write_refutation, write_solution, write_undecided};
 use nogood_book::{Row, RowKind};
+use outer_io::MemorySink;
 use proof_log::read_step;
 use std::alloc::{AllocError, Global};
 use std::test::Fail;
 use worked_examples::all_hold;
 use worked_examples::models::TRIANGLE_INTO_CYCLE;
+
+/// Whether a step is a line that a journal can keep.
+fn is_line(step: &Step) -> bool
+    ensures { IsTrue result → IsStep step.now → IsLine step.now }
+{
+    match step {
+        Step::P { .. } => true,
+        Step::U { .. } => true,
+        _ => false,
+    }
+}
 
 /// Keeps the line that a text tells.
 fn keep(alloc: Global, journal: &mut Journal, line: &[u8]) -> Result<(), AllocError>
@@ -21,17 +35,14 @@ fn keep(alloc: Global, journal: &mut Journal, line: &[u8]) -> Result<(), AllocEr
     ensures notes { journal.new.notes ≡ journal.old.notes }
     ensures lines { OnOk result (length journal.new.steps ≡ length journal.old.steps + 1) }
 {
-    match read_step(alloc, Profile::Hinted, line) {
-        Ok(Step::P { name, ops }) => {
-            journal.keep(Step::P { name, ops })?;
-            Ok(())
-        }
-        Ok(Step::U { name, lits, refs }) => {
-            journal.keep(Step::U { name, lits, refs })?;
-            Ok(())
-        }
-        _ => Err(AllocError),
+    let Ok(step) = read_step(alloc, Profile::Hinted, line) else {
+        return Err(AllocError);
+    };
+    if !is_line(&step) {
+        return Err(AllocError);
     }
+    journal.keep(step)?;
+    Ok(())
 }
 
 /// A journal of some lines, one of which is noted for a row.
@@ -94,18 +105,39 @@ fn nogood(owner: u8, value: u16) -> Row
     }
 }
 
-#[test]
-fn journals_of_two_owners_are_merged(rt: HostRuntime) -> Result<(), Fail> {
-    let first = journal(rt.alloc(), 1, &FIRST, 0, 3)?;
-    let second = journal(rt.alloc(), 2, &SECOND, 1, 3)?;
-    let mut journals = Vec::with_capacity(rt.alloc(), 3)?;
-    journals.push_reserved(Journal::new(rt.alloc(), 0));
+/// Whether the lines of both owners, of which each notes one row, are put as one log.
+fn are_put(
+    alloc: Global,
+    first: Journal,
+    second: Journal,
+    sink: &mut MemorySink,
+) -> Result<bool, AllocError>
+    requires first_owner { first.owner ≡ 1 }
+    requires first_notes { first.notes ≡ (0, 3) ∷ [] }
+    requires first_lines { length first.steps ≡ 3 }
+    requires second_owner { second.owner ≡ 2 }
+    requires second_notes { second.notes ≡ (1, 3) ∷ [] }
+    requires second_lines { length second.steps ≡ 10 }
+{
+    let mut journals = Vec::with_capacity(alloc, 3)?;
+    journals.push_reserved(Journal::new(alloc, 0));
     journals.push_reserved(first);
     journals.push_reserved(second);
     let rows = [nogood(1, 0), nogood(2, 1)];
-    let mut sink = sink_of(rt.alloc(), 4096)?;
-    let written = write_refutation(Profile::Hinted, 34, &journals, &rows, 2, &mut sink);
-    assert!(rt; written.is_ok() && sink.bytes() == MERGED);
+    Ok(write_refutation(Profile::Hinted, 34, &journals, &rows, 2, sink).is_ok())
+}
+
+/// Whether the lines of both owners are merged as this text.
+fn are_merged(alloc: Global, text: &[u8]) -> Result<bool, AllocError> {
+    let mut sink = sink_of(alloc, 4096)?;
+    let first = journal(alloc, 1, &FIRST, 0, 3)?;
+    let second = journal(alloc, 2, &SECOND, 1, 3)?;
+    Ok(are_put(alloc, first, second, &mut sink)? && sink.bytes() == text)
+}
+
+#[test]
+fn journals_of_two_owners_are_merged(rt: HostRuntime) -> Result<(), Fail> {
+    assert!(rt; are_merged(rt.alloc(), MERGED)?);
     Ok(())
 }
 

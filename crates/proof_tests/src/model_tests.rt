@@ -31,20 +31,29 @@ fn shown(alloc: Global, text: &[u8]) -> Result<String, AllocError> {
 /// The first line of a model of two variables and one constraint.
 const HEAD: &str = "* #variable= 2 #constraint= 1\n";
 
+/// The same of this text behind the first line.
+fn shown_behind(alloc: Global, rest: &[u8]) -> Result<String, AllocError> {
+    let mut text = Vec::from_slice(alloc, HEAD.as_bytes())?;
+    text.extend_from_slice(rest)?;
+    shown(alloc, &text)
+}
+
+/// Whether this is the first line and the constraint behind it, or the fault.
+fn is_told(found: &[u8], told: &str) -> bool {
+    if told.starts_with("line") {
+        found == told.as_bytes()
+    } else {
+        found.strip_prefix(HEAD.as_bytes()) == Some(told.as_bytes())
+    }
+}
+
 /// What follows the first line, and what then is written of the constraint, or the fault.
 struct Line(&'static [u8], &'static str);
 
 impl<R> Example<R> for Line {
     fn holds(&self, _rt: &R, alloc: Global) -> Result<bool, AllocError> {
-        let mut text = Vec::from_slice(alloc, HEAD.as_bytes())?;
-        text.extend_from_slice(self.0)?;
-        let found = shown(alloc, &text)?;
-        let mut expected = String::new(alloc);
-        if !self.1.starts_with("line") {
-            expected.push_str(HEAD)?;
-        }
-        expected.push_str(self.1)?;
-        Ok(found.as_str() == expected.as_str())
+        let found = shown_behind(alloc, self.0)?;
+        Ok(is_told(found.as_bytes(), self.1))
     }
 }
 

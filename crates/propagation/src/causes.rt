@@ -12,7 +12,6 @@ use std::marker::Model;
 
 /// The changes since the domains were full, or nothing once memory was refused. Cost: one entry for each change, and one number for each
 /// vertex and value of a set that was counted.
-#[derive(Drop)]
 pub struct Causes {
     /// The changes in order.
     entries: Vec<Entry>,
@@ -22,6 +21,18 @@ pub struct Causes {
     short: Option<Place>,
     /// Whether no memory was refused so far.
     whole: bool,
+}
+
+impl Drop for Causes {
+    /// In one call, for whoever lets one go.
+    fn drop(self) {
+        let Causes {
+            entries: _,
+            numbers: _,
+            short: _,
+            whole: _,
+        } = self;
+    }
 }
 
 impl Model for Causes {

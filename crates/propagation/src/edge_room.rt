@@ -22,7 +22,6 @@ const NOT_SEEN: u16 = 65535;
 const VISIT: u64 = 20;
 
 /// Rows to work in, how large each domain was when its edges were last looked at, on the present path and at the root, and the counts of steps.
-#[derive(Drop)]
 pub(crate) struct EdgeRoom {
     pub(crate) union: Vec<u64>,
     pub(crate) wanted: Vec<u64>,
@@ -54,6 +53,34 @@ pub(crate) struct EdgeRoom {
     paths: u64,
     /// Memory for matching neighbourhoods.
     pub(crate) matching: MatchRoom,
+}
+
+impl Drop for EdgeRoom {
+    /// In one call, for whoever lets one go.
+    fn drop(self) {
+        let EdgeRoom {
+            union: _,
+            wanted: _,
+            gone: _,
+            seen: _,
+            root: _,
+            pair: _,
+            spent: _,
+            steps: _,
+            first: _,
+            gains: _,
+            begun: _,
+            on: _,
+            depth: _,
+            members: _,
+            entered: _,
+            open: _,
+            looked: _,
+            below: _,
+            paths: _,
+            matching: _,
+        } = self;
+    }
 }
 
 impl Model for EdgeRoom {

@@ -26,12 +26,23 @@ use std::marker::Model;
 
 /// What propagation works with, made once: the rows of consistent values, and memory for counting; once rows of a book have come,
 /// also the nogoods among them.
-#[derive(Drop)]
 pub struct Filters<'a> {
     pub(crate) rows: PairRows<'a>,
     pub(crate) scratch: Scratch,
     pub(crate) edges: EdgeRoom,
     pub(crate) nogoods: Option<Nogoods>,
+}
+
+impl Drop for Filters<'_> {
+    /// In one call, for whoever lets one go.
+    fn drop(self) {
+        let Filters {
+            rows: _,
+            scratch: _,
+            edges: _,
+            nogoods: _,
+        } = self;
+    }
 }
 
 impl<'a> Model for Filters<'a> {

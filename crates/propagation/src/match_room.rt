@@ -18,7 +18,6 @@ use std::marker::Model;
 pub(crate) const LAST: u64 = 18446744073709551615;
 
 /// Rows to work in, a number for each pattern vertex, and counts of steps.
-#[derive(Drop)]
 pub(crate) struct MatchRoom {
     /// Neighbours, as a row of pattern vertices.
     pub(crate) chosen: Vec<u64>,
@@ -39,6 +38,24 @@ pub(crate) struct MatchRoom {
     pub(crate) value: u16,
     /// The mark of the domains when the round began.
     pub(crate) begun: Option<Mark>,
+}
+
+impl Drop for MatchRoom {
+    /// In one call, for whoever lets one go.
+    fn drop(self) {
+        let MatchRoom {
+            chosen: _,
+            union: _,
+            row: _,
+            counts: _,
+            most: _,
+            spent: _,
+            after: _,
+            vertex: _,
+            value: _,
+            begun: _,
+        } = self;
+    }
 }
 
 impl Model for MatchRoom {

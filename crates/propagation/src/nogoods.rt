@@ -34,10 +34,19 @@ use std::marker::Model;
 
 /// The nogoods that a search keeps, each named by the place of its row, and memory to put one together. Contracts see them with their
 /// watches.
-#[derive(Drop)]
 pub struct Nogoods {
     watched: Watched,
     literals: Vec<(u16, u16)>,
+}
+
+impl Drop for Nogoods {
+    /// In one call, for whoever lets one go.
+    fn drop(self) {
+        let Nogoods {
+            watched: _,
+            literals: _,
+        } = self;
+    }
 }
 
 impl Model for Nogoods {

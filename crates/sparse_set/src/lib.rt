@@ -20,11 +20,21 @@ use std::marker::Model;
 /// A set of numbers below a count. All of them are members at first.
 ///
 /// `items` has each number once, the `gone` removed ones first; `places[p]` is where `p` stands in it.
-#[derive(Drop)]
 pub struct SparseSet {
     items: Vec<u16>,
     places: Vec<u16>,
     gone: usize,
+}
+
+impl Drop for SparseSet {
+    /// In one call, for whoever lets one go.
+    fn drop(self) {
+        let SparseSet {
+            items: _,
+            places: _,
+            gone: _,
+        } = self;
+    }
 }
 
 impl Model for SparseSet {
