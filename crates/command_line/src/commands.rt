@@ -28,7 +28,7 @@ pub struct SolveWords<'a> {
     pub target: FileName<'a>,
     /// Whether non-edges are kept too.
     pub induced: bool,
-    /// The format of both graphs, one without directions where a proof is asked for.
+    /// The format of both graphs.
     pub format: LadKind,
     /// How many workers search beside each other, from 1 to 64.
     pub threads: u32,

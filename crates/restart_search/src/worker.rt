@@ -92,11 +92,17 @@ fn undecided_of<T: Trail>(
 /// What a walk has beside its domains and its filters, as it is before the first guess.
 #[derive(Drop)]
 struct WalkRoom {
+    /// What is spent, with an empty path.
     account: Account,
+    /// Room for a mark of each level.
     marks: Vec<Moment>,
+    /// For each vertex whether it waits for its consequences: none does.
     waiting: Vec<bool>,
+    /// A row of values, to be filled at each turn.
     untried: Vec<u64>,
+    /// How values are chosen.
     choice: ValueChoice,
+    /// The vertices that are not past.
     undecided: SparseSet,
 }
 
