@@ -9,7 +9,7 @@ from dataclasses import dataclass
 from pathlib import Path
 from typing import Any, Callable, Dict, Iterator, List, Literal, Mapping, Optional, Tuple, Union, overload
 
-from .errors import NotAvailable, SubgraphError, Undecided, error_of
+from .errors import SubgraphError, Undecided, error_of
 from .graph import EdgeLabel, Graph, Name, NodeLabel, as_graph, edge_label_numbers, label_numbers, lad_format, lad_text
 from .program import Progress, Teller, find_program, run
 
@@ -154,8 +154,7 @@ def find(
         How many searches share the work, from 1 to 64.
     prove : bool or path
         Where no embedding exists, answer a `Proof` in place of ``None``, checked before this returns. Its two files
-        lie in the folder that is named, or in a new one. Raises `NotAvailable` for directed graphs and labels of
-        edges.
+        lie in the folder that is named, or in a new one.
     progress : bool or callable
         Tell how long it takes and, after each slice of budget, what was spent: on standard error, or to a function that
         gets a `Progress`. The search then is run with budgets that double, from its beginning each time; so it takes up
@@ -178,8 +177,6 @@ def find(
     asked = find_program(program)
     with _files(pattern, target, induced, node_label, edge_label) as files:
         options = _options(seed=seed, threads=threads)
-        if prove is not False and files.format in ("directedlad", "labelledlad"):
-            raise NotAvailable("logs are for undirected graphs without labels of edges so far: leave prove out")
         proof = _proof_paths(prove, files.folder)
         if proof is not None:
             options += ["--prove", str(proof.encoding), "--log", str(proof.log)]

@@ -8,7 +8,6 @@ from subgraph_solver import (
     Graph,
     GraphMatcher,
     LogRefused,
-    NotAvailable,
     Proof,
     TextRefused,
     Undecided,
@@ -147,9 +146,6 @@ class Find(unittest.TestCase):
         for pattern, target, text in rows:
             with self.subTest(text), self.assertRaisesRegex(ValueError, text):
                 find(pattern, target)
-        for graph in (one_way, labelled):
-            with self.assertRaisesRegex(NotAvailable, "undirected graphs without labels of edges"):
-                find(graph, graph, prove=True)
 
     def test_matcher(self) -> None:
         matcher = GraphMatcher(TRIANGLE, PATH)
@@ -182,6 +178,23 @@ class Later(unittest.TestCase):
                 self.assertFalse(proof)
                 self.assertEqual(check(proof.encoding, proof.log), "unsatisfiable")
         self.assertEqual(set(find(PATH, TRIANGLE, prove=True)), {"a", "b", "c"})
+
+    def test_prove_in_each_format(self) -> None:
+        if not takes(prove=True):
+            self.skipTest("this build of the program does not know --prove")
+        labels, others = {0: "C", 1: "C"}, {0: "C", 1: "O"}
+        rows = (
+            (Graph([(0, 1)], labels=labels), Graph([(0, 1)], labels=others)),
+            (Graph([(0, 1), (1, 0)], directed=True), Graph([(0, 1), (1, 2)], directed=True)),
+            (Graph([(0, 1)], edge_labels={(0, 1): 1}), Graph([(0, 1)], edge_labels={(0, 1): 2})),
+            (Graph([(0, 1)], (), labels, True, {(0, 1): 1}), Graph([(1, 0)], (), others, True, {(1, 0): 1})),
+        )
+        for pattern, target in rows:
+            with self.subTest(pattern), tempfile.TemporaryDirectory() as folder:
+                proof = find(pattern, target, prove=folder)
+                self.assertIsInstance(proof, Proof)
+                self.assertEqual(check(proof.encoding, proof.log), "unsatisfiable")
+                self.assertEqual(set(find(pattern, pattern, prove=folder)), {0, 1})
 
 
 @needs_program
