@@ -10,6 +10,8 @@ mod answer_tests;
 #[cfg(test)]
 mod cause_tests;
 #[cfg(test)]
+mod choice_tests;
+#[cfg(test)]
 mod command_tests;
 #[cfg(test)]
 mod logger_tests;

@@ -48,7 +48,7 @@ enum End {
 }
 
 /// The most words of rows of pairs in these tests.
-const WORDS: usize = 65536;
+pub const WORDS: usize = 65536;
 
 /// A search: its pattern and target, whether it is an induced one, the budget, how many rows the book has room for, and how the run ends.
 struct Searched(&'static [u8], &'static [u8], bool, u32, u16, End);
@@ -131,8 +131,8 @@ static LONG: [Searched; 3] = [
     Searched(FIVE_CLIQUE, FOUR_PAIRS, false, 100000, 0, End::None),
 ];
 
-/// A worker of number 1 over a new book of so many rows.
-fn worker_over<'a>(
+/// A worker of number 1 over a new book of so many rows, whose seed is 1.
+pub fn worker_over<'a>(
     alloc: Global,
     q: &'a Problem,
     kinds: &'a PairKinds<'a>,

@@ -203,6 +203,58 @@ fn two_workers_search_beside_each_other(rt: HostRuntime) {
     assert!(rt; end == End::None && meeting.is_held());
 }
 
+/// A gate that counts what it is told of: runs that begin, guesses, and restarts.
+#[derive(Drop)]
+struct Counting {
+    starts: AtomicU64,
+    guesses: AtomicU64,
+    restarts: AtomicU64,
+}
+
+/// One more.
+fn count(told: &AtomicU64) {
+    told.store(
+        told.load(Ordering::SeqCst).wrapping_add(1),
+        Ordering::SeqCst,
+    );
+}
+
+impl Gate for Counting {
+    fn at(&self, _worker: u32, point: Point) {
+        match point {
+            Point::Start => count(&self.starts),
+            Point::Guess => count(&self.guesses),
+            Point::Restart => count(&self.restarts),
+        }
+    }
+}
+
+impl Counting {
+    /// Nothing is told yet.
+    fn new() -> Counting {
+        Counting {
+            starts: AtomicU64::new(0),
+            guesses: AtomicU64::new(0),
+            restarts: AtomicU64::new(0),
+        }
+    }
+
+    /// Whether it was told of one beginning, of restarts, and of more guesses than these.
+    fn was_told(&self) -> bool {
+        let starts = self.starts.load(Ordering::SeqCst);
+        let restarts = self.restarts.load(Ordering::SeqCst);
+        starts == 1 && restarts > 0 && self.guesses.load(Ordering::SeqCst) > restarts
+    }
+}
+
+#[test]
+fn the_gate_is_told_of_the_beginning_of_guesses_and_of_restarts(rt: HostRuntime) {
+    let told = Counting::new();
+    let asked = settings(1, 1000000, 65536, false);
+    let end = end_of(&rt, rt.alloc(), CLIQUE, SIDES, &asked, &told);
+    assert!(rt; end == End::None && told.was_told());
+}
+
 #[test]
 fn a_log_is_kept_where_one_is_asked_for_also_of_a_root_that_is_refuted(rt: HostRuntime) {
     let asked = settings(2, 1000, 64, true);
