@@ -13,13 +13,13 @@ use Rattle.reason_theory.specs.Reasons.{pairs_clause, at_leasts}
 use Rattle.nogood_book.specs.declared.row.Row.{Row}
 use Rattle.nogood_book.specs.Rows.{path_at}
 use Rattle.nogood_book.specs.Places.{IsNogoodRow}
-use Rattle.propagation.specs.declared.change.Cause.{Cause}
-use Rattle.propagation.specs.declared.change.Cause.TheVariants as cause
-use Rattle.propagation.specs.declared.change.What.{What}
-use Rattle.propagation.specs.declared.change.What.TheVariants.{One, Others, Over}
-use Rattle.propagation.specs.declared.change.Place.{Place}
-use Rattle.propagation.specs.Recording.{change_by}
-use Rattle.propagation.specs.Telling.{Joins}
+use Rattle.recorder.specs.declared.change.Cause.{Cause}
+use Rattle.recorder.specs.declared.change.Cause.TheVariants as cause
+use Rattle.recorder.specs.declared.change.What.{What}
+use Rattle.recorder.specs.declared.change.What.TheVariants.{One, Others, Over}
+use Rattle.recorder.specs.declared.change.Place.{Place}
+use Rattle.recorder.specs.Recording.{change_by}
+use Rattle.recorder.specs.Telling.{Joins}
 use Rattle.dead_theory.specs.Changes.{Chosen, known_after, ExplainsChange, ExplainAll, set_forms, crowd_forms}
 use Rattle.kept_lines.specs.Frames.{Frame, IsFrameOf, IsNamed, AreNamed, AnyForms, Goes, Lasts}
 use Rattle.kept_lines.proofs.Going.{goes_stay, goes_as, goes_then, goes_beside}

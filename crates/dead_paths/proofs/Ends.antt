@@ -18,9 +18,9 @@ use Rattle.reason_theory.specs.Reasons.{not_there, pairs_clause, at_leasts, valu
 use Rattle.nogood_book.specs.declared.row.Row.{Row}
 use Rattle.nogood_book.specs.Rows.{AreInRange, path_at}
 use Rattle.nogood_book.specs.Places.{IsNogoodRow}
-use Rattle.propagation.specs.declared.change.Failure.{Failure}
-use Rattle.propagation.specs.declared.change.Failure.TheVariants as failure
-use Rattle.propagation.specs.Recording.{Change, CountedSet, change_of}
+use Rattle.recorder.specs.declared.change.Failure.{Failure}
+use Rattle.recorder.specs.declared.change.Failure.TheVariants as failure
+use Rattle.recorder.specs.Recording.{Change, CountedSet, change_of}
 use Rattle.dead_theory.specs.Changes.{Chosen, told_of, known_after, set_forms, AreGuessed, IsInProblem}
 use Rattle.dead_theory.specs.Ends as ends
 use Rattle.dead_theory.specs.Ends.{End, Empty, Whole, Short, Exhausted, end_of, EndsIn, EndNeeds}

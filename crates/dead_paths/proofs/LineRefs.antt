@@ -26,7 +26,7 @@ use Rattle.pb_encoding.proofs.TermLists.{size-terms}
 use Rattle.pb_encoding.proofs.Counts.{starts}
 use Rattle.pb_encoding.proofs.Bounds.{few}
 use Rattle.pb_encoding.proofs.LineNumbers.{at_least_line, at_most_line, at_most_target_line}
-use Rattle.propagation.specs.Telling.{Joins}
+use Rattle.recorder.specs.Telling.{Joins}
 use Rattle.forcing_theory.specs.Sums.{sum_from, IsSmall, AreSmall}
 use Rattle.reason_theory.specs.Reasons.{at_leasts, beside_forms, over_form}
 use Rattle.kept_lines.specs.Frames.{Frame, IsFrameOf, IsNamed, AreNamed, IsAddable, Goes, Lasts, Named, AnyForms, IsKept}

@@ -13,11 +13,11 @@ use Rattle.bit_rows.specs.BitRows.{has, words_for}
 use Rattle.nogood_book.specs.declared.row.Row.{Row}
 use Rattle.nogood_book.specs.Rows.{path_at}
 use Rattle.nogood_book.specs.Places.{IsNogoodRow}
-use Rattle.propagation.specs.declared.change.Cause.{Cause}
-use Rattle.propagation.specs.declared.change.Cause.TheVariants as cause
-use Rattle.propagation.specs.declared.change.What.{What}
-use Rattle.propagation.specs.declared.change.What.TheVariants.{One}
-use Rattle.propagation.specs.Recording.{Change, LeftOne, LeftOthers, LeftOver, change_by}
+use Rattle.recorder.specs.declared.change.Cause.{Cause}
+use Rattle.recorder.specs.declared.change.Cause.TheVariants as cause
+use Rattle.recorder.specs.declared.change.What.{What}
+use Rattle.recorder.specs.declared.change.What.TheVariants.{One}
+use Rattle.recorder.specs.Recording.{Change, LeftOne, LeftOthers, LeftOver, change_by}
 use Rattle.needed_values.specs.Needed.{needs, AreRows, StaysNeeded, AreOthers}
 use Rattle.needed_values.specs.Consistent.{Goes, Leaves, AllConsistent}
 use Rattle.dead_theory.specs.Changes.{MayTake, GoTogether, IsUpheld, AreUpheld}

@@ -7,8 +7,8 @@ use Rattle.std.proofs.Math.Seq.{take-suc}
 use Rattle.journal_theory.proofs.Placing.{take_all}
 use Rattle.graph_theory.specs.Embedding.{Problem}
 use Rattle.nogood_book.specs.declared.row.Row.{Row}
-use Rattle.propagation.specs.declared.change.Entry.{Entry}
-use Rattle.propagation.specs.Recording.{Change, change_of, changes_of}
+use Rattle.recorder.specs.declared.change.Entry.{Entry}
+use Rattle.recorder.specs.Recording.{Change, change_of, changes_of}
 use Rattle.dead_theory.specs.Changes.{Chosen, IsInProblem, AreInProblem}
 use Rattle.dead_theory.specs.Walks.{MayPass, RestsOn, IsWithin, IsChoice}
 use Rattle.dead_theory.proofs.Choosing.{walk_laws_hold}

@@ -7,8 +7,8 @@ use Rattle.bit_rows.specs.BitRows.{has}
 use Rattle.needed_values.specs.Needed.{needs}
 use Rattle.nogood_book.specs.declared.row.Row.{Row}
 use Rattle.nogood_book.specs.Places.{IsNogoodRow}
-use Rattle.propagation.specs.declared.change.Cause.TheVariants as cause
-use Rattle.propagation.specs.Recording.{Change, LeftOne, LeftOthers, LeftOver, change_of}
+use Rattle.recorder.specs.declared.change.Cause.TheVariants as cause
+use Rattle.recorder.specs.Recording.{Change, LeftOne, LeftOthers, LeftOver, change_of}
 use Rattle.dead_theory.specs.Changes.{Chosen, IsOneOf, IsInProblem}
 use Rattle.dead_theory.specs.Walks.{MayPass, RestsOn, IsWithin, Walked}
 use Rattle.dead_paths.specs.declared.room.ChosenEntry.{ChosenEntry}

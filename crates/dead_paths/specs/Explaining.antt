@@ -14,7 +14,7 @@ use Rattle.reason_theory.specs.Reasons.{pairs_clause, value_clauses}
 use Rattle.nogood_book.specs.Rows.{path_at}
 use Rattle.nogood_book.specs.declared.row.Row.{Row}
 use Rattle.nogood_book.specs.Places.{IsNogoodRow}
-use Rattle.propagation.specs.Recording.{Change, CountedSet}
+use Rattle.recorder.specs.Recording.{Change, CountedSet}
 use Rattle.dead_theory.specs.Changes.{Chosen, IsOneOf, IsBorne, AreBorne, known_after, ExplainsChange, ExplainAll, set_forms, crowd_forms}
 use Rattle.dead_theory.specs.Ends.{End, Empty, Whole, Short, Exhausted, end_of, EndsIn, EndNeeds}
 use Rattle.dead_theory.specs.Walks.{IsChoice}

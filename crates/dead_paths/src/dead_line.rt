@@ -5,7 +5,7 @@ ghost use Rattle.graph_theory.specs.Graph.{size};
 ghost use Rattle.log_theory.specs.LogText.{IsName, AreRefs, AreLiterals};
 ghost use Rattle.reason_theory.specs.Reasons.{not_there};
 ghost use Rattle.nogood_book.specs.Rows.{Sound, AreInRange};
-ghost use Rattle.propagation.specs.Recording.{changes_of, set_at};
+ghost use Rattle.recorder.specs.Recording.{changes_of, set_at};
 ghost use Rattle.needed_values.specs.Needed.{AreRows};
 ghost use Rattle.dead_theory.specs.Changes.{known_after, AreGuessed, AreInProblem};
 ghost use Rattle.dead_theory.specs.Ends.{EndNeeds};
@@ -29,7 +29,7 @@ use journals::Keeper;
 use log_theory::{Clause, Name, Ref, Refs, Step};
 use needed_values::{need_all, unmark_all};
 use proof_theory::Literal;
-use propagation::{Entry, Failure, Place};
+use recorder::{Entry, Failure, Place};
 use std::alloc::{AllocError, Global};
 
 /// How a path ended.

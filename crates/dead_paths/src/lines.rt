@@ -3,7 +3,7 @@
 ghost use Rattle.std.specs.Prelude.{◌≡◌, ◌<◌, ◌++◌, length, map, OnOk, IfOk};
 ghost use Rattle.graph_theory.specs.Graph.{size};
 ghost use Rattle.log_theory.specs.LogText.{IsName};
-ghost use Rattle.propagation.specs.Recording.{LeftOver};
+ghost use Rattle.recorder.specs.Recording.{LeftOver};
 ghost use Rattle.dead_theory.specs.Changes.{IsInProblem};
 ghost use Rattle.kept_lines.specs.Frames.{Frame, IsFrameOf, AnyForms, Goes};
 ghost use Rattle.dead_paths.specs.Lines.{at_least_refs, at_most_target_ref, beside_refs, AreVertices, AreValues, ArePairs, IsSetKept, IsCrowdKept};

@@ -5,7 +5,7 @@ ghost use Rattle.graph_theory.specs.Graph.{size};
 ghost use Rattle.log_theory.specs.LogText.{IsRef, AreRefs};
 ghost use Rattle.nogood_book.specs.Rows.{Sound};
 ghost use Rattle.nogood_book.specs.Places.{IsNogoodRow};
-ghost use Rattle.propagation.specs.Recording.{LeftOver, change_of};
+ghost use Rattle.recorder.specs.Recording.{LeftOver, change_of};
 ghost use Rattle.dead_theory.specs.Changes.{shown_of, IsInProblem};
 ghost use Rattle.kept_lines.specs.Frames.{Frame, IsFrameOf, AnyForms, Goes};
 ghost use Rattle.dead_paths.specs.Lines.{AreVertices, AreValues};
@@ -23,7 +23,7 @@ use crate::room::ChosenEntry;
 use journals::Keeper;
 use log_theory::Ref;
 use nogood_book::push_path;
-use propagation::{Cause, What};
+use recorder::{Cause, What};
 use std::alloc::{AllocError, Global};
 
 /// Puts references to the lines that a nogood row needs: those by which its vertices go somewhere, but where a pair is known to hold or the

@@ -6,7 +6,7 @@ ghost use Rattle.needed_values.specs.Needed.{AreRows};
 ghost use Rattle.dead_paths.specs.Rooms.{IsFit};
 
 use bit_rows::words_for;
-use propagation::Entry;
+use recorder::Entry;
 use std::alloc::{AllocError, Global};
 
 /// Rows and lists that are filled anew for each change.

@@ -5,7 +5,7 @@ ghost use Rattle.graph_theory.specs.Graph.{size};
 ghost use Rattle.log_theory.specs.Lookups.{is_among};
 ghost use Rattle.bit_rows.specs.BitRows.{has, words_for};
 ghost use Rattle.nogood_book.specs.declared.row.Row.{Row as TheRow};
-ghost use Rattle.propagation.specs.Recording.{LeftOthers};
+ghost use Rattle.recorder.specs.Recording.{LeftOthers};
 ghost use Rattle.needed_values.specs.Needed.{needs, AreRows, StaysNeeded};
 ghost use Rattle.dead_theory.specs.Changes.{IsInProblem};
 ghost use Rattle.dead_paths.specs.Choosing.{values_of, IsStep, AreLeft, AreInside};

@@ -5,9 +5,9 @@ ghost use Rattle.graph_theory.specs.Graph.{size};
 ghost use Rattle.bit_rows.specs.BitRows.{has, words_for};
 ghost use Rattle.nogood_book.specs.declared.row.Row.{Row as TheRow};
 ghost use Rattle.nogood_book.specs.Rows.{Sound};
-ghost use Rattle.propagation.specs.declared.change.Cause.TheVariants as cause;
-ghost use Rattle.propagation.specs.Recording.{LeftOne, LeftOver, change_of};
-ghost use Rattle.propagation.specs.Telling.{Joins};
+ghost use Rattle.recorder.specs.declared.change.Cause.TheVariants as cause;
+ghost use Rattle.recorder.specs.Recording.{LeftOne, LeftOver, change_of};
+ghost use Rattle.recorder.specs.Telling.{Joins};
 ghost use Rattle.needed_values.specs.Needed.{needs, AreRows, StaysNeeded};
 ghost use Rattle.needed_values.specs.Consistent.{Goes, AllConsistent};
 ghost use Rattle.dead_theory.specs.Changes.{IsInProblem};
@@ -27,7 +27,7 @@ use needed_values::{
     are_all_consistent, copy_needed, is_any_needed, is_needed, keep_consistent, need_set,
     needed_row, part_compatible, put_needed, unmark,
 };
-use propagation::{Cause, Entry, What};
+use recorder::{Cause, Entry, What};
 use std::alloc::AllocError;
 
 /// What comes of a step back from a change.

@@ -3,7 +3,7 @@
 ghost use Rattle.std.specs.Prelude.{◌≡◌, ℕ, ◌∷◌, ◌++◌, [], Bool, List, length, OnOk};
 ghost use Rattle.graph_theory.specs.Graph.{size};
 ghost use Rattle.nogood_book.specs.Rows.{Sound};
-ghost use Rattle.propagation.specs.Recording.{Change, change_of, changes_of};
+ghost use Rattle.recorder.specs.Recording.{Change, change_of, changes_of};
 ghost use Rattle.needed_values.specs.Needed.{AreRows};
 ghost use Rattle.dead_theory.specs.Changes.{IsInProblem, AreInProblem};
 ghost use Rattle.dead_theory.specs.Walks.{IsChoice};
@@ -13,7 +13,7 @@ ghost use Rattle.dead_paths.specs.Choosing.{values_of, AreAt, chosen_in, AreName
 use crate::needs::Walk;
 use crate::room::{ChosenEntry, Room};
 use crate::takes::{Choice, go_back};
-use propagation::Entry;
+use recorder::Entry;
 use std::alloc::AllocError;
 
 /// Puts a chosen change behind the others.

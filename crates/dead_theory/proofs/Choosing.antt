@@ -3,7 +3,7 @@ use Rattle.std.proofs.Common.{◌≡◌, ℕ, Bool, false, List, [], ◌∷◌, 
 use Rattle.std.proofs.lemmas.Bool.{true≢false}
 use Rattle.graph_theory.specs.Embedding.{Problem}
 use Rattle.nogood_book.specs.declared.row.Row.{Row}
-use Rattle.propagation.specs.Recording.{Change}
+use Rattle.recorder.specs.Recording.{Change}
 use Rattle.dead_theory.specs.Changes.{Chosen}
 use Rattle.dead_theory.specs.Walks.{MayPass, RestsOn, IsChoice, nothing, keeps, passes, Walked, IsWithin}
 use Rattle.dead_theory.specs.Laws.{WalkLaws}

@@ -23,10 +23,10 @@ use Rattle.domain_bits.proofs.Sizes.{in_below}
 use Rattle.nogood_watch.specs.Nogoods as watched
 use Rattle.nogood_book.specs.declared.row.Row.{Row}
 use Rattle.nogood_book.specs.Rows.{Sound}
-use Rattle.propagation.specs.declared.change.Cause.TheVariants as cause
-use Rattle.propagation.specs.Recording.{Change, LeftOne, LeftOthers, LeftOver}
-use Rattle.propagation.specs.Telling as telling
-use Rattle.propagation.specs.Telling.{Stands, Leaves, Changed, Told}
+use Rattle.recorder.specs.declared.change.Cause.TheVariants as cause
+use Rattle.recorder.specs.Recording.{Change, LeftOne, LeftOthers, LeftOver}
+use Rattle.recorder.specs.Telling as telling
+use Rattle.recorder.specs.Telling.{Stands, Leaves, Changed, Told}
 use Rattle.dead_theory.specs.Changes.{Chosen, told_of, NamesRows, IsOneOf, Covers, Suffices, shown_of, known_after, ExplainsTold, ExplainsChange, ExplainAll, Needs, IsGuessed, AreGuessed, IsInProblem, AreInProblem}
 use Rattle.dead_theory.specs.Ends.{End, EndsIn, EndNeeds}
 use Rattle.dead_theory.specs.Walks.{MayPass, RestsOn, IsChoice, nothing, keeps, passes}

@@ -18,10 +18,10 @@ use Rattle.nogood_watch.specs.Nogoods as watched
 use Rattle.nogood_watch.specs.Nogoods.{literal}
 use Rattle.nogood_book.specs.declared.row.Row.{Row}
 use Rattle.nogood_book.specs.Rows.{path_at}
-use Rattle.propagation.specs.declared.change.Failure.{Failure}
-use Rattle.propagation.specs.declared.change.Failure.TheVariants as failure
-use Rattle.propagation.specs.Recording.{Change, CountedSet}
-use Rattle.propagation.specs.Telling.{HasAtMost, IsDecided, IsShown, Fails}
+use Rattle.recorder.specs.declared.change.Failure.{Failure}
+use Rattle.recorder.specs.declared.change.Failure.TheVariants as failure
+use Rattle.recorder.specs.Recording.{Change, CountedSet}
+use Rattle.recorder.specs.Telling.{HasAtMost, IsDecided, IsShown, Fails}
 use Rattle.dead_theory.specs.Changes.{NamesRows, IsLeftOut, NogoodForms, AreUpheld}
 use Rattle.dead_theory.specs.Ends.{End, Empty, Whole, Short, Exhausted, end_of, EndsBy, IsEndIn, EndsIn, EndNeeds}
 use Rattle.dead_theory.proofs.Explaining.{same_among, NeededOut, AreOn, pairs_lead, only_these, these_only, these_out}

@@ -30,9 +30,9 @@ use Rattle.nogood_watch.specs.Nogoods as watched
 use Rattle.nogood_watch.specs.Nogoods.{literal}
 use Rattle.nogood_book.specs.declared.row.Row.{Row}
 use Rattle.nogood_book.specs.Rows.{path_at, Sound}
-use Rattle.propagation.specs.declared.change.Cause.TheVariants as cause
-use Rattle.propagation.specs.Recording.{Change, LeftOne, LeftOthers, LeftOver}
-use Rattle.propagation.specs.Telling.{HasAtMost, IsForbidden, IsUnsupported, IsCrowded, Joins, AreDistinct, HaveOnly, Leaves}
+use Rattle.recorder.specs.declared.change.Cause.TheVariants as cause
+use Rattle.recorder.specs.Recording.{Change, LeftOne, LeftOthers, LeftOver}
+use Rattle.recorder.specs.Telling.{HasAtMost, IsForbidden, IsUnsupported, IsCrowded, Joins, AreDistinct, HaveOnly, Leaves}
 use Rattle.dead_theory.specs.Changes.{NamesRows, IsOneOf, IsLeftOut, IsBorne, AreBorne, NogoodForms, set_forms, crowd_forms, Forces, ExplainsTold, MayTake, GoTogether, CoversTold, SufficesTold, IsUpheld, AreUpheld, AreKeptIn, AllSupport, AllBeside, Needs}
 
 -- ---- lists of vertices

@@ -19,8 +19,8 @@ use Rattle.nogood_book.specs.Rows.{Pairs, or_empty, path_of, paths_after, paths,
 use Rattle.nogood_book.specs.Places.{StartsWith, IsNogoodRow}
 use Rattle.nogood_book.proofs.Lists.{get_seam, get_more, starts_get}
 use Rattle.nogood_book.proofs.Paths.{length-paths, path_at_more, sound_row}
-use Rattle.propagation.specs.Holding.{listed, single, made_from, lists_in, singles_in, HoldsRows}
-use Rattle.propagation.specs.Telling.{NamesList, NamesUnit, IsNamed, KeepsNames}
+use Rattle.recorder.specs.Telling.{NamesList, NamesUnit, IsNamed, KeepsNames}
+use Rattle.recorder.specs.Holding.{listed, single, made_from, lists_in, singles_in, HoldsRows}
 use Rattle.dead_theory.specs.Changes.{NamesRows}
 
 -- ---- what is made of rows

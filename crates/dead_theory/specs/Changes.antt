@@ -15,10 +15,10 @@ use Rattle.nogood_watch.specs.Nogoods.{literal}
 use Rattle.nogood_book.specs.declared.row.Row.{Row}
 use Rattle.nogood_book.specs.Rows.{path_at}
 use Rattle.nogood_book.specs.Places.{IsNogoodRow}
-use Rattle.propagation.specs.declared.change.Cause.{Cause}
-use Rattle.propagation.specs.declared.change.Cause.TheVariants as cause
-use Rattle.propagation.specs.Recording.{Change, LeftOne, LeftOthers, LeftOver}
-use Rattle.propagation.specs.Telling.{IsNamed, Joins}
+use Rattle.recorder.specs.declared.change.Cause.{Cause}
+use Rattle.recorder.specs.declared.change.Cause.TheVariants as cause
+use Rattle.recorder.specs.Recording.{Change, LeftOne, LeftOthers, LeftOver}
+use Rattle.recorder.specs.Telling.{IsNamed, Joins}
 
 -- ---- names
 

@@ -12,10 +12,10 @@ use Rattle.nogood_watch.specs.Nogoods as watched
 use Rattle.nogood_book.specs.declared.row.Row.{Row}
 use Rattle.nogood_book.specs.Rows.{path_at}
 use Rattle.nogood_book.specs.Places.{IsNogoodRow}
-use Rattle.propagation.specs.declared.change.Failure.{Failure}
-use Rattle.propagation.specs.declared.change.Failure.TheVariants as failure
-use Rattle.propagation.specs.Recording.{CountedSet}
-use Rattle.propagation.specs.Telling.{HasNone, HaveOnly, IsDecided}
+use Rattle.recorder.specs.declared.change.Failure.{Failure}
+use Rattle.recorder.specs.declared.change.Failure.TheVariants as failure
+use Rattle.recorder.specs.Recording.{CountedSet}
+use Rattle.recorder.specs.Telling.{HasNone, HaveOnly, IsDecided}
 use Rattle.dead_theory.specs.Changes.{NogoodForms, set_forms, AreUpheld, AreKeptIn}
 
 -- A vertex has no value; all pairs of the nogood of a name are decided; vertices have fewer values together than they are; or each value

@@ -20,10 +20,10 @@ use Rattle.nogood_watch.specs.Nogoods as watched
 use Rattle.nogood_book.specs.declared.row.Row.{Row}
 use Rattle.nogood_book.specs.Rows.{path_at, Sound, AreInRange}
 use Rattle.nogood_book.specs.Places.{StartsWith}
-use Rattle.propagation.specs.declared.change.Failure.{Failure}
-use Rattle.propagation.specs.Holding.{HoldsRows}
-use Rattle.propagation.specs.Recording.{Change, CountedSet}
-use Rattle.propagation.specs.Telling.{KeepsNames, Told, Fails}
+use Rattle.recorder.specs.declared.change.Failure.{Failure}
+use Rattle.recorder.specs.Recording.{Change, CountedSet}
+use Rattle.recorder.specs.Telling.{KeepsNames, Told, Fails}
+use Rattle.recorder.specs.Holding.{HoldsRows}
 use Rattle.dead_theory.specs.Changes.{Chosen, told_of, NamesRows, known_after, ExplainAll, AreGuessed, AreInProblem}
 use Rattle.dead_theory.specs.Ends.{End, Exhausted, end_of, EndsBy, IsEndIn, EndsIn, EndNeeds}
 use Rattle.dead_theory.specs.Walks.{MayPass, RestsOn, IsChoice, Walked, IsWithin}

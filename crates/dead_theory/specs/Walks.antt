@@ -4,7 +4,7 @@ use Rattle.std.specs.Prelude.{◌≡◌, ℕ, ◌<◌, Bool, true, ◌⊎◌, Li
 use Rattle.graph_theory.specs.Graph.{size}
 use Rattle.graph_theory.specs.Embedding.{Problem}
 use Rattle.nogood_book.specs.declared.row.Row.{Row}
-use Rattle.propagation.specs.Recording.{Change}
+use Rattle.recorder.specs.Recording.{Change}
 use Rattle.dead_theory.specs.Changes.{Chosen, MayTake, Covers, Suffices, Needs}
 
 -- The change takes none of the needed values that there are.

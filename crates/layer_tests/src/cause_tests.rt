@@ -1,7 +1,7 @@
 //! What a recorder keeps of a few changes.
 
 use domain_bits::{Domains, Mark};
-use propagation::{Cause, Causes, Recorder, Silent};
+use recorder::{Cause, Causes, Recorder, Silent};
 use std::alloc::{AllocError, Global};
 use std::test::Fail;
 

@@ -1,7 +1,7 @@
 //! Which value a worker guesses first.
 
 ghost use Rattle.std.specs.Prelude.{◌≡◌, []};
-ghost use Rattle.propagation.specs.Propagation.{IsOf};
+ghost use Rattle.recorder.specs.Telling.{IsOf};
 ghost use Rattle.restart_search.specs.Searching.{AtRest};
 
 use crate::problems::problem;
@@ -11,7 +11,8 @@ use graph_rows::Problem;
 use nogood_book::RowBook;
 use pair_rows::PairKinds;
 use proof_logger::{ProofLogger, Unlogged};
-use propagation::{Filters, Silent};
+use propagation::Filters;
+use recorder::Silent;
 use restart_search::root::{Rooted, root};
 use restart_search::{Equipment, Outcome, Worker, WorkerSettings};
 use sample_graphs::EDGE;

@@ -2,7 +2,7 @@
 
 ghost use Rattle.std.specs.Prelude.{◌≡◌, [], IfOk};
 ghost use Rattle.nogood_book.specs.Seats.{IsSeatOf};
-ghost use Rattle.propagation.specs.Propagation.{IsOf};
+ghost use Rattle.recorder.specs.Telling.{IsOf};
 ghost use Rattle.restart_search.specs.Searching.{AtRest};
 
 use crate::problems::{problem, problem_of};
@@ -12,7 +12,8 @@ use lad_reader::LadKind;
 use nogood_book::{BookSeat, RowBook, RowSeat};
 use pair_rows::PairKinds;
 use proof_logger::Unlogged;
-use propagation::{Filters, Silent};
+use propagation::Filters;
+use recorder::Silent;
 use restart_search::root::{Rooted, root};
 use restart_search::{Equipment, Outcome, Stage, Worker, WorkerSettings};
 use sample_graphs::{APART, EDGE, FOUR_CYCLE, PATH, TRIANGLE};

@@ -8,8 +8,8 @@ use Rattle.log_theory.specs.declared.step.Ref.{Ref}
 use Rattle.log_theory.specs.LogText.{IsRef, AreRefs}
 use Rattle.log_theory.specs.Lookups.{is_among}
 use Rattle.nogood_book.specs.Rows.{AreInRange}
-use Rattle.propagation.specs.declared.change.Entry.{Entry}
-use Rattle.propagation.specs.Recording.{change_of, changes_of}
+use Rattle.recorder.specs.declared.change.Entry.{Entry}
+use Rattle.recorder.specs.Recording.{change_of, changes_of}
 use Rattle.dead_theory.specs.Changes.{IsInProblem, AreInProblem}
 use Rattle.dead_paths.proofs.Marking.{among_next}
 use Rattle.dead_paths.proofs.LineRefs.{refs_behind}

@@ -7,8 +7,8 @@ ghost use Rattle.log_theory.specs.LogText.{AreRefs};
 ghost use Rattle.log_theory.specs.Lookups.{is_among};
 ghost use Rattle.nogood_book.specs.Rows.{Sound, AreInRange};
 ghost use Rattle.nogood_book.specs.Places.{IsNogoodRow};
-ghost use Rattle.propagation.specs.Recording.{change_by, changes_of, set_at, IsIn};
-ghost use Rattle.propagation.specs.Telling.{Joins};
+ghost use Rattle.recorder.specs.Recording.{change_by, changes_of, set_at, IsIn};
+ghost use Rattle.recorder.specs.Telling.{Joins};
 ghost use Rattle.dead_theory.specs.Changes.{IsInBy, IsInProblem, AreInProblem};
 ghost use Rattle.dead_paths.specs.Explaining.{end_by, IsEndIn};
 
@@ -20,7 +20,7 @@ use graph_theory::direction::Direction;
 use journals::Journal;
 use log_theory::{Name, Ref};
 use nogood_book::{Row, RowKind};
-use propagation::{Cause, Entry, Failure, Place, What};
+use recorder::{Cause, Entry, Failure, Place, What};
 use std::alloc::{AllocError, Global};
 
 /// How a path ended, with the place of the set that was found short, or the numbers of the lines of owner 1 against refuted values.

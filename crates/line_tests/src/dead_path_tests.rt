@@ -10,7 +10,7 @@ use lad_reader::LadKind;
 use log_theory::Ref;
 use made_lines::MadeLines;
 use pb_encoding::Encoding;
-use propagation::{Cause, Place, What};
+use recorder::{Cause, Place, What};
 use sample_graphs::{APART, FOUR_CYCLE, TRIANGLE};
 use std::alloc::{AllocError, Global};
 use std::test::Fail;

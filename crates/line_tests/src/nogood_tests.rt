@@ -15,7 +15,7 @@ use log_theory::{Name, Ref};
 use made_lines::MadeLines;
 use nogood_book::{Row, RowKind};
 use pb_encoding::Encoding;
-use propagation::{Cause, What};
+use recorder::{Cause, What};
 use sample_graphs::{APART, graph_of_size};
 use std::alloc::{AllocError, Global};
 use std::test::Fail;

@@ -14,7 +14,7 @@ use Rattle.log_theory.specs.declared.step.Ref.TheVariants.{Line, Made}
 use Rattle.log_theory.specs.declared.step.Step.{Step}
 use Rattle.encoding_theory.specs.Encoding.{encoding, at_least}
 use Rattle.reason_theory.specs.Reasons.{pairs_clause, ForcesFirst}
-use Rattle.propagation.specs.Recording.{CountedSet}
+use Rattle.recorder.specs.Recording.{CountedSet}
 use Rattle.kept_lines.specs.Frames.{Frame, IsFrameOf, IsNamed, After, Goes}
 use Rattle.kept_lines.specs.Rows.{frame_of}
 use Rattle.kept_lines.proofs.Naming.{line_named}

@@ -10,7 +10,7 @@ use Rattle.log_theory.specs.declared.step.Name.{Name}
 use Rattle.log_theory.specs.declared.step.Ref.TheVariants.{Made}
 use Rattle.log_theory.specs.declared.step.Step.{Step}
 use Rattle.log_theory.specs.Lookups.{is_among}
-use Rattle.propagation.specs.Recording.{CountedSet}
+use Rattle.recorder.specs.Recording.{CountedSet}
 use Rattle.kept_lines.specs.Frames.{Frame, IsNamed, Goes, AnyForms}
 use Rattle.kept_lines.proofs.Going.{goes_stay, goes_as, goes_beside}
 use Rattle.dead_paths.specs.Lines.{AreVertices, IsSetKept}

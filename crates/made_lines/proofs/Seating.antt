@@ -3,8 +3,8 @@ use Rattle.std.proofs.Common.{◌≡◌, ℕ, zero, suc, ◌-◌, ◌<◌, ◌�
 use Rattle.std.proofs.lemmas.List.{take-append-le, drop-append-le}
 use Rattle.log_theory.specs.declared.step.Name.{Name}
 use Rattle.log_theory.specs.LogText.{IsName}
-use Rattle.propagation.specs.declared.change.Place.{Place}
-use Rattle.propagation.specs.Recording.{CountedSet, Adds, IsIn, IsPlaced}
+use Rattle.recorder.specs.declared.change.Place.{Place}
+use Rattle.recorder.specs.Recording.{CountedSet, Adds, IsIn, IsPlaced}
 use Rattle.made_lines.specs.declared.set_names.Seat.{Seat}
 use Rattle.made_lines.specs.Sets.{counted_at, named_set, named_sets, AreSeated, with_set, HasName}
 

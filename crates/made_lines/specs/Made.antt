@@ -6,7 +6,7 @@ use Rattle.proof_theory.specs.Forms.{Form}
 use Rattle.log_theory.specs.declared.step.Name.{Name}
 use Rattle.log_theory.specs.declared.step.Ref.TheVariants.{Made}
 use Rattle.reason_theory.specs.Reasons.{ForcesFirst}
-use Rattle.propagation.specs.Recording.{CountedSet}
+use Rattle.recorder.specs.Recording.{CountedSet}
 use Rattle.kept_lines.specs.Frames.{Frame, IsNamed}
 use Rattle.kept_lines.specs.Rows.{Widens}
 use Rattle.kept_lines.proofs.Naming.{named_later}

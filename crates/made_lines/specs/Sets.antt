@@ -8,8 +8,8 @@ use Rattle.log_theory.specs.declared.step.Name.{Name}
 use Rattle.log_theory.specs.declared.step.Ref.TheVariants.{Made}
 use Rattle.log_theory.specs.LogText.{IsName}
 use Rattle.reason_theory.specs.Reasons.{set_form}
-use Rattle.propagation.specs.declared.change.Place.{Place}
-use Rattle.propagation.specs.Recording.{CountedSet, IsIn}
+use Rattle.recorder.specs.declared.change.Place.{Place}
+use Rattle.recorder.specs.Recording.{CountedSet, IsIn}
 use Rattle.kept_lines.specs.Frames.{Frame}
 use Rattle.kept_lines.specs.Rows.{Widens}
 use Rattle.kept_lines.proofs.Naming.{named_later}

@@ -2,11 +2,11 @@
 
 ghost use Rattle.std.specs.Prelude.{◌≡◌, ◌<◌, ◌++◌, ◌∷◌, [], true, length, IfOk, IfSome, OnErr, OnOk};
 ghost use Rattle.log_theory.specs.LogText.{IsName};
-ghost use Rattle.propagation.specs.Recording.{Adds, IsIn, IsPlaced};
+ghost use Rattle.recorder.specs.Recording.{Adds, IsIn, IsPlaced};
 ghost use Rattle.made_lines.specs.Sets.{counted, counted_at, HasName, with_set};
 
 use log_theory::Name;
-use propagation::Place;
+use recorder::Place;
 use std::alloc::{AllocError, Global};
 use std::collections::HashMap;
 use std::marker::Model;
@@ -40,7 +40,7 @@ impl Drop for SetNames {
 impl Model for SetNames {
     ghost use Rattle.std.specs.Prelude.{List, length};
     ghost use Rattle.log_theory.specs.declared.step.Name.{Name as TheName};
-    ghost use Rattle.propagation.specs.Recording.{CountedSet};
+    ghost use Rattle.recorder.specs.Recording.{CountedSet};
     ghost use Rattle.made_lines.specs.Sets.{named_sets, AreSeated};
 
     ghost Value = { List (CountedSet × TheName) };

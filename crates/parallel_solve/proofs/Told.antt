@@ -6,8 +6,8 @@ use Rattle.graph_theory.specs.Embedding.{Problem}
 use Rattle.search_theory.specs.Account.{Account}
 use Rattle.domain_bits.specs.Removals.{State}
 use Rattle.nogood_book.specs.declared.row.Row.{Row}
-use Rattle.propagation.specs.declared.change.Failure.{Failure}
-use Rattle.propagation.specs.Recording.{Change, CountedSet, KeepsSame}
+use Rattle.recorder.specs.declared.change.Failure.{Failure}
+use Rattle.recorder.specs.Recording.{Change, CountedSet, KeepsSame}
 use Rattle.propagation.proofs.Holding.{holds_none}
 use Rattle.proof_logger.specs.declared.logger.DeadEnd.TheVariants.{Failed}
 use Rattle.proof_logger.specs.Logging.{EndsPath, IsNogoodBy}

@@ -4,8 +4,7 @@ ghost use Rattle.std.specs.Prelude.{◌≡◌, [], ◌≤◌, ◌<◌, ◌+◌, 
 ghost use Rattle.graph_theory.specs.Graph.{size};
 ghost use Rattle.graph_theory.specs.Embedding.{HasNone};
 ghost use Rattle.domain_bits.specs.Removals.{full};
-ghost use Rattle.propagation.specs.Propagation.{IsOf};
-ghost use Rattle.propagation.specs.Telling.{Tells};
+ghost use Rattle.recorder.specs.Telling.{IsOf, Tells};
 ghost use Rattle.nogood_book.specs.Seats.{IsSeatOf};
 ghost use Rattle.restart_search.specs.Logging.{IsTold};
 ghost use Rattle.restart_search.specs.Searching.{AtRest, RootFails};
@@ -26,7 +25,7 @@ use nogood_book::{BookSeat, RowBook};
 use pair_rows::{MOST_WORDS, PairKinds};
 use pb_encoding::Encoding;
 use proof_logger::{DeadEnd, ProofLogger, Unlogged};
-use propagation::{Causes, Failure, Silent};
+use recorder::{Causes, Failure, Silent};
 use restart_search::Worker;
 use restart_search::root::{Rooted, root as take_root};
 use search_proof::{KeepsLines, KeepsNothing, OwnerLog, Proof, ProofMaker};

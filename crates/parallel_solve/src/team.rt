@@ -4,7 +4,7 @@ ghost use Rattle.std.specs.Prelude.{◌≡◌, [], ◌≤◌, ◌<◌, ◌^◌, 
 ghost use Rattle.std.specs.List.{Any};
 ghost use Rattle.graph_theory.specs.Graph.{size};
 ghost use Rattle.search_theory.specs.Account.{fresh};
-ghost use Rattle.propagation.specs.Propagation.{IsOf};
+ghost use Rattle.recorder.specs.Telling.{IsOf};
 ghost use Rattle.nogood_book.specs.Seats.{IsSeatOf};
 ghost use Rattle.restart_search.specs.Searching.{AtRest, IsNotStopped};
 ghost use Rattle.restart_search.specs.Logging.{IsTold};
@@ -19,7 +19,8 @@ use graph_rows::Problem;
 use nogood_book::{BookSeat, RowBook};
 use pair_rows::{MOST_WORDS, PairKinds};
 use proof_logger::ProofLogger;
-use propagation::{Filters, Recorder};
+use propagation::Filters;
+use recorder::Recorder;
 use restart_search::{Equipment, Outcome, Worker, WorkerSettings};
 use search_proof::ProofMaker;
 use std::alloc::{AllocError, Global};

@@ -16,9 +16,9 @@ use Rattle.log_theory.specs.Tables.{from_one}
 use Rattle.reason_theory.specs.Reasons.{pairs_clause, value_clauses}
 use Rattle.nogood_book.specs.declared.row.Row.{Row}
 use Rattle.nogood_book.specs.Rows.{path_at, Sound, AreInRange}
-use Rattle.propagation.specs.declared.change.Cause.TheVariants as cause
-use Rattle.propagation.specs.declared.change.Failure.TheVariants as failure
-use Rattle.propagation.specs.Recording.{Change, LeftOne, LeftOthers, LeftOver, CountedSet}
+use Rattle.recorder.specs.declared.change.Cause.TheVariants as cause
+use Rattle.recorder.specs.declared.change.Failure.TheVariants as failure
+use Rattle.recorder.specs.Recording.{Change, LeftOne, LeftOthers, LeftOver, CountedSet}
 use Rattle.dead_theory.specs.Changes.{AreInProblem, IsGuessed, AreGuessed}
 use Rattle.dead_theory.specs.Ends.{Whole, Short, EndsBy}
 use Rattle.dead_theory.specs.Laws.{Dies}

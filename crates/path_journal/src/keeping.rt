@@ -5,7 +5,7 @@ ghost use Rattle.search_theory.specs.Account.{Honest, fresh};
 ghost use Rattle.log_theory.specs.LogText.{IsName, AreRefs};
 ghost use Rattle.nogood_book.specs.declared.row.Row.{Row as TheRow};
 ghost use Rattle.nogood_book.specs.Rows.{Sound};
-ghost use Rattle.propagation.specs.Recording.{changes_of, set_at};
+ghost use Rattle.recorder.specs.Recording.{changes_of, set_at};
 ghost use Rattle.kept_lines.specs.Frames.{Frame, IsFrameOf};
 ghost use Rattle.proof_logger.specs.Logging.{IsNogoodBy, EndsPath};
 ghost use Rattle.dead_paths.specs.Explaining.{IsLastOf};
@@ -24,7 +24,7 @@ use journals::{Journal, Keeper};
 use log_theory::{Name, Ref};
 use nogood_book::Row;
 use proof_logger::{DeadEnd, ProofLogger};
-use propagation::{Causes, KeptChanges};
+use recorder::{Causes, KeptChanges};
 use std::alloc::{AllocError, Global};
 
 /// A book has no more rows.

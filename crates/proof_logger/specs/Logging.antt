@@ -9,10 +9,9 @@ use Rattle.nogood_watch.specs.Nogoods as watched
 use Rattle.nogood_book.specs.declared.row.Row.{Row}
 use Rattle.nogood_book.specs.declared.row.RowKind.TheVariants.{Nogood}
 use Rattle.nogood_book.specs.Rows.{path_at}
-use Rattle.propagation.specs.Propagation.{IsOf}
-use Rattle.propagation.specs.Holding.{HoldsRows}
-use Rattle.propagation.specs.Recording.{Change, CountedSet, HasGuess}
-use Rattle.propagation.specs.Telling.{Tells, Fails}
+use Rattle.recorder.specs.Recording.{Change, CountedSet, HasGuess}
+use Rattle.recorder.specs.Telling.{IsOf, Tells, Fails}
+use Rattle.recorder.specs.Holding.{HoldsRows}
 use Rattle.proof_logger.specs.declared.logger.DeadEnd.{DeadEnd}
 use Rattle.proof_logger.specs.declared.logger.DeadEnd.TheVariants.{Failed, Exhausted}
 

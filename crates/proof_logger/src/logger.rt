@@ -9,7 +9,7 @@ ghost use Rattle.nogood_book.specs.Rows.{Sound};
 use fail_account::Account;
 use graph_rows::Problem;
 use nogood_book::Row;
-use propagation::{Failure, Recorder, Silent};
+use recorder::{Failure, Recorder, Silent};
 use std::alloc::{AllocError, Global};
 
 /// How a path has died.

@@ -14,7 +14,8 @@ use Rattle.nogood_watch.specs.InForce.{IsInForce, InForce}
 use Rattle.nogood_watch.proofs.Visits.{partner_in}
 use Rattle.nogood_watch.proofs.Readiness.{watch_in}
 use Rattle.nogood_watch.proofs.InForce.{watch_laws_hold}
-use Rattle.propagation.specs.Propagation.{IsOf, HaveValues, HasTwo, IsSame, Shrinks, DecidedOnesWait, Propagates, waits_at}
+use Rattle.recorder.specs.Telling.{IsOf, NamesList, NamesUnit, KeepsNames}
+use Rattle.propagation.specs.Propagation.{HaveValues, HasTwo, IsSame, Shrinks, DecidedOnesWait, Propagates, waits_at}
 use Rattle.propagation.specs.Learning.{AreNogoods, AreKept, DecidedWait, Forces}
 use Rattle.propagation.specs.Acting.{WaitsOrIsInForce, WatchesWait, WatchesWaitBut, AreOut, OutAfter, WaitAfter, InForceAfter, ActedAfter, IsPart, Move, HaveMoved, AreActedOn, NothingLeft}
 use Rattle.propagation.proofs.Waiting.{flag_other, flag_here}
@@ -270,6 +271,14 @@ moved_more d mid None None (Some c) less m n = absurd n
 moved_more d mid None (Some b) c less m n = absurd m
 moved_more d mid (Some a) None c less m n = absurd m
 moved_more d mid (Some a) (Some b) None less m n = absurd n
+
+-- watches that move keep names
+pub moved_names : (d : State) (old new : Option watched.State) → HaveMoved d old new → KeepsNames old new
+moved_names d None None moved name pairs h = h
+moved_names d (Some s) (Some r) moved name pairs (inl h) = inl (subst (λ (ns : List watched.Nogood). NamesList ns name pairs) (sym moved.nogoods_same) h)
+moved_names d (Some s) (Some r) moved name pairs (inr h) = inr (subst (λ (us : List (ℕ × ℕ × ℕ)). NamesUnit us name pairs) (sym moved.units_same) h)
+moved_names d None (Some r) moved name pairs h = absurd moved
+moved_names d (Some s) None moved name pairs h = absurd moved
 
 -- ---- at rest
 

@@ -7,13 +7,13 @@ use Rattle.graph_theory.specs.Embedding.{Problem}
 use Rattle.search_theory.specs.Claims.{NoneInside}
 use Rattle.domain_bits.specs.Removals.{State, in_domain}
 use Rattle.nogood_watch.specs.Nogoods as watched
-use Rattle.propagation.specs.declared.change.Failure.{Failure}
+use Rattle.recorder.specs.declared.change.Failure.{Failure}
+use Rattle.recorder.specs.Recording.{Change, CountedSet}
+use Rattle.recorder.specs.Telling.{Fails, IsEmptied}
+use Rattle.recorder.proofs.Telling.{fails_emptied}
 use Rattle.propagation.specs.Acting.{ActedAfter, InForceAfter, WaitAfter}
 use Rattle.propagation.specs.Propagation.{Narrows, Propagates, Visited}
-use Rattle.propagation.specs.Recording.{Change, CountedSet}
-use Rattle.propagation.specs.Telling.{Fails, IsEmptied}
 use Rattle.propagation.proofs.Narrowing.{none_narrowed}
-use Rattle.propagation.proofs.Telling.{fails_emptied}
 
 pub visited_failed : (answer : Result (Unit {0}) Failure) (failure : Failure) (q r : Problem) (old new : State) (waiting after : List Bool) → IsErrAnd answer (λ y. y ≡ failure) → r ≡ q
     → Narrows r old new × NoneInside r (in_domain new) → Visited (is_ok answer) q old waiting new after

@@ -13,7 +13,8 @@ use Rattle.nogood_watch.specs.Nogoods as watched
 use Rattle.nogood_watch.specs.Nogoods.{literal, partner, nogood, nogood_of}
 use Rattle.nogood_watch.specs.Watching.{IsAssigned, Follows, AllFollow, IsWhole, forced_at}
 use Rattle.nogood_watch.proofs.Visits.{partner_in}
-use Rattle.propagation.specs.Propagation.{IsOf, Narrows, HasTwo, IsSame, Shrinks, Rests, Ready, NotesSize, NotesTaken, Settles, Visited, Propagates, waits_at}
+use Rattle.recorder.specs.Telling.{IsOf}
+use Rattle.propagation.specs.Propagation.{Narrows, HasTwo, IsSame, Shrinks, Rests, Ready, NotesSize, NotesTaken, Settles, Visited, Propagates, waits_at}
 use Rattle.propagation.specs.Learning.{IsNogood, AreNogoods, IsUnused, Forces}
 use Rattle.propagation.proofs.Narrowing.{narrows_more, narrows_keeps, none_narrowed, none_in_empty}
 use Rattle.propagation.proofs.Waiting.{rests_on, rests_with_two}

@@ -15,10 +15,10 @@ use Rattle.all_different.proofs.Choosing.{pigeons}
 use Rattle.bit_rows.specs.BitRows.{has}
 use Rattle.bit_rows.proofs.Passing.{length-members}
 use Rattle.domain_bits.specs.Removals.{State, in_domain}
+use Rattle.recorder.specs.Recording.{members_of}
+use Rattle.recorder.specs.Telling.{AreDistinct, IsCrowded, Joins}
 use Rattle.propagation.specs.Crowding.{Gathers, IsShort}
 use Rattle.propagation.specs.Learning.{IsUnused}
-use Rattle.propagation.specs.Recording.{members_of}
-use Rattle.propagation.specs.Telling.{AreDistinct, IsCrowded, Joins}
 use Rattle.propagation.proofs.Reasons.{passes_among, among_passing, few_among, distinct_counted, held_in}
 use Rattle.propagation.proofs.Supporting.{kept_there}
 

@@ -17,8 +17,8 @@ use Rattle.nogood_book.specs.Rows.{Pairs, HasParent, above, path_of, paths_after
 use Rattle.nogood_book.specs.Places.{IsNogoodRow}
 use Rattle.nogood_book.proofs.Paths.{length-paths, above_more, follows_at, path_at_is}
 use Rattle.domain_bits.specs.Removals.{State}
+use Rattle.recorder.specs.Holding.{listed, single, made_from, lists_in, singles_in, HoldsRows, KeepsSame}
 use Rattle.propagation.specs.Acting.{HaveMoved}
-use Rattle.propagation.specs.Holding.{listed, single, made_from, lists_in, singles_in, HoldsRows, KeepsSame}
 
 -- ---- rows in order
 

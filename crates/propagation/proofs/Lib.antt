@@ -10,10 +10,7 @@ pub mod Refuting
 pub mod Holding
 pub mod Acting
 pub mod Taking
-pub mod Telling
 pub mod Reasons
-pub mod Entries
-pub mod Guesses
 pub mod Supporting
 pub mod Gathering
 pub mod Takes

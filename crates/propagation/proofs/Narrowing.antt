@@ -8,7 +8,8 @@ use Rattle.graph_theory.specs.Embedding.{Problem, Embeds}
 use Rattle.search_theory.specs.Claims.{Inside, NoneInside}
 use Rattle.domain_bits.specs.Removals.{State, in_domain}
 use Rattle.domain_bits.specs.Changes.{Keeps}
-use Rattle.propagation.specs.Propagation.{IsOf, Narrows}
+use Rattle.recorder.specs.Telling.{IsOf}
+use Rattle.propagation.specs.Propagation.{Narrows}
 
 -- nothing was removed
 pub narrows_none : (q : Problem) (d : State) → Narrows q d d

@@ -11,7 +11,8 @@ use Rattle.domain_bits.proofs.Sizes.{some_counted, size_single, not_single}
 use Rattle.all_different.specs.Choices.{Chooses, LosesNoChoice}
 use Rattle.all_different.specs.Pruning.{DecidedApart}
 use Rattle.all_different.proofs.Unions.{same_tests}
-use Rattle.propagation.specs.Propagation.{IsOf, Narrows, waits_at, HasValue, HasTwo, Rests, Ready, UndecidedWait, NotesDecided, Noting, DecidedOnesWait}
+use Rattle.recorder.specs.Telling.{IsOf}
+use Rattle.propagation.specs.Propagation.{Narrows, waits_at, HasValue, HasTwo, Rests, Ready, UndecidedWait, NotesDecided, Noting, DecidedOnesWait}
 use Rattle.propagation.proofs.Narrowing.{narrows_none, none_narrowed, none_in_empty}
 use Rattle.propagation.proofs.Waiting.{rests_on, rests_with_two, flag_other}
 

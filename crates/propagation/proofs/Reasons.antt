@@ -27,11 +27,11 @@ use Rattle.nogood_watch.specs.Nogoods as watched
 use Rattle.nogood_watch.specs.Nogoods.{literal, partner, nogood_of, AreWatches}
 use Rattle.nogood_watch.specs.Watching.{IsAssigned, Follows, AllFollow, IsWhole, forced_at}
 use Rattle.nogood_watch.proofs.Visits.{partner_half, partner_in}
-use Rattle.propagation.specs.declared.change.Cause.{Cause}
-use Rattle.propagation.specs.declared.change.Cause.TheVariants as cause
-use Rattle.propagation.specs.Propagation.{IsOf, Sweeps}
-use Rattle.propagation.specs.Recording.{Change, LeftOne, LeftOthers, LeftOver, CountedSet, members_of, KeepsUnited}
-use Rattle.propagation.specs.Telling.{HasFirst, HasAtMost, NamesUnit, RefusesBy, StandsBy, IsForbidden, AreForbidden, IsCrowded, AreDistinct, HaveOnly, Leaves, IsDecided, IsShown}
+use Rattle.recorder.specs.declared.change.Cause.{Cause}
+use Rattle.recorder.specs.declared.change.Cause.TheVariants as cause
+use Rattle.recorder.specs.Recording.{Change, LeftOne, LeftOthers, LeftOver, CountedSet, members_of, KeepsUnited}
+use Rattle.recorder.specs.Telling.{IsOf, HasFirst, HasAtMost, NamesUnit, RefusesBy, StandsBy, IsForbidden, AreForbidden, IsCrowded, AreDistinct, HaveOnly, Leaves, IsDecided, IsShown}
+use Rattle.propagation.specs.Propagation.{Sweeps}
 use Rattle.propagation.proofs.Visits.{gone_kept}
 use Rattle.propagation.proofs.Forcing.{half_in}
 

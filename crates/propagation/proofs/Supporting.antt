@@ -13,11 +13,11 @@ use Rattle.all_different.specs.Prefixes.{Balanced}
 use Rattle.bit_rows.specs.BitRows.{has}
 use Rattle.domain_bits.specs.Removals.{State, in_domain}
 use Rattle.domain_bits.proofs.Sizes.{in_below}
+use Rattle.recorder.specs.Telling.{IsOf, IsUnsupported, Joins}
+use Rattle.recorder.proofs.Telling.{same_trail}
 use Rattle.propagation.specs.Edges.{AreUnsupported, Unites, UnitesBefore}
 use Rattle.propagation.specs.Learning.{IsUnused, Forces}
-use Rattle.propagation.specs.Propagation.{IsOf, Narrows, Shrinks, HasTwo, IsSame, PrunesFor, waits_at}
-use Rattle.propagation.specs.Telling.{IsUnsupported, Joins}
-use Rattle.propagation.proofs.Sweeping.{same_trail}
+use Rattle.propagation.specs.Propagation.{Narrows, Shrinks, HasTwo, IsSame, PrunesFor, waits_at}
 use Rattle.propagation.proofs.Waiting.{shrinks_more}
 use Rattle.propagation.proofs.Forcing.{forces_none, ready_on, ready_at_rest}
 

@@ -11,23 +11,11 @@ use Rattle.search_theory.proofs.Pairs.{consistent_of}
 use Rattle.domain_bits.specs.Removals.{State, in_domain}
 use Rattle.domain_bits.specs.Changes.{Keeps}
 use Rattle.domain_bits.proofs.Sizes.{in_below}
+use Rattle.recorder.proofs.Telling.{same_trail}
 use Rattle.propagation.specs.Propagation.{Narrows, waits_at, waiting_count, work, HasValue, HasTwo, IsSame, Shrinks, Rests, NotesSize, Swept, Settling}
 use Rattle.propagation.proofs.Waiting.{flag_other, flag_here, count_raised, count_raised_again, single_moved, single_same}
 
 -- ---- one domain
-
--- a state whose trail has not grown is the same
-pub same_trail : (old new : State) → new.vertices ≡ old.vertices → new.values ≡ old.values → new.removed ≡ old.removed → new ≡ old
-same_trail old new v w r = ap with_vertices v ∙ (ap with_values w ∙ ap with_removed r)
-  where
-    with_vertices : ℕ → State
-    with_vertices n = record { vertices = n; values = new.values; removed = new.removed }
-
-    with_values : ℕ → State
-    with_values n = record { vertices = old.vertices; values = n; removed = new.removed }
-
-    with_removed : List (ℕ × ℕ) → State
-    with_removed xs = record { vertices = old.vertices; values = old.values; removed = xs }
 
 -- a domain that became single has lost a value
 grew : (old new : State) (r v : ℕ) (rest : List (ℕ × ℕ)) → new.vertices ≡ old.vertices → new.values ≡ old.values → new.removed ≡ old.removed ++ rest

@@ -8,17 +8,17 @@ use Rattle.search_theory.specs.Claims.{Quiet}
 use Rattle.all_different.specs.Prefixes.{Balanced}
 use Rattle.domain_bits.specs.Changes.{Keeps}
 use Rattle.domain_bits.specs.Removals.{State, in_domain}
-use Rattle.propagation.specs.declared.change.Failure.{Failure}
-use Rattle.propagation.specs.declared.change.Failure.TheVariants as failure
+use Rattle.recorder.specs.declared.change.Failure.{Failure}
+use Rattle.recorder.specs.declared.change.Failure.TheVariants as failure
+use Rattle.recorder.specs.Recording.{Change, CountedSet, NoNewGuess}
+use Rattle.recorder.specs.Telling.{TellsOn}
+use Rattle.recorder.proofs.Guesses.{guesses_more}
+use Rattle.recorder.proofs.Telling.{fails_emptied}
 use Rattle.propagation.specs.Learning.{IsUnused}
 use Rattle.propagation.specs.Propagation.{NotesTaken, PrunesFor}
-use Rattle.propagation.specs.Recording.{Change, CountedSet, NoNewGuess}
 use Rattle.propagation.specs.Taking.{AreFlagged, Takes, Prunes}
-use Rattle.propagation.specs.Telling.{TellsOn}
 use Rattle.propagation.proofs.Forcing.{shrinks_taken, none_taken, emptied_taken}
-use Rattle.propagation.proofs.Guesses.{guesses_more}
 use Rattle.propagation.proofs.Supporting.{forces_more, supported_prunes}
-use Rattle.propagation.proofs.Telling.{fails_emptied}
 use Rattle.propagation.proofs.Waiting.{shrinks_none}
 
 -- What has been taken where nothing has failed.

@@ -7,7 +7,7 @@ use Rattle.graph_theory.specs.Reversed.{turned}
 use Rattle.graph_theory.specs.declared.direction.Direction.{Direction}
 use Rattle.bit_rows.specs.BitRows.{has, words_for}
 use Rattle.domain_bits.specs.Removals.{State, in_domain}
-use Rattle.propagation.specs.Telling.{IsUnsupported}
+use Rattle.recorder.specs.Telling.{IsUnsupported}
 
 -- The row has each value to which an edge leads, in the direction, from a value below n that is left for p.
 abbrev pub UnitesBefore : Graph → State → Direction → ℕ → List ℕ → ℕ → Type 0

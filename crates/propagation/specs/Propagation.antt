@@ -11,12 +11,7 @@ use Rattle.all_different.specs.Memory.{Memory}
 use Rattle.all_different.specs.Prefixes.{Balanced}
 use Rattle.all_different.specs.declared.Pruned.{Pruned}
 use Rattle.all_different.specs.declared.Pruned.TheVariants as pruned
-use Rattle.propagation.specs.declared.change.Failure.{Failure}
-
--- The domains have a vertex for each pattern vertex and a value for each target vertex.
-pub record IsOf (q : Problem) (d : State) : Type 0 where
-  pub vertices_is : d.vertices ≡ size q.pattern
-  pub values_is : d.values ≡ size q.target
+use Rattle.recorder.specs.declared.change.Failure.{Failure}
 
 -- The memory for counting is made for the domains of the problem.
 pub record IsFor (q : Problem) (memory : Memory) : Type 0 where

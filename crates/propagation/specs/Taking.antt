@@ -7,11 +7,11 @@ use Rattle.graph_theory.specs.Embedding.{Problem}
 use Rattle.domain_bits.specs.Removals.{State, in_domain}
 use Rattle.search_theory.specs.Claims.{Single}
 use Rattle.nogood_watch.specs.Nogoods as watched
-use Rattle.propagation.specs.declared.change.Failure.{Failure}
+use Rattle.recorder.specs.declared.change.Failure.{Failure}
+use Rattle.recorder.specs.Recording.{Change, CountedSet, NoNewGuess}
+use Rattle.recorder.specs.Telling.{IsOf, Fails, IsEmptied, TellsOn}
 use Rattle.propagation.specs.Learning.{Forces}
-use Rattle.propagation.specs.Propagation.{IsOf, PrunesFor, waits_at}
-use Rattle.propagation.specs.Recording.{Change, CountedSet, NoNewGuess}
-use Rattle.propagation.specs.Telling.{Fails, IsEmptied, TellsOn}
+use Rattle.propagation.specs.Propagation.{PrunesFor, waits_at}
 
 -- The domains are of the problem, with a flag for each vertex, and no more values have left than there were.
 pub record AreFlagged (q : Problem) (d : State) (waiting : List Bool) : Type 0 where

@@ -9,13 +9,12 @@ ghost use Rattle.all_different.specs.Prefixes.{Balanced};
 ghost use Rattle.propagation.specs.Edges.{IsRoomFor};
 ghost use Rattle.propagation.specs.Taking.{AreFlagged, Prunes, Takes};
 
-use crate::change::Failure;
 use crate::edge_room::EdgeRoom;
 use crate::edges::support_all;
 use crate::matching::{choose, match_vertex};
-use crate::recorder::Recorder;
 use domain_bits::{Domains, Trail};
 use graph_rows::Problem;
+use recorder::{Failure, Recorder};
 use sparse_set::SparseSet;
 
 /// By what values leave along edges.

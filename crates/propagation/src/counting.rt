@@ -4,23 +4,22 @@ ghost use Rattle.std.specs.Prelude.{◌≡◌, ℕ, ◌*◌, ◌<◌, ◌≤◌,
 ghost use Rattle.std.specs.Result.{is_ok};
 ghost use Rattle.graph_theory.specs.Graph.{size};
 ghost use Rattle.graph_theory.specs.Embedding.{Problem};
+ghost use Rattle.recorder.specs.Telling.{IsOf, IsEmptied};
 ghost use Rattle.propagation.specs.Edges.{IsRoomFor};
 ghost use Rattle.propagation.specs.Taking.{Prunes};
-ghost use Rattle.propagation.specs.Telling.{IsEmptied};
 ghost use Rattle.domain_bits.specs.Removals.{in_domain, size_of};
 ghost use Rattle.search_theory.specs.Claims.{Quiet};
 ghost use Rattle.propagation.specs.Learning.{DecidedWait};
 ghost use Rattle.sparse_set.specs.Removals.{has as is_member};
-ghost use Rattle.propagation.specs.Propagation.{IsOf, IsFor, LeavesPast, UndecidedWait, NotesDecided, Notes};
+ghost use Rattle.propagation.specs.Propagation.{IsFor, LeavesPast, UndecidedWait, NotesDecided, Notes};
 
 use crate::along_edges::prune_along_edges;
-use crate::change::Failure;
 use crate::edge_room::EdgeRoom;
-use crate::recorder::Recorder;
 use crate::removal::prune;
 use all_different::Scratch;
 use domain_bits::{Domains, Trail};
 use graph_rows::Problem;
+use recorder::{Failure, Recorder};
 use sparse_set::SparseSet;
 
 /// Lowers all flags.

@@ -6,18 +6,17 @@ ghost use Rattle.std.specs.Prelude.{◌≡◌, ℕ, ◌*◌, ◌<◌, ◌≤◌,
 ghost use Rattle.graph_theory.specs.Graph.{size, edge};
 ghost use Rattle.graph_theory.specs.Reversed.{turned};
 ghost use Rattle.bit_rows.specs.BitRows.{has, words_for};
+ghost use Rattle.recorder.specs.Telling.{Joins};
 ghost use Rattle.propagation.specs.Edges.{AreUnsupported, IsRoomFor, Unites, UnitesBefore};
 ghost use Rattle.propagation.specs.Taking.{AreFlagged, Takes};
-ghost use Rattle.propagation.specs.Telling.{Joins};
 
-use crate::change::{Cause, Failure};
 use crate::edge_room::EdgeRoom;
-use crate::recorder::Recorder;
 use crate::removal::take_by;
 use bit_rows::{and_not_into, has_bit, next_member, or_into};
 use domain_bits::{Domains, Trail};
 use graph_rows::{Graph, Problem};
 use graph_theory::direction::Direction;
+use recorder::{Cause, Failure, Recorder};
 use sparse_set::SparseSet;
 
 /// Two pattern vertices, and the direction of the edge from the first to the second.

@@ -4,23 +4,21 @@ ghost use Rattle.std.specs.Prelude.{◌≡◌, ◌*◌, ◌^◌, ◌<◌, ◌≤
 ghost use Rattle.std.specs.Result.{is_ok};
 ghost use Rattle.graph_theory.specs.Graph.{size};
 ghost use Rattle.nogood_book.specs.Rows.{Sound};
+ghost use Rattle.recorder.specs.Recording.{NoNewGuess};
+ghost use Rattle.recorder.specs.Telling.{IsOf, IsEmptied, Tells};
+ghost use Rattle.recorder.specs.Holding.{HoldsRows};
 ghost use Rattle.propagation.specs.Learning.{AreKept, Forces, unlearned};
-ghost use Rattle.propagation.specs.Holding.{HoldsRows};
 ghost use Rattle.propagation.specs.Acting.{UnitsOutAfter};
-ghost use Rattle.propagation.specs.Propagation.{IsOf};
-ghost use Rattle.propagation.specs.Recording.{NoNewGuess};
-ghost use Rattle.propagation.specs.Telling.{IsEmptied, Tells};
 
-use crate::change::Failure;
 use crate::edge_room::EdgeRoom;
 use crate::nogoods::Nogoods;
-use crate::recorder::Recorder;
 use all_different::Scratch;
 use bit_rows::words_for;
 use domain_bits::{Domains, Trail};
 use graph_rows::Problem;
 use nogood_book::Row;
 use pair_rows::{PairKinds, PairRows};
+use recorder::{Failure, Recorder};
 use std::alloc::{AllocError, Global};
 use std::marker::Model;
 

@@ -3,12 +3,11 @@
 //! The domains of pattern vertices lose the values that no embedding within them has: what is not consistent with a vertex of one
 //! value, what nogoods force, and what domains counted together leave no room for. The layer above hands the domains over, with a flag
 //! for each vertex whose consequences are still to be taken, and has them back at rest, or learns why no embedding is within them.
-//! It undoes the domains itself; nothing here has to be undone with them but what a recorder keeps.
+//! It undoes the domains itself; nothing here has to be undone with them but what a recorder keeps. A recorder, which the layer above
+//! hands over too, is told why values leave.
 #![tactic(auto)]
 
 mod along_edges;
-mod causes;
-mod change;
 mod counting;
 mod crowding;
 mod edge_room;
@@ -18,9 +17,7 @@ mod match_room;
 mod matching;
 mod nogoods;
 mod propagation;
-mod recorder;
 mod removal;
-mod sets;
 mod shared;
 
 // What follows from domains.
@@ -31,8 +28,3 @@ pub use propagation::{propagate, propagate_again};
 // Single steps of the layer above.
 pub use counting::lower;
 pub use removal::{give, narrow, narrow_first};
-
-// Who is told.
-pub use causes::{Causes, KeptChanges};
-pub use change::{Cause, Entry, Failure, Place, What};
-pub use recorder::{Recorder, Silent, telling_laws};

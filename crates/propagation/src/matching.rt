@@ -5,19 +5,18 @@
 
 ghost use Rattle.std.specs.Prelude.{◌≡◌, ℕ, ◌<◌, ◌≤◌, length, slice_index, IfSome};
 ghost use Rattle.graph_theory.specs.Graph.{size};
+ghost use Rattle.recorder.specs.Telling.{IsOf};
 ghost use Rattle.propagation.specs.Edges.{IsRoomFor};
-ghost use Rattle.propagation.specs.Propagation.{IsOf};
 ghost use Rattle.propagation.specs.Taking.{AreFlagged, Takes};
 
-use crate::change::Failure;
 use crate::crowding::{Look, count_near, gather};
 use crate::match_room::{LAST, MatchRoom};
-use crate::recorder::Recorder;
 use crate::removal::{Crowd, take_crowded};
 use bit_rows::next_member;
 use domain_bits::{Domains, Trail};
 use graph_rows::Problem;
 use graph_theory::direction::Direction;
+use recorder::{Failure, Recorder};
 use sparse_set::SparseSet;
 
 /// A vertex, a value of it, and the direction of the edges from both.

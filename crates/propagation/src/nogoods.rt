@@ -12,23 +12,22 @@ ghost use Rattle.search_theory.specs.Claims.{Single};
 ghost use Rattle.nogood_watch.specs.Nogoods as watched;
 ghost use Rattle.nogood_watch.specs.Nogoods.{empty, added};
 ghost use Rattle.nogood_watch.specs.Watching.{forced_at};
-ghost use Rattle.propagation.specs.Propagation.{IsOf, HaveValues};
+ghost use Rattle.propagation.specs.Propagation.{HaveValues};
 ghost use Rattle.nogood_book.specs.Rows.{Sound, path_at};
 ghost use Rattle.nogood_book.specs.Places.{IsNogoodRow};
+ghost use Rattle.recorder.specs.Recording.{NoNewGuess};
+ghost use Rattle.recorder.specs.Telling.{IsOf, AreForbidden, Fails, IsEmptied, Tells};
+ghost use Rattle.recorder.specs.Holding.{HoldsRows};
 ghost use Rattle.propagation.specs.Learning.{AreNogoods, IsUnused, Forces};
-ghost use Rattle.propagation.specs.Holding.{HoldsRows};
-ghost use Rattle.propagation.specs.Recording.{NoNewGuess};
-ghost use Rattle.propagation.specs.Telling.{AreForbidden, Fails, IsEmptied, Tells};
 ghost use Rattle.propagation.specs.Acting.{Move, OutAfter, WaitAfter, WatchesWaitBut};
 
-use crate::change::{Cause, Failure};
-use crate::recorder::Recorder;
 use crate::removal::take_by;
 use domain_bits::{Domains, Trail};
 use graph_rows::Problem;
 use nogood_book::{Row, RowKind, push_path};
 use nogood_watch::{WatchAnswer, Watched};
 use pair_rows::PairRows;
+use recorder::{Cause, Failure, Recorder};
 use std::alloc::{AllocError, Global};
 use std::marker::Model;
 

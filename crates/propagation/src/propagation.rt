@@ -15,21 +15,20 @@ ghost use Rattle.graph_theory.specs.Graph.{size};
 ghost use Rattle.domain_bits.specs.Removals.{in_domain};
 ghost use Rattle.search_theory.specs.Claims.{Single, First, Quiet};
 ghost use Rattle.pair_rows.specs.Rows.{IsMade};
+ghost use Rattle.recorder.specs.Recording.{NoNewGuess};
+ghost use Rattle.recorder.specs.Telling.{IsOf, Fails, IsEmptied, Tells, TellsOn};
 ghost use Rattle.propagation.specs.Learning.{AreKept, Forces};
 ghost use Rattle.propagation.specs.Acting.{ActedAfter, HaveMoved, InForceAfter, WaitAfter, WatchesWait, WatchesWaitBut};
-ghost use Rattle.propagation.specs.Recording.{NoNewGuess};
-ghost use Rattle.propagation.specs.Telling.{Fails, IsEmptied, Tells, TellsOn};
-ghost use Rattle.propagation.specs.Propagation.{IsOf, waits_at, HaveValues, LeavesPast, Fewer, Ready, ReadyBut, Sweeps, Settles, Visited, TakenUp, Propagates};
+ghost use Rattle.propagation.specs.Propagation.{waits_at, HaveValues, LeavesPast, Fewer, Ready, ReadyBut, Sweeps, Settles, Visited, TakenUp, Propagates};
 
-use crate::change::Failure;
 use crate::counting::{filter_more, raise_decided};
 use crate::filters::Filters;
 use crate::nogoods::Nogoods;
-use crate::recorder::Recorder;
 use crate::removal::keep_consistent;
 use domain_bits::{Domains, Trail};
 use graph_rows::Problem;
 use pair_rows::{PairRows, RowsAt};
+use recorder::{Failure, Recorder};
 use sparse_set::SparseSet;
 
 /// How many flags are looked at together.

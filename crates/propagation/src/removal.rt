@@ -15,19 +15,18 @@ ghost use Rattle.search_theory.specs.Claims.{Single};
 ghost use Rattle.search_theory.specs.Consistency.{AreConsistent};
 ghost use Rattle.all_different.specs.Pruning.{DecidedApart, PruneSays};
 ghost use Rattle.nogood_watch.specs.Nogoods as watched;
-ghost use Rattle.propagation.specs.Propagation.{IsOf, IsFor, waits_at, NotesSize, NotesTaken, Sweeps, pruned_of};
-ghost use Rattle.propagation.specs.declared.change.Cause.TheVariants as cause;
-ghost use Rattle.propagation.specs.Recording.{KeepsSame, KeepsUnited, LeftOne, LeftOver, MayTake, NoNewGuess, members_of};
+ghost use Rattle.recorder.specs.declared.change.Cause.TheVariants as cause;
+ghost use Rattle.recorder.specs.Recording.{KeepsSame, KeepsUnited, LeftOne, LeftOver, MayTake, NoNewGuess, members_of};
+ghost use Rattle.recorder.specs.Telling.{IsOf, HasFirst, IsCrowded, Leaves, RefusesBy, StandsBy, Tells, TellsOn, Fails};
+ghost use Rattle.propagation.specs.Propagation.{IsFor, waits_at, NotesSize, NotesTaken, Sweeps, pruned_of};
 ghost use Rattle.propagation.specs.Taking.{AreFlagged, Meets};
-ghost use Rattle.propagation.specs.Telling.{HasFirst, IsCrowded, Leaves, RefusesBy, StandsBy, Tells, TellsOn, Fails};
 
-use crate::change::{Cause, Failure};
-use crate::recorder::Recorder;
 use all_different::{Pruned, Scratch, prune_undecided};
 use domain_bits::{Domains, Mark, Trail};
 use graph_rows::Problem;
 use graph_theory::direction::Direction;
 use pair_rows::RowsAt;
+use recorder::{Cause, Failure, Recorder};
 
 /// Tells that values have left by the cause since the mark, if any have. Cost: one step, and that of `took`.
 fn tell<T: Trail, R: Recorder>(d: &Domains<T>, told: &mut R, vertex: u16, cause: Cause, from: Mark)

@@ -1,18 +1,13 @@
 //! What a worker propagates with goes to its thread, so it may be sent to another thread, and read from several.
 
-use crate::causes::{Causes, KeptChanges};
 use crate::filters::Filters;
 use crate::nogoods::Nogoods;
-use crate::recorder::Silent;
 
 /// Takes a type that may be sent and shared.
 const fn is_shared<T: Send + Sync>() {}
 
-/// Filters, nogoods and recorders may be sent and shared.
+/// Filters and nogoods may be sent and shared.
 const fn are_shared<'a>() {
     is_shared::<Filters<'a>>();
     is_shared::<Nogoods>();
-    is_shared::<Causes>();
-    is_shared::<KeptChanges<'a>>();
-    is_shared::<Silent>();
 }

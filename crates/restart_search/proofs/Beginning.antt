@@ -14,7 +14,8 @@ use Rattle.domain_bits.specs.Removals.{State, in_domain, full}
 use Rattle.domain_bits.specs.Changes.{Keeps}
 use Rattle.sparse_set.specs.Removals as sparse
 use Rattle.all_different.specs.Prefixes.{Balanced}
-use Rattle.propagation.specs.Propagation.{IsOf, Narrows, waits_at, HasValue, HasTwo, NotesSize, Rests, Ready, LeavesPast, Propagates}
+use Rattle.recorder.specs.Telling.{IsOf}
+use Rattle.propagation.specs.Propagation.{Narrows, waits_at, HasValue, HasTwo, NotesSize, Rests, Ready, LeavesPast, Propagates}
 use Rattle.restart_search.specs.Searching.{Beginning}
 use Rattle.restart_search.specs.declared.position.Moment.{Moment}
 use Rattle.restart_search.specs.Searching.{AtRest, Roots, IsNow, Levels, Sound}

@@ -14,8 +14,8 @@ use Rattle.nogood_book.specs.declared.row.Row.{Row}
 use Rattle.nogood_book.specs.Rows as book
 use Rattle.nogood_book.specs.Places.{StartsWith}
 use Rattle.nogood_book.specs.Facts.{Facts}
+use Rattle.recorder.specs.Holding.{HoldsRows}
 use Rattle.propagation.specs.Propagation.{Narrows, LeavesPast}
-use Rattle.propagation.specs.Holding.{HoldsRows}
 use Rattle.propagation.specs.Acting.{AreActedOn}
 use Rattle.propagation.proofs.Narrowing.{is_of_narrowed}
 use Rattle.restart_search.specs.declared.position.Moment.{Moment}

@@ -7,7 +7,8 @@ use Rattle.graph_theory.specs.Embedding.{Problem}
 use Rattle.search_theory.specs.Claims.{Single, Quiet}
 use Rattle.domain_bits.specs.Removals.{State, in_domain, size_of}
 use Rattle.sparse_set.specs.Removals as sparse
-use Rattle.propagation.specs.Propagation.{IsOf, LeavesPast}
+use Rattle.recorder.specs.Telling.{IsOf}
+use Rattle.propagation.specs.Propagation.{LeavesPast}
 use Rattle.propagation.proofs.Walking.{Lists, each_number}
 use Rattle.propagation.proofs.Past.{past_single, no_member_past}
 use Rattle.restart_search.specs.Degrees.{either_degree}

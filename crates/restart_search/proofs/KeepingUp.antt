@@ -18,7 +18,7 @@ use Rattle.nogood_book.specs.Places.{StartsWith, is_nogood, nogoods_by}
 use Rattle.nogood_book.specs.Facts.{Facts, Grew, CaughtUp, one_more}
 use Rattle.nogood_book.proofs.Lists.{starts_length, get_split, nogoods_by-append}
 use Rattle.nogood_book.proofs.Reaching.{by_stays}
-use Rattle.propagation.specs.Holding.{lists_in, singles_in, HoldsRows}
+use Rattle.recorder.specs.Holding.{lists_in, singles_in, HoldsRows}
 use Rattle.propagation.specs.Acting.{NothingLeft}
 use Rattle.propagation.proofs.Holding.{listed_place, single_place, path_some}
 use Rattle.restart_search.specs.Sharing.{IsSeatFor, IsRowOf, IsPublished, Went, IsPathInForce, RowsInForce, HasLooked, KeepsUp}

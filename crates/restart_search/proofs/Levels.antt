@@ -7,8 +7,8 @@ use Rattle.graph_theory.specs.Embedding.{Problem}
 use Rattle.domain_bits.specs.Removals.{State, undone}
 use Rattle.sparse_set.specs.Removals as sparse
 use Rattle.restart_search.specs.declared.position.Moment.{Moment}
+use Rattle.recorder.proofs.Telling.{same_trail}
 use Rattle.propagation.specs.Propagation.{Fewer, LeavesPast}
-use Rattle.propagation.proofs.Sweeping.{same_trail}
 use Rattle.restart_search.specs.Searching.{AtRest, IsNow, IsEarlier, HasBeen, RestedAt, Levels}
 
 -- ---- domains and their trail

@@ -11,12 +11,11 @@ use Rattle.nogood_watch.specs.Nogoods as watched
 use Rattle.nogood_book.specs.declared.row.Row.{Row}
 use Rattle.nogood_book.specs.declared.row.RowKind.{RowKind}
 use Rattle.nogood_book.specs.Rows.{Pairs, path_of, paths_after}
-use Rattle.propagation.specs.declared.change.Cause.TheVariants as cause
-use Rattle.propagation.specs.Propagation.{IsOf}
-use Rattle.propagation.specs.Holding.{listed, single, made_from, lists_in, singles_in, HoldsRows}
-use Rattle.propagation.specs.Recording.{Change, LeftOne, CountedSet, from_of, MayTake, IsAmong, HasGuess, NoNewGuess, cut, cut_at}
-use Rattle.propagation.specs.Telling.{NamesList, NamesUnit, KeepsNames, Told, begins, goes_on, Tells}
-use Rattle.propagation.proofs.Telling.{tells_undone, tells_named}
+use Rattle.recorder.specs.declared.change.Cause.TheVariants as cause
+use Rattle.recorder.specs.Recording.{Change, LeftOne, CountedSet, from_of, MayTake, IsAmong, HasGuess, NoNewGuess, cut, cut_at}
+use Rattle.recorder.specs.Telling.{IsOf, NamesList, NamesUnit, KeepsNames, Told, begins, goes_on, Tells}
+use Rattle.recorder.proofs.Telling.{tells_undone, tells_named}
+use Rattle.recorder.specs.Holding.{listed, single, made_from, lists_in, singles_in, HoldsRows}
 use Rattle.proof_logger.specs.declared.logger.DeadEnd.{DeadEnd}
 use Rattle.proof_logger.specs.Logging.{EndsBy, EndsPath}
 use Rattle.restart_search.specs.declared.position.Moment.{Moment}

@@ -15,8 +15,8 @@ use Rattle.restart_search.specs.Searching.{Levels}
 use Rattle.propagation.specs.Learning.{Filtering, unlearned}
 use Rattle.propagation.specs.Acting.{IsPart, HaveMoved, AreActedOn}
 use Rattle.restart_search.specs.Acting.{AtMoments, WereActedOn, Acting}
+use Rattle.recorder.proofs.Telling.{same_trail}
 use Rattle.propagation.specs.Propagation.{Narrows}
-use Rattle.propagation.proofs.Sweeping.{same_trail}
 use Rattle.restart_search.proofs.Levels.{undone_all, undone_further, undone_later, low_within}
 use Rattle.propagation.proofs.Acting.{acted_wider, acted_after, units_on}
 

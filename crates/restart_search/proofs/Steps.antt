@@ -18,7 +18,8 @@ use Rattle.domain_bits.specs.Removals.{State, in_domain}
 use Rattle.fail_account.proofs.Members.{off_members, members_off}
 use Rattle.sparse_set.specs.Removals as sparse
 use Rattle.restart_search.specs.declared.position.Moment.{Moment}
-use Rattle.propagation.specs.Propagation.{IsOf, Narrows, Fewer, LeavesPast}
+use Rattle.recorder.specs.Telling.{IsOf}
+use Rattle.propagation.specs.Propagation.{Narrows, Fewer, LeavesPast}
 use Rattle.restart_search.specs.Searching.{AtRest, IsNow, Levels, Based, Sound, IsBest, IsFirstUndecided}
 use Rattle.restart_search.proofs.Guessing.{path_deepened, based_guessed, rest_guessed}
 

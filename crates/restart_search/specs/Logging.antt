@@ -6,8 +6,8 @@ use Rattle.search_theory.specs.Account.{Account, path}
 use Rattle.domain_bits.specs.Removals.{State}
 use Rattle.nogood_watch.specs.Nogoods as watched
 use Rattle.nogood_book.specs.declared.row.Row.{Row}
-use Rattle.propagation.specs.Recording.{Change, HasGuess}
-use Rattle.propagation.specs.Telling.{Tells}
+use Rattle.recorder.specs.Recording.{Change, HasGuess}
+use Rattle.recorder.specs.Telling.{Tells}
 use Rattle.restart_search.specs.declared.position.Moment.{Moment}
 use Rattle.restart_search.specs.declared.outcome.Outcome.{Outcome}
 use Rattle.restart_search.specs.declared.outcome.Outcome.TheVariants.{Found, Refuted, Spent, Stopped, NoMemory}

@@ -6,7 +6,7 @@ use Rattle.search_theory.specs.Account.{Account, path}
 use Rattle.nogood_watch.specs.Nogoods as watched
 use Rattle.nogood_book.specs.Facts.{Facts}
 use Rattle.nogood_book.specs.declared.row.Row.{Row}
-use Rattle.propagation.specs.Recording.{Change}
+use Rattle.recorder.specs.Recording.{Change}
 use Rattle.restart_search.specs.Acting.{WereActedOn, Acting}
 use Rattle.restart_search.specs.Logging.{IsTold, IsLogged, LogsOn}
 use Rattle.restart_search.specs.Searching.{Based, Sound, IsAtRoot, Begun, NotBegun, TookUp, BeganAgain, AtStage}

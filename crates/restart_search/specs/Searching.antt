@@ -11,11 +11,11 @@ use Rattle.domain_bits.specs.Removals.{State, in_domain, size_of, undone}
 use Rattle.sparse_set.specs.Removals as sparse
 use Rattle.all_different.specs.Prefixes.{Balanced}
 use Rattle.nogood_watch.specs.Nogoods as watched
-use Rattle.propagation.specs.Propagation.{IsOf, LeavesPast, Narrows, waits_at, HasTwo, HasValue}
-use Rattle.propagation.specs.declared.change.Failure.{Failure}
-use Rattle.propagation.specs.Recording.{Change, CountedSet}
-use Rattle.propagation.specs.Telling.{Fails}
-use Rattle.propagation.specs.Holding.{HoldsRows}
+use Rattle.recorder.specs.declared.change.Failure.{Failure}
+use Rattle.recorder.specs.Recording.{Change, CountedSet}
+use Rattle.recorder.specs.Telling.{IsOf, Fails}
+use Rattle.recorder.specs.Holding.{HoldsRows}
+use Rattle.propagation.specs.Propagation.{LeavesPast, Narrows, waits_at, HasTwo, HasValue}
 use Rattle.nogood_book.specs.Rows as book
 use Rattle.nogood_book.specs.Facts.{Facts}
 use Rattle.worker_gate.specs.Answers.{AnswerView, NoteView}

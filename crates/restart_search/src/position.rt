@@ -15,7 +15,8 @@ ghost use Rattle.restart_search.specs.Searching.{IsNow};
 use domain_bits::{Domains, Mark, Trail};
 use fail_account::Account;
 use graph_rows::Problem;
-use propagation::{Filters, Recorder};
+use propagation::Filters;
+use recorder::Recorder;
 use sparse_set::SparseSet;
 
 /// A moment of a search: how much had been removed from the domains, and how many vertices were past.

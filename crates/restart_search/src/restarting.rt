@@ -6,7 +6,7 @@ ghost use Rattle.search_theory.specs.Account.{restarted};
 ghost use Rattle.search_theory.specs.Bounds.{cutoff};
 ghost use Rattle.search_theory.specs.Remaining.{remaining};
 ghost use Rattle.nogood_book.specs.Facts.{CaughtUp, Grew};
-ghost use Rattle.propagation.specs.Holding.{HoldsRows};
+ghost use Rattle.recorder.specs.Holding.{HoldsRows};
 ghost use Rattle.restart_search.specs.Positions.{BeginsAt, GoesOn, IsAtStage, LogsAt, LogsOnAt, StandsAtRoot, TookUpAt};
 ghost use Rattle.restart_search.specs.Sharing.{IsSeatFor, HasLearned, LearnsFirst, learned_by, refuted_in};
 
@@ -16,7 +16,8 @@ use crate::sharing::{Author, publish_position};
 use domain_bits::Trail;
 use nogood_book::{Book, RowSeat};
 use proof_logger::{DeadEnd, ProofLogger};
-use propagation::{Recorder, lower, propagate_again};
+use propagation::{lower, propagate_again};
+use recorder::Recorder;
 use std::alloc::{AllocError, Global};
 
 /// Takes up what the book has: the nogoods among the rows from a place on, those before it being kept, and what follows at the root.

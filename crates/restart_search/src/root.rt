@@ -6,10 +6,9 @@ ghost use Rattle.graph_theory.specs.Graph.{size};
 ghost use Rattle.bit_rows.specs.BitRows.{words_for};
 ghost use Rattle.domain_bits.specs.Removals.{full};
 ghost use Rattle.sparse_set.specs.Removals.{whole};
+ghost use Rattle.recorder.specs.Recording.{NoNewGuess};
+ghost use Rattle.recorder.specs.Telling.{IsOf, Fails, IsEmptied, Tells, TellsOn};
 ghost use Rattle.propagation.specs.Learning.{unlearned};
-ghost use Rattle.propagation.specs.Propagation.{IsOf};
-ghost use Rattle.propagation.specs.Recording.{NoNewGuess};
-ghost use Rattle.propagation.specs.Telling.{Fails, IsEmptied, Tells, TellsOn};
 ghost use Rattle.restart_search.specs.Searching.{Begins, Roots, RootSays};
 
 use bit_rows::words_for;
@@ -17,7 +16,8 @@ use domain_bits::{Domains, Trail};
 use first_rows::{FirstRows, fill_first};
 use graph_rows::Problem;
 use pair_rows::PairKinds;
-use propagation::{Failure, Filters, Recorder, narrow_first, propagate};
+use propagation::{Filters, narrow_first, propagate};
+use recorder::{Failure, Recorder};
 use sparse_set::SparseSet;
 use std::alloc::{AllocError, Global};
 

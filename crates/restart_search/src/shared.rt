@@ -5,7 +5,7 @@ use crate::worker::{Equipment, Worker};
 use domain_bits::WordTrail;
 use nogood_book::RowSeat;
 use proof_logger::ProofLogger;
-use propagation::Recorder;
+use recorder::Recorder;
 
 /// Takes a type that may be sent.
 const fn is_sent<T: Send>() {}

@@ -6,7 +6,8 @@ ghost use Rattle.graph_theory.specs.Path.{NotOn};
 ghost use Rattle.domain_bits.specs.Removals.{in_domain};
 ghost use Rattle.search_theory.specs.Account.{path, IsAt};
 ghost use Rattle.search_theory.specs.Claims.{Single, Quiet};
-ghost use Rattle.propagation.specs.Propagation.{IsOf, LeavesPast};
+ghost use Rattle.recorder.specs.Telling.{IsOf};
+ghost use Rattle.propagation.specs.Propagation.{LeavesPast};
 ghost use Rattle.restart_search.specs.Searching.{AtRest, IsBest, IsFirstUndecided, IsNextBest, ComesFirst, IsUndecided};
 
 use crate::degrees::either_degree;

@@ -12,7 +12,7 @@ use made_lines::MadeLines;
 use nogood_book::Row;
 use path_journal::PathJournal;
 use proof_logger::{DeadEnd, ProofLogger};
-use propagation::Causes;
+use recorder::Causes;
 use std::alloc::{AllocError, Global};
 
 /// Keeps the lines of one owner, and makes each line that they name once.

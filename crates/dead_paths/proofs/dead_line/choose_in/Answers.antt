@@ -1,6 +1,6 @@
 use Rattle.std.proofs.Common.{[], arith}
 use Rattle.graph_theory.specs.Graph.{size}
-use Rattle.propagation.specs.Recording.{changes_of, set_at}
+use Rattle.recorder.specs.Recording.{changes_of, set_at}
 use Rattle.dead_paths.specs.Choosing.{values_of, chosen_in}
 use Rattle.dead_paths.specs.Explaining.{end_by}
 use Rattle.dead_paths.proofs.Ends.{choice_is}

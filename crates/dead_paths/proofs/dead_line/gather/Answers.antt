@@ -1,4 +1,4 @@
-use Rattle.propagation.specs.Recording.{set_at}
+use Rattle.recorder.specs.Recording.{set_at}
 use Rattle.dead_theory.specs.Changes.{known_after}
 use Rattle.dead_paths.specs.Choosing.{AreAt, AreNameable, chosen_in}
 use Rattle.std.proofs.Common.{ℕ, List, length, Err, ap, sym, subst, arith}

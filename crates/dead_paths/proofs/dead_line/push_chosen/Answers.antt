@@ -2,7 +2,7 @@ use Rattle.std.proofs.lemmas.Result.{err_from_is_err_and}
 use Rattle.std.proofs.Common.{◌≡◌, ℕ, ◌-◌, ◌<◌, ◌∷◌, suc, List, ap, ◌∙◌, refl, length, drop, subst, sym, arith}
 use Rattle.dead_paths.specs.declared.room.ChosenEntry.{ChosenEntry}
 use Rattle.log_theory.specs.LogText.{AreRefs}
-use Rattle.propagation.specs.Recording.{change_of}
+use Rattle.recorder.specs.Recording.{change_of}
 use Rattle.dead_theory.specs.Changes.{Chosen, known_after, IsInProblem}
 use Rattle.kept_lines.specs.Frames.{Goes}
 use Rattle.dead_paths.specs.Making.{AreRowsNamed}

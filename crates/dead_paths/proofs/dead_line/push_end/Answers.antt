@@ -4,10 +4,10 @@ use Rattle.graph_theory.specs.Graph.{size}
 use Rattle.log_theory.specs.LogText.{AreRefs}
 use Rattle.encoding_theory.specs.Encoding.{at_least}
 use Rattle.reason_theory.specs.Reasons.{value_clauses}
-use Rattle.propagation.specs.declared.change.Failure.{Failure}
-use Rattle.propagation.specs.declared.change.Failure.TheVariants as failure
-use Rattle.propagation.specs.declared.change.Place.{Place}
-use Rattle.propagation.specs.Recording.{set_at}
+use Rattle.recorder.specs.declared.change.Failure.{Failure}
+use Rattle.recorder.specs.declared.change.Failure.TheVariants as failure
+use Rattle.recorder.specs.declared.change.Place.{Place}
+use Rattle.recorder.specs.Recording.{set_at}
 use Rattle.dead_theory.specs.Ends.{Empty, Whole, Short, Exhausted, end_of}
 use Rattle.kept_lines.proofs.Naming.{named_behind}
 use Rattle.dead_paths.specs.declared.dead_line.PathEnd.{PathEnd}

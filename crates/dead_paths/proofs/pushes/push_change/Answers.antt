@@ -4,11 +4,11 @@ use Rattle.log_theory.specs.declared.step.Ref.{Ref}
 use Rattle.log_theory.specs.declared.step.Ref.TheVariants.{Line}
 use Rattle.log_theory.specs.LogText.{AreRefs}
 use Rattle.nogood_book.specs.Places.{IsNogoodRow}
-use Rattle.propagation.specs.declared.change.Cause.{Cause}
-use Rattle.propagation.specs.declared.change.Cause.TheVariants as cause
-use Rattle.propagation.specs.declared.change.What.{What}
-use Rattle.propagation.specs.declared.change.What.TheVariants.{One}
-use Rattle.propagation.specs.Recording.{change_by}
+use Rattle.recorder.specs.declared.change.Cause.{Cause}
+use Rattle.recorder.specs.declared.change.Cause.TheVariants as cause
+use Rattle.recorder.specs.declared.change.What.{What}
+use Rattle.recorder.specs.declared.change.What.TheVariants.{One}
+use Rattle.recorder.specs.Recording.{change_by}
 use Rattle.dead_theory.specs.Changes.{shown_of, IsInProblem}
 use Rattle.dead_paths.specs.Choosing.{AreAt, IsOfRow, chosen_of}
 use Rattle.dead_paths.specs.Lines.{at_most_ref, edge_ref}

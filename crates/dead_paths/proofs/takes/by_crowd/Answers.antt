@@ -1,6 +1,6 @@
 use Rattle.std.proofs.Common.{◌≡◌, false, refl, rules}
 use Rattle.graph_theory.specs.Graph.{size}
-use Rattle.propagation.specs.Recording.{LeftOver}
+use Rattle.recorder.specs.Recording.{LeftOver}
 use Rattle.dead_paths.proofs.Resting.{pass_value, step_crowd}
 use Rattle.dead_paths.proofs.takes.by_crowd.Goals as goal
 

@@ -2,8 +2,8 @@ use Rattle.std.proofs.Common.{◌≡◌, ℕ, is_some, false, refl, subst, rules
 use Rattle.graph_theory.specs.Graph.{Graph, size, edge}
 use Rattle.graph_theory.specs.Reversed.{turned}
 use Rattle.bit_rows.specs.BitRows.{has}
-use Rattle.propagation.specs.declared.change.Cause.TheVariants as cause
-use Rattle.propagation.specs.Recording.{LeftOne}
+use Rattle.recorder.specs.declared.change.Cause.TheVariants as cause
+use Rattle.recorder.specs.Recording.{LeftOne}
 use Rattle.dead_paths.proofs.Resting.{pass_value, step_edge}
 use Rattle.dead_paths.proofs.takes.by_edge.Goals as goal
 

@@ -2,7 +2,7 @@ use Rattle.std.proofs.Common.{◌≡◌, ℕ, false, refl, sym, subst, rules}
 use Rattle.graph_theory.specs.Graph.{size}
 use Rattle.needed_values.specs.Needed.{AreRows}
 use Rattle.dead_paths.proofs.Resting.{pass_one, step_guess}
-use Rattle.propagation.specs.declared.change.Cause.TheVariants as cause
+use Rattle.recorder.specs.declared.change.Cause.TheVariants as cause
 use Rattle.dead_paths.proofs.takes.by_guess.Goals as goal
 
 pub is_any_needed-requires-clause-held : goal.is_any_needed-requires-clause-held

@@ -1,7 +1,7 @@
 use Rattle.std.proofs.Common.{◌≡◌, ℕ, true, false, refl, sym, subst, rules}
 use Rattle.graph_theory.specs.Graph.{size}
 use Rattle.needed_values.specs.Needed.{AreRows}
-use Rattle.propagation.specs.declared.change.Cause.TheVariants as cause
+use Rattle.recorder.specs.declared.change.Cause.TheVariants as cause
 use Rattle.dead_paths.specs.Choosing.{values_of}
 use Rattle.dead_paths.proofs.Resting.{pass_one, pass_nogood, step_nogood}
 use Rattle.dead_paths.proofs.takes.by_nogood.Goals as goal

@@ -4,7 +4,7 @@ use Rattle.graph_theory.specs.Embedding.{Problem}
 use Rattle.bit_rows.specs.BitRows.{words_for}
 use Rattle.needed_values.specs.Needed.{AreRows}
 use Rattle.needed_values.specs.Consistent.{AllGo, AllConsistent}
-use Rattle.propagation.specs.declared.change.Cause.TheVariants as cause
+use Rattle.recorder.specs.declared.change.Cause.TheVariants as cause
 use Rattle.dead_paths.proofs.Resting.{pass_one, pass_vertex, kept_needs, kept_below}
 use Rattle.dead_paths.proofs.takes.by_vertex.Goals as goal
 

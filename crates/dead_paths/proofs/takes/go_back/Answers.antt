@@ -1,9 +1,9 @@
 use Rattle.std.proofs.Common.{◌≡◌, ◌++◌, ℕ, List, length, take, Result, Ok, Err, OnOk, refl, sym, ap, ◌∙◌, subst}
 use Rattle.std.proofs.Math.Seq.{take-append_seam}
 use Rattle.graph_theory.specs.Graph.{size}
-use Rattle.propagation.specs.declared.change.Cause.TheVariants as cause
-use Rattle.propagation.specs.declared.change.What.{What}
-use Rattle.propagation.specs.Recording.{change_by, change_of}
+use Rattle.recorder.specs.declared.change.Cause.TheVariants as cause
+use Rattle.recorder.specs.declared.change.What.{What}
+use Rattle.recorder.specs.Recording.{change_by, change_of}
 use Rattle.dead_paths.specs.Choosing.{values_of, IsStep}
 use Rattle.dead_paths.proofs.Resting.{step_first, step_one, made_one_ok, told_made}
 use Rattle.dead_paths.proofs.takes.go_back.Goals as goal

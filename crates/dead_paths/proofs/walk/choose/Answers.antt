@@ -1,6 +1,6 @@
 use Rattle.std.proofs.Common.{◌≡◌, ◌<◌, ◌-◌, suc, length, refl, arith}
 use Rattle.graph_theory.specs.Graph.{size}
-use Rattle.propagation.specs.Recording.{changes_of}
+use Rattle.recorder.specs.Recording.{changes_of}
 use Rattle.dead_paths.specs.Choosing.{values_of, chosen_in}
 use Rattle.dead_paths.proofs.Walking.{gone_none, in_problem_here, stepped, walked_all, nameable_all}
 use Rattle.dead_paths.proofs.Resting.{rows_again}

@@ -1,5 +1,5 @@
 use Rattle.graph_theory.specs.Graph.{size}
-use Rattle.propagation.specs.Recording.{changes_of}
+use Rattle.recorder.specs.Recording.{changes_of}
 use Rattle.dead_paths.specs.Rooms.{IsFit}
 use Rattle.dead_paths.specs.Choosing.{values_of, chosen_in}
 use Rattle.dead_paths.proofs.Walking.{Gone}

@@ -1,4 +1,4 @@
-use Rattle.propagation.specs.Recording.{changes_of}
+use Rattle.recorder.specs.Recording.{changes_of}
 use Rattle.dead_theory.specs.Changes.{AreInProblem}
 use Rattle.line_tests.proofs.checked.entries_of.Given as goal
 

@@ -1,7 +1,7 @@
 use Rattle.std.proofs.Common.{ℕ, List, refl, ap, ◌∙◌, arith, rules}
 use Rattle.journal_theory.proofs.Placing.{take_all}
 use Rattle.log_theory.specs.Lookups.{is_among}
-use Rattle.propagation.specs.Telling.{Joins}
+use Rattle.recorder.specs.Telling.{Joins}
 use Rattle.line_tests.proofs.Ranges.{all_next}
 use Rattle.line_tests.proofs.checked.leads_to_all.Goals as goal
 

@@ -1,6 +1,6 @@
 use Rattle.std.proofs.Common.{◌≡◌, ℕ, true, take}
 use Rattle.log_theory.specs.Lookups.{is_among}
-use Rattle.propagation.specs.Telling.{Joins}
+use Rattle.recorder.specs.Telling.{Joins}
 use Rattle.line_tests.proofs.checked.leads_to_all.Given as goal
 
 abbrev pub invariant-loop-r : goal.invariant-loop-r

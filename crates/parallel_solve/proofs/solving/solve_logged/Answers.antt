@@ -1,8 +1,8 @@
 use Rattle.std.proofs.Common.{List, Option, None, ap, sym, subst}
 use Rattle.graph_theory.specs.Graph.{size}
 use Rattle.domain_bits.specs.Removals.{full}
-use Rattle.propagation.specs.Recording.{Change, Recorded}
-use Rattle.propagation.specs.Telling.{Tells, begins}
+use Rattle.recorder.specs.Recording.{Change, Recorded}
+use Rattle.recorder.specs.Telling.{Tells, begins}
 use Rattle.parallel_solve.proofs.solving.solve_logged.Goals as goal
 
 pub solve_by-requires-clause-told : goal.solve_by-requires-clause-told

@@ -1,7 +1,7 @@
 use Rattle.std.proofs.Common.{sym, ◌∙◌, subst}
 use Rattle.domain_bits.specs.Removals.{State, in_domain}
 use Rattle.search_theory.specs.Claims.{Quiet}
-use Rattle.propagation.specs.Propagation.{IsOf}
+use Rattle.recorder.specs.Telling.{IsOf}
 use Rattle.propagation.proofs.Takes.{prunes_then, prunes_returned}
 use Rattle.propagation.proofs.counting.filter_more.Goals as goal
 

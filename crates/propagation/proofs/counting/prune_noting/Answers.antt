@@ -4,7 +4,7 @@ use Rattle.all_different.specs.Prefixes.{Balanced}
 use Rattle.propagation.proofs.Past.{no_member_size}
 use Rattle.propagation.proofs.Pruning.{decided_apart, narrows_choices, ready_noted, decided_wait, pruned_fail, pruned_empty}
 use Rattle.std.proofs.lemmas.Result.{err_from_is_err_and}
-use Rattle.propagation.proofs.Telling.{fails_emptied}
+use Rattle.recorder.proofs.Telling.{fails_emptied}
 use Rattle.propagation.proofs.counting.prune_noting.Goals as goal
 
 pub raise_undecided-requires-clause-decided : goal.raise_undecided-requires-clause-decided

@@ -1,6 +1,6 @@
 use Rattle.std.proofs.Common.{true, false, refl}
+use Rattle.recorder.proofs.Guesses.{guesses_may}
 use Rattle.propagation.proofs.Supporting.{unused_unsupported, unsupported_on}
-use Rattle.propagation.proofs.Guesses.{guesses_may}
 use Rattle.propagation.proofs.Takes.{takes_none, takes_value}
 use Rattle.propagation.proofs.edges.take_row.Goals as goal
 

@@ -2,8 +2,8 @@ use Rattle.std.proofs.Common.{◌≡◌, true, false, length, refl, sym, ap, ◌
 use Rattle.std.proofs.lemmas.List.{with_items_is}
 use Rattle.graph_theory.specs.Embedding.{Problem}
 use Rattle.bit_rows.specs.BitRows.{words_for}
+use Rattle.recorder.specs.Recording.{members_of}
 use Rattle.propagation.specs.Edges.{RoomSize, IsRoomFor}
-use Rattle.propagation.specs.Recording.{members_of}
 use Rattle.propagation.proofs.Gathering.{spot_crowded, unused_crowded}
 use Rattle.propagation.proofs.Takes.{takes_none, takes_value}
 use Rattle.propagation.proofs.Written.{length_written}

@@ -1,10 +1,10 @@
 use Rattle.std.proofs.Common.{◌<◌, arith}
 use Rattle.nogood_watch.specs.Watching.{forced_at}
+use Rattle.recorder.proofs.Guesses.{guesses_may, guesses_more}
 use Rattle.propagation.proofs.Forcing.{unused_on, shrinks_taken, none_taken, emptied_taken, forces_none}
 use Rattle.propagation.proofs.Reasons.{forbidden_on}
 use Rattle.propagation.proofs.Acting.{out_more}
 use Rattle.propagation.proofs.Waiting.{shrinks_more}
-use Rattle.propagation.proofs.Guesses.{guesses_may, guesses_more}
 use Rattle.propagation.proofs.nogoods.take_out.Goals as goal
 
 pub take_by-requires-clause-r_in : goal.take_by-requires-clause-r_in

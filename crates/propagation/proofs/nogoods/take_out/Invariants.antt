@@ -2,9 +2,9 @@ use Rattle.std.proofs.Common.{◌≡◌, ℕ, ◌<◌, false, Option}
 use Rattle.domain_bits.specs.Removals.{in_domain}
 use Rattle.nogood_watch.specs.Nogoods as watched
 use Rattle.nogood_watch.specs.Watching.{forced_at}
+use Rattle.recorder.specs.Recording.{NoNewGuess}
+use Rattle.recorder.specs.Telling.{AreForbidden, Tells}
 use Rattle.propagation.specs.Propagation.{Shrinks}
-use Rattle.propagation.specs.Recording.{NoNewGuess}
-use Rattle.propagation.specs.Telling.{AreForbidden, Tells}
 use Rattle.propagation.proofs.nogoods.take_out.Given as goal
 
 abbrev pub invariant-loop-k : goal.invariant-loop-k

@@ -11,12 +11,12 @@ use Rattle.propagation.proofs.Past.{leaves_on, fewer_more}
 use Rattle.propagation.proofs.Narrowing.{narrows_more, none_narrowed}
 use Rattle.domain_bits.specs.Removals.{State, in_domain}
 use Rattle.nogood_watch.specs.Nogoods as watched
-use Rattle.propagation.specs.Recording.{Change}
-use Rattle.propagation.specs.Telling.{Tells}
+use Rattle.recorder.specs.Recording.{Change}
+use Rattle.recorder.specs.Telling.{Tells}
 use Rattle.std.proofs.lemmas.Result.{err_from_is_err_and}
-use Rattle.propagation.proofs.Telling.{tells_of}
+use Rattle.recorder.proofs.Telling.{tells_of}
+use Rattle.recorder.proofs.Guesses.{guesses_more}
 use Rattle.propagation.proofs.Failing.{fails_as, in_force_failed}
-use Rattle.propagation.proofs.Guesses.{guesses_more}
 use Rattle.propagation.proofs.propagation.propagate.Goals as goal
 
 -- what taking up tells, of the problem that is held

@@ -1,10 +1,10 @@
 use Rattle.std.proofs.Common.{◌≡◌, ◌*◌, ◌-◌, length, IfSome}
+use Rattle.recorder.specs.Recording.{NoNewGuess}
+use Rattle.recorder.specs.Telling.{Tells}
 use Rattle.propagation.specs.Edges.{IsRoomFor}
 use Rattle.propagation.specs.Learning.{AreKept}
 use Rattle.propagation.specs.Acting.{HaveMoved, WatchesWait}
 use Rattle.propagation.specs.Propagation.{IsFor, Narrows, Ready, LeavesPast, Fewer}
-use Rattle.propagation.specs.Recording.{NoNewGuess}
-use Rattle.propagation.specs.Telling.{Tells}
 use Rattle.propagation.proofs.propagation.propagate.Given as goal
 
 abbrev pub invariant-loop-d : goal.invariant-loop-d

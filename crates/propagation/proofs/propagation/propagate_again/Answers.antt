@@ -1,15 +1,15 @@
 use Rattle.std.proofs.Common.{◌≡◌, sym, subst, ap, ◌∙◌}
 use Rattle.graph_theory.specs.Embedding.{Problem}
+use Rattle.recorder.specs.Telling.{IsOf, Tells}
+use Rattle.recorder.proofs.Telling.{tells_of}
+use Rattle.recorder.proofs.Guesses.{guesses_more}
 use Rattle.propagation.specs.Learning.{AreKept, Filtering}
 use Rattle.propagation.specs.Acting.{WatchesWait, HaveMoved}
-use Rattle.propagation.specs.Propagation.{IsOf, Shrinks}
-use Rattle.propagation.specs.Telling.{Tells}
+use Rattle.propagation.specs.Propagation.{Shrinks}
 use Rattle.propagation.proofs.Acting.{acted_told, moved_none, moved_more, kept_each, wait_on, wait_raised}
 use Rattle.propagation.proofs.Forcing.{ready_on, ready_at_rest, propagated_after}
 use Rattle.propagation.proofs.Failing.{propagated_failed, fails_where_emptied, acted_failed}
 use Rattle.propagation.proofs.Past.{leaves_on, fewer_none}
-use Rattle.propagation.proofs.Telling.{tells_of}
-use Rattle.propagation.proofs.Guesses.{guesses_more}
 use Rattle.propagation.proofs.propagation.propagate_again.Goals as goal
 
 -- the problem stays that of the filters that a run begins with

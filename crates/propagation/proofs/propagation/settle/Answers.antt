@@ -1,7 +1,7 @@
+use Rattle.recorder.proofs.Guesses.{guesses_more}
 use Rattle.propagation.proofs.Waiting.{ready_but_on}
 use Rattle.propagation.proofs.Past.{member_in}
 use Rattle.propagation.proofs.Walking.{walked_start, walked_more, walked_none, walked_all}
-use Rattle.propagation.proofs.Guesses.{guesses_more}
 use Rattle.propagation.proofs.propagation.settle.Goals as goal
 
 pub settle_at-requires-clause-ready : goal.settle_at-requires-clause-ready

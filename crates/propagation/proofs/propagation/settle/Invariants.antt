@@ -1,5 +1,5 @@
-use Rattle.propagation.specs.Recording.{NoNewGuess}
-use Rattle.propagation.specs.Telling.{TellsOn}
+use Rattle.recorder.specs.Recording.{NoNewGuess}
+use Rattle.recorder.specs.Telling.{TellsOn}
 use Rattle.propagation.proofs.Walking.{Walked}
 use Rattle.propagation.proofs.propagation.settle.Given as goal
 

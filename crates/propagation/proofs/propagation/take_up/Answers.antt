@@ -12,8 +12,8 @@ use Rattle.propagation.proofs.Past.{fewer_none, fewer_more}
 use Rattle.propagation.proofs.Narrowing.{narrows_none, narrows_more, none_narrowed}
 use Rattle.propagation.proofs.Waiting.{first_on, quiet_where_none_waits}
 use Rattle.std.proofs.lemmas.Result.{err_from_is_err_and}
-use Rattle.propagation.proofs.Telling.{tells_of}
-use Rattle.propagation.proofs.Guesses.{guesses_more}
+use Rattle.recorder.proofs.Telling.{tells_of}
+use Rattle.recorder.proofs.Guesses.{guesses_more}
 use Rattle.propagation.proofs.propagation.take_up.Goals as goal
 
 pub returns-in_err-visit-clause-taken : goal.returns-in_err-visit-clause-taken

@@ -1,9 +1,9 @@
 use Rattle.std.proofs.Common.{◌≡◌, IfSome}
+use Rattle.recorder.specs.Recording.{NoNewGuess}
+use Rattle.recorder.specs.Telling.{Tells}
 use Rattle.propagation.specs.Learning.{AreKept}
 use Rattle.propagation.specs.Acting.{HaveMoved, WatchesWait}
 use Rattle.propagation.specs.Propagation.{Narrows, Ready, LeavesPast, Fewer, work}
-use Rattle.propagation.specs.Recording.{NoNewGuess}
-use Rattle.propagation.specs.Telling.{Tells}
 use Rattle.propagation.proofs.propagation.take_up.Given as goal
 
 abbrev pub invariant-loop-p : goal.invariant-loop-p

@@ -12,10 +12,10 @@ use Rattle.propagation.proofs.Forcing.{visited_settled_forced}
 use Rattle.std.proofs.lemmas.Result.{err_from_is_err_and}
 use Rattle.domain_bits.specs.Removals.{State}
 use Rattle.nogood_watch.specs.Nogoods as watched
-use Rattle.propagation.specs.Recording.{Change}
-use Rattle.propagation.specs.Telling.{Tells, TellsOn}
-use Rattle.propagation.proofs.Telling.{tells_of, tells_on_of}
-use Rattle.propagation.proofs.Guesses.{guesses_more}
+use Rattle.recorder.specs.Recording.{Change}
+use Rattle.recorder.specs.Telling.{Tells, TellsOn}
+use Rattle.recorder.proofs.Telling.{tells_of, tells_on_of}
+use Rattle.recorder.proofs.Guesses.{guesses_more}
 use Rattle.propagation.proofs.propagation.visit.Goals as goal
 
 pub returns-then-size-eq0-clause-visited : goal.returns-then-size-eq0-clause-visited

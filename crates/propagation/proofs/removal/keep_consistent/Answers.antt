@@ -1,7 +1,7 @@
 use Rattle.std.proofs.Common.{arith}
+use Rattle.recorder.proofs.Guesses.{guesses_may}
 use Rattle.propagation.specs.Propagation.{Sweeps}
 use Rattle.propagation.proofs.Reasons.{leaves_swept}
-use Rattle.propagation.proofs.Guesses.{guesses_may}
 use Rattle.propagation.proofs.Visits.{sweeps_taken}
 use Rattle.propagation.proofs.removal.keep_consistent.Goals as goal
 

@@ -1,5 +1,5 @@
+use Rattle.recorder.proofs.Guesses.{guesses_may}
 use Rattle.propagation.proofs.Reasons.{leaves_first}
-use Rattle.propagation.proofs.Guesses.{guesses_may}
 use Rattle.propagation.proofs.removal.narrow_first.Goals as goal
 
 pub returns-clause-told : goal.returns-clause-told

@@ -3,9 +3,9 @@ use Rattle.domain_bits.specs.Removals.{State}
 use Rattle.all_different.specs.declared.Pruned.{Pruned}
 use Rattle.all_different.specs.declared.Pruned.TheVariants as pruned
 use Rattle.all_different.specs.Pruning.{Prunes}
-use Rattle.propagation.proofs.Telling.{told_more}
+use Rattle.recorder.proofs.Telling.{told_more}
+use Rattle.recorder.proofs.Guesses.{guesses_took, guesses_kept}
 use Rattle.propagation.proofs.Reasons.{leaves_counted, failed_inside, short_shown}
-use Rattle.propagation.proofs.Guesses.{guesses_took, guesses_kept}
 use Rattle.propagation.proofs.removal.prune.Goals as goal
 use Rattle.std.specs.Prelude.{◌≡◌}
 

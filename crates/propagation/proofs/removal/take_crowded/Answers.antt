@@ -1,6 +1,6 @@
-use Rattle.propagation.specs.Recording.{members_of}
+use Rattle.recorder.specs.Recording.{members_of}
+use Rattle.recorder.proofs.Guesses.{guesses_may}
 use Rattle.propagation.proofs.Reasons.{leaves_crowded}
-use Rattle.propagation.proofs.Guesses.{guesses_may}
 use Rattle.propagation.proofs.removal.take_crowded.Goals as goal
 
 pub returns-clause-told : goal.returns-clause-told

@@ -1,6 +1,6 @@
 use Rattle.std.proofs.Common.{ltb, sym, ap, ◌∙◌, arith}
 use Rattle.std.proofs.lemmas.Bool.{ltb-true}
-use Rattle.propagation.proofs.Telling.{told_more, told_tested}
+use Rattle.recorder.proofs.Telling.{told_more, told_tested}
 use Rattle.propagation.proofs.removal.tell.Goals as goal
 
 pub returns-then-is_before-clause-told : goal.returns-then-is_before-clause-told

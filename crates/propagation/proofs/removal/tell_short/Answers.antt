@@ -2,7 +2,7 @@ use Rattle.std.proofs.Common.{◌≡◌, List, ℕ, Some, refl, ◌∙◌, ap, i
 use Rattle.bit_rows.specs.BitRows.{has}
 use Rattle.domain_bits.specs.Removals.{State}
 use Rattle.all_different.specs.Pruning.{in_one_of}
-use Rattle.propagation.specs.Recording.{Change, CountedSet, KeepsShort, KeepsUnited, members_of}
+use Rattle.recorder.specs.Recording.{Change, CountedSet, KeepsShort, KeepsUnited, members_of}
 use Rattle.propagation.proofs.removal.tell_short.Goals as goal
 
 -- What is kept of a set with the values of a row that has them is kept of the set united.

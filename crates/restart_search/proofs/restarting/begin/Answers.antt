@@ -1,7 +1,7 @@
 use Rattle.std.proofs.Common.{[], Option, subst, sym, ◌∙◌}
 use Rattle.search_theory.specs.Account.{Account}
 use Rattle.nogood_watch.specs.Nogoods as watched
-use Rattle.propagation.specs.Holding.{HoldsRows}
+use Rattle.recorder.specs.Holding.{HoldsRows}
 use Rattle.propagation.proofs.Holding.{holds_none}
 use Rattle.restart_search.specs.Sharing.{KeepsUp}
 use Rattle.restart_search.proofs.KeepingUp.{keeps_first}

@@ -3,7 +3,7 @@ use Rattle.search_theory.specs.Account.{Account}
 use Rattle.search_theory.specs.Remaining.{remaining}
 use Rattle.nogood_book.specs.declared.row.Row.{Row}
 use Rattle.nogood_book.proofs.Lists.{starts_length}
-use Rattle.propagation.specs.Holding.{HoldsRows}
+use Rattle.recorder.specs.Holding.{HoldsRows}
 use Rattle.restart_search.specs.Sharing.{KeepsUp}
 use Rattle.restart_search.proofs.KeepingUp.{keeps_again}
 use Rattle.restart_search.proofs.Learning.{has_learned, first_caught, on_ok}

@@ -4,7 +4,7 @@ use Rattle.graph_theory.specs.Embedding.{Problem}
 use Rattle.nogood_book.specs.declared.row.Row.{Row}
 use Rattle.nogood_book.specs.Rows.{Sound}
 use Rattle.nogood_book.proofs.Lists.{starts_length}
-use Rattle.propagation.specs.Holding.{HoldsRows}
+use Rattle.recorder.specs.Holding.{HoldsRows}
 use Rattle.propagation.proofs.Holding.{holds_same, same_moved}
 use Rattle.restart_search.proofs.Closing.{none_again}
 use Rattle.restart_search.proofs.BetweenRuns.{at_root_again, take_seen}

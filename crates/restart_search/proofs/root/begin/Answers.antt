@@ -2,7 +2,7 @@ use Rattle.std.proofs.Common.{ℕ, ◌<◌, subst, ap, ◌∙◌}
 use Rattle.graph_theory.specs.Graph.{size}
 use Rattle.domain_bits.specs.Removals.{State}
 use Rattle.restart_search.proofs.Beginning.{beginning_narrows, beginning_more, none_begun}
-use Rattle.propagation.proofs.Guesses.{guesses_more}
+use Rattle.recorder.proofs.Guesses.{guesses_more}
 use Rattle.propagation.proofs.Narrowing.{is_of_narrowed}
 use Rattle.restart_search.proofs.root.begin.Goals as goal
 

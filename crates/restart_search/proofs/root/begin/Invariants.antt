@@ -1,8 +1,8 @@
 use Rattle.std.proofs.Common.{◌≡◌, length}
 use Rattle.graph_theory.specs.Graph.{size}
 use Rattle.bit_rows.specs.BitRows.{words_for}
-use Rattle.propagation.specs.Recording.{NoNewGuess}
-use Rattle.propagation.specs.Telling.{TellsOn}
+use Rattle.recorder.specs.Recording.{NoNewGuess}
+use Rattle.recorder.specs.Telling.{TellsOn}
 use Rattle.restart_search.specs.Searching.{Beginning}
 use Rattle.restart_search.proofs.root.begin.Given as goal
 

@@ -4,7 +4,7 @@ use Rattle.propagation.specs.Acting.{WatchesWait}
 use Rattle.restart_search.proofs.Moments.{still_unlearned}
 use Rattle.restart_search.proofs.Beginning.{roots_of, begun_ready}
 use Rattle.nogood_watch.specs.Nogoods as watched
-use Rattle.propagation.specs.Telling.{Tells}
+use Rattle.recorder.specs.Telling.{Tells}
 use Rattle.propagation.specs.Propagation.{Ready}
 use Rattle.restart_search.proofs.Written.{written}
 use Rattle.restart_search.proofs.root.settle_root.Goals as goal

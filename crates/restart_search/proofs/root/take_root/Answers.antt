@@ -3,8 +3,8 @@ use Rattle.std.specs.Prelude.{IfErr}
 use Rattle.std.specs.Result.{is_ok}
 use Rattle.graph_theory.specs.Graph.{size}
 use Rattle.domain_bits.specs.Removals.{State, full}
-use Rattle.propagation.specs.declared.change.Failure.{Failure}
-use Rattle.propagation.specs.Telling.{Tells, Fails}
+use Rattle.recorder.specs.declared.change.Failure.{Failure}
+use Rattle.recorder.specs.Telling.{Tells, Fails}
 use Rattle.restart_search.specs.Searching.{Roots}
 use Rattle.restart_search.proofs.Logging.{told_first}
 use Rattle.restart_search.proofs.root.take_root.Goals as goal

@@ -11,10 +11,11 @@ use Rattle.restart_search.proofs.Guessing.{ready_assigned, inside_assigned, dead
 use Rattle.propagation.proofs.Past.{leaves_on}
 use Rattle.restart_search.proofs.Runs.{within_guess, within_fail, within_on}
 use Rattle.restart_search.proofs.Steps.{guessed_room, based_narrowed, sound_guessed}
+use Rattle.recorder.specs.Telling.{IsOf}
 use Rattle.propagation.proofs.Waiting.{first_on}
 use Rattle.propagation.proofs.Visits.{single_of}
 use Rattle.propagation.proofs.Narrowing.{is_of_narrowed}
-use Rattle.propagation.specs.Propagation.{IsOf, Ready}
+use Rattle.propagation.specs.Propagation.{Ready}
 use Rattle.propagation.specs.Acting.{WatchesWait}
 use Rattle.propagation.specs.Learning.{Filtering}
 use Rattle.restart_search.proofs.Written.{kept_long}

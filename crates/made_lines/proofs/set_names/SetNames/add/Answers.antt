@@ -1,7 +1,7 @@
 use Rattle.std.proofs.Common.{List, length, ap, subst, sym, ◌∙◌}
 use Rattle.std.proofs.lemmas.Result.{err_from_is_err_and}
 use Rattle.log_theory.specs.declared.step.Name.{Name}
-use Rattle.propagation.specs.Recording.{CountedSet}
+use Rattle.recorder.specs.Recording.{CountedSet}
 use Rattle.made_lines.specs.declared.set_names.Seat.{Seat}
 use Rattle.made_lines.specs.Sets.{named_sets, AreSeated, with_set}
 use Rattle.made_lines.proofs.Seating.{sets_stay, seated_added, seated_with, sets_with}

@@ -1,6 +1,6 @@
 use Rattle.std.proofs.Common.{◌≡◌, ◌<◌, ℕ, List, length, subst, sym, arith}
 use Rattle.log_theory.specs.declared.step.Name.{Name}
-use Rattle.propagation.specs.Recording.{CountedSet, IsIn}
+use Rattle.recorder.specs.Recording.{CountedSet, IsIn}
 use Rattle.made_lines.specs.Sets.{counted_at, HasName}
 use Rattle.made_lines.proofs.Seating.{seat_is, name_is}
 use Rattle.made_lines.proofs.set_names.SetNames.find.Goals as goal

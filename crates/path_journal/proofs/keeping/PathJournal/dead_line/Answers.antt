@@ -1,5 +1,5 @@
 use Rattle.std.proofs.Common.{ℕ, List, [], subst, sym}
-use Rattle.propagation.specs.Recording.{changes_of, set_at}
+use Rattle.recorder.specs.Recording.{changes_of, set_at}
 use Rattle.nogood_book.specs.Rows.{AreInRange}
 use Rattle.dead_paths.specs.declared.dead_line.PathEnd.{PathEnd}
 use Rattle.dead_paths.specs.Explaining.{end_by, IsEndIn}

@@ -1,9 +1,9 @@
 use Rattle.std.proofs.Common.{Some, refl, sym, subst}
 use Rattle.nogood_watch.specs.Nogoods.{State}
+use Rattle.recorder.proofs.Telling.{tells_named, emptied_fails}
 use Rattle.propagation.specs.Learning.{AreNogoods}
-use Rattle.propagation.proofs.Acting.{wait_forced, wait_looked, none_out, move_looked}
+use Rattle.propagation.proofs.Acting.{wait_forced, wait_looked, none_out, move_looked, moved_names}
 use Rattle.propagation.proofs.Forcing.{assigned_of, unused_forced, held_looked, watches_long, none_whole}
-use Rattle.propagation.proofs.Telling.{tells_named, moved_names, emptied_fails}
 use Rattle.propagation.proofs.Reasons.{whole_decided, forbidden_forced}
 use Rattle.propagation.proofs.Narrowing.{narrows_none}
 use Rattle.propagation.proofs.Waiting.{shrinks_none}

@@ -1,6 +1,6 @@
 use Rattle.std.proofs.Common.{◌≤◌, length, take, Some}
+use Rattle.recorder.specs.Holding.{HoldsRows}
 use Rattle.propagation.specs.Learning.{AreNogoods}
-use Rattle.propagation.specs.Holding.{HoldsRows}
 use Rattle.propagation.proofs.nogoods.Nogoods.take_rows.Given as goal
 
 abbrev pub invariant-loop-k : goal.invariant-loop-k

@@ -6,12 +6,12 @@ use Rattle.domain_bits.specs.Removals.{State}
 use Rattle.all_different.specs.Pruning.{in_one_of}
 use Rattle.graph_theory.specs.Neighbours.{members}
 use Rattle.graph_theory.specs.declared.direction.Direction.{Direction}
-use Rattle.propagation.specs.declared.change.Cause.{Cause}
-use Rattle.propagation.specs.declared.change.Cause.TheVariants.{Guess}
-use Rattle.propagation.specs.declared.change.Place.{Place}
-use Rattle.propagation.specs.declared.change.What.{What}
-use Rattle.propagation.specs.declared.change.What.TheVariants.{One, Others, Over}
-use Rattle.propagation.specs.declared.change.Entry.{Entry}
+use Rattle.recorder.specs.declared.change.Cause.{Cause}
+use Rattle.recorder.specs.declared.change.Cause.TheVariants.{Guess}
+use Rattle.recorder.specs.declared.change.Place.{Place}
+use Rattle.recorder.specs.declared.change.What.{What}
+use Rattle.recorder.specs.declared.change.What.TheVariants.{One, Others, Over}
+use Rattle.recorder.specs.declared.change.Entry.{Entry}
 
 -- A change of the domains, and how much had left before it: values left the domain of one vertex by a cause; or the values that some
 -- vertices have together left the domains of all others; or a value left that of one vertex, whose neighbours in a direction, these vertices, would have too few, these values.

@@ -1,9 +1,9 @@
 use Rattle.std.proofs.Common.{not, ap, ◌∙◌}
 use Rattle.std.specs.Result.{is_ok}
-use Rattle.propagation.specs.declared.change.What.TheVariants.{Others}
-use Rattle.propagation.specs.Recording.{Recorded, LeftOthers, members_of}
-use Rattle.propagation.proofs.Entries.{laid_added, laid_maybe, set_laid, set_placed, told_entry}
-use Rattle.propagation.proofs.causes.CausesRecorder.counted.Goals as goal
+use Rattle.recorder.specs.declared.change.What.TheVariants.{Others}
+use Rattle.recorder.specs.Recording.{Recorded, LeftOthers, members_of}
+use Rattle.recorder.proofs.Entries.{laid_added, laid_maybe, set_laid, set_placed, told_entry}
+use Rattle.recorder.proofs.causes.CausesRecorder.counted.Goals as goal
 
 pub invariant_of-self-then-is_err : goal.invariant_of-self-then-is_err
 invariant_of-self-then-is_err c =

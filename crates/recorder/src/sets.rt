@@ -1,7 +1,7 @@
 //! Sets of counted domains in one list of numbers, and the changes that they belong to.
 
 ghost use Rattle.std.specs.Prelude.{◌≡◌, ℕ, ◌+◌, ◌*◌, ◌<◌, ◌≤◌, ◌++◌, length, reverse, IfOk, IfSome, IfNone, OnOk};
-ghost use Rattle.propagation.specs.Recording.{Adds, AreLaid, EndsBefore, IsLast, IsPlaced, changes_of, cut, left_by, members_of};
+ghost use Rattle.recorder.specs.Recording.{Adds, AreLaid, EndsBefore, IsLast, IsPlaced, changes_of, cut, left_by, members_of};
 
 use crate::change::{Entry, Place, What};
 use bit_rows::next_member;

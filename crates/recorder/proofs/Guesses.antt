@@ -1,8 +1,8 @@
 -- Which guesses are among the changes that are told.
 
 use Rattle.std.proofs.Common.{◌≡◌, ℕ, List, ◌∷◌, Option, Some, None, sym, subst, inl, inr}
-use Rattle.propagation.specs.declared.change.Cause.TheVariants as cause
-use Rattle.propagation.specs.Recording.{Change, LeftOne, LeftOthers, LeftOver, Took, MayTake, KeepsSame, IsAmong, HasGuess, NoNewGuess}
+use Rattle.recorder.specs.declared.change.Cause.TheVariants as cause
+use Rattle.recorder.specs.Recording.{Change, LeftOne, LeftOthers, LeftOver, Took, MayTake, KeepsSame, IsAmong, HasGuess, NoNewGuess}
 
 -- The change is a guess.
 abbrev pub IsGuess : Change → Type 0

@@ -2,8 +2,8 @@ use Rattle.std.proofs.Common.{ℕ, ◌++◌, [], ◌∷◌, List, sym, ap, ◌�
 use Rattle.std.proofs.lemmas.List.{append-nil}
 use Rattle.bit_rows.specs.BitRows.{has}
 use Rattle.graph_theory.specs.Neighbours.{members}
-use Rattle.propagation.proofs.Entries.{members_first, members_next}
-use Rattle.propagation.proofs.sets.put_members.Goals as goal
+use Rattle.recorder.proofs.Entries.{members_first, members_next}
+use Rattle.recorder.proofs.sets.put_members.Goals as goal
 
 pub loop-t-init : goal.loop-t-init
 loop-t-init c = record {

@@ -5,7 +5,7 @@
 //! changes, so that a dead path can be explained after the fact by those that it rests on.
 
 ghost use Rattle.std.specs.Prelude.{◌≡◌, ℕ, ◌≤◌, false, List, Option, None, length};
-ghost use Rattle.propagation.specs.Telling.{TellingLaws};
+ghost use Rattle.recorder.specs.Telling.{TellingLaws};
 
 use crate::change::Cause;
 use domain_bits::Mark;
@@ -14,7 +14,7 @@ use std::alloc::Global;
 
 /// Hears of each change of the domains.
 pub trait Recorder: Drop {
-    ghost use Rattle.propagation.specs.Recording.{Change, CountedSet, LeftOne, LeftOthers, LeftOver, Took, KeepsSame, KeepsShort, cut_at, members_of};
+    ghost use Rattle.recorder.specs.Recording.{Change, CountedSet, LeftOne, LeftOthers, LeftOver, Took, KeepsSame, KeepsShort, cut_at, members_of};
 
     ghost changes: { Self → Option (List Change) };
 

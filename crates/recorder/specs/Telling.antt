@@ -13,11 +13,16 @@ use Rattle.all_different.specs.Pruning.{among}
 use Rattle.nogood_watch.specs.Nogoods as watched
 use Rattle.nogood_watch.specs.Nogoods.{literal}
 use Rattle.nogood_watch.specs.Watching.{forced_at}
-use Rattle.propagation.specs.declared.change.Cause.{Cause}
-use Rattle.propagation.specs.declared.change.Cause.TheVariants as cause
-use Rattle.propagation.specs.declared.change.Failure.{Failure}
-use Rattle.propagation.specs.declared.change.Failure.TheVariants as failure
-use Rattle.propagation.specs.Recording.{Change, LeftOne, LeftOthers, LeftOver, from_of, CountedSet, cut_at}
+use Rattle.recorder.specs.declared.change.Cause.{Cause}
+use Rattle.recorder.specs.declared.change.Cause.TheVariants as cause
+use Rattle.recorder.specs.declared.change.Failure.{Failure}
+use Rattle.recorder.specs.declared.change.Failure.TheVariants as failure
+use Rattle.recorder.specs.Recording.{Change, LeftOne, LeftOthers, LeftOver, from_of, CountedSet, cut_at}
+
+-- The domains have a vertex for each pattern vertex and a value for each target vertex.
+pub record IsOf (q : Problem) (d : State) : Type 0 where
+  pub vertices_is : d.vertices ≡ size q.pattern
+  pub values_is : d.values ≡ size q.target
 
 -- No value but t is left for p.
 abbrev pub HasAtMost : State → ℕ → ℕ → Type 0

@@ -4,11 +4,11 @@ use Rattle.std.proofs.Common.{get_or, ◌≡◌, ℕ, zero, suc, ◌+◌, ◌-�
 use Rattle.std.proofs.lemmas.Bool.{cases_eq}
 use Rattle.std.proofs.lemmas.List.{append-nil, take_at, take_all, drop_at, take-take, drop-take, take_more, length-take-le, reverse-append}
 use Rattle.graph_theory.specs.Neighbours.{members}
-use Rattle.propagation.specs.declared.change.Place.{Place}
-use Rattle.propagation.specs.declared.change.What.{What}
-use Rattle.propagation.specs.declared.change.What.TheVariants.{One, Others, Over}
-use Rattle.propagation.specs.declared.change.Entry.{Entry}
-use Rattle.propagation.specs.Recording.{Change, LeftOthers, LeftOver, Took, KeepsSame, with_change, from_of, cut, change_by, change_of, changes_of, when_whole, IsIn, LaidBy, Laid, AreLaid, Adds, IsPlaced, IsLast, EndsBefore, left_by}
+use Rattle.recorder.specs.declared.change.Place.{Place}
+use Rattle.recorder.specs.declared.change.What.{What}
+use Rattle.recorder.specs.declared.change.What.TheVariants.{One, Others, Over}
+use Rattle.recorder.specs.declared.change.Entry.{Entry}
+use Rattle.recorder.specs.Recording.{Change, LeftOthers, LeftOver, Took, KeepsSame, with_change, from_of, cut, change_by, change_of, changes_of, when_whole, IsIn, LaidBy, Laid, AreLaid, Adds, IsPlaced, IsLast, EndsBefore, left_by}
 
 -- ---- numbers
 

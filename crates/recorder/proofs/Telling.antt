@@ -1,4 +1,4 @@
--- What is told is true, and stays so where domains are undone, where watches move, and where nogoods are added.
+-- What is told is true, and stays so where domains are undone, and where nogoods keep their names.
 
 use Rattle.std.proofs.Common.{◌≡◌, ℕ, ◌<◌, ◌≤◌, Bool, true, false, ltb, List, [], ◌∷◌, ◌++◌, length, take, drop, cond, Result, Ok, Err, Option, Some, None, refl, sym, ap, ◌∙◌, subst, arith, length-append, ◌⊎◌, inl, inr}
 use Rattle.std.proofs.lemmas.Bool.{cases_lt, lt-ltb, ltb-true, true≢false}
@@ -8,15 +8,26 @@ use Rattle.graph_theory.specs.Embedding.{Problem}
 use Rattle.domain_bits.specs.Removals.{State, in_domain, full, undone}
 use Rattle.domain_bits.proofs.Undoing.{undone_grows}
 use Rattle.nogood_watch.specs.Nogoods as watched
-use Rattle.propagation.specs.declared.change.Cause.TheVariants as cause
-use Rattle.propagation.specs.declared.change.Failure.{Failure}
-use Rattle.propagation.specs.declared.change.Failure.TheVariants as failure
-use Rattle.propagation.specs.Acting.{HaveMoved}
-use Rattle.propagation.specs.Recording.{Change, LeftOne, LeftOthers, LeftOver, from_of, CountedSet, cut, cut_at, Took, KeepsSame}
-use Rattle.propagation.specs.Telling.{NamesList, NamesUnit, KeepsNames, IsForbidden, Refuses, Leaves, Changed, Told, begins, goes_on, Tells, TellsOn, IsEmptied, Fails, TellingLaws}
-use Rattle.propagation.proofs.Sweeping.{same_trail}
+use Rattle.recorder.specs.declared.change.Cause.TheVariants as cause
+use Rattle.recorder.specs.declared.change.Failure.{Failure}
+use Rattle.recorder.specs.declared.change.Failure.TheVariants as failure
+use Rattle.recorder.specs.Recording.{Change, LeftOne, LeftOthers, LeftOver, from_of, CountedSet, cut, cut_at, Took, KeepsSame}
+use Rattle.recorder.specs.Telling.{KeepsNames, IsForbidden, Refuses, Leaves, Changed, Told, begins, goes_on, Tells, TellsOn, IsEmptied, Fails, TellingLaws}
 
 -- ---- one change
+
+-- a state whose trail has not grown is the same
+pub same_trail : (old new : State) → new.vertices ≡ old.vertices → new.values ≡ old.values → new.removed ≡ old.removed → new ≡ old
+same_trail old new v w r = ap with_vertices v ∙ (ap with_values w ∙ ap with_removed r)
+  where
+    with_vertices : ℕ → State
+    with_vertices n = record { vertices = n; values = new.values; removed = new.removed }
+
+    with_values : ℕ → State
+    with_values n = record { vertices = old.vertices; values = n; removed = new.removed }
+
+    with_removed : List (ℕ × ℕ) → State
+    with_removed xs = record { vertices = old.vertices; values = old.values; removed = xs }
 
 -- nothing has left where the trail is no longer
 same_state : (q : Problem) (s : Option watched.State) (old new : State) (c : Change) → Leaves q s old new c → length new.removed ≤ from_of c → new ≡ old
@@ -102,14 +113,6 @@ told_named q s r _ _ keeps (goes_on old new cs c t changed) =
 pub tells_named : (q : Problem) (s r : Option watched.State) (d : State) (told : Option (List Change)) → KeepsNames s r → Tells q s d told → Tells q r d told
 tells_named q s r d None keeps t = tt
 tells_named q s r d (Some cs) keeps t = told_named q s r d cs keeps t
-
--- watches that move keep names
-pub moved_names : (d : State) (old new : Option watched.State) → HaveMoved d old new → KeepsNames old new
-moved_names d None None moved name pairs h = h
-moved_names d (Some s) (Some r) moved name pairs (inl h) = inl (subst (λ (ns : List watched.Nogood). NamesList ns name pairs) (sym moved.nogoods_same) h)
-moved_names d (Some s) (Some r) moved name pairs (inr h) = inr (subst (λ (us : List (ℕ × ℕ × ℕ)). NamesUnit us name pairs) (sym moved.units_same) h)
-moved_names d None (Some r) moved name pairs h = absurd moved
-moved_names d (Some s) None moved name pairs h = absurd moved
 
 -- ---- undoing
 

@@ -1,7 +1,7 @@
 use Rattle.std.proofs.Common.{◌≡◌, length, refl, ap, ◌∙◌, arith}
-use Rattle.propagation.specs.Recording.{left_by}
-use Rattle.propagation.proofs.Entries.{cut_more}
-use Rattle.propagation.proofs.sets.cut_entries.Goals as goal
+use Rattle.recorder.specs.Recording.{left_by}
+use Rattle.recorder.proofs.Entries.{cut_more}
+use Rattle.recorder.proofs.sets.cut_entries.Goals as goal
 
 pub loop-entry-init : goal.loop-entry-init
 loop-entry-init c = record { laid = c.requires.laid; cut_is = refl }

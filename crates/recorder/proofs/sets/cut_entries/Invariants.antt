@@ -1,6 +1,6 @@
 use Rattle.std.proofs.Common.{◌≡◌, length}
-use Rattle.propagation.specs.Recording.{AreLaid, changes_of, cut}
-use Rattle.propagation.proofs.sets.cut_entries.Given as goal
+use Rattle.recorder.specs.Recording.{AreLaid, changes_of, cut}
+use Rattle.recorder.proofs.sets.cut_entries.Given as goal
 
 abbrev pub invariant-loop-entry : goal.invariant-loop-entry
 invariant-loop-entry l = record {

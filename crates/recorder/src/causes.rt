@@ -36,7 +36,7 @@ impl Drop for Causes {
 }
 
 impl Model for Causes {
-    ghost use Rattle.propagation.specs.Recording.{Recorded, AreLaid, recorded};
+    ghost use Rattle.recorder.specs.Recording.{Recorded, AreLaid, recorded};
 
     ghost Value = { Recorded };
 
@@ -57,7 +57,7 @@ pub struct KeptChanges<'a> {
 }
 
 impl Causes {
-    ghost use Rattle.propagation.specs.Recording.{AreLaid, changes_of, set_at};
+    ghost use Rattle.recorder.specs.Recording.{AreLaid, changes_of, set_at};
 
     /// No changes.
     pub fn new(alloc: Global) -> Causes

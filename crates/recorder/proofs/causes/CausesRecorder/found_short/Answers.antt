@@ -1,7 +1,7 @@
 use Rattle.std.proofs.Common.{ap}
-use Rattle.propagation.specs.Recording.{Recorded}
-use Rattle.propagation.proofs.Entries.{laid_added, kept_added}
-use Rattle.propagation.proofs.causes.CausesRecorder.found_short.Goals as goal
+use Rattle.recorder.specs.Recording.{Recorded}
+use Rattle.recorder.proofs.Entries.{laid_added, kept_added}
+use Rattle.recorder.proofs.causes.CausesRecorder.found_short.Goals as goal
 
 pub invariant_of-self-in-Ok : goal.invariant_of-self-in-Ok
 invariant_of-self-in-Ok c = laid_added c.self.inside.entries.items c.self.inside.numbers.items c.put_set.new.numbers.items c.self.invariant c.in-Ok.ensures.adds

@@ -1,7 +1,7 @@
 use Rattle.std.proofs.Common.{◌≡◌, ◌-◌, ◌*◌, ◌<◌, ◌≤◌, true, ◌++◌, length}
 use Rattle.bit_rows.specs.BitRows.{has}
 use Rattle.graph_theory.specs.Neighbours.{members}
-use Rattle.propagation.proofs.sets.put_members.Given as goal
+use Rattle.recorder.proofs.sets.put_members.Given as goal
 
 abbrev pub invariant-loop-t : goal.invariant-loop-t
 invariant-loop-t l = record {
