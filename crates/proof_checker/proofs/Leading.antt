@@ -4,9 +4,9 @@ use Rattle.log_theory.specs.declared.step.Cause.{Cause as Reason}
 use Rattle.log_theory.specs.Steps.{◌>>=◌}
 use Rattle.proof_theory.specs.Forms.{Form}
 use Rattle.log_theory.specs.Tables.{Table}
-use Rattle.proof_checker.specs.declared.fault.LineFault.{LineFault}
-use Rattle.proof_checker.specs.declared.fault.LineFault.TheVariants.{Cause, NoMemory}
-use Rattle.proof_checker.specs.Told.{Told, Leads}
+use Rattle.pb_propagation.specs.declared.fault.LineFault.{LineFault}
+use Rattle.pb_propagation.specs.declared.fault.LineFault.TheVariants.{Cause, NoMemory}
+use Rattle.pb_propagation.specs.Told.{Told, Leads}
 
 -- A fault of what is made is the line's.
 pub failed : (fault : LineFault) (r : Result Form Reason) (f : Form → Result Table Reason) (next : Table)

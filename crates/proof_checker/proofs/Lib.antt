@@ -1,10 +1,4 @@
-pub mod Failing
-pub mod Backwards
-pub mod SharedRows
-pub mod Propagation
 pub mod Passing
-pub mod Led
-pub mod Marks
 pub mod Rooted
 pub mod Claims
 pub mod Leading

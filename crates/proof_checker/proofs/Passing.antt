@@ -12,14 +12,13 @@ use Rattle.proof_theory.proofs.Propagation.{extends_itself, extends_on, extends_
 use Rattle.log_theory.specs.declared.step.Cause.TheVariants.{NoConflict}
 use Rattle.log_theory.specs.Lookups.{are_distinct, variables_of, closed_clause}
 use Rattle.log_theory.specs.Tables.{Table, all_forms}
-use Rattle.log_theory.proofs.DroppedLogs.{left_among, right_among, list_among}
+use Rattle.log_theory.proofs.DroppedLogs.{left_among, right_among}
 use Rattle.pb_terms.specs.Trail.{unset_count}
-use Rattle.proof_checker.proofs.Backwards.{from_place}
-use Rattle.proof_checker.proofs.Propagation.{reaches_wider, forms_wider}
-use Rattle.proof_checker.specs.Reach.{Reaches, AllReach}
+use Rattle.pb_propagation.proofs.Backwards.{from_place}
+use Rattle.pb_propagation.proofs.Propagation.{reaches_wider, forms_wider}
+use Rattle.pb_propagation.proofs.SharedRows.{place_among}
+use Rattle.pb_propagation.specs.Reach.{Reaches, AllReach}
 use Rattle.proof_checker.specs.Passing.{Taken, PassedOver, Passed}
-use Rattle.proof_checker.specs.declared.table.Place.{Place}
-use Rattle.proof_checker.specs.Rows.{no_form, form_at, rows_of, ArePlaced}
 
 -- ---- places in lists
 
@@ -31,11 +30,6 @@ split_among f (x ∷ xs) gs (inr i) = by (split_among f xs gs i)
     by : IsAmong f xs ⊎ IsAmong f gs → IsAmong f (x ∷ xs) ⊎ IsAmong f gs
     by (inl k) = inl (inr k)
     by (inr k) = inr k
-
-pub place_among : (fs : List Form) (i : ℕ) (d : Form) → i < length fs → IsAmong (get_or fs i d) fs
-place_among [] i d h = absurd (omega arith)
-place_among (f ∷ fs) zero d h = inl refl
-place_among (f ∷ fs) (suc i) d h = inr (place_among fs i d (omega arith))
 
 take_among : (f : Form) (fs : List Form) (i : ℕ) → IsAmong f (take i fs) → IsAmong f fs
 take_among f fs zero k = absurd k
@@ -52,13 +46,6 @@ reach_at n (f ∷ fs) (suc i) d h k = reach_at n fs i d h.1 (omega arith)
 pub reach_item : (n m : ℕ) (fs : List Form) (i : ℕ) (x : Form) → i < length fs → x ≡ get_or fs i x → m ≡ n → AllReach n fs → Reaches m x.terms
 reach_item n m fs i x h e l a =
     subst (λ (y : Form). Reaches m y.terms) (sym e) (subst (λ (k : ℕ). Reaches k (get_or fs i x).terms) (sym l) (reach_at n fs i x a h))
-
--- What a row shares is in its owner's list.
-pub rows_among : (made : List (List Form)) (rows : List ℕ) (places : List Place) (f : Form) → ArePlaced made places → IsAmong f (map (λ s. s.1) (rows_of made rows places)) → IsAmong f (flat_map (λ fs. fs) made)
-rows_among made [] places f h i = absurd i
-rows_among made (r ∷ rs) [] f h i = absurd i
-rows_among made (r ∷ rs) (p ∷ ps) f h (inl e) = subst (λ (x : Form). IsAmong x (flat_map (λ fs. fs) made)) (sym e) (list_among made p.owner (form_at made p) (place_among (get_or made p.owner []) p.index no_form h.0))
-rows_among made (r ∷ rs) (p ∷ ps) f h (inr i) = rows_among made rs ps f h.1 i
 
 -- ---- the steps of a pass
 

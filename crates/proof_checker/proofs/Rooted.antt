@@ -17,11 +17,11 @@ use Rattle.log_theory.specs.Tables.{Table, find, with_made, with_shared, fresh_n
 use Rattle.log_theory.specs.Verdicts.{Stage, Proving, Progress, Goes, Ends, progress_of, all_hold_at}
 use Rattle.proof_theory.specs.Rules.{is_contradiction}
 use Rattle.log_theory.proofs.DroppedLogs.{left_among, right_among}
-use Rattle.proof_checker.specs.Led.{nothing}
-use Rattle.proof_checker.specs.Levels.{TwoLevels, root}
-use Rattle.proof_checker.specs.Rooted.{IsRooted}
+use Rattle.pb_propagation.specs.Led.{nothing}
+use Rattle.pb_propagation.specs.Levels.{TwoLevels, root}
+use Rattle.pb_propagation.specs.Rooted.{IsRooted}
 use Rattle.proof_checker.proofs.Passing.{flat, split_among}
-use Rattle.proof_checker.proofs.Led.{led_nothing, led_more}
+use Rattle.pb_propagation.proofs.Led.{led_nothing, led_more}
 
 -- The forms of one are among those of the other.
 abbrev pub Grows : List Form → List Form → Type 0

@@ -1,10 +1,4 @@
-pub mod Told
-pub mod Rows
-pub mod Reach
 pub mod Passing
-pub mod Levels
-pub mod Led
-pub mod Rooted
 pub mod Ones
 pub mod Turns
 pub mod Stages

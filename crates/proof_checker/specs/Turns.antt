@@ -7,8 +7,8 @@ use Rattle.log_theory.specs.declared.step.Verdict.TheVariants.{NoMemory as Unans
 use Rattle.log_theory.specs.Words.{pieces}
 use Rattle.log_theory.specs.Acceptance.{NoFeed}
 use Rattle.log_theory.specs.Verdicts.{Stage, Progress, Goes, Ends, verdict_from}
-use Rattle.proof_checker.specs.declared.fault.LineFault.{LineFault}
-use Rattle.proof_checker.specs.declared.fault.LineFault.TheVariants.{Cause, NoMemory}
+use Rattle.pb_propagation.specs.declared.fault.LineFault.{LineFault}
+use Rattle.pb_propagation.specs.declared.fault.LineFault.TheVariants.{Cause, NoMemory}
 use Rattle.proof_checker.specs.declared.lines.Turn.{Turn}
 use Rattle.proof_checker.specs.declared.lines.Turn.TheVariants.{Goes as GoesOn, Ends as EndsWith}
 

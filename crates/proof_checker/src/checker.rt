@@ -9,11 +9,11 @@ ghost use Rattle.proof_checker.specs.Feeding.{verdict_on, verdict_with};
 ghost use Rattle.proof_checker.specs.Turns.{Answers, Checking, verdict_at};
 
 use super::cutting::first_line;
-use super::fault::LineFault;
 use super::line_checker::LineChecker;
 use super::lines::Turn;
 use log_theory::{Cause, Verdict};
 use opb_text::Model as OpbModel;
+use pb_propagation::LineFault;
 use pb_terms::Constraint;
 use std::alloc::{AllocError, Global};
 use std::marker::Model;

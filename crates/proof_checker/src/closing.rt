@@ -8,19 +8,17 @@ ghost use Rattle.proof_theory.specs.Slack.{setting};
 ghost use Rattle.proof_theory.specs.Propagation.{closes};
 ghost use Rattle.log_theory.specs.Lookups.{closed_clause};
 ghost use Rattle.log_theory.specs.Tables.{all_forms};
-ghost use Rattle.proof_checker.specs.Told.{Told};
-ghost use Rattle.proof_checker.specs.Reach.{AllReach};
+ghost use Rattle.pb_propagation.specs.Told.{Told};
+ghost use Rattle.pb_propagation.specs.Reach.{AllReach};
 ghost use Rattle.proof_checker.specs.Passing.{Passed};
-ghost use Rattle.proof_checker.specs.Rooted.{IsRooted};
+ghost use Rattle.pb_propagation.specs.Rooted.{IsRooted};
 
-use super::clauses::clause;
-use super::fault::LineFault;
-use super::propagate::{above, clear, follow, negate_all};
-use super::propagator::{Propagator, is_closed};
-use super::reach::reach;
-use super::table::Table;
 use log_theory::Cause;
 use packed_terms::PackedConstraint;
+use pb_propagation::reach::reach;
+use pb_propagation::{
+    LineFault, Propagator, Table, above, clause, clear, follow, is_closed, negate_all,
+};
 use pb_terms::{Literal, Literals};
 use std::alloc::Global;
 

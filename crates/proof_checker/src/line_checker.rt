@@ -7,16 +7,14 @@ ghost use Rattle.log_theory.specs.declared.step.Cause.TheVariants.{Form};
 ghost use Rattle.log_theory.specs.Words.{same_word};
 ghost use Rattle.log_theory.specs.Profiles.{profile_of, read_in};
 ghost use Rattle.log_theory.specs.Steps.{or_fault};
-ghost use Rattle.proof_checker.specs.Told.{Told};
+ghost use Rattle.pb_propagation.specs.Told.{Told};
 ghost use Rattle.proof_checker.specs.Turns.{Turns};
 
-use super::fault::LineFault;
 use super::lines::{Turn, prove};
-use super::propagator::Propagator;
 use super::ranges::is_in_range;
-use super::table::Table;
 use log_theory::{Cause, Profile, Step};
 use packed_terms::PackedConstraint;
+use pb_propagation::{LineFault, Propagator, Table};
 use pb_terms::Constraint;
 use proof_log::{StepFault, read_step};
 use std::alloc::{AllocError, Global};
@@ -55,7 +53,7 @@ impl Drop for LineChecker {
 impl Model for LineChecker {
     ghost use Rattle.proof_checker.specs.Turns.{Checking};
     ghost use Rattle.proof_checker.specs.Stages.{StandsWith, stage_of};
-    ghost use Rattle.proof_checker.specs.Rooted.{IsRooted};
+    ghost use Rattle.pb_propagation.specs.Rooted.{IsRooted};
 
     ghost Value = { Checking };
 

@@ -6,19 +6,16 @@ ghost use Rattle.log_theory.specs.declared.step.Step.TheVariants.{P, U};
 ghost use Rattle.log_theory.specs.declared.profile.Profile.TheVariants.{Plain};
 ghost use Rattle.log_theory.specs.Tables.{find, step_of, step_in};
 ghost use Rattle.log_theory.specs.Verdicts.{Stage, Proving, in_range, progress_of, refuted_by, step_variables};
-ghost use Rattle.proof_checker.specs.Told.{Leads};
+ghost use Rattle.pb_propagation.specs.Told.{Leads};
 ghost use Rattle.proof_checker.specs.Turns.{Turns};
-ghost use Rattle.proof_checker.specs.Rooted.{IsRooted};
+ghost use Rattle.pb_propagation.specs.Rooted.{IsRooted};
 
 use super::closing::derive_alone;
-use super::fault::LineFault;
 use super::ones::check_ones;
-use super::propagate::derive;
-use super::propagator::Propagator;
 use super::stack::evaluate;
-use super::table::Table;
 use log_theory::{Cause, Name, Op, Profile, Ref, Step, Verdict};
 use packed_terms::PackedConstraint;
+use pb_propagation::{LineFault, Propagator, Table, derive};
 use pb_terms::{Literal, Literals};
 use std::alloc::Global;
 

@@ -5,12 +5,12 @@ ghost use Rattle.std.specs.Bool.{OnTrue};
 ghost use Rattle.proof_theory.specs.Forms.{Form, assignment};
 ghost use Rattle.log_theory.specs.Lookups.{is_among, are_distinct};
 ghost use Rattle.log_theory.specs.Verdicts.{in_range, all_hold_at, holds_at, solved_by};
-ghost use Rattle.proof_checker.specs.Told.{Solves};
+ghost use Rattle.pb_propagation.specs.Told.{Solves};
 ghost use Rattle.proof_checker.specs.Ones.{Marks, AreUpTo};
 
-use super::fault::LineFault;
 use log_theory::Cause;
 use packed_terms::PackedConstraint;
+use pb_propagation::LineFault;
 use std::alloc::{AllocError, Global};
 
 /// The greatest of the variables, or 0. One pass.

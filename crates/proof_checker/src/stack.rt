@@ -8,13 +8,11 @@ ghost use Rattle.log_theory.specs.Lookups.{Lookup, narrow, operate, only_one, ma
 ghost use Rattle.log_theory.specs.declared.step.Step.TheVariants.{P};
 ghost use Rattle.log_theory.specs.declared.step.Op.TheVariants.{Push, Add, Times, Divide, Saturate};
 ghost use Rattle.log_theory.specs.Tables.{find};
-ghost use Rattle.proof_checker.specs.Told.{Leads, Told};
+ghost use Rattle.pb_propagation.specs.Told.{Leads, Told};
 
-use super::clauses::axiom;
-use super::fault::LineFault;
-use super::table::Table;
 use log_theory::{Cause, Name, Op, Ref};
 use packed_terms::{PackedConstraint, PackedSum};
+use pb_propagation::{LineFault, Table, axiom};
 use pb_terms::{Constraint, PbFault};
 use std::alloc::{AllocError, Global};
 use std::marker::Model;

@@ -4,7 +4,7 @@ use Rattle.proof_theory.specs.Forms.{Form}
 use Rattle.proof_theory.specs.Slack.{Setting, setting, negations}
 use Rattle.proof_theory.specs.Propagation.{IsAmong, closes}
 use Rattle.log_theory.specs.Tables.{Table, all_forms}
-use Rattle.proof_checker.proofs.Propagation.{literals_wider, forms_wider}
+use Rattle.pb_propagation.proofs.Propagation.{literals_wider, forms_wider}
 use Rattle.proof_checker.proofs.Passing.{lists_close, closed_makes, closed_fails}
 use Rattle.proof_checker.proofs.closing.derive_by_passes.Goals as goal
 

@@ -1,5 +1,5 @@
 use Rattle.std.proofs.Common.{◌≤◌, ◌^◌, drop, length}
-use Rattle.proof_checker.specs.Reach.{AllReach}
+use Rattle.pb_propagation.specs.Reach.{AllReach}
 use Rattle.proof_checker.proofs.closing.reach_all.Given as goal
 
 abbrev pub invariant-loop-i : goal.invariant-loop-i

@@ -1,6 +1,6 @@
 use Rattle.std.proofs.Common.{◌≤◌, ◌^◌, drop, map, length}
 use Rattle.std.specs.List.{flat_map}
-use Rattle.proof_checker.specs.Reach.{AllReach}
+use Rattle.pb_propagation.specs.Reach.{AllReach}
 use Rattle.proof_checker.proofs.closing.reach_lists.Given as goal
 
 abbrev pub invariant-loop-i : goal.invariant-loop-i

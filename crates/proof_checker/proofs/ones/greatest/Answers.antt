@@ -1,6 +1,6 @@
 use Rattle.std.proofs.Common.{ℕ, List, arith, sym, subst}
 use Rattle.proof_checker.specs.Ones.{AreUpTo}
-use Rattle.proof_checker.proofs.Backwards.{from_place}
+use Rattle.pb_propagation.proofs.Backwards.{from_place}
 use Rattle.proof_checker.proofs.Claims.{up_to_wider}
 use Rattle.proof_checker.proofs.ones.greatest.Goals as goal
 

@@ -1,7 +1,7 @@
 use Rattle.std.proofs.Common.{◌-◌, get_or, drop, arith, sym, ap, ◌∙◌}
 use Rattle.proof_theory.specs.Forms.{assignment}
 use Rattle.log_theory.specs.Lookups.{are_distinct}
-use Rattle.proof_checker.proofs.Backwards.{from_place}
+use Rattle.pb_propagation.proofs.Backwards.{from_place}
 use Rattle.proof_checker.proofs.Claims.{up_to_at, positive_at, marked_twice, twice_behind}
 use Rattle.proof_checker.proofs.ones.mark_all.Goals as goal
 

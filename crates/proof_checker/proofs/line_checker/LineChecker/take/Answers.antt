@@ -1,6 +1,6 @@
 use Rattle.std.proofs.Common.{rules, List, subst}
 use Rattle.proof_theory.specs.Forms.{Form}
-use Rattle.proof_checker.specs.Rooted.{IsRooted}
+use Rattle.pb_propagation.specs.Rooted.{IsRooted}
 use Rattle.proof_checker.proofs.Rooted.{rooted_on}
 use Rattle.proof_checker.proofs.line_checker.LineChecker.take.Goals as goal
 

@@ -1,0 +1,39 @@
+//! Unit propagation over the constraints of a proof log, and the table of the constraints that stand.
+//!
+//! A log makes constraints, each under its owner and number, and shares some under rows. The table keeps them and finds what a reference names,
+//! and a clause is made where unit propagation from its negation comes to a conflict: along references that a line names, each looked at once
+//! in its order, or over all constraints so far. For these there are counters and two levels of literals: what is forced without
+//! assumptions stays from line to line. Counters find a conflict or find none, and the second is no answer: a layer above that has to know
+//! that there is none takes the steps of a pass itself, one constraint after the other. Which lines a log has, and what they claim, this
+//! layer does not know; an answer is a constraint, or the first fault that the definition tells. (Chai, Kuehlmann 2003; Elffers, Nordström
+//! 2018; Devriendt 2020.)
+#![tactic(auto)]
+
+mod clauses;
+mod counters;
+mod fault;
+mod following;
+mod levels;
+mod propagate;
+mod propagator;
+pub mod reach;
+mod short_following;
+mod short_propagate;
+mod table;
+mod uses;
+
+// What stands, and what keeps a line from being taken.
+pub use fault::LineFault;
+pub use table::Table;
+
+// Constraints of literals.
+pub use clauses::{axiom, clause};
+
+// Along references.
+pub use propagate::derive;
+
+// Over all constraints so far, by counters; true where there is a conflict.
+pub use propagator::{Propagator, is_closed};
+
+// The steps of a pass: room for variables (`reach::reach` and `above` tell how much), the negation of a clause, one constraint.
+pub use propagate::{above, clear, follow, negate_all};
