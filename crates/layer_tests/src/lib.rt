@@ -1,4 +1,4 @@
-//! Tests of single layers above the search, over what they offer to the layers above.
+//! Tests of single layers, from rows of pairs to the files of a proof, over what they offer to the layers above.
 //!
 //! What they show is what no clause says, with ample memory: what words come to, rows of pairs as worked words, that a fresh note
 //! finds an answer, what a recorder keeps of a few changes, whole searches by one worker, whole solves by one to 64, the lines of a

@@ -1,12 +1,12 @@
 //! Unit propagation over the constraints of a proof log, and the table of the constraints that stand.
 //!
-//! A log makes constraints, each under its owner and number, and shares some under rows. The table keeps them and finds what a reference names,
-//! and a clause is made where unit propagation from its negation comes to a conflict: along references that a line names, each looked at once
-//! in its order, or over all constraints so far. For these there are counters and two levels of literals: what is forced without
-//! assumptions stays from line to line. Counters find a conflict or find none, and the second is no answer: a layer above that has to know
-//! that there is none takes the steps of a pass itself, one constraint after the other. Which lines a log has, and what they claim, this
-//! layer does not know; an answer is a constraint, or the first fault that the definition tells. (Chai, Kuehlmann 2003; Elffers, Nordström
-//! 2018; Devriendt 2020.)
+//! A log makes constraints, each under its owner and number, and shares some under rows. The table keeps them and finds what a reference names.
+//! A clause may be made where unit propagation from its negation comes to a conflict: along references, each looked at once in its order,
+//! which is done here, or over all constraints so far, which is told here. For these there are counters and two levels of literals: what is
+//! forced without assumptions stays from line to line. Counters find a conflict or find none, and the second is no answer: a layer above that
+//! has to know that there is none takes the steps of a pass itself, one constraint after the other. How a line is read, which may come next
+//! and what the last one claims, this layer does not know; what it cannot do it answers by the first fault that the definition tells. (Chai,
+//! Kuehlmann 2003; Elffers, Nordström 2018; Devriendt 2020.)
 #![tactic(auto)]
 
 mod clauses;

@@ -24,9 +24,9 @@ use packed_terms::PackedConstraint;
 use pb_terms::{Literal, Literals};
 use std::alloc::{AllocError, Global};
 
-/// Literals, the same on two levels, and the counters of the constraints so far.
+/// The literals of a line, those on two levels, and the counters of the constraints so far.
 pub struct Propagator {
-    /// What a line sets on its own, along references or in passes: each line clears it first.
+    /// What a line assumes or sets on its own, along references or in passes: each line clears it first.
     pub set: Literals,
     /// What the constraints so far force, which lasts, and for a line without references what it sets beside that.
     pub levels: Levels,

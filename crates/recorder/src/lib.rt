@@ -1,6 +1,6 @@
-//! Who is told why values left the domains of a search, and why no embedding is within them.
+//! Who is told why values left the domains of a search, and which set of domains had too few.
 //!
-//! Whoever takes values tells a recorder of each change: which values left which domains, by which cause, and how much had left before.
+//! Whoever takes values tells a recorder of each change: whose values left, or which set took them, why, and how much had left before.
 //! A recorder that keeps what it is told has a history of the domains in which every step has its reason, from full domains on; it is
 //! cut where domains are undone. So a dead path is explained after the fact, by as few of the changes as it rests on, and a search
 //! that writes no proof pays nothing (lazily explained changes are those of Ohrimenko, Stuckey and Codish 2009).
