@@ -3,7 +3,7 @@
 
     leaves.py PROGRAM [--seconds S] [--times N]
 
-PROGRAM is the built `leaves_bench`, which has no clock. For each shape and work the rounds are doubled until a run takes S seconds of
+PROGRAM is the built `kernel_bench`, which has no clock. For each shape and work the rounds are doubled until a run takes S seconds of
 processor time; then it is run N times, and the least time counts, less that of a run of no rounds, which makes the same rows and
 domains; for an operation on rows less that of as many rounds of none, which go through the same rows. The table has millions of words of
 rows a second, for operations the nanoseconds of a call too, and the ratio of the time for a word to that of `and`.

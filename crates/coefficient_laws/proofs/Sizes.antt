@@ -15,14 +15,14 @@ use Rattle.encoding_theory.specs.Encoding.{every, terms_where, at_least, at_most
 use Rattle.forcing_theory.specs.Sums.{sum_from, IsSmall, AreSmall}
 use Rattle.forcing_theory.specs.Chains.{Domains}
 use Rattle.forcing_theory.proofs.Summing.{size_append, small_sum}
-use Rattle.reason_theory.specs.Reasons.{not_there, at_leasts, pairs_clause, set_form, HaveOnly}
-use Rattle.reason_theory.proofs.SetCounting.{sum_over, one_if, distinct_sum}
-use Rattle.unit_theory.specs.Sums.{summed}
-use Rattle.unit_theory.specs.Crowds.{refused_values, beside_forms, crowd_forms}
-use Rattle.unit_theory.proofs.Crowding.{crowd_small}
-use Rattle.unit_theory.proofs.FirstValues.{refusals_small}
-use Rattle.row_theory.specs.Laws.{InLimits}
-use Rattle.row_theory.proofs.Making as making
+use Rattle.explanation_theory.specs.Reasons.{not_there, at_leasts, pairs_clause, set_form, HaveOnly}
+use Rattle.explanation_theory.proofs.SetCounting.{sum_over, one_if, distinct_sum}
+use Rattle.domain_line_theory.specs.Sums.{summed}
+use Rattle.domain_line_theory.specs.Crowds.{refused_values, beside_forms, crowd_forms}
+use Rattle.domain_line_theory.proofs.Crowding.{crowd_small}
+use Rattle.domain_line_theory.proofs.FirstValues.{refusals_small}
+use Rattle.pair_line_theory.specs.Laws.{InLimits}
+use Rattle.pair_line_theory.proofs.Making as making
 use Rattle.coefficient_laws.specs.Laws.{CoefficientLaws}
 
 -- ---- lists

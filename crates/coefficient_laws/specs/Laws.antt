@@ -6,10 +6,10 @@ use Rattle.graph_theory.specs.Embedding.{Problem}
 use Rattle.encoding_theory.specs.Encoding.{refusal}
 use Rattle.forcing_theory.specs.Sums.{IsSmall}
 use Rattle.forcing_theory.specs.Chains.{Domains}
-use Rattle.reason_theory.specs.Reasons.{pairs_clause, set_form, over_form, HaveOnly, HaveBeside}
-use Rattle.unit_theory.specs.Sums.{summed}
-use Rattle.unit_theory.specs.Crowds.{refused_values, crowd_forms, IsCrowded}
-use Rattle.row_theory.specs.Laws.{RowSizes}
+use Rattle.explanation_theory.specs.Reasons.{pairs_clause, set_form, over_form, HaveOnly, HaveBeside}
+use Rattle.domain_line_theory.specs.Sums.{summed}
+use Rattle.domain_line_theory.specs.Crowds.{refused_values, crowd_forms, IsCrowded}
+use Rattle.pair_line_theory.specs.Laws.{RowSizes}
 
 -- Of the line of a crowd, of the clause against a value, and of a first domain, that lacks no more values than there are.
 pub record UnitSizes (q : Problem) : Type 0 where

@@ -7,7 +7,7 @@
 #![tactic(auto)]
 
 ghost use Rattle.graph_theory.specs.Embedding.{Problem};
-ghost use Rattle.row_theory.specs.Laws.{InLimits};
+ghost use Rattle.pair_line_theory.specs.Laws.{InLimits};
 ghost use Rattle.coefficient_laws.specs.Laws.{CoefficientLaws};
 
 /// That the numbers in all kinds of lines stay small.

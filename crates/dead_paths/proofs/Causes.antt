@@ -9,7 +9,7 @@ use Rattle.proof_theory.specs.Forms.{Form}
 use Rattle.log_theory.specs.declared.step.Ref.{Ref}
 use Rattle.log_theory.specs.declared.step.Step.{Step}
 use Rattle.encoding_theory.specs.Encoding.{at_least, at_most, pair_form}
-use Rattle.reason_theory.specs.Reasons.{pairs_clause, at_leasts}
+use Rattle.explanation_theory.specs.Reasons.{pairs_clause, at_leasts}
 use Rattle.nogood_book.specs.declared.row.Row.{Row}
 use Rattle.nogood_book.specs.Rows.{path_at}
 use Rattle.nogood_book.specs.Places.{IsNogoodRow}
@@ -21,9 +21,9 @@ use Rattle.recorder.specs.declared.change.Place.{Place}
 use Rattle.recorder.specs.Recording.{change_by}
 use Rattle.recorder.specs.Telling.{Joins}
 use Rattle.dead_theory.specs.Changes.{Chosen, known_after, ExplainsChange, ExplainAll, set_forms, crowd_forms}
-use Rattle.kept_lines.specs.Frames.{Frame, IsFrameOf, IsNamed, AreNamed, AnyForms, Goes, Lasts}
-use Rattle.kept_lines.proofs.Going.{goes_stay, goes_as, goes_then, goes_beside}
-use Rattle.kept_lines.proofs.Naming.{named_later, are_named_later, named_behind, named_pushed}
+use Rattle.log_growth.specs.Frames.{Frame, IsFrameOf, IsNamed, AreNamed, AnyForms, Goes, Lasts}
+use Rattle.log_growth.proofs.Going.{goes_stay, goes_as, goes_then, goes_beside}
+use Rattle.log_growth.proofs.Naming.{named_later, are_named_later, named_behind, named_pushed}
 use Rattle.dead_paths.specs.Lines.{at_least_ref, at_most_ref, edge_ref, at_least_refs}
 use Rattle.dead_paths.specs.Making.{IsRowLine, GivesFirst, GivesRow, AreRowsNamed}
 use Rattle.dead_paths.specs.Choosing.{asked_of}

@@ -14,7 +14,7 @@ use Rattle.log_theory.specs.LogText.{AreRefs, AreLiterals}
 use Rattle.log_theory.specs.Lookups.{variables_of}
 use Rattle.log_theory.specs.Verdicts.{in_range}
 use Rattle.encoding_theory.specs.Variables.{variable, variables}
-use Rattle.reason_theory.specs.Reasons.{not_there, pairs_clause, at_leasts, value_clauses}
+use Rattle.explanation_theory.specs.Reasons.{not_there, pairs_clause, at_leasts, value_clauses}
 use Rattle.nogood_book.specs.declared.row.Row.{Row}
 use Rattle.nogood_book.specs.Rows.{AreInRange, path_at}
 use Rattle.nogood_book.specs.Places.{IsNogoodRow}
@@ -29,9 +29,9 @@ use Rattle.dead_theory.specs.Laws.{Dies}
 use Rattle.dead_theory.proofs.Dying.{dead_laws_hold, told_laws_hold}
 use Rattle.journal_theory.specs.Journals.{named}
 use Rattle.journals.specs.Keeping.{Keeps}
-use Rattle.kept_lines.specs.Frames.{Frame, IsFrameOf, AreNamed, MayFollow, Goes, Lasts, IsKept}
-use Rattle.kept_lines.proofs.Going.{goes_stay, goes_as, goes_then, goes_beside}
-use Rattle.kept_lines.proofs.Naming.{are_named_later, named_behind, all_found, named_rows}
+use Rattle.log_growth.specs.Frames.{Frame, IsFrameOf, AreNamed, MayFollow, Goes, Lasts, IsKept}
+use Rattle.log_growth.proofs.Going.{goes_stay, goes_as, goes_then, goes_beside}
+use Rattle.log_growth.proofs.Naming.{are_named_later, named_behind, all_found, named_rows}
 use Rattle.dead_paths.specs.declared.room.ChosenEntry.{ChosenEntry}
 use Rattle.dead_paths.specs.declared.dead_line.PathEnd.{PathEnd}
 use Rattle.dead_paths.specs.declared.dead_line.PathEnd.TheVariants as path_end

@@ -28,10 +28,10 @@ use Rattle.pb_encoding.proofs.Bounds.{few}
 use Rattle.pb_encoding.proofs.LineNumbers.{at_least_line, at_most_line, at_most_target_line}
 use Rattle.recorder.specs.Telling.{Joins}
 use Rattle.forcing_theory.specs.Sums.{sum_from, IsSmall, AreSmall}
-use Rattle.reason_theory.specs.Reasons.{at_leasts, beside_forms, over_form}
-use Rattle.kept_lines.specs.Frames.{Frame, IsFrameOf, IsNamed, AreNamed, IsAddable, Goes, Lasts, Named, AnyForms, IsKept}
-use Rattle.kept_lines.proofs.Going.{goes_as, goes_beside}
-use Rattle.kept_lines.proofs.Naming.{line_named, named_behind, named_count}
+use Rattle.explanation_theory.specs.Reasons.{at_leasts, beside_forms, over_form}
+use Rattle.log_growth.specs.Frames.{Frame, IsFrameOf, IsNamed, AreNamed, IsAddable, Goes, Lasts, Named, AnyForms, IsKept}
+use Rattle.log_growth.proofs.Going.{goes_as, goes_beside}
+use Rattle.log_growth.proofs.Naming.{line_named, named_behind, named_count}
 use Rattle.dead_paths.specs.Lines.{at_least_ref, at_most_ref, at_most_target_ref, edge_ref, at_least_refs, beside_refs, set_refs, crowd_refs, AreVertices, AreValues, ArePairs, IsSetKept, IsCrowdKept}
 use Rattle.dead_paths.specs.Making.{GivesSet}
 use Rattle.dead_theory.specs.Changes.{set_forms, crowd_forms}

@@ -10,7 +10,7 @@ use Rattle.log_theory.specs.declared.step.Step.{Step}
 use Rattle.log_theory.specs.declared.step.Ref.{Ref}
 use Rattle.log_theory.specs.declared.step.Ref.TheVariants.{Made}
 use Rattle.nogood_watch.specs.Nogoods.{literal}
-use Rattle.reason_theory.specs.Reasons.{pairs_clause, value_clauses}
+use Rattle.explanation_theory.specs.Reasons.{pairs_clause, value_clauses}
 use Rattle.nogood_book.specs.Rows.{path_at}
 use Rattle.nogood_book.specs.declared.row.Row.{Row}
 use Rattle.nogood_book.specs.Places.{IsNogoodRow}
@@ -18,7 +18,7 @@ use Rattle.recorder.specs.Recording.{Change, CountedSet}
 use Rattle.dead_theory.specs.Changes.{Chosen, IsOneOf, IsBorne, AreBorne, known_after, ExplainsChange, ExplainAll, set_forms, crowd_forms}
 use Rattle.dead_theory.specs.Ends.{End, Empty, Whole, Short, Exhausted, end_of, EndsIn, EndNeeds}
 use Rattle.dead_theory.specs.Walks.{IsChoice}
-use Rattle.kept_lines.specs.Frames.{Frame, IsNamed, AreNamed}
+use Rattle.log_growth.specs.Frames.{Frame, IsNamed, AreNamed}
 use Rattle.dead_paths.specs.declared.dead_line.PathEnd.{PathEnd}
 use Rattle.dead_paths.specs.declared.dead_line.PathEnd.TheVariants as path_end
 use Rattle.dead_paths.specs.Lines.{at_least_ref, at_least_refs, AreVertices, AreValues}

@@ -11,9 +11,9 @@ use Rattle.log_theory.specs.declared.step.Ref.TheVariants.{Line, Made}
 use Rattle.log_theory.specs.Lookups.{is_among}
 use Rattle.encoding_theory.specs.Pairs.{is_edge_pair}
 use Rattle.encoding_theory.specs.Places.{at_least_place, at_most_place, at_most_target_place, edge_place}
-use Rattle.reason_theory.specs.Reasons.{set_form}
+use Rattle.explanation_theory.specs.Reasons.{set_form}
 use Rattle.dead_theory.specs.Changes.{crowd_forms}
-use Rattle.kept_lines.specs.Frames.{Frame, IsKept, AreNamed}
+use Rattle.log_growth.specs.Frames.{Frame, IsKept, AreNamed}
 
 -- That p goes somewhere; that it goes to one place; that one vertex goes to t; that with p at t r goes where the edge between them leads.
 abbrev pub at_least_ref : Problem → ℕ → Ref

@@ -6,12 +6,12 @@ use Rattle.graph_theory.specs.Embedding.{Problem}
 use Rattle.proof_theory.specs.Forms.{Form}
 use Rattle.log_theory.specs.declared.step.Name.{Name}
 use Rattle.log_theory.specs.declared.step.Ref.{Ref}
-use Rattle.reason_theory.specs.Reasons.{pairs_clause, ForcesFirst}
+use Rattle.explanation_theory.specs.Reasons.{pairs_clause, ForcesFirst}
 use Rattle.nogood_book.specs.declared.row.Row.{Row}
 use Rattle.nogood_book.specs.Rows.{path_at}
 use Rattle.nogood_book.specs.Places.{IsNogoodRow}
 use Rattle.dead_theory.specs.Changes.{Forces}
-use Rattle.kept_lines.specs.Frames.{Frame, IsNamed}
+use Rattle.log_growth.specs.Frames.{Frame, IsNamed}
 use Rattle.dead_paths.specs.Lines.{IsSetKept}
 
 -- The reference names a form that takes from p whatever is not in its first domain.

@@ -3,14 +3,14 @@
 ghost use Rattle.std.specs.Prelude.{◌≡◌, ℕ, ◌^◌, ◌≤◌, ◌<◌, [], List, length, map, OnOk, IfOk, IfSome};
 ghost use Rattle.graph_theory.specs.Graph.{size};
 ghost use Rattle.log_theory.specs.LogText.{IsName, AreRefs, AreLiterals};
-ghost use Rattle.reason_theory.specs.Reasons.{not_there};
+ghost use Rattle.explanation_theory.specs.Reasons.{not_there};
 ghost use Rattle.nogood_book.specs.Rows.{Sound, AreInRange};
 ghost use Rattle.recorder.specs.Recording.{changes_of, set_at};
 ghost use Rattle.needed_values.specs.Needed.{AreRows};
 ghost use Rattle.dead_theory.specs.Changes.{known_after, AreGuessed, AreInProblem};
 ghost use Rattle.dead_theory.specs.Ends.{EndNeeds};
 ghost use Rattle.dead_theory.specs.Laws.{Dies};
-ghost use Rattle.kept_lines.specs.Frames.{Frame, IsFrameOf, Goes};
+ghost use Rattle.log_growth.specs.Frames.{Frame, IsFrameOf, Goes};
 ghost use Rattle.dead_paths.specs.Rooms.{IsFit};
 ghost use Rattle.dead_paths.specs.Making.{AreRowsNamed};
 ghost use Rattle.dead_paths.specs.Choosing.{values_of, AreAt, chosen_in, AreNameable};

@@ -5,14 +5,14 @@ ghost use Rattle.graph_theory.specs.Graph.{size};
 ghost use Rattle.log_theory.specs.LogText.{IsName};
 ghost use Rattle.recorder.specs.Recording.{LeftOver};
 ghost use Rattle.dead_theory.specs.Changes.{IsInProblem};
-ghost use Rattle.kept_lines.specs.Frames.{Frame, IsFrameOf, AnyForms, Goes};
+ghost use Rattle.log_growth.specs.Frames.{Frame, IsFrameOf, AnyForms, Goes};
 ghost use Rattle.dead_paths.specs.Lines.{at_least_refs, at_most_target_ref, beside_refs, AreVertices, AreValues, ArePairs, IsSetKept, IsCrowdKept};
 ghost use Rattle.dead_paths.specs.Explaining.{IsLimited};
 
 use crate::beside::Crowd;
 use crate::ground::Ground;
 use journals::Keeper;
-use kept_lines::keep_sum;
+use log_growth::keep_sum;
 use log_theory::{Name, Ref};
 use std::alloc::{AllocError, Global};
 

@@ -5,8 +5,8 @@ ghost use Rattle.graph_theory.specs.Graph.{size};
 ghost use Rattle.graph_theory.specs.Embedding.{Problem as TheProblem};
 ghost use Rattle.proof_theory.specs.Forms.{Form};
 ghost use Rattle.log_theory.specs.LogText.{IsName, IsRef};
-ghost use Rattle.kept_lines.specs.Frames.{Frame, IsFrameOf, Goes, Lasts};
-ghost use Rattle.kept_lines.specs.Rows.{Widens};
+ghost use Rattle.log_growth.specs.Frames.{Frame, IsFrameOf, Goes, Lasts};
+ghost use Rattle.log_growth.specs.Rows.{Widens};
 ghost use Rattle.dead_paths.specs.Lines.{AreVertices, AreValues};
 ghost use Rattle.dead_paths.specs.Making.{GivesFirst, GivesRow, GivesSet};
 ghost use Rattle.dead_paths.specs.Explaining.{IsLimited};
@@ -23,8 +23,8 @@ pub trait LineMaker: Drop {
     ghost use Rattle.std.specs.Prelude.{List};
     ghost use Rattle.graph_theory.specs.Embedding.{Problem as TheProblem};
     ghost use Rattle.proof_theory.specs.Forms.{Form};
-    ghost use Rattle.kept_lines.specs.Frames.{Frame};
-    ghost use Rattle.kept_lines.specs.Rows.{Widens};
+    ghost use Rattle.log_growth.specs.Frames.{Frame};
+    ghost use Rattle.log_growth.specs.Rows.{Widens};
 
     /// What it has to know of the forms of the lines.
     ghost knows: { Self → TheProblem → Frame → List Form → Type 0 };

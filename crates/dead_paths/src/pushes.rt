@@ -7,7 +7,7 @@ ghost use Rattle.nogood_book.specs.Rows.{Sound};
 ghost use Rattle.nogood_book.specs.Places.{IsNogoodRow};
 ghost use Rattle.recorder.specs.Recording.{LeftOver, change_of};
 ghost use Rattle.dead_theory.specs.Changes.{shown_of, IsInProblem};
-ghost use Rattle.kept_lines.specs.Frames.{Frame, IsFrameOf, AnyForms, Goes};
+ghost use Rattle.log_growth.specs.Frames.{Frame, IsFrameOf, AnyForms, Goes};
 ghost use Rattle.dead_paths.specs.Lines.{AreVertices, AreValues};
 ghost use Rattle.dead_paths.specs.Making.{AreRowsNamed};
 ghost use Rattle.dead_paths.specs.Choosing.{AreAt, IsOfRow, chosen_of};

@@ -16,8 +16,8 @@ use Rattle.log_theory.specs.Lookups.{Lookup, find_all, makes}
 use Rattle.encoding_theory.specs.Variables.{variable}
 use Rattle.forcing_theory.specs.Chains.{run}
 use Rattle.forcing_theory.proofs.Chaining.{run_keeps, refutes_more, refutes_behind}
-use Rattle.reason_theory.specs.Reasons.{not_there, pairs_clause, AreTrue}
-use Rattle.reason_theory.proofs.Giving.{Gives, run_on}
+use Rattle.explanation_theory.specs.Reasons.{not_there, pairs_clause, AreTrue}
+use Rattle.explanation_theory.proofs.Giving.{Gives, run_on}
 use Rattle.domain_bits.specs.Removals.{State, in_domain, full}
 use Rattle.domain_bits.proofs.Sizes.{in_below}
 use Rattle.nogood_watch.specs.Nogoods as watched

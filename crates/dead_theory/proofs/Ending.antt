@@ -7,11 +7,11 @@ use Rattle.proof_theory.specs.Slack.{Setting, refutes}
 use Rattle.log_theory.specs.Lookups.{is_among}
 use Rattle.encoding_theory.specs.Encoding.{at_least}
 use Rattle.forcing_theory.specs.Chains.{run}
-use Rattle.reason_theory.specs.Reasons.{IsNoPair, AreTrue, at_leasts, pairs_clause}
-use Rattle.reason_theory.proofs.Giving.{leads_to_end}
-use Rattle.reason_theory.proofs.Forcing.{at_least_fails, clause_fails, AreSet}
-use Rattle.reason_theory.proofs.Explaining as explaining
-use Rattle.reason_theory.proofs.Explaining.{conflict_refutes}
+use Rattle.explanation_theory.specs.Reasons.{IsNoPair, AreTrue, at_leasts, pairs_clause}
+use Rattle.explanation_theory.proofs.Giving.{leads_to_end}
+use Rattle.explanation_theory.proofs.Forcing.{at_least_fails, clause_fails, AreSet}
+use Rattle.explanation_theory.proofs.Explaining as explaining
+use Rattle.explanation_theory.proofs.Explaining.{conflict_refutes}
 use Rattle.search_theory.specs.Account.{NotAmong}
 use Rattle.domain_bits.specs.Removals.{State, in_domain}
 use Rattle.nogood_watch.specs.Nogoods as watched

@@ -16,12 +16,12 @@ use Rattle.encoding_theory.specs.Encoding.{at_least, at_most, pair_form}
 use Rattle.encoding_theory.specs.Pairs.{is_match, is_compatible}
 use Rattle.forcing_theory.specs.Chains.{run, Domains, AreOut}
 use Rattle.forcing_theory.proofs.Chaining.{after_keeps, run_keeps}
-use Rattle.reason_theory.specs.Reasons as reasons
-use Rattle.reason_theory.specs.Reasons.{IsPair, ForcesFirst, at_leasts, pairs_clause, set_form, over_form}
-use Rattle.reason_theory.proofs.Giving.{Leads, Gives, one_gives, then_gives, leads_on}
-use Rattle.reason_theory.proofs.Forcing.{pair_takes, at_least_forces, at_most_forces, AreSet, clause_forces}
-use Rattle.reason_theory.proofs.OverCounting.{over_takes}
-use Rattle.reason_theory.proofs.Explaining as explaining
+use Rattle.explanation_theory.specs.Reasons as reasons
+use Rattle.explanation_theory.specs.Reasons.{IsPair, ForcesFirst, at_leasts, pairs_clause, set_form, over_form}
+use Rattle.explanation_theory.proofs.Giving.{Leads, Gives, one_gives, then_gives, leads_on}
+use Rattle.explanation_theory.proofs.Forcing.{pair_takes, at_least_forces, at_most_forces, AreSet, clause_forces}
+use Rattle.explanation_theory.proofs.OverCounting.{over_takes}
+use Rattle.explanation_theory.proofs.Explaining as explaining
 use Rattle.domain_bits.specs.Removals.{State, in_domain, times}
 use Rattle.domain_bits.proofs.Removed.{times-append}
 use Rattle.domain_bits.proofs.Sizes.{in_below}

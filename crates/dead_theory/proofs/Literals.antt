@@ -14,7 +14,7 @@ use Rattle.log_theory.specs.Lookups.{is_among, are_distinct, variables_of}
 use Rattle.log_theory.specs.Verdicts.{in_range}
 use Rattle.encoding_theory.specs.Variables.{variable, variables}
 use Rattle.nogood_book.specs.Rows.{AreInRange}
-use Rattle.reason_theory.specs.Reasons.{not_there, pairs_clause, AreTrue}
+use Rattle.explanation_theory.specs.Reasons.{not_there, pairs_clause, AreTrue}
 
 -- ---- variables
 

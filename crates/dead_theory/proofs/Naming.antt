@@ -9,7 +9,7 @@ use Rattle.graph_theory.specs.Graph.{size}
 use Rattle.graph_theory.specs.Embedding.{Problem}
 use Rattle.graph_theory.specs.Path.{IsPath}
 use Rattle.log_theory.specs.Lookups.{is_among}
-use Rattle.reason_theory.specs.Reasons.{vertices_of}
+use Rattle.explanation_theory.specs.Reasons.{vertices_of}
 use Rattle.search_theory.specs.Account.{InRange}
 use Rattle.nogood_watch.specs.Nogoods as watched
 use Rattle.nogood_book.specs.declared.row.Row.{Row}

@@ -8,7 +8,7 @@ use Rattle.graph_theory.specs.Embedding.{Problem}
 use Rattle.proof_theory.specs.Forms.{put, sorted}
 use Rattle.proof_theory.specs.Slack.{refutes, negations}
 use Rattle.encoding_theory.specs.Encoding.{at_least, pair_form}
-use Rattle.reason_theory.specs.Reasons.{not_there}
+use Rattle.explanation_theory.specs.Reasons.{not_there}
 use Rattle.recorder.specs.declared.change.Cause.TheVariants as cause
 use Rattle.recorder.specs.Recording.{Change, LeftOne}
 use Rattle.dead_theory.specs.Changes.{Chosen, MayTake, set_forms}

@@ -8,7 +8,7 @@ use Rattle.graph_theory.specs.declared.direction.Direction.{Direction}
 use Rattle.proof_theory.specs.Forms.{Form}
 use Rattle.log_theory.specs.Lookups.{is_among}
 use Rattle.encoding_theory.specs.Encoding.{at_least, at_most, pair_form}
-use Rattle.reason_theory.specs.Reasons.{pairs_clause, at_leasts, set_form, over_form, ForcesFirst, ForcesBeside, ForcesByEdges}
+use Rattle.explanation_theory.specs.Reasons.{pairs_clause, at_leasts, set_form, over_form, ForcesFirst, ForcesBeside, ForcesByEdges}
 use Rattle.search_theory.specs.Consistency.{IsFirstValue, AreConsistent}
 use Rattle.nogood_watch.specs.Nogoods as watched
 use Rattle.nogood_watch.specs.Nogoods.{literal}

@@ -6,7 +6,7 @@ use Rattle.graph_theory.specs.Embedding.{Problem}
 use Rattle.proof_theory.specs.Forms.{Form}
 use Rattle.log_theory.specs.Lookups.{is_among}
 use Rattle.encoding_theory.specs.Encoding.{at_least}
-use Rattle.reason_theory.specs.Reasons.{value_clauses}
+use Rattle.explanation_theory.specs.Reasons.{value_clauses}
 use Rattle.domain_bits.specs.Removals.{State, in_domain}
 use Rattle.nogood_watch.specs.Nogoods as watched
 use Rattle.nogood_book.specs.declared.row.Row.{Row}

@@ -13,7 +13,7 @@ use Rattle.log_theory.specs.declared.step.Step.TheVariants.{U}
 use Rattle.log_theory.specs.Lookups.{Lookup, find_all, makes, is_among, are_distinct, variables_of}
 use Rattle.log_theory.specs.Verdicts.{in_range}
 use Rattle.encoding_theory.specs.Variables.{variables}
-use Rattle.reason_theory.specs.Reasons.{not_there, pairs_clause, vertices_of}
+use Rattle.explanation_theory.specs.Reasons.{not_there, pairs_clause, vertices_of}
 use Rattle.search_theory.specs.Account.{NotAmong, InRange}
 use Rattle.domain_bits.specs.Removals.{State, in_domain}
 use Rattle.nogood_watch.specs.Nogoods as watched

@@ -4,8 +4,8 @@ ghost use Rattle.std.specs.Prelude.{◌≡◌};
 
 use crate::problems::problem;
 use graph_rows::Problem;
-use sample_graphs::{EDGE, TRIANGLE};
 use std::alloc::{AllocError, Global};
+use test_support::{EDGE, TRIANGLE};
 use worker_gate::{Answer, AnswerCell, Gate, Note, OpenGate, Point, Said};
 
 /// The answer that these images are an embedding, where they are one.

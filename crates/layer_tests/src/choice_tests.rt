@@ -9,14 +9,14 @@ use crate::search_tests::{WORDS, worker_over};
 use domain_bits::{Domains, WordTrail};
 use graph_rows::Problem;
 use nogood_book::RowBook;
-use pair_rows::PairKinds;
+use pair_supports::PairKinds;
 use proof_logger::{ProofLogger, Unlogged};
 use propagation::Filters;
 use recorder::Silent;
 use restart_search::root::{Rooted, root};
 use restart_search::{Equipment, Outcome, Worker, WorkerSettings};
-use sample_graphs::EDGE;
 use std::alloc::{AllocError, Global};
+use test_support::EDGE;
 use worker_gate::OpenGate;
 
 /// Twelve vertices and a last one beside each of them.

@@ -3,7 +3,7 @@
 use command_line::{Command, ProveWords, Refusal, SolveWords, command_of};
 use std::alloc::{AllocError, Global};
 use std::test::Fail;
-use worked_examples::{Example, all_hold};
+use test_support::{Example, all_hold};
 
 /// The words of a line, one blank between two; two blanks in a row stand round an empty word.
 fn words_of(alloc: Global, line: &str) -> Result<Vec<String>, AllocError> {

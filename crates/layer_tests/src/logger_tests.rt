@@ -6,11 +6,11 @@ ghost use Rattle.graph_theory.specs.Plain.{ArePlain};
 use dead_paths::Ground;
 use graph_rows::Problem;
 use pb_encoding::Encoding;
+use proof_collection::{KeepsLines, KeepsNothing, Proof, ProofMaker};
 use proof_logger::ProofLogger;
-use sample_graphs::{EDGE, graph};
-use search_proof::{KeepsLines, KeepsNothing, Proof, ProofMaker};
 use std::alloc::{AllocError, Global};
 use std::test::Fail;
+use test_support::{EDGE, graph};
 
 /// An edge into an edge.
 fn edge_into_edge(alloc: Global) -> Option<Problem>

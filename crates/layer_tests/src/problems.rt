@@ -5,8 +5,8 @@ ghost use Rattle.graph_theory.specs.Plain.{ArePlain};
 
 use graph_rows::Problem;
 use lad_reader::LadKind;
-use sample_graphs::{graph, graph_in};
 use std::alloc::Global;
+use test_support::{graph, graph_in};
 
 /// The problem of two texts.
 pub fn problem(alloc: Global, pattern: &[u8], target: &[u8], induced: bool) -> Option<Problem>

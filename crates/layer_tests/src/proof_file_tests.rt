@@ -8,10 +8,9 @@ use graph_rows::Problem;
 use log_theory::Profile;
 use outer_io::MemoryFiles;
 use proof_files::{Finding, write_proof};
-use sample_graphs::graph;
 use std::alloc::{AllocError, Global};
 use std::test::Fail;
-use worked_examples::{Example, InMemory, all_hold, files_in_memory};
+use test_support::{Example, InMemory, all_hold, files_in_memory, graph};
 
 /// The problem.
 fn problem(alloc: Global) -> Option<Problem>

@@ -6,11 +6,10 @@ ghost use Rattle.graph_theory.specs.Graph.{size};
 use crate::problems::problem_of;
 use graph_rows::Problem;
 use lad_reader::LadKind;
-use pair_rows::{MOST_WORDS, PairKinds, PairRows, RowsAt};
-use sample_graphs::{APART, EDGE, FOUR_CYCLE, PATH, TRIANGLE};
+use pair_supports::{MOST_WORDS, PairKinds, PairSupports, RowsAt};
 use std::alloc::{AllocError, Global};
 use std::test::Fail;
-use worked_examples::{Example, all_hold};
+use test_support::{APART, EDGE, Example, FOUR_CYCLE, PATH, TRIANGLE, all_hold};
 
 const LAD: LadKind = LadKind::Lad;
 
@@ -82,7 +81,7 @@ fn told(at: &RowsAt, r: u16, first: Option<u16>) -> Looked
 }
 
 /// The same of rows at `t` that are made where rows were made at another vertex before.
-fn made(rows: &mut PairRows, p: u16, r: u16, t: u16, first: Option<u16>) -> Looked
+fn made(rows: &mut PairSupports, p: u16, r: u16, t: u16, first: Option<u16>) -> Looked
     requires p_in { p < size rows.old.problem.pattern }
     requires r_in { r < size rows.old.problem.pattern }
     requires apart { p ≡ r → ⊥ }
@@ -103,7 +102,7 @@ fn made_of(alloc: Global, q: &Problem, kinds: &PairKinds, p: u16, r: u16, t: u16
     requires t_in { t < size q.now.target }
 {
     let first = first_neighbour(kinds, q, t);
-    let mut rows = PairRows::new(alloc, kinds, MOST_WORDS).ok()?;
+    let mut rows = PairSupports::new(alloc, kinds, MOST_WORDS).ok()?;
     Some(made(&mut rows, p, r, t, first))
 }
 

@@ -10,16 +10,15 @@ use domain_bits::{Domains, WordTrail};
 use graph_rows::Problem;
 use lad_reader::LadKind;
 use nogood_book::{BookSeat, RowBook, RowSeat};
-use pair_rows::PairKinds;
+use pair_supports::PairKinds;
 use proof_logger::Unlogged;
 use propagation::Filters;
 use recorder::Silent;
 use restart_search::root::{Rooted, root};
 use restart_search::{Equipment, Outcome, Stage, Worker, WorkerSettings};
-use sample_graphs::{APART, EDGE, FOUR_CYCLE, PATH, TRIANGLE};
 use std::alloc::{AllocError, Global};
 use std::test::Fail;
-use worked_examples::{Example, all_hold};
+use test_support::{APART, EDGE, Example, FOUR_CYCLE, PATH, TRIANGLE, all_hold};
 use worker_gate::{AnswerCell, OpenGate};
 
 const TRIANGLE_AND_TAIL: &[u8] = b"4 1 1 3 0 2 3 2 1 3 2 1 2";

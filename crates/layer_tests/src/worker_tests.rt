@@ -5,10 +5,10 @@ ghost use Rattle.std.specs.Prelude.{◌≤◌, ◌<◌, ◌^◌, IsTrue};
 use crate::problems::problem;
 use graph_rows::Problem;
 use parallel_solve::{Proof, Settings, Solved, solve_with};
-use sample_graphs::{EDGE, FOUR_CYCLE, TRIANGLE};
 use std::alloc::Global;
 use std::sync::atomic::{AtomicU64, Ordering};
 use std::thread::{self, Threads};
+use test_support::{EDGE, FOUR_CYCLE, TRIANGLE};
 use worker_gate::{Gate, OpenGate, Point};
 
 /// Five vertices, each beside all others.

@@ -7,14 +7,13 @@ use graph_rows::Problem;
 use graph_theory::direction::Direction;
 use journals::Journal;
 use lad_reader::LadKind;
+use line_cache::LineCache;
 use log_theory::Ref;
-use made_lines::MadeLines;
 use pb_encoding::Encoding;
 use recorder::{Cause, Place, What};
-use sample_graphs::{APART, FOUR_CYCLE, TRIANGLE};
 use std::alloc::{AllocError, Global};
 use std::test::Fail;
-use worked_examples::{Example, all_hold};
+use test_support::{APART, Example, FOUR_CYCLE, TRIANGLE, all_hold};
 
 /// Names each row by its place.
 struct ByPlace {}
@@ -66,7 +65,7 @@ fn add_made(
     journal: &mut Journal,
 ) -> Result<(), AllocError> {
     let ground = Ground::new(alloc, lines);
-    let mut maker = MadeLines::new(alloc, lines.problem(), lines)?;
+    let mut maker = LineCache::new(alloc, lines.problem(), lines)?;
     add(alloc, &ground, case, &mut maker, journal)
 }
 

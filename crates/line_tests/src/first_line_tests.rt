@@ -3,15 +3,14 @@
 ghost use Rattle.std.specs.Prelude.{◌≡◌};
 
 use crate::logs::{Log, Sample, is_log};
-use first_lines::{FirstLines, Units};
+use domain_lines::{DomainLines, Units};
 use graph_rows::Problem;
 use journals::{Journal, NoLog};
 use lad_reader::LadKind;
 use pb_encoding::Encoding;
-use sample_graphs::{PATH, TRIANGLE};
 use std::alloc::{AllocError, Global};
 use std::test::Fail;
-use worked_examples::{Example, all_hold};
+use test_support::{Example, PATH, TRIANGLE, all_hold};
 
 /// Adds the lines for the first domains of so many pattern vertices, in order.
 fn add_first(
@@ -22,7 +21,7 @@ fn add_first(
 ) -> Result<(), AllocError> {
     let q = lines.problem();
     let mut units = Units::new(alloc);
-    let first = FirstLines::new(alloc, q, lines)?;
+    let first = DomainLines::new(alloc, q, lines)?;
     for p in 0..q.pattern().size() {
         if p < count {
             let _name = first.first_line(alloc, journal, &mut units, p)?;
@@ -225,7 +224,7 @@ fn is_nothing(alloc: Global, q: &Problem) -> Result<bool, AllocError> {
         return Ok(false);
     }
     let lines = Encoding::new(alloc, q)?;
-    let first = FirstLines::new(alloc, q, &lines)?;
+    let first = DomainLines::new(alloc, q, &lines)?;
     let mut units = Units::new(alloc);
     let name = first.first_line(alloc, &mut NoLog::new(1), &mut units, 0)?;
     Ok(name.is_none())

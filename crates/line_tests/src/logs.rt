@@ -8,8 +8,8 @@ use opb_text::{Model, read_opb};
 use outer_io::MemorySink;
 use pb_encoding::Encoding;
 use proof_checker::check;
-use sample_graphs::graph_in;
 use std::alloc::{AllocError, Global};
+use test_support::graph_in;
 
 /// A small problem: the texts of its pattern and its target, their kind, and whether the copy is to be induced.
 pub struct Sample(pub &'static [u8], pub &'static [u8], pub LadKind, pub bool);

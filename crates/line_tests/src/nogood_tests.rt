@@ -11,14 +11,14 @@ use crate::logs::{Log, is_accepted};
 use dead_paths::{Basis, Ground, LineMaker, RowNames};
 use graph_rows::Problem;
 use journals::Journal;
+use line_cache::LineCache;
 use log_theory::{Name, Ref};
-use made_lines::MadeLines;
 use nogood_book::{Row, RowKind};
 use pb_encoding::Encoding;
 use recorder::{Cause, What};
-use sample_graphs::{APART, graph_of_size};
 use std::alloc::{AllocError, Global};
 use std::test::Fail;
+use test_support::{APART, graph_of_size};
 
 /// Three vertices into two, so that each path is dead.
 fn three_into_two(alloc: Global) -> Option<Problem>
@@ -124,7 +124,7 @@ fn add_made(
     requires target { size lines.now.target ≡ 2 }
 {
     let ground = Ground::new(alloc, lines);
-    let mut maker = MadeLines::new(alloc, lines.problem(), lines)?;
+    let mut maker = LineCache::new(alloc, lines.problem(), lines)?;
     add(alloc, &ground, paths, &mut maker, journal)
 }
 

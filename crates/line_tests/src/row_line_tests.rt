@@ -8,12 +8,11 @@ use graph_rows::Problem;
 use journals::Journal;
 use lad_reader::LadKind;
 use log_theory::{Name, Ref};
+use pair_lines::{PairLines, PlacedPair, row_line};
 use pb_encoding::Encoding;
-use row_lines::{PlacedPair, RowLines, row_line};
-use sample_graphs::{APART, EDGE, FOUR_CYCLE, TRIANGLE};
 use std::alloc::{AllocError, Global};
 use std::test::Fail;
-use worked_examples::{Example, all_hold};
+use test_support::{APART, EDGE, Example, FOUR_CYCLE, TRIANGLE, all_hold};
 
 /// Whether the three are vertices, and two of them not the same.
 fn is_pair(q: &Problem, pair: PlacedPair) -> bool
@@ -39,7 +38,7 @@ fn placed(pair: (u16, u16, u16)) -> PlacedPair {
 fn ask(
     alloc: Global,
     lines: &Encoding,
-    made: &mut RowLines,
+    made: &mut PairLines,
     journal: &mut Journal,
     pair: PlacedPair,
 ) -> Result<Ref, AllocError> {
@@ -82,7 +81,7 @@ fn are_answered(
     pairs: &[((u16, u16, u16), Answer)],
     journal: &mut Journal,
 ) -> Result<bool, AllocError> {
-    let mut made = RowLines::new(alloc);
+    let mut made = PairLines::new(alloc);
     for (pair, answer) in pairs {
         let line = ask(alloc, lines, &mut made, journal, placed(*pair))?;
         if line != reference(answer) {

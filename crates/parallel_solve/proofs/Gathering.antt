@@ -16,7 +16,7 @@ use Rattle.restart_search.proofs.Noting.{beside_caught}
 use Rattle.proof_logger.specs.Logging.{GrowsBeside}
 use Rattle.parallel_solve.specs.Teaming.{AreBelow}
 use Rattle.parallel_solve.proofs.Numbers.{below_next}
-use Rattle.search_proof.specs.Making.{AreBy}
+use Rattle.proof_collection.specs.Making.{AreBy}
 use Rattle.parallel_solve.specs.Gathering.{HasMade, TookIn, Keeps}
 
 -- ---- the owners that a view answers for

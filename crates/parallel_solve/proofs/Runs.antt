@@ -5,7 +5,7 @@ use Rattle.std.proofs.lemmas.Option.{slice_get_cases, slice_get-get_or, slice_ge
 use Rattle.std.proofs.lemmas.List.{length-map, length-set, get_or-map, get_or-set_same, take_all, take-set}
 use Rattle.std.proofs.lemmas.List.Elements.{All-more}
 use Rattle.parallel_solve.specs.Jobs.{AreRun}
-use Rattle.search_proof.specs.Making.{AreOfOwners}
+use Rattle.proof_collection.specs.Making.{AreOfOwners}
 use Rattle.parallel_solve.specs.Teaming.{IsRefuter}
 
 -- ---- places

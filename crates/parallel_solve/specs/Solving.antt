@@ -5,7 +5,7 @@ use Rattle.graph_theory.specs.Graph.{size}
 use Rattle.graph_theory.specs.Embedding.{Problem, Embeds, HasNone}
 use Rattle.search_theory.specs.Bounds.{enough}
 use Rattle.search_theory.specs.Account.{Account, Spends}
-use Rattle.search_proof.specs.Proofs.{IsProven}
+use Rattle.proof_collection.specs.Proofs.{IsProven}
 use Rattle.parallel_solve.specs.declared.answers.Solved.{Solved}
 use Rattle.parallel_solve.specs.declared.answers.Solved.TheVariants.{Yes, NoEmbedding, Unknown, NoMemory}
 

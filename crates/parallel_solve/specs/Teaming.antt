@@ -16,7 +16,7 @@ use Rattle.parallel_solve.specs.declared.tally.Tally.{Tally}
 use Rattle.restart_search.specs.Searching.{Search, Ends, IsNotStopped, stage_after}
 use Rattle.restart_search.specs.Sharing.{IsSeatFor}
 use Rattle.restart_search.specs.Logging.{IfRefuted}
-use Rattle.search_proof.specs.Making.{IsFinisher}
+use Rattle.proof_collection.specs.Making.{IsFinisher}
 
 -- Each of these numbers is below n.
 abbrev pub AreBelow : List ℕ → ℕ → Type 0

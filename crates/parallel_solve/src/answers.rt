@@ -1,7 +1,7 @@
 //! What several workers are asked, and what they answer.
 
 use fail_account::account::Account;
-use search_proof::Proof;
+use proof_collection::Proof;
 
 /// How a problem is to be decided.
 #[derive(Clone, Copy, PartialEq, Eq, Debug)]

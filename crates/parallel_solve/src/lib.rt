@@ -13,5 +13,5 @@ mod tally;
 mod team;
 
 pub use answers::{Settings, Solved};
-pub use search_proof::{Logged, Proof};
+pub use proof_collection::{Logged, Proof};
 pub use solving::{solve, solve_with};

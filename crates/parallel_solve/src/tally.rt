@@ -3,7 +3,7 @@
 ghost use Rattle.std.specs.Prelude.{◌≡◌, [], ◌∷◌, ◌++◌, ◌≤◌, ◌<◌, ◌+◌, length, map, All, IfSome, vec_capacity};
 ghost use Rattle.nogood_book.specs.Seats.{IsHonest, IsSeatOf};
 ghost use Rattle.restart_search.specs.Searching.{Ends};
-ghost use Rattle.search_proof.specs.Making.{AreBy, AreOfOwners};
+ghost use Rattle.proof_collection.specs.Making.{AreBy, AreOfOwners};
 ghost use Rattle.parallel_solve.specs.Gathering.{HasMade, Keeps, RowsCame, TookIn};
 ghost use Rattle.parallel_solve.specs.Solving.{IsSolved};
 ghost use Rattle.parallel_solve.specs.Teaming.{HasRun, IsRefuter, IsTally, refuted_by, StaysBeside};
@@ -13,9 +13,9 @@ use crate::team::{Done, Root};
 use fail_account::account::Account;
 use graph_rows::Problem;
 use nogood_book::{BookSeat, Row, RowBook, RowSeat};
+use proof_collection::ProofMaker;
 use proof_logger::ProofLogger;
 use restart_search::Outcome;
-use search_proof::ProofMaker;
 use std::alloc::Global;
 
 /// What was heard of the workers so far: an embedding, the number of the first that refuted the problem, whether all were spent, and all

@@ -3,7 +3,7 @@
 use crate::ends::{Ends, all_end};
 use memory_runs::EDGE;
 use std::test::Fail;
-use worked_examples::models::{EDGE_INTO_EDGE, LOOP_INTO_TWO, ONE_WAY};
+use test_support::models::{EDGE_INTO_EDGE, LOOP_INTO_TWO, ONE_WAY};
 
 static ENCODED: [Ends; 11] = [
     Ends(

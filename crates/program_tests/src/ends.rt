@@ -5,7 +5,7 @@ use outer_io::MemoryPart;
 use std::alloc::{AllocError, Global};
 use std::test::Fail;
 use std::thread::Threads;
-use worked_examples::none_wrong;
+use test_support::none_wrong;
 
 /// Runs the program on the words of a line, over these files, and gives its status and its output.
 pub fn output_of<R: Threads + Sync>(

@@ -8,7 +8,7 @@ use outer_io::MemoryPart;
 use std::alloc::{AllocError, Global};
 use std::test::Fail;
 use std::thread::Threads;
-use worked_examples::none_wrong;
+use test_support::none_wrong;
 
 /// An edge as pattern and target, a good and a bad mapping of it, an encoding with a good and a bad log of each kind, and faulty graphs.
 const TEXTS: &[(&str, &str)] = &[

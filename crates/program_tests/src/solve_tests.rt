@@ -6,7 +6,7 @@ use outer_io::MemoryPart;
 use std::alloc::{AllocError, Global};
 use std::test::Fail;
 use std::thread::Threads;
-use worked_examples::none_wrong;
+use test_support::none_wrong;
 
 /// A path of three vertices.
 const PATH: &str = "3\n1 1\n2 0 2\n1 1\n";

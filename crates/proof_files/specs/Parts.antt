@@ -13,7 +13,7 @@ use Rattle.pb_encoding.specs.Writing.{encoding_text}
 use Rattle.merged_log.specs.Profiles.{in_profile}
 use Rattle.merged_log.specs.Steps.{log_text, refutation}
 use Rattle.merged_log.specs.Answers.{solution, undecided, Solves}
-use Rattle.search_proof.specs.Proofs.{IsProof}
+use Rattle.proof_collection.specs.Proofs.{IsProof}
 use Rattle.proof_files.specs.Findings.{Texts}
 use Rattle.proof_files.specs.declared.log.Parts.{Parts}
 use Rattle.proof_files.specs.declared.log.Parts.TheVariants.{Solution, Refutation, Nothing}

@@ -1,6 +1,6 @@
 //! What was found of a problem.
 
-use search_proof::Logged;
+use proof_collection::Logged;
 
 /// What was found of a problem, which a log is to tell.
 #[derive(Drop)]

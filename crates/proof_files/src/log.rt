@@ -9,7 +9,7 @@ ghost use Rattle.log_theory.specs.declared.step.Verdict.TheVariants.{Unsatisfiab
 ghost use Rattle.log_theory.specs.Acceptance.{Accepts};
 ghost use Rattle.merged_log.specs.Profiles.{in_profile};
 ghost use Rattle.merged_log.specs.Steps.{log_text, refutation};
-ghost use Rattle.search_proof.specs.Proofs.{IsProof};
+ghost use Rattle.proof_collection.specs.Proofs.{IsProof};
 ghost use Rattle.proof_files.specs.Findings.{IsFound, steps_of, verdict_on};
 ghost use Rattle.proof_files.specs.Parts.{MayBeWritten, part_steps, part_verdict};
 
@@ -20,7 +20,7 @@ use merged_log::{ones_of, write_refutation, write_solution, write_undecided};
 use outer_io::{Failed, Sink};
 use pb_encoding::Encoding;
 use pb_encoding::model::encodings_are_models;
-use search_proof::Logged;
+use proof_collection::Logged;
 use std::alloc::{AllocError, Global};
 
 /// What a log is written of: all memory for it is taken.

@@ -8,8 +8,8 @@ use opb_text::{Model, read_opb};
 use proof_checker::{Checked, Checker, check, check_file};
 use std::alloc::{AllocError, Global};
 use std::test::Fail;
-use worked_examples::models::{NO_TRIANGLE, NOT_BOTH, THREE_INTO_TWO, TRIANGLE_INTO_CYCLE};
-use worked_examples::{Example, InMemory, all_hold, files_in_memory};
+use test_support::models::{NO_TRIANGLE, NOT_BOTH, THREE_INTO_TWO, TRIANGLE_INTO_CYCLE};
+use test_support::{Example, InMemory, all_hold, files_in_memory};
 
 /// What is expected of a log.
 #[derive(Clone, Copy)]

@@ -6,11 +6,10 @@ use crate::file_tests::sink_of;
 use graph_rows::Problem;
 use lad_reader::LadKind;
 use pb_encoding::{Encoding, is_edge_pair, is_non_edge_pair};
-use sample_graphs::{EDGE, FOUR_CYCLE, TRIANGLE, graph_in};
 use std::alloc::{AllocError, Global};
 use std::test::Fail;
-use worked_examples::models::{EDGE_INTO_EDGE, LOOP_INTO_TWO, ONE_WAY, THREE_INTO_TWO};
-use worked_examples::{Example, all_hold};
+use test_support::models::{EDGE_INTO_EDGE, LOOP_INTO_TWO, ONE_WAY, THREE_INTO_TWO};
+use test_support::{EDGE, Example, FOUR_CYCLE, TRIANGLE, all_hold, graph_in};
 
 const SECOND_WITH_LOOP: &[u8] = b"2 0 1 1";
 

@@ -12,7 +12,7 @@ use outer_io::{
 use std::alloc::{AllocError, Global};
 use std::test::Fail;
 use std::{fs, io};
-use worked_examples::{Example, InMemory, all_hold, files_in_memory};
+use test_support::{Example, InMemory, all_hold, files_in_memory};
 
 /// A file of five bytes, an empty one, and one that is not there, with room for six bytes.
 static THREE_FILES: [InMemory; 3] = [

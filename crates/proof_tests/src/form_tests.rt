@@ -3,7 +3,7 @@
 use pb_terms::{Constraint, Literal, Literals, PbFault};
 use std::alloc::{AllocError, Global};
 use std::test::Fail;
-use worked_examples::{Example, all_hold};
+use test_support::{Example, all_hold};
 
 const LIMIT: i128 = 1 << 125;
 

@@ -8,7 +8,7 @@ use outer_io::MemorySink;
 use proof_log::{StepFault, plain, read_step, write_step};
 use std::alloc::{AllocError, Global};
 use std::test::Fail;
-use worked_examples::{Example, all_hold};
+use test_support::{Example, all_hold};
 
 /// Whether a step is written as this line in a log of this profile.
 fn is_written_as(

@@ -15,8 +15,8 @@ use outer_io::MemorySink;
 use proof_log::read_step;
 use std::alloc::{AllocError, Global};
 use std::test::Fail;
-use worked_examples::all_hold;
-use worked_examples::models::TRIANGLE_INTO_CYCLE;
+use test_support::all_hold;
+use test_support::models::TRIANGLE_INTO_CYCLE;
 
 /// Whether a step is a line that a journal can keep.
 fn is_line(step: &Step) -> bool

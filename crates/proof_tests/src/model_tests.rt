@@ -4,8 +4,8 @@ use crate::file_tests::sink_of;
 use opb_text::{Model, OpbFault, read_opb, write_opb};
 use std::alloc::{AllocError, Global};
 use std::test::Fail;
-use worked_examples::models::{EDGE_INTO_EDGE, THREE_INTO_TWO};
-use worked_examples::{Example, all_hold};
+use test_support::models::{EDGE_INTO_EDGE, THREE_INTO_TWO};
+use test_support::{Example, all_hold};
 
 /// The text that a model is written as.
 fn text_of(alloc: Global, model: &Model) -> Result<String, AllocError> {

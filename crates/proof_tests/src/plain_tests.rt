@@ -5,10 +5,10 @@ use crate::checker_tests::{Whole, is_judged, with_head};
 use log_theory::{Cause, Verdict};
 use std::alloc::{AllocError, Global};
 use std::test::Fail;
-use worked_examples::models::{
+use test_support::models::{
     NO_TRIANGLE_WITHOUT_HINTS, NOT_BOTH, OPEN, THREE_INTO_TWO, TRIANGLE_INTO_CYCLE,
 };
-use worked_examples::{Example, all_hold};
+use test_support::{Example, all_hold};
 
 /// A model of two constraints, what is behind the first two lines of a log over it, and what is expected.
 struct Behind(&'static [u8], &'static str, Expected);

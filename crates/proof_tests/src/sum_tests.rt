@@ -1,7 +1,7 @@
 //! The line of a sum, to the letter.
 
 use journals::Journal;
-use kept_lines::keep_sum;
+use log_growth::keep_sum;
 use log_theory::Ref;
 use std::test::Fail;
 

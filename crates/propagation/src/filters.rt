@@ -17,7 +17,7 @@ use bit_rows::words_for;
 use domain_bits::{Domains, Trail};
 use graph_rows::Problem;
 use nogood_book::Row;
-use pair_rows::{PairKinds, PairRows};
+use pair_supports::{PairKinds, PairSupports};
 use recorder::{Failure, Recorder};
 use std::alloc::{AllocError, Global};
 use std::marker::Model;
@@ -25,7 +25,7 @@ use std::marker::Model;
 /// What propagation works with, made once: the rows of consistent values, and memory for counting; once rows of a book have come,
 /// also the nogoods among them.
 pub struct Filters<'a> {
-    pub(crate) rows: PairRows<'a>,
+    pub(crate) rows: PairSupports<'a>,
     pub(crate) scratch: Scratch,
     pub(crate) edges: EdgeRoom,
     pub(crate) nogoods: Option<Nogoods>,
@@ -55,7 +55,7 @@ impl<'a> Model for Filters<'a> {
 
 impl<'a> Filters<'a> {
     /// No rows and no nogoods yet, with memory for counting and for at most so many words of rows, which the kinds of the problem's
-    /// pairs are shared for. Cost: that of `PairRows::new`, and 128 steps at most for each pattern vertex.
+    /// pairs are shared for. Cost: that of `PairSupports::new`, and 128 steps at most for each pattern vertex.
     pub fn new(
         alloc: Global,
         q: &Problem,
@@ -65,7 +65,7 @@ impl<'a> Filters<'a> {
         requires problem { kinds.now.problem ≡ q.now }
         ensures { IfOk result (λ f. f ≡ unlearned q.now) }
     {
-        let rows = PairRows::new(alloc, kinds, most)?;
+        let rows = PairSupports::new(alloc, kinds, most)?;
         let scratch = Scratch::new(alloc, q.pattern().size(), q.target().size())?;
         let edges = EdgeRoom::new(alloc, q, pair_cost(q, kinds))?;
         Ok(Filters {

@@ -26,7 +26,7 @@ use domain_bits::{Domains, Trail};
 use graph_rows::Problem;
 use nogood_book::{Row, RowKind, push_path};
 use nogood_watch::{WatchAnswer, Watched};
-use pair_rows::PairRows;
+use pair_supports::PairSupports;
 use recorder::{Cause, Failure, Recorder};
 use std::alloc::{AllocError, Global};
 use std::marker::Model;
@@ -119,7 +119,7 @@ impl Nogoods {
     /// nogood is whole, or a domain becomes empty. Cost: that of `on_assign`, and one step for each pair that is forced.
     pub(crate) fn force<T: Trail, R: Recorder>(
         &mut self,
-        rows: &PairRows,
+        rows: &PairSupports,
         d: &mut Domains<T>,
         waiting: &mut [bool],
         told: &mut R,
@@ -155,7 +155,7 @@ impl Nogoods {
     /// Takes the nogoods of one pair out of the domains; fails where a domain becomes empty. Cost: one step for each.
     pub(crate) fn take_units<T: Trail, R: Recorder>(
         &self,
-        rows: &PairRows,
+        rows: &PairSupports,
         d: &mut Domains<T>,
         waiting: &mut [bool],
         told: &mut R,
@@ -179,7 +179,7 @@ impl Nogoods {
 /// Takes pairs that no embedding has out of the domains, each as the nogood of its name asks. Where one value is left, its vertex waits;
 /// where none is, this fails. Cost: one step for each.
 fn take_out<T: Trail, R: Recorder>(
-    rows: &PairRows,
+    rows: &PairSupports,
     pairs: &[(u16, u16, u32)],
     d: &mut Domains<T>,
     waiting: &mut [bool],

@@ -14,7 +14,7 @@ ghost use Rattle.std.specs.Result.{is_ok};
 ghost use Rattle.graph_theory.specs.Graph.{size};
 ghost use Rattle.domain_bits.specs.Removals.{in_domain};
 ghost use Rattle.search_theory.specs.Claims.{Single, First, Quiet};
-ghost use Rattle.pair_rows.specs.Rows.{IsMade};
+ghost use Rattle.pair_supports.specs.Rows.{IsMade};
 ghost use Rattle.recorder.specs.Recording.{NoNewGuess};
 ghost use Rattle.recorder.specs.Telling.{IsOf, Fails, IsEmptied, Tells, TellsOn};
 ghost use Rattle.propagation.specs.Learning.{AreKept, Forces};
@@ -27,7 +27,7 @@ use crate::nogoods::Nogoods;
 use crate::removal::keep_consistent;
 use domain_bits::{Domains, Trail};
 use graph_rows::Problem;
-use pair_rows::{PairRows, RowsAt};
+use pair_supports::{PairSupports, RowsAt};
 use recorder::{Failure, Recorder};
 use sparse_set::SparseSet;
 
@@ -118,7 +118,7 @@ fn settle_at<T: Trail, R: Recorder>(
 /// Takes from each other domain what is not consistent with `p` at `t`, up to the first domain that becomes empty, where this fails.
 /// Cost: one step for each vertex that is not past, and a row for each that is asked more than a distinct image.
 fn settle<T: Trail, R: Recorder>(
-    rows: &PairRows,
+    rows: &PairSupports,
     d: &mut Domains<T>,
     waiting: &mut [bool],
     undecided: &SparseSet,
@@ -152,7 +152,7 @@ fn settle<T: Trail, R: Recorder>(
 
 /// Looks at the nogoods that have `p` at `t`, if any are kept, and takes out what they force; fails where no embedding is left.
 fn force<T: Trail, R: Recorder>(
-    rows: &PairRows,
+    rows: &PairSupports,
     nogoods: &mut Option<Nogoods>,
     d: &mut Domains<T>,
     waiting: &mut [bool],
@@ -186,7 +186,7 @@ fn force<T: Trail, R: Recorder>(
 
 /// Takes up a vertex that waits; where it is decided, it is past from then on.
 fn visit<T: Trail, R: Recorder>(
-    rows: &mut PairRows,
+    rows: &mut PairSupports,
     nogoods: &mut Option<Nogoods>,
     d: &mut Domains<T>,
     waiting: &mut [bool],
@@ -238,7 +238,7 @@ fn visit<T: Trail, R: Recorder>(
 /// Takes up all vertices that wait. Cost: for each vertex that is decided on the way, one row for each that is not, a look at the
 /// nogoods that have its value, and the values that leave.
 fn take_up<T: Trail, R: Recorder>(
-    rows: &mut PairRows,
+    rows: &mut PairSupports,
     nogoods: &mut Option<Nogoods>,
     d: &mut Domains<T>,
     waiting: &mut [bool],

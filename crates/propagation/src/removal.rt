@@ -25,7 +25,7 @@ use all_different::{Pruned, Scratch, prune_undecided};
 use domain_bits::{Domains, Mark, Trail};
 use graph_rows::Problem;
 use graph_theory::direction::Direction;
-use pair_rows::RowsAt;
+use pair_supports::RowsAt;
 use recorder::{Cause, Failure, Recorder};
 
 /// Tells that values have left by the cause since the mark, if any have. Cost: one step, and that of `took`.

@@ -5,7 +5,7 @@ use memory_runs::{CLEAN, Gives, Judge, Ran, is_judged, parts};
 use std::alloc::{AllocError, Global};
 use std::test::Fail;
 use std::thread::Threads;
-use worked_examples::none_wrong;
+use test_support::none_wrong;
 
 /// A model of one variable that is one and is not.
 const BOTH_WAYS: &str = "* #variable= 1 #constraint= 2\n+1 x1 >= 1 ;\n-1 x1 >= 0 ;\n";

@@ -6,7 +6,7 @@ use memory_runs::{CLEAN, FOUR_CYCLE, Gives, Judge, Ran, TRIANGLE};
 use std::alloc::{AllocError, Global};
 use std::test::Fail;
 use std::thread::Threads;
-use worked_examples::none_wrong;
+use test_support::none_wrong;
 
 /// The log of a triangle in a cycle of four vertices, by one worker, to the letter, without hints.
 const WITHOUT_HINTS: &str = "embedding proof 2

@@ -5,8 +5,8 @@ use memory_runs::{EDGE, FOUR_CYCLE, Gives, Judge, Ran, TRIANGLE};
 use std::alloc::{AllocError, Global};
 use std::test::Fail;
 use std::thread::Threads;
-use worked_examples::models::{NO_TRIANGLE, NO_TRIANGLE_WITHOUT_HINTS};
-use worked_examples::none_wrong;
+use test_support::models::{NO_TRIANGLE, NO_TRIANGLE_WITHOUT_HINTS};
+use test_support::none_wrong;
 
 /// A refutation of three vertices in two: each of the three has an image, and each of the two is the image of one.
 const NO_THIRD: &[u8] = b"embedding proof 1\nm 8\np 0.1 1 3 + 5 + 7 + 8 + 3 d ;\ne 0.1\n";

@@ -13,9 +13,9 @@ ghost use Rattle.restart_search.specs.Searching.{Begins, Roots, RootSays};
 
 use bit_rows::words_for;
 use domain_bits::{Domains, Trail};
-use first_rows::{FirstRows, fill_first};
 use graph_rows::Problem;
-use pair_rows::PairKinds;
+use initial_domains::{InitialDomains, fill_first};
+use pair_supports::PairKinds;
 use propagation::{Filters, narrow_first, propagate};
 use recorder::{Failure, Recorder};
 use sparse_set::SparseSet;
@@ -35,7 +35,7 @@ pub enum Rooted<T: Trail, R: Recorder> {
 /// What the root is settled with, beside the filters.
 struct RootRoom<'a> {
     /// What is kept of the problem's vertices for `fill_first`.
-    kept: FirstRows<'a>,
+    kept: InitialDomains<'a>,
     /// The row that a first domain is written to.
     row: Vec<u64>,
     /// Which vertices wait for their consequences.
@@ -56,7 +56,7 @@ impl Drop for RootRoom<'_> {
     }
 }
 
-/// Room for the root of a problem: no vertex waits, and none is past. Cost: that of `FirstRows::new`.
+/// Room for the root of a problem: no vertex waits, and none is past. Cost: that of `InitialDomains::new`.
 fn root_room<'a>(alloc: Global, q: &'a Problem) -> Result<RootRoom<'a>, AllocError>
     ensures rows { IfOk result (λ r. r.kept ≡ q.entry.now) }
     ensures words { IfOk result
@@ -68,7 +68,7 @@ fn root_room<'a>(alloc: Global, q: &'a Problem) -> Result<RootRoom<'a>, AllocErr
     let waiting = vec![in alloc; false; usize::from(vertices)]?;
     let row = vec![in alloc; 0u64; words_for(usize::from(q.target().size()))]?;
     let undecided = SparseSet::new(alloc, vertices)?;
-    let kept = FirstRows::new(alloc, q)?;
+    let kept = InitialDomains::new(alloc, q)?;
     Ok(RootRoom {
         kept,
         row,
@@ -80,7 +80,7 @@ fn root_room<'a>(alloc: Global, q: &'a Problem) -> Result<RootRoom<'a>, AllocErr
 /// Leaves each vertex its first domain; fails where one is empty. Cost: for each vertex that of `fill_first`, and the values that leave.
 fn begin<T: Trail, R: Recorder>(
     q: &Problem,
-    kept: &FirstRows,
+    kept: &InitialDomains,
     d: &mut Domains<T>,
     waiting: &mut [bool],
     told: &mut R,
@@ -159,7 +159,7 @@ fn settle_filtered<T: Trail, R: Recorder>(
     Ok(settle_root(q, room, &mut filters, d, told))
 }
 
-/// The same, in room that is made for it too. Cost: that of `FirstRows::new` beside it.
+/// The same, in room that is made for it too. Cost: that of `InitialDomains::new` beside it.
 fn settle_full<T: Trail, R: Recorder>(
     alloc: Global,
     q: &Problem,
@@ -183,7 +183,7 @@ fn settle_full<T: Trail, R: Recorder>(
 }
 
 /// The first domains and what follows from them, with at most so many words of rows of pairs; all changes are told. Cost: that of
-/// `FirstRows::new`, for each vertex that of `fill_first`, and the propagation.
+/// `InitialDomains::new`, for each vertex that of `fill_first`, and the propagation.
 pub fn root<T: Trail, R: Recorder>(
     alloc: Global,
     q: &Problem,

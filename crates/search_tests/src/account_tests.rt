@@ -9,7 +9,7 @@ use graph_rows::{Graph, Problem};
 use lad_reader::{EdgeLabels, GraphParts, Labels, LadKind, NeighbourLists};
 use std::alloc::{AllocError, Global};
 use std::test::Fail;
-use worked_examples::{Example, all_hold};
+use test_support::{Example, all_hold};
 
 /// A list of two vertices.
 fn two(alloc: Global, a: u32, b: u32) -> Result<Vec<u32>, AllocError>

@@ -5,10 +5,9 @@
 
 use graph_rows::{Graph, Problem};
 use lad_reader::LadKind;
-use sample_graphs::graph_in;
 use std::alloc::Global;
 use std::test::Fail;
-use worked_examples::none_wrong;
+use test_support::{graph_in, none_wrong};
 
 /// A text of its kind.
 pub(crate) type Text = (LadKind, &'static [u8]);

@@ -8,10 +8,10 @@ ghost use Rattle.graph_theory.specs.Embedding.{HasNone};
 use graph_rows::Problem;
 use locked_shelf::{LockedShelf, ShelfSeat};
 use nogood_book::{Book, Published, Row, RowBook, RowKind, RowSeat};
-use sample_graphs::triangle_into_cycle;
 use std::alloc::{AllocError, Global};
 use std::sync::Wait;
 use std::test::Fail;
+use test_support::triangle_into_cycle;
 
 /// The nogood of this owner that takes vertex 0 to the value.
 fn nogood(owner: u8, value: u16) -> Row

@@ -3,7 +3,7 @@
 use biased_choice::pick;
 use std::alloc::{AllocError, Global};
 use std::test::Fail;
-use worked_examples::{Example, all_hold};
+use test_support::{Example, all_hold};
 
 /// A word of the stream, and the value it chooses.
 struct Picked(u64, u16);

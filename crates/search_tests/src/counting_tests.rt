@@ -8,7 +8,7 @@ use all_different::{Pruned, Scratch, prune, prune_undecided};
 use domain_bits::Domains;
 use std::alloc::{AllocError, Global};
 use std::test::Fail;
-use worked_examples::{Example, all_hold};
+use test_support::{Example, all_hold};
 
 /// Whether a set is what counting left in its scratch: these vertices, and their values as one word.
 fn is_left(scratch: &Scratch, set: &[u16], values: u64) -> bool {

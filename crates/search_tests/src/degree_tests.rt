@@ -8,9 +8,9 @@ use degree_filter::{keep_degrees, keeps};
 use graph_rows::Problem;
 use graph_theory::direction::Direction;
 use lad_reader::LadKind;
-use sample_graphs::{PATH, TRIANGLE};
 use std::alloc::Global;
 use std::test::Fail;
+use test_support::{PATH, TRIANGLE};
 
 const PLAIN: LadKind = LadKind::Lad;
 

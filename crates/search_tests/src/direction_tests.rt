@@ -8,9 +8,9 @@ use crate::asked::{
 use graph_rows::{Graph, Problem};
 use graph_theory::direction::Direction;
 use lad_reader::LadKind;
-use sample_graphs::PATH;
 use std::alloc::Global;
 use std::test::Fail;
+use test_support::PATH;
 
 const PLAIN: LadKind = LadKind::Lad;
 

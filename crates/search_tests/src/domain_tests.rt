@@ -7,7 +7,7 @@ use domain_bits::{
 };
 use std::alloc::{AllocError, Global};
 use std::test::Fail;
-use worked_examples::{Example, all_hold};
+use test_support::{Example, all_hold};
 
 /// What is done to domains, or found of them.
 enum Act {

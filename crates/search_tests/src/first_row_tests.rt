@@ -5,14 +5,14 @@ ghost use Rattle.graph_theory.specs.Graph.{size};
 ghost use Rattle.nds_filter.specs.Sequences.{sequences};
 
 use crate::asked::{AskedOfProblem, Texts, all_problems_are_so};
-use first_rows::{FirstRows, fill_first, is_first};
 use graph_rows::{Graph, Problem};
 use graph_theory::direction::Direction;
+use initial_domains::{InitialDomains, fill_first, is_first};
 use lad_reader::LadKind;
 use nds_filter::Sequences;
-use sample_graphs::{PATH, TRIANGLE};
 use std::alloc::Global;
 use std::test::Fail;
+use test_support::{PATH, TRIANGLE};
 
 const LOOP: &[u8] = b"1 1 0";
 
@@ -39,7 +39,7 @@ fn first(alloc: Global, q: &Problem, p: u16) -> Option<(u64, bool)> {
         return None;
     }
     let by_values = first_by_values(alloc, q, p)?;
-    let kept = FirstRows::new(alloc, q).ok()?;
+    let kept = InitialDomains::new(alloc, q).ok()?;
     let mut row = [u64::MAX];
     fill_first(q, &kept, p, &mut row);
     Some((row[0], row[0] == by_values))

@@ -8,10 +8,9 @@ use graph_theory::plain_lad::vertices_in;
 use graph_theory::trial::ListedProblem;
 use lad_reader::LadKind;
 use outer_io::MemorySink;
-use sample_graphs::graph_in;
 use std::alloc::{AllocError, Global};
 use std::test::Fail;
-use worked_examples::{Example, all_hold};
+use test_support::{Example, all_hold, graph_in};
 
 const PLAIN: LadKind = LadKind::Lad;
 

@@ -7,9 +7,9 @@ use common_neighbour::Counts;
 use graph_rows::Graph;
 use graph_theory::direction::Direction;
 use lad_reader::LadKind;
-use sample_graphs::{FOUR_CYCLE, TRIANGLE};
 use std::alloc::Global;
 use std::test::Fail;
+use test_support::{FOUR_CYCLE, TRIANGLE};
 
 const PLAIN: LadKind = LadKind::Lad;
 

@@ -7,9 +7,9 @@ use graph_rows::{Graph, Problem};
 use graph_theory::direction::Direction;
 use lad_reader::LadKind;
 use nds_filter::{KeptRows, SequenceAnswer, Sequences, keeps};
-use sample_graphs::{EDGE, TRIANGLE};
 use std::alloc::Global;
 use std::test::Fail;
+use test_support::{EDGE, TRIANGLE};
 
 const PLAIN: LadKind = LadKind::Lad;
 

@@ -11,7 +11,7 @@ use Rattle.log_theory.specs.Profiles.{log_profile}
 use Rattle.merged_log.specs.Profiles.{in_profile}
 use Rattle.merged_log.specs.Steps.{log_text}
 use Rattle.merged_log.proofs.Profiled.{profile_told}
-use Rattle.search_proof.specs.declared.proof.Proof.TheVariants.{Logged, Unlogged}
+use Rattle.proof_collection.specs.declared.proof.Proof.TheVariants.{Logged, Unlogged}
 use Rattle.proof_files.specs.Findings.{IsFound, IsAccepted, Texts, texts, steps_of, verdict_on}
 use Rattle.proof_files.specs.TwoFiles.{TwoFiles, AreWhole}
 use Rattle.proof_files.specs.declared.finding.Finding.{Finding}

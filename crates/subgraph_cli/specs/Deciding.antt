@@ -4,8 +4,8 @@ use Rattle.std.specs.Prelude.{◌≡◌, ℕ, Bool, List, Option, Some, Result, 
 use Rattle.graph_theory.specs.Embedding.{Problem, Embeds, HasNone}
 use Rattle.graph_theory.specs.Mapping.{yes_text}
 use Rattle.search_theory.specs.Account.{Account}
-use Rattle.search_proof.specs.declared.proof.Proof.TheVariants.{Logged}
-use Rattle.search_proof.specs.Proofs.{IsProven}
+use Rattle.proof_collection.specs.declared.proof.Proof.TheVariants.{Logged}
+use Rattle.proof_collection.specs.Proofs.{IsProven}
 use Rattle.parallel_solve.specs.Solving.{AreSpent}
 use Rattle.pb_encoding.specs.Writing.{encoding_text}
 use Rattle.merged_log.specs.Profiles.{in_profile}

@@ -6,7 +6,7 @@ ghost use Rattle.encoding_theory.specs.Encoding.{encoding as encoding_of};
 ghost use Rattle.log_theory.specs.declared.step.Verdict.TheVariants.{Unsatisfiable};
 ghost use Rattle.log_theory.specs.Acceptance.{Accepts};
 ghost use Rattle.pb_encoding.specs.Model.{model_of};
-ghost use Rattle.search_proof.specs.Proofs.{IsProof};
+ghost use Rattle.proof_collection.specs.Proofs.{IsProof};
 ghost use Rattle.subgraph_cli.specs.Demonstrating.{HasRefutation};
 
 use crate::stop::Stop;
@@ -19,8 +19,8 @@ use pb_encoding::Encoding;
 use pb_encoding::model::encodings_are_models;
 use pb_terms::Constraint;
 use proof_checker::check;
+use proof_collection::Logged;
 use proof_files::write_refuted;
-use search_proof::Logged;
 use std::alloc::{AllocError, Global};
 
 /// The constraints of an encoding, in order.

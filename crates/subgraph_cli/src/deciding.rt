@@ -10,7 +10,7 @@ use command_line::SolveWords;
 use fail_account::account::Account;
 use graph_rows::problem::Problem;
 use parallel_solve::{Settings, Solved, solve};
-use search_proof::Proof;
+use proof_collection::Proof;
 use std::alloc::Global;
 use std::thread::Threads;
 

@@ -16,7 +16,7 @@ use fail_account::account::Account;
 use graph_rows::Problem;
 use outer_io::sink::Sink;
 use parallel_solve::{Settings, Solved, solve};
-use search_proof::Proof;
+use proof_collection::Proof;
 use std::alloc::Global;
 use std::thread::Threads;
 

@@ -14,8 +14,8 @@ use command_line::SolveWords;
 use graph_rows::problem::Problem;
 use outer_io::fault::PutFault;
 use outer_io::files::Files;
+use proof_collection::Proof;
 use proof_files::{Finding, write_proof};
-use search_proof::Proof;
 use std::alloc::Global;
 
 /// What a log is to tell of an answer, which comes with the lines of a refutation where it is one.

@@ -8,7 +8,7 @@ use opb_text::{Model, read_opb};
 use proof_checker::check;
 use std::alloc::{AllocError, Global};
 use std::test::Fail;
-use worked_examples::models::{
+use test_support::models::{
     NO_TRIANGLE, NO_TRIANGLE_WITHOUT_HINTS, NOT_BOTH, OPEN, THREE_INTO_TWO, TRIANGLE_INTO_CYCLE,
 };
 

@@ -6,7 +6,7 @@ use graph_theory::plain_lad::vertices_in;
 use graph_theory::trial::ListedProblem;
 use std::alloc::{AllocError, Global};
 use std::test::Fail;
-use worked_examples::{Example, all_hold};
+use test_support::{Example, all_hold};
 
 const LAD: LadKind = LadKind::Lad;
 

@@ -8,7 +8,7 @@ use graph_theory::plain_lad::{ListedVertex, vertices_in};
 use lad_reader::{EdgeLabels, GraphParts, Labels, NeighbourLists, read_lad};
 use std::alloc::{AllocError, Global};
 use std::test::Fail;
-use worked_examples::{Example, all_hold};
+use test_support::{Example, all_hold};
 
 const LAD: LadKind = LadKind::Lad;
 

@@ -7,9 +7,9 @@ use Rattle.dead_theory.specs.Changes.{AreInProblem}
 use Rattle.std.proofs.lemmas.Result.{err_from_is_err_and}
 use Rattle.log_theory.specs.declared.step.Step.TheVariants.{U}
 use Rattle.log_theory.specs.LogText.{AreRefs}
-use Rattle.reason_theory.specs.Reasons.{pairs_clause, not_there}
+use Rattle.explanation_theory.specs.Reasons.{pairs_clause, not_there}
 use Rattle.recorder.specs.Recording.{changes_of, set_at}
-use Rattle.kept_lines.proofs.Going.{goes_kept}
+use Rattle.log_growth.proofs.Going.{goes_kept}
 use Rattle.nogood_watch.specs.Nogoods.{literal}
 use Rattle.dead_paths.specs.Choosing.{AreAt, chosen_in, AreNameable}
 use Rattle.dead_paths.specs.Explaining.{IsLimited, IsEndIn, end_by, Knowing, IsChosenFor, IsBegun, AreGathered, EndExplained}

@@ -4,7 +4,7 @@ use Rattle.dead_paths.specs.Choosing.{AreAt, AreNameable, chosen_in}
 use Rattle.std.proofs.Common.{ℕ, List, length, Err, ap, sym, subst, arith}
 use Rattle.dead_paths.specs.declared.room.ChosenEntry.{ChosenEntry}
 use Rattle.std.proofs.lemmas.Result.{err_from_is_err_and}
-use Rattle.kept_lines.proofs.Going.{goes_as}
+use Rattle.log_growth.proofs.Going.{goes_as}
 use Rattle.dead_paths.specs.Making.{AreRowsNamed}
 use Rattle.dead_paths.specs.Explaining.{end_by, Knowing, IsBegun, AreChangesPushed, AreGathered}
 use Rattle.dead_paths.proofs.Ends.{frame_owner, gather_goes}

@@ -3,7 +3,7 @@ use Rattle.std.specs.Prelude.{map}
 use Rattle.graph_theory.specs.Graph.{Graph, size}
 use Rattle.journal_theory.proofs.Placing.{take_all}
 use Rattle.log_theory.specs.LogText.{AreLiterals}
-use Rattle.reason_theory.specs.Reasons.{not_there}
+use Rattle.explanation_theory.specs.Reasons.{not_there}
 use Rattle.dead_paths.proofs.Ends.{variable_fits, literals_fit, range_at}
 use Rattle.dead_paths.proofs.dead_line.literals_of.Goals as goal
 

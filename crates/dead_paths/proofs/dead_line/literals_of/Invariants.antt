@@ -1,6 +1,6 @@
 use Rattle.std.proofs.Common.{◌≡◌, take}
 use Rattle.std.specs.Prelude.{map}
-use Rattle.reason_theory.specs.Reasons.{not_there}
+use Rattle.explanation_theory.specs.Reasons.{not_there}
 use Rattle.dead_paths.proofs.dead_line.literals_of.Given as goal
 
 abbrev pub invariant-loop-x : goal.invariant-loop-x

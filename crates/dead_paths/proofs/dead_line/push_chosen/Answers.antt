@@ -4,7 +4,7 @@ use Rattle.dead_paths.specs.declared.room.ChosenEntry.{ChosenEntry}
 use Rattle.log_theory.specs.LogText.{AreRefs}
 use Rattle.recorder.specs.Recording.{change_of}
 use Rattle.dead_theory.specs.Changes.{Chosen, known_after, IsInProblem}
-use Rattle.kept_lines.specs.Frames.{Goes}
+use Rattle.log_growth.specs.Frames.{Goes}
 use Rattle.dead_paths.specs.Making.{AreRowsNamed}
 use Rattle.dead_paths.specs.Choosing.{AreAt, chosen_of, chosen_in, IsOfRow}
 use Rattle.dead_paths.specs.Explaining.{Explained, Knowing}

@@ -1,6 +1,6 @@
 use Rattle.std.proofs.Common.{◌≡◌, ℕ, List, drop, ◌≤◌, length}
 use Rattle.log_theory.specs.LogText.{AreRefs}
-use Rattle.kept_lines.specs.Frames.{Frame, IsFrameOf, Goes}
+use Rattle.log_growth.specs.Frames.{Frame, IsFrameOf, Goes}
 use Rattle.dead_paths.specs.Making.{AreRowsNamed}
 use Rattle.dead_theory.specs.Changes.{known_after}
 use Rattle.dead_paths.specs.Choosing.{AreAt, chosen_in}

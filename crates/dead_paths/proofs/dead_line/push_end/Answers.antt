@@ -3,13 +3,13 @@ use Rattle.std.proofs.lemmas.Result.{err_from_is_err_and}
 use Rattle.graph_theory.specs.Graph.{size}
 use Rattle.log_theory.specs.LogText.{AreRefs}
 use Rattle.encoding_theory.specs.Encoding.{at_least}
-use Rattle.reason_theory.specs.Reasons.{value_clauses}
+use Rattle.explanation_theory.specs.Reasons.{value_clauses}
 use Rattle.recorder.specs.declared.change.Failure.{Failure}
 use Rattle.recorder.specs.declared.change.Failure.TheVariants as failure
 use Rattle.recorder.specs.declared.change.Place.{Place}
 use Rattle.recorder.specs.Recording.{set_at}
 use Rattle.dead_theory.specs.Ends.{Empty, Whole, Short, Exhausted, end_of}
-use Rattle.kept_lines.proofs.Naming.{named_behind}
+use Rattle.log_growth.proofs.Naming.{named_behind}
 use Rattle.dead_paths.specs.declared.dead_line.PathEnd.{PathEnd}
 use Rattle.dead_paths.specs.Lines.{at_least_ref, at_least_refs}
 use Rattle.dead_paths.specs.Explaining.{end_by, IsEndIn}

@@ -3,8 +3,8 @@ use Rattle.std.specs.Prelude.{map}
 use Rattle.std.proofs.lemmas.Result.{err_from_is_err_and}
 use Rattle.log_theory.specs.declared.step.Ref.{Ref}
 use Rattle.log_theory.specs.LogText.{AreRefs}
-use Rattle.kept_lines.specs.Frames.{AnyForms}
-use Rattle.kept_lines.proofs.Going.{goes_stay}
+use Rattle.log_growth.specs.Frames.{AnyForms}
+use Rattle.log_growth.proofs.Going.{goes_stay}
 use Rattle.dead_paths.specs.Lines.{at_least_refs, at_most_target_ref, set_refs, IsSetKept}
 use Rattle.dead_paths.proofs.LineRefs.{set_refs_fit, set_goes, set_none}
 use Rattle.dead_paths.proofs.lines.keep_set.Goals as goal

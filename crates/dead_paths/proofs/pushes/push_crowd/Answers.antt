@@ -1,8 +1,8 @@
 use Rattle.std.proofs.Common.{◌≡◌, ◌∷◌, [], refl, length, subst, sym, Ok, rules}
 use Rattle.log_theory.specs.declared.step.Ref.TheVariants.{Made}
 use Rattle.log_theory.specs.LogText.{AreRefs}
-use Rattle.kept_lines.specs.Frames.{AnyForms}
-use Rattle.kept_lines.proofs.Going.{goes_stay, goes_as}
+use Rattle.log_growth.specs.Frames.{AnyForms}
+use Rattle.log_growth.proofs.Going.{goes_stay, goes_as}
 use Rattle.dead_paths.specs.Lines.{IsCrowdKept}
 use Rattle.dead_paths.specs.Explaining.{IsCrowdPushed}
 use Rattle.dead_paths.proofs.LineRefs.{refs_behind, crowd_pushed_none}

@@ -1,7 +1,7 @@
 use Rattle.std.proofs.Common.{◌≡◌, ◌∷◌, [], refl, length, subst, sym, Ok, rules}
 use Rattle.log_theory.specs.declared.step.Ref.TheVariants.{Made}
 use Rattle.log_theory.specs.LogText.{AreRefs}
-use Rattle.kept_lines.proofs.Going.{goes_stay, goes_as}
+use Rattle.log_growth.proofs.Going.{goes_stay, goes_as}
 use Rattle.dead_paths.specs.Making.{GivesSet}
 use Rattle.dead_paths.specs.Explaining.{IsSetPushed}
 use Rattle.dead_paths.proofs.LineRefs.{refs_behind, set_pushed_none, set_pushed_made}

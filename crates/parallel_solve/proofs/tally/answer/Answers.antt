@@ -1,7 +1,7 @@
 use Rattle.std.proofs.Common.{ℕ, Option, sym, subst}
 use Rattle.std.specs.Prelude.{All, IfSome}
 use Rattle.graph_theory.specs.Embedding.{Problem}
-use Rattle.search_proof.specs.Making.{IsFinisher}
+use Rattle.proof_collection.specs.Making.{IsFinisher}
 use Rattle.parallel_solve.specs.Teaming.{IsRefuter}
 use Rattle.parallel_solve.proofs.Accounts.{all_spent}
 use Rattle.parallel_solve.proofs.tally.answer.Goals as goal

@@ -2,7 +2,7 @@ use Rattle.std.proofs.Common.{◌≡◌, ℕ, List, length, sym, subst, ap, ◌�
 use Rattle.std.specs.Prelude.{All, IfSome}
 use Rattle.std.proofs.lemmas.List.{length-map}
 use Rattle.nogood_book.specs.declared.row.Row.{Row}
-use Rattle.search_proof.specs.Making.{AreBy, AreOfOwners}
+use Rattle.proof_collection.specs.Making.{AreBy, AreOfOwners}
 use Rattle.parallel_solve.specs.declared.team.Done.{Done}
 use Rattle.parallel_solve.specs.Teaming.{IsRefuter, StaysBeside}
 use Rattle.parallel_solve.proofs.Runs.{owners_made}

@@ -1,6 +1,6 @@
 use Rattle.std.specs.Prelude.{◌≡◌, length, take, All}
 use Rattle.restart_search.specs.Searching.{IsNotStopped}
-use Rattle.search_proof.specs.Making.{AreOfOwners}
+use Rattle.proof_collection.specs.Making.{AreOfOwners}
 use Rattle.parallel_solve.specs.Teaming.{HasRun}
 use Rattle.parallel_solve.proofs.team.finish.Given as goal
 

@@ -3,7 +3,7 @@ use Rattle.std.specs.Prelude.{All}
 use Rattle.std.proofs.lemmas.List.Elements.{All-push}
 use Rattle.nogood_book.specs.Seats.{SeatName}
 use Rattle.restart_search.specs.Searching.{Search}
-use Rattle.search_proof.specs.Making.{AreOfOwners}
+use Rattle.proof_collection.specs.Making.{AreOfOwners}
 use Rattle.parallel_solve.specs.Teaming.{IsJob}
 use Rattle.parallel_solve.proofs.Runs.{numbers_push}
 use Rattle.parallel_solve.proofs.team.make_jobs.Goals as goal

@@ -1,6 +1,6 @@
 use Rattle.std.specs.Prelude.{◌≡◌, ◌+◌, [], length, All}
 use Rattle.nogood_book.specs.Seats.{IsSeatOf}
-use Rattle.search_proof.specs.Making.{AreOfOwners}
+use Rattle.proof_collection.specs.Making.{AreOfOwners}
 use Rattle.parallel_solve.specs.Gathering.{HasMade}
 use Rattle.parallel_solve.specs.Teaming.{IsJob}
 use Rattle.parallel_solve.proofs.team.make_jobs.Given as goal

@@ -1,0 +1,44 @@
+//! The lines of sets, each made once.
+
+ghost use Rattle.std.specs.Prelude.{◌≡◌, ◌<◌, length, IfOk};
+ghost use Rattle.log_theory.specs.LogText.{IsName};
+ghost use Rattle.log_growth.specs.Frames.{Frame, IsFrameOf, Goes};
+ghost use Rattle.dead_paths.specs.Lines.{AreVertices, AreValues};
+ghost use Rattle.dead_paths.specs.Explaining.{IsLimited};
+ghost use Rattle.line_cache.specs.Sets.{AreSets, IsKnownSet};
+
+use crate::set_names::SetNames;
+use dead_paths::{Ground, keep_set};
+use journals::Keeper;
+use log_theory::Name;
+use std::alloc::{AllocError, Global};
+
+/// The name of the line of a set, which is made if the set is not found. Cost: of one that is found, that of the search for it.
+pub(crate) fn set_line<K: Keeper>(
+    alloc: Global,
+    lines: &Ground<'_>,
+    sets: &mut SetNames,
+    keeper: &mut K,
+    vertices: &[u16],
+    values: &[u16],
+) -> Result<Name, AllocError>
+    requires limited { IsLimited lines.now }
+    requires some { 0 < length vertices.now }
+    requires vertices { AreVertices lines.now vertices.now }
+    requires values { AreValues lines.now values.now }
+    ensures goes { (w : Frame) → IsFrameOf lines.now (K.owner keeper.old) w
+        → Goes w (K.kept keeper.old) (K.kept keeper.new)
+        (AreSets lines.now w sets.old)
+        (IsKnownSet lines.now w vertices.now values.now sets.new result) }
+    ensures fits { IfOk result IsName }
+    ensures owner { K.owner keeper.new ≡ K.owner keeper.old }
+    ensures notes { K.notes keeper.new ≡ K.notes keeper.old }
+    ensures spare { K.spare keeper.new ≡ K.spare keeper.old }
+{
+    if let Some(name) = sets.find(vertices, values) {
+        return Ok(name);
+    }
+    let name = keep_set(alloc, lines, keeper, vertices, values)?;
+    sets.add(vertices, values, name)?;
+    Ok(name)
+}

@@ -1,0 +1,135 @@
+-- Which line a pair of vertices gets, by what they share in each direction and whether they have lines of their own; and how the lines that count are named.
+
+use Rattle.std.specs.Prelude.{◌≡◌, ℕ, ◌+◌, ◌*◌, ◌<◌, ◌≤◌, ◌==◌, Bool, true, false, ◌⊎◌, cond, List, [], ◌∷◌, Option, Some, None}
+use Rattle.std.specs.Map.{lookup}
+use Rattle.graph_theory.specs.Graph.{size}
+use Rattle.graph_theory.specs.Embedding.{Problem}
+use Rattle.graph_theory.specs.Neighbours.{common}
+use Rattle.graph_theory.specs.Reversed.{reversed, reversed_problem, AreMutual}
+use Rattle.proof_theory.specs.Forms.{Form}
+use Rattle.log_theory.specs.declared.step.Name.{Name}
+use Rattle.log_theory.specs.declared.step.Ref.{Ref}
+use Rattle.log_theory.specs.declared.step.Ref.TheVariants.{Line, Made}
+use Rattle.log_theory.specs.declared.step.Op.{Op}
+use Rattle.log_theory.specs.declared.step.Op.TheVariants.{Push, Add, Times}
+use Rattle.encoding_theory.specs.Pairs.{is_edge_pair, is_non_edge_pair}
+use Rattle.encoding_theory.specs.Encoding.{at_most_target}
+use Rattle.pair_line_theory.specs.Rows.{at_most_line, target_line, weight, edge_line, non_edge_line, is_shared, beside_form, beside_ops, alone_ops, joined_form, joined_ops, apart_form, apart_ops}
+use Rattle.pair_lines.specs.declared.sharing.Sharers.{Sharers}
+use Rattle.pair_lines.specs.declared.sharing.Asked.{Asked}
+use Rattle.pair_lines.specs.declared.sharing.Asked.TheVariants.{Out, In, Both}
+use Rattle.pair_lines.specs.declared.sharing.Sharing.{Sharing}
+use Rattle.pair_lines.specs.declared.sharing.Sharing.TheVariants.{Nothing, One, Many}
+
+-- ---- walks
+
+-- From a number on the first that passes a test, or n where none below it does.
+pub record IsNext (test : ℕ → Bool) (from n next : ℕ) : Type 0 where
+  pub low : from ≤ next
+  pub high : next ≤ n
+  pub none : (v : ℕ) → from ≤ v → v < next → test v ≡ false
+  pub passes : next < n → test next ≡ true
+
+-- ---- what two vertices share
+
+-- A shared neighbour, or there is none.
+abbrev pub IsFirstShared : Problem → ℕ → ℕ → Option ℕ → Type 0
+IsFirstShared q p r None = (m : ℕ) → m < size q.pattern → is_shared q.pattern p r m ≡ false
+IsFirstShared q p r (Some m) = (m < size q.pattern) × (is_shared q.pattern p r m ≡ true)
+
+-- The number of shared neighbours, and the one that is alone.
+abbrev pub IsSharing : Problem → ℕ → ℕ → Sharing → Type 0
+IsSharing q p r Nothing = common q.pattern p r ≡ 0
+IsSharing q p r (One m) = (common q.pattern p r ≡ 1) × (m < size q.pattern)
+    × (is_shared q.pattern p r m ≡ true)
+IsSharing q p r (Many c) = (common q.pattern p r ≡ c) × (2 ≤ c)
+
+-- In which directions shared neighbours are counted: in that of the edges alone where these stand both ways, or in the other there are none;
+-- against them alone where there are none along them; or in both.
+abbrev pub IsAsked : Problem → ℕ → ℕ → Asked → Type 0
+IsAsked q p r (Out s) = IsSharing q p r s × (AreMutual q ⊎ (common (reversed q.pattern) p r ≡ 0))
+IsAsked q p r (In s) = IsSharing (reversed_problem q) p r s × (common q.pattern p r ≡ 0)
+IsAsked q p r (Both s b) = IsSharing q p r s × IsSharing (reversed_problem q) p r b
+
+-- Two vertices with the number of neighbours that they share, more than one.
+pub record AreSharers (q : Problem) (pair : Sharers) : Type 0 where
+  pub first_in : pair.p < size q.pattern
+  pub second_in : pair.r < size q.pattern
+  pub others : pair.p ≡ pair.r → ⊥
+  pub counted : common q.pattern pair.p pair.r ≡ pair.count
+  pub many : 2 ≤ pair.count
+
+-- ---- references
+
+-- The pair's own line at t, if it has any.
+abbrev pub own_line : Problem → ℕ → ℕ → ℕ → Option Ref
+own_line q p r t = cond (is_edge_pair q p r) (Some (edge_line q p r t)) (cond
+    (is_non_edge_pair q p r) (Some (non_edge_line q p r t)) None)
+
+-- The entries of a table: a name under each number.
+abbrev pub Names : Type 0
+Names = List (ℕ × Name)
+
+-- The number under which a table keeps the name of the line for p and r at w.
+abbrev pub pair_key : ℕ → ℕ → ℕ → ℕ
+pair_key p r w = (p * 1024 + r) * 8192 + w
+
+-- The name under a number.
+abbrev pub entry_at : Names → ℕ → Option Name
+entry_at names k = lookup (λ x. k == x) names
+
+abbrev pub pair_name : Names → ℕ → ℕ → ℕ → Option Name
+pair_name names p r w = entry_at names (pair_key p r w)
+
+-- The number, and the name, of the clause that m and n are not both at w: a first vertex that no pattern has sets it apart.
+abbrev pub not_both_key : ℕ → ℕ → ℕ → ℕ
+not_both_key m n w = pair_key (m + 1024) n w
+
+abbrev pub not_both_name : Names → ℕ → ℕ → ℕ → Option Name
+not_both_name names m n w = entry_at names (not_both_key m n w)
+
+abbrev pub name_or_none : Option Name → Ref
+name_or_none (Some n) = Made n
+name_or_none None = Line 0
+
+-- The line that counts them at w: the one neighbour's own, or the table's.
+abbrev pub spread_ref : Problem → Names → Sharing → ℕ → ℕ → ℕ → Ref
+spread_ref q names (One m) p r w = edge_line q m r w
+spread_ref q names (Many c) p r w = name_or_none (pair_name names p r w)
+spread_ref q names Nothing p r w = Line 0
+
+-- ---- the choice
+
+-- What a line for shared neighbours begins with.
+abbrev pub begin_of : Problem → Option Ref → ℕ → ℕ → List Op
+begin_of q (Some own) t r = Push (at_most_line q r) ∷ Times 2 ∷ Push own ∷ Add ∷ Times
+    (weight q t) ∷ []
+begin_of q None t r = Push (at_most_line q r) ∷ Push (target_line q t) ∷ Add ∷ Times
+    (weight q t) ∷ []
+
+abbrev pub counted_ops : Problem → Names → Sharing → Option Ref → ℕ → ℕ → ℕ → List Op
+counted_ops q names sharing (Some own) p t r = joined_ops q own
+    (spread_ref q names sharing p r) p t r
+counted_ops q names sharing None p t r = apart_ops q (spread_ref q names sharing p r) p t r
+
+abbrev pub plain_ops : Problem → Option Ref → ℕ → ℕ → List Op
+plain_ops q (Some own) t r = beside_ops q own r
+plain_ops q None t r = alone_ops q t
+
+-- The operations of the line for p at t and r.
+abbrev pub row_ops : Problem → Names → Sharing → Option Ref → ℕ → ℕ → ℕ → List Op
+row_ops q names Nothing own p t r = plain_ops q own t r
+row_ops q names sharing own p t r = counted_ops q names sharing own p t r
+
+abbrev pub counted_form : Problem → Option Ref → ℕ → ℕ → ℕ → Form
+counted_form q (Some own) p t r = joined_form q p t r
+counted_form q None p t r = apart_form q p t r
+
+abbrev pub plain_form : Problem → Option Ref → ℕ → ℕ → ℕ → Form
+plain_form q (Some own) p t r = beside_form q p t r
+plain_form q None p t r = at_most_target q t
+
+-- And its form.
+abbrev pub row_form : Problem → Sharing → Option Ref → ℕ → ℕ → ℕ → Form
+row_form q Nothing own p t r = plain_form q own p t r
+row_form q sharing own p t r = counted_form q own p t r

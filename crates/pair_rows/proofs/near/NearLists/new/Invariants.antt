@@ -1,6 +1,0 @@
-use Rattle.std.proofs.Common.{map}
-use Rattle.pair_rows.specs.Near.{AreNear}
-use Rattle.pair_rows.proofs.near.NearLists.new.Given as goal
-
-abbrev pub invariant-loop-t : goal.invariant-loop-t
-invariant-loop-t l = AreNear l.problem (map (λ us. us.items) l.lists.items) l.t

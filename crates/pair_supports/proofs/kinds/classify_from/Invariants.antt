@@ -1,0 +1,10 @@
+use Rattle.std.proofs.Common.{◌≡◌, ◌+◌, ◌*◌, length}
+use Rattle.graph_theory.specs.Graph.{size}
+use Rattle.pair_supports.specs.Kinds.{AreKinds}
+use Rattle.pair_supports.proofs.kinds.classify_from.Given as goal
+
+abbrev pub invariant-loop-r : goal.invariant-loop-r
+invariant-loop-r l = record {
+  kinds : AreKinds l.q l.kinds.items l.places.items (l.p * size l.q.pattern + l.r);
+  guesses : length l.guesses ≡ 256;
+}

@@ -1,7 +1,0 @@
--- None of the third images so far embeds.
-use Rattle.std.proofs.Common.{ℕ, ◌<◌, [], ◌∷◌}
-use Rattle.graph_theory.specs.Embedding.{Embeds}
-use Rattle.sample_graphs.proofs.triangle.none_with.Given as goal
-
-abbrev pub invariant-loop-c : goal.invariant-loop-c
-invariant-loop-c l = (c : ℕ) → c < l.c → Embeds l.q (l.a ∷ l.b ∷ c ∷ []) → ⊥

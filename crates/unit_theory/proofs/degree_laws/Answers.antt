@@ -1,5 +1,0 @@
-use Rattle.unit_theory.proofs.HighNeighbours as laws
-use Rattle.unit_theory.proofs.degree_laws.Goals as goal
-
-pub returns : goal.returns
-returns c = λ q. laws.degree_laws q

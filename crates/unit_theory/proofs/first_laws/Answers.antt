@@ -1,5 +1,0 @@
-use Rattle.unit_theory.proofs.FirstValues as laws
-use Rattle.unit_theory.proofs.first_laws.Goals as goal
-
-pub returns : goal.returns
-returns c = λ q. laws.first_laws q

@@ -1,5 +1,0 @@
-use Rattle.unit_theory.proofs.Crowding as laws
-use Rattle.unit_theory.proofs.value_laws.Goals as goal
-
-pub returns : goal.returns
-returns c = λ q. laws.value_laws q
