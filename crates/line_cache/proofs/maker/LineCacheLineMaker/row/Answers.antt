@@ -6,7 +6,7 @@ use Rattle.dead_paths.specs.Making.{GivesRow}
 use Rattle.pair_lines.specs.Claims.{Knows, IsKnownRow}
 use Rattle.line_cache.specs.Made.{IsMade}
 use Rattle.line_cache.proofs.Giving.{goes_more, row_given}
-use Rattle.line_cache.proofs.maker.MadeLinesLineMaker.row.Goals as goal
+use Rattle.line_cache.proofs.maker.LineCacheLineMaker.row.Goals as goal
 
 pub row-requires-clause-placed : goal.row-requires-clause-placed
 row-requires-clause-placed g c = record {

@@ -11,7 +11,7 @@ use Rattle.domain_lines.specs.Given.{IsFirstLine as IsGiven}
 use Rattle.pb_encoding.proofs.LineNumbers.{at_least_line}
 use Rattle.line_cache.specs.Made.{IsMade}
 use Rattle.line_cache.proofs.Giving.{goes_for, first_there, first_made, first_whole}
-use Rattle.line_cache.proofs.maker.MadeLinesLineMaker.first.Goals as goal
+use Rattle.line_cache.proofs.maker.LineCacheLineMaker.first.Goals as goal
 
 pub returns-in-Some-clause-goes : goal.returns-in-Some-clause-goes
 returns-in-Some-clause-goes g c = λ w frame.

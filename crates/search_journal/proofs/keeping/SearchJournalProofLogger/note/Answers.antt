@@ -9,7 +9,7 @@ use Rattle.search_journal.proofs.Lists.{entries_at}
 use Rattle.search_journal.proofs.Numbers.{below_noted}
 use Rattle.search_journal.proofs.Frames.{length-log_rows}
 use Rattle.search_journal.proofs.Writing.{writes_noted}
-use Rattle.search_journal.proofs.keeping.PathJournalProofLogger.note.Goals as goal
+use Rattle.search_journal.proofs.keeping.SearchJournalProofLogger.note.Goals as goal
 
 some_steps : (xs ys : List Step) → Some xs ≡ Some ys → xs ≡ ys
 some_steps xs ys e = cc

@@ -7,7 +7,7 @@ use Rattle.line_cache.specs.Sets.{AreSets, IsKnownSet}
 use Rattle.line_cache.specs.Made.{IsMade}
 use Rattle.line_cache.proofs.Known.{vertices_same}
 use Rattle.line_cache.proofs.Giving.{goes_more, set_given}
-use Rattle.line_cache.proofs.maker.MadeLinesLineMaker.set.Goals as goal
+use Rattle.line_cache.proofs.maker.LineCacheLineMaker.set.Goals as goal
 
 pub returns-in_err-members-clause-goes : goal.returns-in_err-members-clause-goes
 returns-in_err-members-clause-goes g c = λ w frame.

@@ -6,7 +6,7 @@ use Rattle.search_journal.specs.declared.refuted.Refuted.{Refuted}
 use Rattle.search_journal.specs.Lines.{Refutes}
 use Rattle.search_journal.specs.Entries.{Writes}
 use Rattle.search_journal.proofs.Closing.{counted_steps, named, closed_empty, closed_failed, closed_same}
-use Rattle.search_journal.proofs.keeping.PathJournalProofLogger.close.Goals as goal
+use Rattle.search_journal.proofs.keeping.SearchJournalProofLogger.close.Goals as goal
 
 pub returns-in_err-answer-clause-steps : goal.returns-in_err-answer-clause-steps
 returns-in_err-answer-clause-steps g c =

@@ -1,5 +1,5 @@
 use Rattle.search_journal.proofs.Writing.{writes_deepened, writes_grown, steps_grown, refutes_grown}
-use Rattle.search_journal.proofs.keeping.PathJournalProofLogger.stays.Goals as goal
+use Rattle.search_journal.proofs.keeping.SearchJournalProofLogger.stays.Goals as goal
 
 pub returns-clause-guess : goal.returns-clause-guess
 returns-clause-guess g c = λ q rows a p t at w. let j = c.args.self.now in
