@@ -65,7 +65,7 @@ def other_words(rng, line):
     elif rng.random() < 0.5:
         del words[i]
     else:
-        words.insert(i, rng.choice(words + [b"+", b"s", b"2", b"*", b"d", b";", b"x1", b"1"]))
+        words.insert(i, rng.choice(words + [b"+", b"s", b"2", b"*", b"d", b";", b"x1", b"1", b"0.1", b"#1"]))
     return b" ".join(words)
 
 
@@ -128,10 +128,17 @@ def random_pair(rng):
         owner = rng.randrange(2)
         name = f"{owner}.{made[owner] + 1}"
         kind = rng.random()
-        if kind < 0.1 and sum(made):
+        names = [it for it in references if "." in it]
+        if kind < 0.1 and names:
             row += rng.randint(1, 3)
-            log.append(f"n {row} {rng.choice([it for it in references if '.' in it])}")
+            log.append(f"n {row} {rng.choice(names)}")
             references.append(f"#{row}")
+            continue
+        if kind < 0.2 and names:
+            gone = rng.choice([it for it in references if "." in it or "#" in it])
+            log.append(f"d {gone}")
+            if rng.random() < 0.9:
+                references.remove(gone)
             continue
         if kind < 0.7:
             log.append(" ".join(["p", name, *random_operations(rng, variables, references), ";"]))

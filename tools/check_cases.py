@@ -142,7 +142,7 @@ LOGS: List[Tuple[str, str, str]] = [
     ("a word after `q`", "q 1\n", "log: line 3: Form"),
     ("two references of `e`", "e 1 2\n", "log: line 3: Form"),
     ("no reference of `e`", "e\n", "log: line 3: Form"),
-    ("another letter", "d 0.1\nq\n", "log: line 3: Form"),
+    ("another letter", "x 0.1\nq\n", "log: line 3: Form"),
     ("the second line again", "m 5\nq\n", "log: line 3: Form"),
     # Words
     ("no end of operations", "p 0.1 1\nq\n", "log: line 3: Form"),
@@ -206,6 +206,31 @@ LOGS: List[Tuple[str, str, str]] = [
     ("a further name that is given, before a greater one", "p 0.1 1 ;\nn 3 0.1\nn 5 0.1\nn 3 0.1\nq\n", "log: line 6: NameUsed"),
     ("a further name below one", "p 0.1 1 ;\nn 3 0.1\nn 2 0.1\nq\n", "log: line 5: Order"),
     ("a further name below one, of nothing", "p 0.1 1 ;\nn 3 0.1\nn 2 7.7\nq\n", "log: line 5: Order"),
+    # Deletions
+    ("a deleted name", "p 0.1 1 ;\nd 0.1\np 0.2 0.1 ;\nq\n", "log: line 5: NoSuchName"),
+    ("a deleted name among references", "p 0.1 1 ;\nd 0.1\nu 0.2 ; 4 5 0.1 ;\nq\n", "log: line 5: NoSuchName"),
+    ("a deleted name claimed", "p 0.1 1 4 + 5 + ;\nd 0.1\ne 0.1\n", "log: line 5: NoSuchName"),
+    ("a deleted name shared", "p 0.1 1 ;\nd 0.1\nn 3 0.1\nq\n", "log: line 5: NoSuchName"),
+    ("a deleted name deleted again", "p 0.1 1 ;\nd 0.1\nd 0.1\nq\n", "log: line 5: NoSuchName"),
+    ("a deleted name made again", "p 0.1 1 ;\nd 0.1\np 0.1 1 ;\nq\n", "log: line 5: NameUsed"),
+    ("a deleted name counts in the order", "p 0.1 1 ;\nd 0.1\np 0.3 1 ;\nq\n", "log: line 5: Order"),
+    ("the name behind a deleted one", "p 0.1 1 ;\nd 0.1\np 0.2 1 4 + 5 + ;\ne 0.2\n", UNSATISFIABLE),
+    ("a name between others deleted", "p 0.1 1 ;\np 0.2 4 ;\np 0.3 5 ;\nd 0.2\np 0.4 0.1 4 + 0.3 + ;\ne 0.4\n", UNSATISFIABLE),
+    ("a further name outlives the name", "p 0.1 1 4 + 5 + ;\nn 3 0.1\nd 0.1\ne #3\n", UNSATISFIABLE),
+    ("a name outlives its further name", "p 0.1 1 4 + 5 + ;\nn 3 0.1\nd #3\ne 0.1\n", UNSATISFIABLE),
+    ("a further name outlives another", "p 0.1 1 4 + 5 + ;\nn 3 0.1\nn 5 0.1\nd 0.1\nd #3\ne #5\n", UNSATISFIABLE),
+    ("a deleted further name", "p 0.1 1 4 + 5 + ;\nn 3 0.1\nd #3\ne #3\n", "log: line 6: NoSuchName"),
+    ("a deleted further name deleted again", "p 0.1 1 ;\nn 3 0.1\nd #3\nd #3\nq\n", "log: line 6: NoSuchName"),
+    ("a deleted further name given again", "p 0.1 1 ;\nn 3 0.1\nd #3\nn 3 0.1\nq\n", "log: line 6: NameUsed"),
+    ("a deleted further name counts in the order", "p 0.1 1 ;\nn 3 0.1\nd #3\nn 2 0.1\nq\n", "log: line 6: Order"),
+    ("a name deleted that is not made", "d 0.1\nq\n", "log: line 3: NoSuchName"),
+    ("a further name deleted that is not given", "d #0\nq\n", "log: line 3: NoSuchName"),
+    ("a constraint of the encoding deleted", "d 3\nq\n", "log: line 3: Form"),
+    ("no constraint of the encoding deleted", "d 9\nq\n", "log: line 3: Form"),
+    ("nothing deleted", "d\nq\n", "log: line 3: Form"),
+    ("two names deleted in one line", "p 0.1 1 ;\np 0.2 1 ;\nd 0.1 0.2\nq\n", "log: line 5: Form"),
+    ("a deletion with an end", "p 0.1 1 ;\nd 0.1 ;\nq\n", "log: line 4: Form"),
+    ("a leading zero in what is deleted", "p 0.1 1 ;\nd 0.01\nq\n", "log: line 4: Form"),
     ("two further names of one", "p 0.1 1 4 + 5 + ;\nn 3 0.1\nn 9 0.1\np 0.2 #3 #9 + ;\ne 0.2\n", UNSATISFIABLE),
     ("a further name of a further name", "p 0.1 1 4 + 5 + ;\nn 3 0.1\nn 9 #3\ne #9\n", "log: line 5: Form"),
     ("a further name of the encoding's", "n 0 1\nq\n", "log: line 3: Form"),
@@ -338,6 +363,9 @@ WHOLE: List[Tuple[str, str, str]] = [
     ("a line with hints in a log without", "embedding proof 2\nm 2\nu 0.1 x1 x2 ; 1 ;\nq\n", "log: line 3: Form"),
     ("an empty list of hints in a log without", "embedding proof 2\nm 2\nu 0.1 x1 x2 ; ;\nq\n", "log: line 3: Form"),
     ("a line without hints and end", "embedding proof 2\nm 2\nu 0.1 x1 x2\nq\n", "log: line 3: Form"),
+    ("what stands leads to more without hints", "embedding proof 2\nm 2\np 0.1 1 x1 + ;\nu 0.2 x1 x2 ;\nd 0.1\nu 0.3 x1 x2 x3 ;\nq\n", UNDECIDED),
+    ("a deleted name without hints", "embedding proof 2\nm 2\nu 0.1 x1 x2 ;\nd 0.1\np 0.2 0.1 ;\nq\n", "log: line 5: NoSuchName"),
+    ("a constraint of the encoding deleted without hints", "embedding proof 2\nm 2\nd 1\nq\n", "log: line 3: Form"),
     ("both first lines", "embedding proof 2\nembedding proof 1\nm 2\nq\n", "log: line 2: Form"),
     ("a first line with a blank", "embedding proof 1 \nm 2\nq\n", "log: line 1: Form"),
     ("a first line with a carriage return", "embedding proof 1\r\nm 2\nq\n", "log: line 1: Form"),
@@ -350,6 +378,30 @@ WHOLE: List[Tuple[str, str, str]] = [
     ("a byte 0", "embedding proof 1\nm 2\nq\0\n", "log: line 3: Form"),
 ]
 
+#: Three into two: no single constraint leads to anything, their sum says 0 >= 1.
+CROWDED = """* #variable= 6 #constraint= 5
++1 x1 +1 x2 >= 1 ;
++1 x3 +1 x4 >= 1 ;
++1 x5 +1 x6 >= 1 ;
+-1 x1 -1 x3 -1 x5 >= -1 ;
+-1 x2 -1 x4 -1 x6 >= -1 ;
+"""
+SUM = "p 0.1 1 2 + 3 + 4 + 5 + ;\n"
+
+#: What it shows; the lines after the first two, in a log without hints; what is printed over CROWDED.
+WITHOUT_HINTS: List[Tuple[str, str, str]] = [
+    ("nothing leads to a contradiction", "u 0.1 ;\nq\n", "log: line 3: NoConflict"),
+    ("what was made does", SUM + "u 0.2 ;\ne 0.2\n", UNSATISFIABLE),
+    ("once it is deleted, nothing does", SUM + "d 0.1\nu 0.2 ;\nq\n", "log: line 5: NoConflict"),
+    ("it does by its further name", SUM + "n 3 0.1\nd 0.1\nu 0.2 ;\ne 0.2\n", UNSATISFIABLE),
+    ("it does without its further name", SUM + "n 3 0.1\nd #3\nu 0.2 ;\ne 0.2\n", UNSATISFIABLE),
+    ("without both, nothing does", SUM + "n 3 0.1\nd 0.1\nd #3\nu 0.2 ;\nq\n", "log: line 7: NoConflict"),
+    ("what followed from it is forgotten", SUM + "u 0.2 x1 x6 ;\nd 0.1\nu 0.3 ;\nq\n", "log: line 6: NoConflict"),
+    ("what else was made is not", SUM + "u 0.2 ;\nd 0.1\nu 0.3 x1 ;\nu 0.4 ;\ne 0.4\n", UNSATISFIABLE),
+    # x1 >= 1, from which all follows
+    ("a variable's value is forgotten", SUM[:-2] + "x1 + ;\nu 0.2 ~x1 x6 ;\nd 0.1\nd 0.2\nu 0.3 ;\nq\n", "log: line 7: NoConflict"),
+]
+
 
 def cases() -> Iterator[Case]:
     """What each shows, its encoding, its log, and the line that is to be printed."""
@@ -359,6 +411,8 @@ def cases() -> Iterator[Case]:
         yield what, MODEL.encode(), f"embedding proof 1\nm 5\n{lines}".encode("latin-1"), told
     for what, text, told in WHOLE:
         yield what, LOOSE.encode(), text.encode("latin-1"), told
+    for what, lines, told in WITHOUT_HINTS:
+        yield what, CROWDED.encode(), f"embedding proof 2\nm 5\n{lines}".encode(), told
 
 
 def without_hints(log: bytes) -> bytes:

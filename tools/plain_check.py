@@ -201,11 +201,11 @@ class Log:
         self.constraints = constraints
         #: Whether a `u` line names what leads to its contradiction, as the first line tells.
         self.hinted = True
-        #: Each constraint under all that refers to it, as it is written: its number, `W.I` or `#K`.
+        #: Each constraint under all that refers to it, as it is written: its number, `W.I` or `#K`. What was deleted is not there.
         self.named = {b"%d" % i: constraint for i, constraint in enumerate(constraints, 1)}
-        #: How many each W has made, and the greatest K.
+        #: How many each W has made, and each K that was given; both with what was deleted.
         self.made: Dict[int, int] = {}
-        self.top = -1
+        self.rows: List[int] = []
 
     # The forms of words
 
@@ -243,7 +243,7 @@ class Log:
 
     def expect_name(self, word: bytes) -> None:
         owner, index = self.name(word)
-        refuse_if(word in self.named, "NameUsed")
+        refuse_if(index <= self.made.get(owner, 0), "NameUsed")
         refuse_if(index != self.made.get(owner, 0) + 1, "Order")
 
     def give(self, word: bytes, constraint: Constraint) -> None:
@@ -318,10 +318,18 @@ class Log:
         """`n K NAME`"""
         refuse_if(len(words) != 3, "Form")
         number, _ = self.number(words[1], 0, 4194303), self.name(words[2])
-        refuse_if(b"#%d" % number in self.named, "NameUsed")
-        refuse_if(number < self.top, "Order")
+        refuse_if(number in self.rows, "NameUsed")
+        refuse_if(any(number < row for row in self.rows), "Order")
         self.named[b"#%d" % number] = self.find(words[2])
-        self.top = number
+        self.rows.append(number)
+
+    def delete(self, words: List[bytes]) -> None:
+        """`d REFERENCE`: another name of the same constraint goes on naming it."""
+        refuse_if(len(words) != 2, "Form")
+        reference = self.reference(words[1])
+        refuse_if(b"." not in reference and not reference.startswith(b"#"), "Form")
+        self.find(reference)
+        del self.named[reference]
 
     def claim(self, words: List[bytes]) -> str:
         """`e REFERENCE`, `y VARIABLES` or `q`: what is shown."""
@@ -354,6 +362,8 @@ class Log:
             self.follow(words)
         elif words[0] == b"n":
             self.rename(words)
+        elif words[0] == b"d":
+            self.delete(words)
         else:
             return self.claim(words)
         return None

@@ -1,18 +1,17 @@
 -- The merged log is accepted where the finisher's last form is plainly false: all its numbers are in their ranges, and its lines step.
-use Rattle.std.proofs.Common.{◌≡◌, ℕ, zero, suc, ◌+◌, ◌<◌, ◌≤◌, ◌^◌, Bool, true, false, cond, List, [], ◌∷◌, ◌++◌, length, take, drop, Option, Some, None, refl, sym, ap, subst, ◌∙◌, append_assoc, arith}
+use Rattle.std.proofs.Common.{◌≡◌, ℕ, zero, suc, ◌+◌, ◌<◌, ◌≤◌, ◌^◌, Bool, true, false, cond, List, [], ◌∷◌, ◌++◌, length, take, drop, Option, Some, None, refl, sym, ap, subst, ◌∙◌, arith}
 use Rattle.std.specs.Prelude.{slice_get}
 use Rattle.std.proofs.lemmas.Option.{slice_get_within}
 use Rattle.proof_theory.specs.Forms.{Form}
 use Rattle.log_theory.specs.declared.step.Ref.TheVariants.{Made}
 use Rattle.log_theory.specs.declared.step.Step.{Step}
-use Rattle.log_theory.specs.declared.step.Step.TheVariants.{Head, Model, N, E}
-use Rattle.log_theory.specs.LogText.{IsName}
-use Rattle.log_theory.specs.Tables.{Table, made_by, from_one}
+use Rattle.log_theory.specs.declared.step.Step.TheVariants.{N, E}
+use Rattle.log_theory.specs.Tables.{made_by, from_one, standing}
 use Rattle.journal_theory.specs.Stepping.{IsWritten, AreWritten, whole_log}
-use Rattle.journal_theory.specs.Journals.{named, numbered, Row, IsNogoodOf, Journal, note_of}
+use Rattle.journal_theory.specs.Journals.{named, numbered, Row, Journal, note_of}
 use Rattle.journal_theory.specs.Merging.{journal_of, at_of, begun, lines_to, noted_at, row_lines, row_done, merge_from, merged, last_name, AreJournals, AreFitting}
 use Rattle.journal_theory.specs.Laws.{AcceptedLaw, MergeLaws}
-use Rattle.journal_theory.proofs.Placing.{get_drop, get_take, from_one_within}
+use Rattle.journal_theory.proofs.Placing.{get_drop, get_take, from_one_within, undeleted_at}
 use Rattle.journal_theory.proofs.Writing.{text_accepted}
 use Rattle.journal_theory.proofs.Merging.{merge}
 
@@ -98,7 +97,8 @@ module _ (n : ℕ) (model : List Form) (rows : List Row) (clause : ℕ → Form)
 accepted : AcceptedLaw
 accepted n model rows clause js forms f last all fits inside found false_ =
     let m = merge model rows clause js forms f all inside in
-    let at : from_one (made_by m.0 f) (length (journal_of js f).lines) ≡ Some last = ap (λ (fs : List Form). from_one fs (length (journal_of js f).lines)) m.2 ∙ found in
+    let number = length (journal_of js f).lines in
+    let at : standing (from_one (made_by m.0 f) number) ≡ Some last = ap (λ (os : List (Option Form)). standing (from_one os number)) m.2 ∙ undeleted_at (forms f) number ∙ found in
     text_accepted n model (merged js f rows) (Made (last_name js f)) m.0 last (written_whole n model rows clause js forms all fits f last inside found) m.1 at false_
 
 pub merges : MergeLaws

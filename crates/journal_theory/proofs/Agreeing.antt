@@ -1,17 +1,16 @@
 -- What a line makes depends on nothing but what its references name.
-use Rattle.std.proofs.Common.{◌≡◌, ℕ, List, [], ◌∷◌, Option, Some, None, Result, Ok, Err, refl, ap, ◌∙◌}
+use Rattle.std.proofs.Common.{◌≡◌, List, [], ◌∷◌, Option, Result, Ok, Err, refl, ap, ◌∙◌}
 use Rattle.proof_theory.specs.Forms.{Form}
 use Rattle.proof_theory.specs.Slack.{refutes, negations, clause_form, axiom_form}
 use Rattle.log_theory.specs.declared.step.Op.{Op}
 use Rattle.log_theory.specs.declared.step.Op.TheVariants.{Push, Axiom, Add, Times, Divide, Saturate}
 use Rattle.log_theory.specs.declared.step.Ref.{Ref}
-use Rattle.log_theory.specs.declared.step.Step.{Step}
-use Rattle.log_theory.specs.declared.step.Step.TheVariants.{Head, Model, P, U, N, E, Y, Q}
+use Rattle.log_theory.specs.declared.step.Step.TheVariants.{Head, Model, P, U, N, D, E, Y, Q}
 use Rattle.log_theory.specs.declared.step.Cause.{Cause}
 use Rattle.log_theory.specs.declared.step.Cause.TheVariants.{Twice, NoSuchName, NoConflict}
 use Rattle.log_theory.specs.Steps.{◌>>=◌, unless, or_fault}
-use Rattle.log_theory.specs.Lookups.{Lookup, operate, evaluate, only_one, find_all, are_distinct, variables_of, makes}
-use Rattle.journal_theory.specs.Referring.{op_refs, step_refs, Agree, RefsLaw}
+use Rattle.log_theory.specs.Lookups.{Lookup, operate, evaluate, only_one, find_all, are_distinct, variables_of}
+use Rattle.journal_theory.specs.Referring.{op_refs, Agree, RefsLaw}
 
 -- Steps that go on alike from each value go on alike.
 pub bind_on : {E A B : Type 0} (x : Result A E) (f g : A → Result B E) → ((a : A) → f a ≡ g a) → (x >>= f) ≡ (x >>= g)
@@ -48,6 +47,7 @@ makes_same look see (U name lits refs) a =
 makes_same look see (N row name) a = ap (λ (o : Option Form). or_fault o NoSuchName) a.0
 makes_same look see Head a = refl
 makes_same look see (Model m) a = refl
+makes_same look see (D at) a = refl
 makes_same look see (E at) a = refl
 makes_same look see (Y ones) a = refl
 makes_same look see Q a = refl

@@ -1,7 +1,7 @@
 -- How a journal stays one: with a further line, with rows that come, with a row that it notes.
-use Rattle.std.proofs.Common.{◌⊎◌, inl, inr, ◌≡◌, ◌≢◌, ℕ, ◌+◌, ◌<◌, ◌≤◌, ◌==◌, nat_lt, Bool, true, false, cond, List, [], ◌∷◌, ◌++◌, length, take, Option, Some, None, Ok, refl, sym, ap, subst, ◌∙◌, length-append, arith}
+use Rattle.std.proofs.Common.{◌⊎◌, inl, inr, ◌≡◌, ℕ, ◌<◌, ◌≤◌, ◌==◌, nat_lt, Bool, true, false, cond, List, [], ◌∷◌, ◌++◌, length, take, Option, Some, None, Ok, refl, sym, ap, subst, ◌∙◌, length-append, arith}
 use Rattle.std.specs.Prelude.{slice_get}
-use Rattle.std.proofs.lemmas.Bool.{lt-ltb, ltb-true, eq-eqb, eqb-true, cases_lt}
+use Rattle.std.proofs.lemmas.Bool.{lt-ltb, ltb-true, eq-eqb, eqb-true}
 use Rattle.std.proofs.lemmas.Option.{slice_get_within}
 use Rattle.proof_theory.specs.Forms.{Form}
 use Rattle.log_theory.specs.declared.step.Ref.{Ref}
@@ -10,7 +10,7 @@ use Rattle.log_theory.specs.declared.step.Step.{Step}
 use Rattle.log_theory.specs.Lookups.{Lookup, makes}
 use Rattle.log_theory.specs.Tables.{from_one}
 use Rattle.journal_theory.specs.Referring.{step_refs, NamesRow}
-use Rattle.journal_theory.specs.Journals.{own_name, IsMaking, Finds, HoldsOwn, IsJournal, base_of, Row, IsNogoodOf, Journal, no_journal, note_of, Journaled, with_line, with_note, GrowsFor, PublishesAt}
+use Rattle.journal_theory.specs.Journals.{IsMaking, Finds, HoldsOwn, IsJournal, base_of, Row, IsNogoodOf, Journal, no_journal, note_of, Journaled, with_line, with_note, GrowsFor, PublishesAt}
 use Rattle.journal_theory.specs.Laws.{GrowthLaws}
 use Rattle.journal_theory.proofs.Placing.{get_more, get_front, get_snoc, take_front, take_all, some_same, from_one_more, from_one_within}
 

@@ -2,5 +2,5 @@ pub mod Placing
 mod Agreeing
 pub mod Writing
 pub mod Growing
-mod Merging
+pub mod Merging
 mod Accepting

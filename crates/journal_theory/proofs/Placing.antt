@@ -1,7 +1,7 @@
 -- Lists by place, as they grow at their end.
-use Rattle.std.proofs.Common.{◌⊎◌, inl, inr, ◌≡◌, ℕ, zero, suc, ◌+◌, ◌<◌, ◌≤◌, List, [], ◌∷◌, ◌++◌, length, take, drop, Option, Some, None, refl, sym, ap, subst, ◌∙◌, arith}
+use Rattle.std.proofs.Common.{◌⊎◌, inl, inr, ◌≡◌, ℕ, zero, suc, ◌+◌, ◌<◌, ◌≤◌, List, [], ◌∷◌, ◌++◌, length, take, drop, Option, Some, refl, sym, ap, ◌∙◌, arith}
 use Rattle.std.specs.Prelude.{slice_get}
-use Rattle.log_theory.specs.Tables.{from_one}
+use Rattle.log_theory.specs.Tables.{from_one, standing, undeleted}
 use Rattle.proof_theory.specs.Forms.{Form}
 
 module _ {A : Type 0} where
@@ -49,6 +49,21 @@ from_one_within fs zero f e = omega arith
 from_one_within (g ∷ fs) (suc zero) f e = omega arith
 from_one_within (g ∷ fs) (suc (suc k)) f e = let l = from_one_within fs (suc k) f e in omega (arith, l)
 from_one_within [] (suc k) f e = absurd cc
+
+-- where nothing is deleted each place has its form
+pub undeleted_at : (fs : List Form) (n : ℕ) → standing (from_one (undeleted fs) n) ≡ from_one fs n
+undeleted_at fs zero = refl
+undeleted_at [] (suc k) = refl
+undeleted_at (f ∷ fs) (suc zero) = refl
+undeleted_at (f ∷ fs) (suc (suc k)) = undeleted_at fs (suc k)
+
+pub undeleted_snoc : (fs : List Form) (f : Form) → undeleted fs ++ Some f ∷ [] ≡ undeleted (fs ++ f ∷ [])
+undeleted_snoc [] f = refl
+undeleted_snoc (g ∷ fs) f = ap (λ (os : List (Option Form)). Some g ∷ os) (undeleted_snoc fs f)
+
+pub length-undeleted : (fs : List Form) → length (undeleted fs) ≡ length fs
+length-undeleted [] = refl
+length-undeleted (f ∷ fs) = ap suc (length-undeleted fs)
 
 -- parts of a list
 module _ {A : Type 0} where

@@ -1,23 +1,20 @@
 -- Lines that step are an accepted text where the last one's form is plainly false.
-use Rattle.std.proofs.Common.{◌≡◌, ◌≢◌, ℕ, ◌==◌, ◌<◌, ◌≤◌, Bool, true, List, [], ◌∷◌, ◌++◌, length, map, Option, Some, None, Result, Ok, Err, refl, sym, ap, ◌∙◌, subst, arith}
-use Rattle.std.specs.List.{flat_map}
+use Rattle.std.proofs.Common.{◌≡◌, ℕ, ◌≤◌, Bool, true, List, [], ◌∷◌, ◌++◌, length, map, Option, Some, Result, Ok, refl, ap, ◌∙◌, subst, arith}
 use Rattle.std.proofs.lemmas.Bool.{eq-eqb}
-use Rattle.std.proofs.lemmas.List.{append_assoc}
 use Rattle.proof_theory.specs.Forms.{Form}
 use Rattle.proof_theory.specs.Rules.{is_contradiction}
 use Rattle.log_theory.specs.declared.profile.Profile.TheVariants.{Hinted}
 use Rattle.log_theory.specs.declared.step.Ref.{Ref}
 use Rattle.log_theory.specs.declared.step.Step.{Step}
-use Rattle.log_theory.specs.declared.step.Step.TheVariants.{Head, Model, P, U, N, E, Y, Q}
+use Rattle.log_theory.specs.declared.step.Step.TheVariants.{Head, Model, P, U, N, D, E, Y, Q}
 use Rattle.log_theory.specs.declared.step.Cause.{Cause}
-use Rattle.log_theory.specs.declared.step.Cause.TheVariants.{Form as Malformed, NoSuchName, NotFalse}
+use Rattle.log_theory.specs.declared.step.Cause.TheVariants.{Form as Malformed, NotFalse}
 use Rattle.log_theory.specs.declared.step.Verdict.TheVariants.{Unsatisfiable}
 use Rattle.log_theory.specs.Steps.{◌>>=◌, unless, or_fault}
-use Rattle.log_theory.specs.Words.{joined, line_text}
-use Rattle.log_theory.specs.LogText.{IsStep, step_words, read_line}
+use Rattle.log_theory.specs.LogText.{step_words}
 use Rattle.log_theory.specs.Tables.{Table, empty_table, find, step_of}
-use Rattle.log_theory.specs.Verdicts.{in_range, step_variables, Stage, Opening, Counting, Proving, Progress, Goes, Ends, progress_of, further_progress, refuted_by}
-use Rattle.log_theory.specs.Acceptance.{NoFeed, AreLines, lines_text, Runs, Accepts}
+use Rattle.log_theory.specs.Verdicts.{in_range, step_variables, Stage, Counting, Proving, Goes, Ends, progress_of, further_progress, refuted_by}
+use Rattle.log_theory.specs.Acceptance.{NoFeed, AreLines, Runs}
 use Rattle.log_theory.proofs.Splitting.{AllBetween, joined_bytes}
 use Rattle.log_theory.proofs.StepReadBack.{words_step, step_read_back}
 use Rattle.journal_theory.specs.Stepping.{StepsRun, step_line, IsWritten, AreWritten, whole_log, TextLaw, NoFeedLaw, LinesLaw}
@@ -45,10 +42,11 @@ line_goes n model stage s w =
     ∙ ap (λ (b : Bool). unless b Malformed >>= λ _. progress_of model stage s) w.variables
 
 -- A step that makes a table is a line of a proof that leads there.
-step_goes : (model : List Form) (t m : Table) (s : Step) → step_of model t s ≡ Ok m → progress_of model (Proving Hinted t) s ≡ Ok (Goes (Proving Hinted m))
+pub step_goes : (model : List Form) (t m : Table) (s : Step) → step_of model t s ≡ Ok m → progress_of model (Proving Hinted t) s ≡ Ok (Goes (Proving Hinted m))
 step_goes model t m (P name ops) h = ap (λ (x : Result Table Cause). x >>= λ u. Ok (Goes (Proving Hinted u))) h
 step_goes model t m (U name lits refs) h = ap (λ (x : Result Table Cause). x >>= λ u. Ok (Goes (Proving Hinted u))) h
 step_goes model t m (N row name) h = ap (λ (x : Result Table Cause). x >>= λ u. Ok (Goes (Proving Hinted u))) h
+step_goes model t m (D at) h = ap (λ (x : Result Table Cause). x >>= λ u. Ok (Goes (Proving Hinted u))) h
 step_goes model t m Head h = absurd cc
 step_goes model t m (Model k) h = absurd cc
 step_goes model t m (E at) h = absurd cc

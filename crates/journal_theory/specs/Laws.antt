@@ -1,13 +1,13 @@
 -- The laws of journals, from the definitions alone.
 
-use Rattle.std.specs.Prelude.{◌≡◌, ℕ, ◌<◌, ◌≤◌, true, List, [], ◌∷◌, ◌++◌, length, map, Some, Ok}
+use Rattle.std.specs.Prelude.{◌≡◌, ℕ, ◌<◌, true, List, [], ◌∷◌, ◌++◌, length, map, Some, Ok}
 use Rattle.log_theory.specs.declared.step.Ref.TheVariants.{Made}
 use Rattle.log_theory.specs.declared.step.Step.{Step}
 use Rattle.log_theory.specs.declared.step.Verdict.TheVariants.{Unsatisfiable}
 use Rattle.proof_theory.specs.Forms.{Form}
 use Rattle.proof_theory.specs.Rules.{is_contradiction}
 use Rattle.log_theory.specs.Lookups.{Lookup, makes}
-use Rattle.log_theory.specs.Tables.{Table, empty_table, made_by, from_one}
+use Rattle.log_theory.specs.Tables.{Table, empty_table, made_by, from_one, undeleted}
 use Rattle.log_theory.specs.Acceptance.{lines_text, Accepts}
 use Rattle.journal_theory.specs.Referring.{RefsLaw, step_refs, NamesRow}
 use Rattle.journal_theory.specs.Stepping.{StepsRun, step_line, whole_log, TextLaw, NoFeedLaw, LinesLaw}
@@ -26,7 +26,7 @@ abbrev pub MergeLaw : Type 0
 MergeLaw = (model : List Form) (rows : List Row) (clause : ℕ
     → Form) (js : List Journal) (forms : ℕ → List Form) (f : ℕ)
     → AreJournals model rows clause js forms → f < length js
-    → (t : Table) × StepsRun model empty_table (merged js f rows) t × (made_by t f ≡ forms f)
+    → (t : Table) × StepsRun model empty_table (merged js f rows) t × (made_by t f ≡ undeleted (forms f))
 
 -- Where the finisher's last form is plainly false, the merged log is accepted.
 abbrev pub AcceptedLaw : Type 0

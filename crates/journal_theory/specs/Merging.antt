@@ -1,13 +1,13 @@
 -- The lines of several journals in one order: owner 0's, then row by row what its owner made up to it, then what the finisher made last.
 
-use Rattle.std.specs.Prelude.{◌≡◌, ◌≢◌, ℕ, zero, ◌+◌, ◌^◌, ◌<◌, ◌≤◌, cond, List, [], ◌∷◌, ◌++◌, length, take, drop, get_or, set, max, map, Option, Some, None, slice_get}
+use Rattle.std.specs.Prelude.{◌≡◌, ℕ, ◌+◌, ◌^◌, ◌<◌, ◌≤◌, cond, List, [], ◌∷◌, ◌++◌, length, take, drop, get_or, set, max, map, Option, Some, None, slice_get}
 use Rattle.log_theory.specs.declared.step.Name.{Name}
 use Rattle.log_theory.specs.declared.step.Step.{Step}
 use Rattle.log_theory.specs.declared.step.Step.TheVariants.{N}
 use Rattle.proof_theory.specs.Forms.{Form}
 use Rattle.journal_theory.specs.Referring.{step_refs, NamesRow}
 use Rattle.journal_theory.specs.Stepping.{IsWritten}
-use Rattle.journal_theory.specs.Journals.{own_name, named, numbered, IsJournal, base_of, Row, Journal, no_journal, note_of, Journaled}
+use Rattle.journal_theory.specs.Journals.{named, numbered, IsJournal, base_of, Row, Journal, no_journal, note_of, Journaled}
 
 -- The journal of an owner.
 abbrev pub journal_of : List Journal → ℕ → Journal

@@ -6,7 +6,7 @@ use Rattle.log_theory.specs.declared.step.Ref.TheVariants.{Made, Shared}
 use Rattle.log_theory.specs.declared.step.Op.{Op}
 use Rattle.log_theory.specs.declared.step.Op.TheVariants.{Push}
 use Rattle.log_theory.specs.declared.step.Step.{Step}
-use Rattle.log_theory.specs.declared.step.Step.TheVariants.{P, U, N, E}
+use Rattle.log_theory.specs.declared.step.Step.TheVariants.{P, U, N, D, E}
 use Rattle.log_theory.specs.Lookups.{Lookup, makes}
 
 -- The references that operations push, in order.
@@ -20,6 +20,7 @@ abbrev pub step_refs : Step → List Ref
 step_refs (P name ops) = op_refs ops
 step_refs (U name lits refs) = refs
 step_refs (N row name) = Made name ∷ []
+step_refs (D at) = at ∷ []
 step_refs (E at) = at ∷ []
 step_refs _ = []
 

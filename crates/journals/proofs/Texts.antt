@@ -2,7 +2,7 @@
 use Rattle.std.proofs.Common.{◌≡◌, ℕ, suc, ◌+◌, ◌==◌, List, [], ◌∷◌, ◌++◌, length, Option, refl, sym, ap, subst, ◌∙◌, append_assoc, append-nil, length-append, arith}
 use Rattle.std.proofs.lemmas.Bool.{ne_eqb}
 use Rattle.log_theory.specs.declared.step.Step.{Step}
-use Rattle.log_theory.specs.declared.step.Step.TheVariants.{Head, Model, P, U, N, E, Y, Q}
+use Rattle.log_theory.specs.declared.step.Step.TheVariants.{Head, Model, P, U, N, D, E, Y, Q}
 use Rattle.log_theory.specs.Words.{pieces, joined, line_text}
 use Rattle.log_theory.specs.LogText.{IsName, IsStep, step_words}
 use Rattle.log_theory.proofs.Splitting.{Passes, pieces_front, joined_bytes}
@@ -82,6 +82,7 @@ named_again owner place (U name lits refs) = refl
 named_again owner place Head = refl
 named_again owner place (Model m) = refl
 named_again owner place (N row name) = refl
+named_again owner place (D at) = refl
 named_again owner place (E at) = refl
 named_again owner place (Y ones) = refl
 named_again owner place Q = refl

@@ -1,5 +1,5 @@
 -- A log that is accepted with its hints is accepted without them: the whole log.
-use Rattle.std.proofs.Common.{◌≡◌, ◌≢◌, ℕ, zero, suc, ◌≤◌, Bool, true, false, cond, ◌==◌, List, [], ◌∷◌, ◌++◌, length, map, get_or, slice_get, Option, Some, Result, Ok, refl, sym, ap, ◌∙◌, subst, arith, inl, inr, ◌⊎◌}
+use Rattle.std.proofs.Common.{◌≡◌, ◌≢◌, ℕ, zero, suc, ◌≤◌, Bool, true, false, cond, ◌==◌, List, [], ◌∷◌, ◌++◌, length, map, get_or, slice_get, Option, Some, None, Result, Ok, refl, sym, ap, ◌∙◌, subst, arith, inl, inr, ◌⊎◌}
 use Rattle.std.specs.List.{flat_map}
 use Rattle.std.proofs.lemmas.List.{append_assoc}
 use Rattle.proof_theory.specs.declared.literal.Literal.{Literal}
@@ -9,7 +9,7 @@ use Rattle.log_theory.specs.declared.step.Name.{Name}
 use Rattle.log_theory.specs.declared.step.Ref.{Ref}
 use Rattle.log_theory.specs.declared.step.Ref.TheVariants.{Line, Made, Shared}
 use Rattle.log_theory.specs.declared.step.Step.{Step}
-use Rattle.log_theory.specs.declared.step.Step.TheVariants.{Head, Model, P, U, N, E, Y, Q}
+use Rattle.log_theory.specs.declared.step.Step.TheVariants.{Head, Model, P, U, N, D, E, Y, Q}
 use Rattle.log_theory.specs.declared.step.Cause.{Cause}
 use Rattle.log_theory.specs.declared.step.Cause.TheVariants.{Form as Malformed, Twice, NoConflict}
 use Rattle.log_theory.specs.declared.step.Verdict.{Verdict}
@@ -22,7 +22,7 @@ use Rattle.log_theory.specs.Steps.{◌>>=◌, unless, or_fault}
 use Rattle.log_theory.specs.Words.{pieces}
 use Rattle.log_theory.specs.LogText.{read_line}
 use Rattle.log_theory.specs.Lookups.{find_all, is_among, are_distinct, variables_of, makes, closed_clause}
-use Rattle.log_theory.specs.Tables.{Table, empty_table, made_by, from_one, shared_at, find, fresh_name, with_made, step_of, all_forms, step_in}
+use Rattle.log_theory.specs.Tables.{Table, empty_table, made_by, from_one, standing, shared_at, find, fresh_name, with_made, step_of, somes, all_forms, step_in}
 use Rattle.log_theory.specs.Profiles.{plain, head_of, profile_of, profile_in, log_profile, dropped_line, dropped_lines, with_feeds, dropped_log}
 use Rattle.log_theory.specs.Verdicts.{all_hold_at, in_range, step_variables, Stage, Opening, Counting, Proving, Progress, Goes, Ends, refuted_by, solved_by, progress_of, further_progress, line_progress}
 use Rattle.log_theory.specs.Acceptance.{NoFeed, AreLines, lines_text, Runs, Accepts}
@@ -51,25 +51,49 @@ counted_among : (fs : List Form) (k : ℕ) (f : Form) → from_one fs k ≡ Some
 counted_among fs zero f e = absurd cc
 counted_among fs (suc k) f e = got_among fs k f e
 
-pub list_among : (lists : List (List Form)) (owner : ℕ) (f : Form) → IsAmong f (get_or lists owner []) → IsAmong f (flat_map (λ fs. fs) lists)
-list_among [] owner f i = absurd i
-list_among (fs ∷ lists) zero f i = left_among f fs (flat_map (λ gs. gs) lists) i
-list_among (fs ∷ lists) (suc owner) f i = right_among f fs (flat_map (λ gs. gs) lists) (list_among lists owner f i)
+-- The forms that stand in places are those of the first and those of the others.
+pub somes-append : (os ps : List (Option Form)) → somes (os ++ ps) ≡ somes os ++ somes ps
+somes-append [] ps = refl
+somes-append (None ∷ os) ps = somes-append os ps
+somes-append (Some f ∷ os) ps = ap (λ (fs : List Form). f ∷ fs) (somes-append os ps)
 
-row_among : (ss : List (ℕ × Form)) (row : ℕ) (f : Form) → shared_at ss row ≡ Some f → IsAmong f (map (λ s. s.1) ss)
+-- One more place, if a form stands in it.
+pub some_among : (o : Option Form) (os : List (Option Form)) (f : Form) → o ≡ Some f → IsAmong f (somes (o ∷ os))
+some_among None os f e = absurd cc
+some_among (Some g) os f e = inl cc
+
+pub behind_among : (o : Option Form) (os : List (Option Form)) (f : Form) → IsAmong f (somes os) → IsAmong f (somes (o ∷ os))
+behind_among None os f i = i
+behind_among (Some g) os f i = inr i
+
+-- The form of a place is among those that stand.
+pub place_among : (os : List (Option Form)) (k : ℕ) (f : Form) → standing (from_one os k) ≡ Some f → IsAmong f (somes os)
+place_among os zero f e = absurd cc
+place_among [] (suc k) f e = absurd cc
+place_among (o ∷ os) (suc zero) f e = some_among o os f e
+place_among (o ∷ os) (suc (suc k)) f e = behind_among o os f (place_among os (suc k) f e)
+
+pub list_among : (lists : List (List (Option Form))) (owner : ℕ) (f : Form) → IsAmong f (somes (get_or lists owner [])) → IsAmong f (somes (flat_map (λ fs. fs) lists))
+list_among [] owner f i = absurd i
+list_among (fs ∷ lists) zero f i =
+    subst (λ (gs : List Form). IsAmong f gs) (sym (somes-append fs (flat_map (λ gs. gs) lists))) (left_among f (somes fs) (somes (flat_map (λ gs. gs) lists)) i)
+list_among (fs ∷ lists) (suc owner) f i =
+    subst (λ (gs : List Form). IsAmong f gs) (sym (somes-append fs (flat_map (λ gs. gs) lists))) (right_among f (somes fs) (somes (flat_map (λ gs. gs) lists)) (list_among lists owner f i))
+
+row_among : (ss : List (ℕ × Option Form)) (row : ℕ) (f : Form) → shared_at ss row ≡ Some f → IsAmong f (somes (map (λ s. s.1) ss))
 row_among [] row f e = absurd cc
 row_among (s ∷ ss) row f e = by-row (row_among ss row f) (s.0 == row) e
   where
-    by-row : (shared_at ss row ≡ Some f → IsAmong f (map (λ x. x.1) ss)) → (b : Bool) → cond b (Some s.1) (shared_at ss row) ≡ Some f → IsAmong f (map (λ x. x.1) (s ∷ ss))
-    by-row ih true g = inl cc
-    by-row ih false g = inr (ih g)
+    by-row : (shared_at ss row ≡ Some f → IsAmong f (somes (map (λ x. x.1) ss))) → (b : Bool) → cond b s.1 (shared_at ss row) ≡ Some f → IsAmong f (somes (s.1 ∷ map (λ x. x.1) ss))
+    by-row ih true g = some_among s.1 (map (λ x. x.1) ss) f g
+    by-row ih false g = behind_among s.1 (map (λ x. x.1) ss) f (ih g)
 
 pub found_among : (model : List Form) (t : Table) (r : Ref) (f : Form) → find model t r ≡ Some f → IsAmong f (all_forms model t)
 found_among model t (Line k) f e = left_among f model _ (counted_among model k f e)
 found_among model t (Made name) f e =
-    right_among f model _ (left_among f (flat_map (λ fs. fs) t.made) _ (list_among t.made name.owner f (counted_among (made_by t name.owner) name.number f e)))
+    right_among f model _ (left_among f (somes (flat_map (λ fs. fs) t.made)) _ (list_among t.made name.owner f (place_among (made_by t name.owner) name.number f e)))
 found_among model t (Shared row) f e =
-    right_among f model _ (right_among f (flat_map (λ fs. fs) t.made) _ (row_among t.shared row f e))
+    right_among f model _ (right_among f (somes (flat_map (λ fs. fs) t.made)) _ (row_among t.shared row f e))
 
 forms_same : (f g : List Form) → let x : Result (List Form) Cause = Ok f in let y : Result (List Form) Cause = Ok g in x ≡ y → f ≡ g
 forms_same f g e = cc
@@ -110,6 +134,7 @@ step_dropped model t u (U name lits refs) e =
     ∙ d.1.1
 step_dropped model t u (P name ops) e = e
 step_dropped model t u (N row name) e = e
+step_dropped model t u (D at) e = e
 step_dropped model t u Head e = absurd cc
 step_dropped model t u (Model m) e = absurd cc
 step_dropped model t u (E at) e = absurd cc
@@ -171,6 +196,7 @@ proving_dropped model t Q p e = ends_dropped (Ok (Ends Undecided)) Undecided p e
 proving_dropped model t (P name ops) p e = goes_dropped model t (P name ops) p e
 proving_dropped model t (U name lits refs) p e = goes_dropped model t (U name lits refs) p e
 proving_dropped model t (N row name) p e = goes_dropped model t (N row name) p e
+proving_dropped model t (D at) p e = goes_dropped model t (D at) p e
 proving_dropped model t Head p e = absurd cc
 proving_dropped model t (Model m) p e = absurd cc
 
@@ -183,6 +209,7 @@ counting_dropped model Head p e = absurd cc
 counting_dropped model (P name ops) p e = absurd cc
 counting_dropped model (U name lits refs) p e = absurd cc
 counting_dropped model (N row name) p e = absurd cc
+counting_dropped model (D at) p e = absurd cc
 counting_dropped model (E at) p e = absurd cc
 counting_dropped model (Y ones) p e = absurd cc
 counting_dropped model Q p e = absurd cc
@@ -193,6 +220,7 @@ same_variables (Model m) = refl
 same_variables (P name ops) = refl
 same_variables (U name lits refs) = refl
 same_variables (N row name) = refl
+same_variables (D at) = refl
 same_variables (E at) = refl
 same_variables (Y ones) = refl
 same_variables Q = refl

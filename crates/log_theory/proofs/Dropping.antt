@@ -10,9 +10,9 @@ use Rattle.log_theory.specs.declared.step.Name.{Name}
 use Rattle.log_theory.specs.declared.step.Ref.{Ref}
 use Rattle.log_theory.specs.declared.step.Op.{Op}
 use Rattle.log_theory.specs.declared.step.Step.{Step}
-use Rattle.log_theory.specs.declared.step.Step.TheVariants.{Head, Model, P, U, N, E, Y, Q}
+use Rattle.log_theory.specs.declared.step.Step.TheVariants.{Head, Model, P, U, N, D, E, Y, Q}
 use Rattle.log_theory.specs.Words.{pieces, into_first, same_word, joined}
-use Rattle.log_theory.specs.LogText.{name_of, literal_of, ref_of, all_of, Parted, parted_in_front, part, closed, when_closed, p_from, u_from, n_from, e_from, y_from, m_from, u_parted, step_behind, step_of_words, read_line}
+use Rattle.log_theory.specs.LogText.{name_of, literal_of, ref_of, all_of, Parted, parted_in_front, part, closed, when_closed, p_from, u_from, n_from, is_line, d_from, e_from, y_from, m_from, u_parted, step_behind, step_of_words, read_line}
 use Rattle.log_theory.specs.Profiles.{plain, plain_u, plain_head, plain_step, read_in, up_to_semicolon, dropped_words, dropped_line}
 use Rattle.log_theory.proofs.StepReadBack.{AreBefore, part_at}
 
@@ -161,6 +161,10 @@ n_plain None b s e = absurd cc
 n_plain (Some k) None s e = absurd cc
 n_plain (Some k) (Some n) s e = some_plain (N k n) s e refl
 
+d_plain : (a : Option Ref) (s : Step) → d_from a ≡ Some s → plain s ≡ s
+d_plain None s e = absurd cc
+d_plain (Some r) s e = cond_plain s (is_line r) None (Some (D r)) (none_plain s) (λ g. some_plain (D r) s g refl) e
+
 e_plain : (a : Option Ref) (s : Step) → e_from a ≡ Some s → plain s ≡ s
 e_plain None s e = absurd cc
 e_plain (Some r) s e = some_plain (E r) s e refl
@@ -182,7 +186,8 @@ other_plain w v [] s f e =
     cond_plain s (same_word w (codes "p")) _ _ (p_plain _ _ s)
     (past_u s (same_word w (codes "u")) _ _ f
     (cond_plain s (same_word w (codes "m")) _ _ (m_plain _ s)
-    (cond_plain s (same_word w (codes "e")) _ _ (e_plain _ s) (cond_plain s (same_word w (codes "y")) _ _ (y_plain _ s) (none_plain s))))) e
+    (cond_plain s (same_word w (codes "d")) _ _ (d_plain _ s)
+    (cond_plain s (same_word w (codes "e")) _ _ (e_plain _ s) (cond_plain s (same_word w (codes "y")) _ _ (y_plain _ s) (none_plain s)))))) e
 other_plain w v (x ∷ []) s f e =
     cond_plain s (same_word w (codes "p")) _ _ (p_plain _ _ s)
     (past_u s (same_word w (codes "u")) _ _ f

@@ -179,6 +179,59 @@ empty_log : verdict_of 1 two [] ≡ Refused 1 EndsEarly
 unfolding sorted put
 empty_log = refl
 
+-- A name that was deleted names nothing.
+deleted : judged (codes "p 0.1 1 ;" ++ 10 ∷ [] ++ codes "d 0.1" ++ 10 ∷ [] ++ codes "p 0.2 0.1 ;" ++ 10 ∷ []) ≡ Refused 5 NoSuchName
+unfolding sorted put
+deleted = refl
+
+deleted_twice : judged (codes "p 0.1 1 ;" ++ 10 ∷ [] ++ codes "d 0.1" ++ 10 ∷ [] ++ codes "d 0.1" ++ 10 ∷ []) ≡ Refused 5 NoSuchName
+unfolding sorted put
+deleted_twice = refl
+
+deleted_before : judged (codes "d 0.1" ++ 10 ∷ []) ≡ Refused 3 NoSuchName
+unfolding sorted put
+deleted_before = refl
+
+-- A model's constraint is not deleted.
+deleted_line : judged (codes "d 1" ++ 10 ∷ []) ≡ Refused 3 Malformed
+unfolding sorted put
+deleted_line = refl
+
+deleted_two : judged (codes "p 0.1 1 ;" ++ 10 ∷ [] ++ codes "p 0.2 1 ;" ++ 10 ∷ [] ++ codes "d 0.1 0.2" ++ 10 ∷ []) ≡ Refused 5 Malformed
+unfolding sorted put
+deleted_two = refl
+
+-- A deleted name counts as used.
+deleted_is_used : judged (codes "p 0.1 1 ;" ++ 10 ∷ [] ++ codes "d 0.1" ++ 10 ∷ [] ++ codes "p 0.1 1 ;" ++ 10 ∷ []) ≡ Refused 5 NameUsed
+unfolding sorted put
+deleted_is_used = refl
+
+next_after_deleted : judged (codes "p 0.1 1 ;" ++ 10 ∷ [] ++ codes "d 0.1" ++ 10 ∷ [] ++ codes "p 0.2 1 2 + ;" ++ 10 ∷ [] ++ codes "e 0.2" ++ 10 ∷ []) ≡ Unsatisfiable
+unfolding sorted put
+next_after_deleted = refl
+
+-- A row goes on naming its form where the form's name is deleted.
+row_stands : judged (codes "p 0.1 1 2 + ;" ++ 10 ∷ [] ++ codes "n 5 0.1" ++ 10 ∷ [] ++ codes "d 0.1" ++ 10 ∷ [] ++ codes "e #5" ++ 10 ∷ []) ≡ Unsatisfiable
+unfolding sorted put
+row_stands = refl
+
+deleted_row : judged (codes "p 0.1 1 2 + ;" ++ 10 ∷ [] ++ codes "n 5 0.1" ++ 10 ∷ [] ++ codes "d #5" ++ 10 ∷ [] ++ codes "e #5" ++ 10 ∷ []) ≡ Refused 6 NoSuchName
+unfolding sorted put
+deleted_row = refl
+
+name_stands : judged (codes "p 0.1 1 2 + ;" ++ 10 ∷ [] ++ codes "n 5 0.1" ++ 10 ∷ [] ++ codes "d #5" ++ 10 ∷ [] ++ codes "e 0.1" ++ 10 ∷ []) ≡ Unsatisfiable
+unfolding sorted put
+name_stands = refl
+
+-- A deleted row counts as used.
+deleted_row_is_used : judged (codes "p 0.1 1 ;" ++ 10 ∷ [] ++ codes "n 5 0.1" ++ 10 ∷ [] ++ codes "d #5" ++ 10 ∷ [] ++ codes "n 5 0.1" ++ 10 ∷ []) ≡ Refused 6 NameUsed
+unfolding sorted put
+deleted_row_is_used = refl
+
+deleted_row_in_order : judged (codes "p 0.1 1 ;" ++ 10 ∷ [] ++ codes "n 5 0.1" ++ 10 ∷ [] ++ codes "d #5" ++ 10 ∷ [] ++ codes "n 4 0.1" ++ 10 ∷ []) ≡ Refused 6 Order
+unfolding sorted put
+deleted_row_in_order = refl
+
 -- The whole log of a triangle into a cycle of four.
 triangle_refuted : verdict_of 12 triangle (codes "embedding proof 1" ++ 10 ∷ [] ++ codes "m 34" ++ 10 ∷ [] ++ codes "p 0.1 15 24 + 6 + ;" ++ 10 ∷ [] ++ codes "p 0.2 15 26 + 6 + ;" ++ 10 ∷ [] ++ codes "u 0.3 ~x1 ; 0.1 0.2 11 ;" ++ 10 ∷ [] ++ codes "p 0.4 16 23 + 6 + ;" ++ 10 ∷ [] ++ codes "p 0.5 16 25 + 6 + ;" ++ 10 ∷ [] ++ codes "u 0.6 ~x2 ; 0.4 0.5 12 ;" ++ 10 ∷ [] ++ codes "p 0.7 17 24 + 6 + ;" ++ 10 ∷ [] ++ codes "p 0.8 17 26 + 6 + ;" ++ 10 ∷ [] ++ codes "u 0.9 ~x3 ; 0.7 0.8 13 ;" ++ 10 ∷ [] ++ codes "p 0.10 18 23 + 6 + ;" ++ 10 ∷ [] ++ codes "p 0.11 18 25 + 6 + ;" ++ 10 ∷ [] ++ codes "u 0.12 ~x4 ; 0.10 0.11 14 ;" ++ 10 ∷ [] ++ codes "u 0.13 ; 0.3 0.6 0.9 0.12 1 ;" ++ 10 ∷ [] ++ codes "e 0.13" ++ 10 ∷ []) ≡ Unsatisfiable
 unfolding sorted put

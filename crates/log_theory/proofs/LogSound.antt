@@ -6,7 +6,7 @@ use Rattle.log_theory.specs.declared.step.Ref.TheVariants.{Made}
 use Rattle.log_theory.specs.declared.step.Op.{Op}
 use Rattle.log_theory.specs.declared.step.Op.TheVariants.{Push, Axiom, Add, Times, Divide, Saturate}
 use Rattle.log_theory.specs.declared.step.Step.{Step}
-use Rattle.log_theory.specs.declared.step.Step.TheVariants.{Head, Model, P, U, N, E, Y, Q}
+use Rattle.log_theory.specs.declared.step.Step.TheVariants.{Head, Model, P, U, N, D, E, Y, Q}
 use Rattle.log_theory.specs.declared.step.Cause.{Cause}
 use Rattle.proof_theory.specs.Forms.{Form, Holds, Satisfies, size}
 use Rattle.proof_theory.specs.Rules.{sum_of, times_of, divide_of, saturate_of}
@@ -113,6 +113,7 @@ makes_sound look a l (U name lits refs) f e =
 makes_sound look a l (N row name) f e = l.holds (Made name) f (or_fault_ok (look (Made name)) _ f e)
 makes_sound look a l Head f e = absurd cc
 makes_sound look a l (Model m) f e = absurd cc
+makes_sound look a l (D at) f e = absurd cc
 makes_sound look a l (E at) f e = absurd cc
 makes_sound look a l (Y ones) f e = absurd cc
 makes_sound look a l Q f e = absurd cc

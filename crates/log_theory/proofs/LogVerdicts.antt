@@ -1,5 +1,5 @@
 -- The laws of whole logs: soundness, one answer, and fronts that end early.
-use Rattle.std.proofs.Common.{◌≡◌, ◌≢◌, ℕ, zero, suc, ◌+◌, ◌≤◌, ◌<◌, Bool, true, false, cond, ◌==◌, ◌&&◌, ◌||◌, nat_lt, nat_le, List, [], ◌∷◌, ◌++◌, length, map, get_or, set, replicate, Option, Some, Result, Ok, Err, ℤ, pos, ◌≤ℤ◌, ◌+ℤ◌, refl, sym, ap, ◌∙◌, subst, arith, inl, inr, ◌⊎◌, slice_get}
+use Rattle.std.proofs.Common.{◌≡◌, ◌≢◌, ℕ, zero, suc, ◌+◌, ◌≤◌, ◌<◌, Bool, true, false, cond, not, ◌==◌, ◌&&◌, ◌||◌, nat_lt, nat_le, List, [], ◌∷◌, ◌++◌, length, map, get_or, set, replicate, Option, Some, None, Result, Ok, Err, ℤ, pos, ◌≤ℤ◌, ◌+ℤ◌, refl, sym, ap, ◌∙◌, subst, arith, inl, inr, ◌⊎◌, slice_get}
 use Rattle.std.proofs.lemmas.Int.{ints}
 use Rattle.std.proofs.lemmas.Bool.{and_parts, cases_eq, cases_lt, eqb-true, leb-true, ltb-true}
 use Rattle.std.proofs.lemmas.List.{get_or-set_same, get_or-set_other, set_past, get_or_past}
@@ -10,7 +10,7 @@ use Rattle.log_theory.specs.declared.step.Name.{Name}
 use Rattle.log_theory.specs.declared.step.Ref.{Ref}
 use Rattle.log_theory.specs.declared.step.Ref.TheVariants.{Line, Made, Shared}
 use Rattle.log_theory.specs.declared.step.Step.{Step}
-use Rattle.log_theory.specs.declared.step.Step.TheVariants.{Head, Model, P, U, N, E, Y, Q}
+use Rattle.log_theory.specs.declared.step.Step.TheVariants.{Head, Model, P, U, N, D, E, Y, Q}
 use Rattle.log_theory.specs.declared.step.Cause.{Cause}
 use Rattle.log_theory.specs.declared.step.Verdict.{Verdict}
 use Rattle.log_theory.specs.declared.step.Verdict.TheVariants.{Unsatisfiable, Satisfiable, Undecided, Refused, NoMemory}
@@ -18,9 +18,10 @@ use Rattle.proof_theory.specs.Forms.{Form, Holds, Satisfies, value, assignment, 
 use Rattle.proof_theory.specs.Rules.{is_contradiction}
 use Rattle.log_theory.specs.Steps.{◌>>=◌, unless, or_fault}
 use Rattle.log_theory.specs.Words.{pieces}
+use Rattle.log_theory.specs.LogText.{is_line}
 use Rattle.log_theory.specs.Profiles.{read_in, profile_of}
 use Rattle.log_theory.specs.Lookups.{makes, closed_clause, is_among, are_distinct}
-use Rattle.log_theory.specs.Tables.{Table, empty_table, made_by, from_one, shared_at, find, fresh_name, fresh_row, with_made, step_of, all_forms, step_in}
+use Rattle.log_theory.specs.Tables.{Table, empty_table, made_by, from_one, standing, shared_at, find, fresh_name, fresh_row, with_made, without_number, without_row, without, step_of, somes, all_forms, step_in}
 use Rattle.log_theory.specs.Verdicts.{holds_at, all_hold_at, in_range, step_variables, Stage, Opening, Counting, Proving, Progress, Goes, Ends, refuted_by, solved_by, progress_of, further_progress, line_progress, at_end, go_on, verdict_from, verdict_of}
 use Rattle.proof_theory.proofs.Rules.{contradiction_fails}
 use Rattle.log_theory.proofs.LogSound.{IsSound, bind_ok, unless_ok, or_fault_ok, makes_sound, closed_sound}
@@ -34,26 +35,62 @@ satisfied_at [] a k f s e = absurd cc
 satisfied_at (g ∷ gs) a zero f s e = subst (λ (x : Form). Holds x a) (some_same g f e) s.0
 satisfied_at (g ∷ gs) a (suc k) f s e = satisfied_at gs a k f s.1 e
 
--- Every shared form holds.
-abbrev pub EntriesHold : List (ℕ × Form) → (ℕ → Bool) → Type 0
-EntriesHold [] a = Unit {0}
-EntriesHold (s ∷ ss) a = Holds s.1 a × EntriesHold ss a
+-- The form of a place holds, if one stands in it.
+abbrev pub PlaceHolds : Option Form → (ℕ → Bool) → Type 0
+PlaceHolds None a = Unit {0}
+PlaceHolds (Some f) a = Holds f a
 
-entry_at : (ss : List (ℕ × Form)) (a : ℕ → Bool) (row : ℕ) (f : Form) → EntriesHold ss a → shared_at ss row ≡ Some f → Holds f a
+-- Every form that stands in a place holds.
+abbrev pub PlacesHold : List (Option Form) → (ℕ → Bool) → Type 0
+PlacesHold [] a = Unit {0}
+PlacesHold (o ∷ os) a = PlaceHolds o a × PlacesHold os a
+
+place_holds : (o : Option Form) (a : ℕ → Bool) (f : Form) → PlaceHolds o a → o ≡ Some f → Holds f a
+place_holds None a f h e = absurd cc
+place_holds (Some g) a f h e = subst (λ (x : Form). Holds x a) (some_same g f e) h
+
+place_at : (os : List (Option Form)) (a : ℕ → Bool) (k : ℕ) (f : Form) → PlacesHold os a → standing (slice_get os k) ≡ Some f → Holds f a
+place_at [] a k f h e = absurd cc
+place_at (o ∷ os) a zero f h e = place_holds o a f h.0 e
+place_at (o ∷ os) a (suc k) f h e = place_at os a k f h.1 e
+
+places_push : (os : List (Option Form)) (f : Form) (a : ℕ → Bool) → PlacesHold os a → Holds f a → PlacesHold (os ++ Some f ∷ []) a
+places_push [] f a h k = (k, tt)
+places_push (o ∷ os) f a h k = (h.0, places_push os f a h.1 k)
+
+places_without : (os : List (Option Form)) (k : ℕ) (a : ℕ → Bool) → PlacesHold os a → PlacesHold (set os k None) a
+places_without [] k a h = tt
+places_without (o ∷ os) zero a h = (tt, h.1)
+places_without (o ∷ os) (suc k) a h = (h.0, places_without os k a h.1)
+
+-- Every shared form holds.
+abbrev pub EntriesHold : List (ℕ × Option Form) → (ℕ → Bool) → Type 0
+EntriesHold [] a = Unit {0}
+EntriesHold (s ∷ ss) a = PlaceHolds s.1 a × EntriesHold ss a
+
+entry_at : (ss : List (ℕ × Option Form)) (a : ℕ → Bool) (row : ℕ) (f : Form) → EntriesHold ss a → shared_at ss row ≡ Some f → Holds f a
 entry_at [] a row f h e = absurd cc
 entry_at (s ∷ ss) a row f h e = by-row (entry_at ss a row f h.1) (s.0 == row) e
   where
-    by-row : (shared_at ss row ≡ Some f → Holds f a) → (b : Bool) → cond b (Some s.1) (shared_at ss row) ≡ Some f → Holds f a
-    by-row ih true k = subst (λ (x : Form). Holds x a) (some_same s.1 f k) h.0
+    by-row : (shared_at ss row ≡ Some f → Holds f a) → (b : Bool) → cond b s.1 (shared_at ss row) ≡ Some f → Holds f a
+    by-row ih true k = place_holds s.1 a f h.0 k
     by-row ih false k = ih k
 
-entries_push : (ss : List (ℕ × Form)) (row : ℕ) (f : Form) (a : ℕ → Bool) → EntriesHold ss a → Holds f a → EntriesHold (ss ++ (row, f) ∷ []) a
+entries_push : (ss : List (ℕ × Option Form)) (row : ℕ) (f : Form) (a : ℕ → Bool) → EntriesHold ss a → Holds f a → EntriesHold (ss ++ (row, Some f) ∷ []) a
 entries_push [] row f a h k = (k, tt)
 entries_push (s ∷ ss) row f a h k = (h.0, entries_push ss row f a h.1 k)
 
+entries_without : (ss : List (ℕ × Option Form)) (row : ℕ) (a : ℕ → Bool) → EntriesHold ss a → EntriesHold (without_row ss row) a
+entries_without [] row a h = tt
+entries_without (s ∷ ss) row a h = (by-row (s.0 == row), entries_without ss row a h.1)
+  where
+    by-row : (b : Bool) → PlaceHolds (cond b None s.1) a
+    by-row true = tt
+    by-row false = h.0
+
 -- The table's forms hold at an assignment.
 pub record TableHolds (t : Table) (a : ℕ → Bool) : Type 0 where
-  pub made : (owner : ℕ) → Satisfies (made_by t owner) a
+  pub made : (owner : ℕ) → PlacesHold (made_by t owner) a
   pub shared : EntriesHold t.shared a
 
 find_sound : (model : List Form) (t : Table) (a : ℕ → Bool) → Satisfies model a → TableHolds t a → IsSound (find model t) a
@@ -63,36 +100,47 @@ find_sound model t a s h = record { holds = at }
     counted fs zero f sat e = absurd cc
     counted fs (suc k) f sat e = satisfied_at fs a k f sat e
 
+    placed : (os : List (Option Form)) (k : ℕ) (f : Form) → PlacesHold os a → standing (from_one os k) ≡ Some f → Holds f a
+    placed os zero f g e = absurd cc
+    placed os (suc k) f g e = place_at os a k f g e
+
     at : (r : Ref) (f : Form) → find model t r ≡ Some f → Holds f a
     at (Line k) f e = counted model k f s e
-    at (Made name) f e = counted (made_by t name.owner) name.number f (h.made name.owner) e
+    at (Made name) f e = placed (made_by t name.owner) name.number f (h.made name.owner) e
     at (Shared row) f e = entry_at t.shared a row f h.shared e
 
 empty_holds : (a : ℕ → Bool) → TableHolds empty_table a
 empty_holds a = record { made = λ owner. nothing 65 owner; shared = tt }
   where
-    nothing : (n owner : ℕ) → Satisfies (get_or (replicate n []) owner []) a
+    nothing : (n owner : ℕ) → PlacesHold (get_or (replicate n []) owner []) a
     nothing zero owner = tt
     nothing (suc n) zero = tt
     nothing (suc n) (suc owner) = nothing n owner
 
-satisfied_push : (fs : List Form) (f : Form) (a : ℕ → Bool) → Satisfies fs a → Holds f a → Satisfies (fs ++ f ∷ []) a
-satisfied_push [] f a s h = (h, tt)
-satisfied_push (g ∷ gs) f a s h = (s.0, satisfied_push gs f a s.1 h)
+-- One owner's places become others whose forms hold too.
+owner_set : (t : Table) (who : ℕ) (more : List (Option Form)) (a : ℕ → Bool) → TableHolds t a → PlacesHold more a → TableHolds (record { made = set t.made who more; shared = t.shared }) a
+owner_set t who more a h k = record { made = λ owner. at owner (cases_eq owner who); shared = h.shared }
+  where
+    in_place : (owner : ℕ) → owner ≡ who → (who < length t.made) ⊎ (length t.made ≤ who) → PlacesHold (get_or (set t.made who more) owner []) a
+    in_place owner e (inl l) = subst (λ (os : List (Option Form)). PlacesHold os a) (sym (get_or-set_same t.made who more [] l) ∙ ap (λ (o : ℕ). get_or (set t.made who more) o []) (sym e)) k
+    in_place owner e (inr l) = subst (λ (lists : List (List (Option Form))). PlacesHold (get_or lists owner []) a) (sym (set_past t.made who more l)) (h.made owner)
+
+    at : (owner : ℕ) → (owner ≡ who) ⊎ (owner ≡ who → ⊥) → PlacesHold (get_or (set t.made who more) owner []) a
+    at owner (inl e) = in_place owner e (cases_lt who (length t.made))
+    at owner (inr n) = subst (λ (os : List (Option Form)). PlacesHold os a) (sym (get_or-set_other t.made who owner more [] n)) (h.made owner)
 
 made_holds : (t : Table) (name : Name) (f : Form) (a : ℕ → Bool) → TableHolds t a → Holds f a → TableHolds (with_made t name f) a
-made_holds t name f a h k = record { made = λ owner. at owner (cases_eq owner name.owner); shared = h.shared }
+made_holds t name f a h k = owner_set t name.owner (made_by t name.owner ++ Some f ∷ []) a h (places_push (made_by t name.owner) f a (h.made name.owner) k)
+
+-- What is left of a true table is true.
+without_holds : (t : Table) (at : Ref) (a : ℕ → Bool) → TableHolds t a → TableHolds (without t at) a
+without_holds t (Line k) a h = h
+without_holds t (Made name) a h = owner_set t name.owner (without_number (made_by t name.owner) name.number) a h (by-number name.number)
   where
-    more : List Form
-    more = made_by t name.owner ++ f ∷ []
-
-    in_place : (owner : ℕ) → owner ≡ name.owner → (name.owner < length t.made) ⊎ (length t.made ≤ name.owner) → Satisfies (get_or (set t.made name.owner more) owner []) a
-    in_place owner e (inl l) = subst (λ (fs : List Form). Satisfies fs a) (sym (get_or-set_same t.made name.owner more [] l) ∙ ap (λ (o : ℕ). get_or (set t.made name.owner more) o []) (sym e)) (satisfied_push (made_by t name.owner) f a (h.made name.owner) k)
-    in_place owner e (inr l) = subst (λ (fs : List (List Form)). Satisfies (get_or fs owner []) a) (sym (set_past t.made name.owner more l)) (h.made owner)
-
-    at : (owner : ℕ) → (owner ≡ name.owner) ⊎ (owner ≡ name.owner → ⊥) → Satisfies (get_or (set t.made name.owner more) owner []) a
-    at owner (inl e) = in_place owner e (cases_lt name.owner (length t.made))
-    at owner (inr n) = subst (λ (fs : List Form). Satisfies fs a) (sym (get_or-set_other t.made name.owner owner more [] n)) (h.made owner)
+    by-number : (k : ℕ) → PlacesHold (without_number (made_by t name.owner) k) a
+    by-number zero = h.made name.owner
+    by-number (suc k) = places_without (made_by t name.owner) k a (h.made name.owner)
+without_holds t (Shared row) a h = record { made = h.made; shared = entries_without t.shared row a h.shared }
 
 table_same : (t u : Table) → let x : Result Table Cause = Ok t in let y : Result Table Cause = Ok u in x ≡ y → t ≡ u
 table_same t u e = cc
@@ -111,6 +159,10 @@ step_sound model t u (N row name) a sat h e =
     let b = bind_ok (fresh_row t row) _ u e in
     let d = bind_ok (makes (find model t) (N row name)) _ u b.1.1 in
     subst (λ (x : Table). TableHolds x a) (table_same _ u d.1.1) (record { made = h.made; shared = entries_push t.shared row d.0 a h.shared (makes_sound (find model t) a (find_sound model t a sat h) (N row name) d.0 d.1.0) })
+step_sound model t u (D at) a sat h e =
+    let b = bind_ok (unless (not (is_line at)) _) _ u e in
+    let d = bind_ok (or_fault (find model t at) _) _ u b.1.1 in
+    subst (λ (x : Table). TableHolds x a) (table_same _ u d.1.1) (without_holds t at a h)
 step_sound model t u Head a sat h e = absurd cc
 step_sound model t u (Model m) a sat h e = absurd cc
 step_sound model t u (E at) a sat h e = absurd cc
@@ -121,19 +173,30 @@ satisfied_append : (fs gs : List Form) (a : ℕ → Bool) → Satisfies fs a →
 satisfied_append [] gs a h k = k
 satisfied_append (f ∷ fs) gs a h k = (h.0, satisfied_append fs gs a h.1 k)
 
-satisfied_lists : (lists : List (List Form)) (a : ℕ → Bool) → ((owner : ℕ) → Satisfies (get_or lists owner []) a) → Satisfies (flat_map (λ fs. fs) lists) a
-satisfied_lists [] a h = tt
-satisfied_lists (fs ∷ lists) a h = satisfied_append fs (flat_map (λ gs. gs) lists) a (h 0) (satisfied_lists lists a (λ owner. h (suc owner)))
+places_append : (os ps : List (Option Form)) (a : ℕ → Bool) → PlacesHold os a → PlacesHold ps a → PlacesHold (os ++ ps) a
+places_append [] ps a h k = k
+places_append (o ∷ os) ps a h k = (h.0, places_append os ps a h.1 k)
 
-satisfied_entries : (ss : List (ℕ × Form)) (a : ℕ → Bool) → EntriesHold ss a → Satisfies (map (λ s. s.1) ss) a
-satisfied_entries [] a h = tt
-satisfied_entries (s ∷ ss) a h = (h.0, satisfied_entries ss a h.1)
+places_lists : (lists : List (List (Option Form))) (a : ℕ → Bool) → ((owner : ℕ) → PlacesHold (get_or lists owner []) a) → PlacesHold (flat_map (λ os. os) lists) a
+places_lists [] a h = tt
+places_lists (os ∷ lists) a h = places_append os (flat_map (λ ps. ps) lists) a (h 0) (places_lists lists a (λ owner. h (suc owner)))
+
+places_entries : (ss : List (ℕ × Option Form)) (a : ℕ → Bool) → EntriesHold ss a → PlacesHold (map (λ s. s.1) ss) a
+places_entries [] a h = tt
+places_entries (s ∷ ss) a h = (h.0, places_entries ss a h.1)
+
+-- The forms that stand in places that hold hold.
+places_satisfied : (os : List (Option Form)) (a : ℕ → Bool) → PlacesHold os a → Satisfies (somes os) a
+places_satisfied [] a h = tt
+places_satisfied (None ∷ os) a h = places_satisfied os a h.1
+places_satisfied (Some f ∷ os) a h = (h.0, places_satisfied os a h.1)
 
 -- All forms so far hold.
 all_satisfied : (model : List Form) (t : Table) (a : ℕ → Bool) → Satisfies model a → TableHolds t a → Satisfies (all_forms model t) a
 all_satisfied model t a s h =
-    satisfied_append model (flat_map (λ fs. fs) t.made ++ map (λ e. e.1) t.shared) a s
-    (satisfied_append (flat_map (λ fs. fs) t.made) (map (λ e. e.1) t.shared) a (satisfied_lists t.made a h.made) (satisfied_entries t.shared a h.shared))
+    satisfied_append model (somes (flat_map (λ os. os) t.made) ++ somes (map (λ e. e.1) t.shared)) a s
+    (satisfied_append (somes (flat_map (λ os. os) t.made)) (somes (map (λ e. e.1) t.shared)) a
+    (places_satisfied (flat_map (λ os. os) t.made) a (places_lists t.made a h.made)) (places_satisfied (map (λ e. e.1) t.shared) a (places_entries t.shared a h.shared)))
 
 -- A step of either profile keeps the table true.
 step_in_sound : (profile : Profile) (model : List Form) (t u : Table) (s : Step) (a : ℕ → Bool) → Satisfies model a → TableHolds t a → step_in profile model t s ≡ Ok u → TableHolds u a
@@ -144,6 +207,7 @@ step_in_sound Plain model t u (U name lits refs) a sat h e =
     subst (λ (x : Table). TableHolds x a) (table_same _ u d.1.1) (made_holds t name d.0 a h (closed_sound a (all_forms model t) lits d.0 (all_satisfied model t a sat h) d.1.0))
 step_in_sound Plain model t u (P name ops) a sat h e = step_sound model t u (P name ops) a sat h e
 step_in_sound Plain model t u (N row name) a sat h e = step_sound model t u (N row name) a sat h e
+step_in_sound Plain model t u (D at) a sat h e = step_sound model t u (D at) a sat h e
 step_in_sound Plain model t u Head a sat h e = absurd cc
 step_in_sound Plain model t u (Model m) a sat h e = absurd cc
 step_in_sound Plain model t u (E at) a sat h e = absurd cc
@@ -205,6 +269,7 @@ progress_sound n model (Proving profile t) Q p h r e = subst (λ (x : Progress).
 progress_sound n model (Proving profile t) (P name ops) p h r e = made_progress n model profile t (P name ops) p h e
 progress_sound n model (Proving profile t) (U name lits refs) p h r e = made_progress n model profile t (U name lits refs) p h e
 progress_sound n model (Proving profile t) (N row name) p h r e = made_progress n model profile t (N row name) p h e
+progress_sound n model (Proving profile t) (D at) p h r e = made_progress n model profile t (D at) p h e
 progress_sound n model (Proving profile t) Head p h r e = made_progress n model profile t Head p h e
 progress_sound n model (Proving profile t) (Model m) p h r e = made_progress n model profile t (Model m) p h e
 progress_sound n model stage s p h r e = absurd cc

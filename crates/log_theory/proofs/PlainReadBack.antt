@@ -6,7 +6,7 @@ use Rattle.log_theory.specs.declared.profile.Profile.{Profile}
 use Rattle.log_theory.specs.declared.profile.Profile.TheVariants.{Hinted, Plain}
 use Rattle.log_theory.specs.declared.step.Name.{Name}
 use Rattle.log_theory.specs.declared.step.Step.{Step}
-use Rattle.log_theory.specs.declared.step.Step.TheVariants.{Head, Model, P, U, N, E, Y, Q}
+use Rattle.log_theory.specs.declared.step.Step.TheVariants.{Head, Model, P, U, N, D, E, Y, Q}
 use Rattle.log_theory.specs.Words.{joined}
 use Rattle.log_theory.specs.LogText.{name_text, ref_text, literal_text, step_words, name_of, literal_of, all_of, Parted, closed, when_closed, u_from, IsStep}
 use Rattle.log_theory.specs.Profiles.{words_in, plain, plain_step, read_in, told_in, up_to_semicolon, dropped_words, dropped_line}
@@ -19,6 +19,7 @@ plain_words (Model m) h = words_step (Model m) h
 plain_words (P name ops) h = words_step (P name ops) h
 plain_words (U name lits refs) h = (sign 117 (omega arith) (omega arith), (word_name name h.0, AreWords-append (map literal_text lits) (codes ";" ∷ []) (words_literals lits h.1) (sign 59 (omega arith) (omega arith), tt)))
 plain_words (N row name) h = words_step (N row name) h
+plain_words (D at) h = words_step (D at) h
 plain_words (E at) h = words_step (E at) h
 plain_words (Y ones) h = words_step (Y ones) h
 plain_words Q h = words_step Q h
@@ -29,6 +30,7 @@ has_words (Model m) e = cc
 has_words (P name ops) e = cc
 has_words (U name lits refs) e = cc
 has_words (N row name) e = cc
+has_words (D at) e = cc
 has_words (E at) e = cc
 has_words (Y ones) e = cc
 has_words Q e = cc
@@ -43,6 +45,7 @@ plain_words_read (U name lits refs) h =
     ∙ ap (λ (o : Option (List Literal)). u_from (name_of (name_text name)) o (Some [])) (literals_read lits h.1)
     ∙ ap (λ (o : Option Name). u_from o (Some lits) (Some [])) (name_read name h.0)
 plain_words_read (N row name) h = words_read (N row name) h
+plain_words_read (D at) h = words_read (D at) h
 plain_words_read (E at) h = words_read (E at) h
 plain_words_read (Y []) h = refl
 plain_words_read (Y (v ∷ vs)) h = words_read (Y (v ∷ vs)) h
@@ -65,6 +68,7 @@ words_without (U name lits refs) h n =
     ap (λ (p : Option Parted). codes "u" ∷ name_text name ∷ up_to_semicolon (map literal_text lits ++ codes ";" ∷ (map ref_text refs ++ codes ";" ∷ [])) p)
     (part_at (map literal_text lits) (map ref_text refs ++ codes ";" ∷ []) (before_literals lits))
 words_without (N row name) h n = refl
+words_without (D at) h n = refl
 words_without (E at) h n = refl
 words_without (Y []) h n = refl
 words_without (Y (v ∷ vs)) h n = refl

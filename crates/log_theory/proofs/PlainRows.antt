@@ -1,7 +1,7 @@
 -- Worked logs without hints, as the definitions judge them.
 use Rattle.std.proofs.Common.{◌≡◌, ℕ, List, [], ◌∷◌, ◌++◌, pos, negsuc, refl}
 use lib.Chars.{codes}
-use Rattle.log_theory.specs.declared.step.Cause.TheVariants.{EndsEarly, Form as Malformed, NameUsed, Order, Twice, NoConflict}
+use Rattle.log_theory.specs.declared.step.Cause.TheVariants.{EndsEarly, Form as Malformed, NameUsed, Order, Twice, NoSuchName, NoConflict}
 use Rattle.log_theory.specs.declared.step.Verdict.{Verdict}
 use Rattle.log_theory.specs.declared.step.Verdict.TheVariants.{Unsatisfiable, Undecided, Refused}
 use Rattle.proof_theory.specs.Forms.{Form, put, sorted}
@@ -60,6 +60,38 @@ twice = refl
 
 no_variable : judged (codes "u 0.1 x2 ;" ++ 10 ∷ []) ≡ Refused 3 Malformed
 no_variable = refl
+
+-- A deleted constraint no longer propagates, but one that a row still names does.
+deleted : judged (codes "u 0.1 ;" ++ 10 ∷ [] ++ codes "d 0.1" ++ 10 ∷ [] ++ codes "e 0.1" ++ 10 ∷ []) ≡ Refused 5 NoSuchName
+unfolding sorted put
+deleted = refl
+
+deleted_row : judged (codes "u 0.1 ;" ++ 10 ∷ [] ++ codes "n 0 0.1" ++ 10 ∷ [] ++ codes "d 0.1" ++ 10 ∷ [] ++ codes "e #0" ++ 10 ∷ []) ≡ Unsatisfiable
+unfolding sorted put
+deleted_row = refl
+
+-- +1 x1 +1 x2 >= 1, +1 x1 -1 x2 >= 0, -1 x1 +1 x2 >= 0 and -1 x1 -1 x2 >= -1: no propagation alone refutes them.
+abbrev crossed : List Form
+crossed = record { terms = (1, pos 1) ∷ (2, pos 1) ∷ []; bound = pos 1 } ∷ record { terms = (1, pos 1) ∷ (2, negsuc 0) ∷ []; bound = pos 0 } ∷ record { terms = (1, negsuc 0) ∷ (2, pos 1) ∷ []; bound = pos 0 } ∷ record { terms = (1, negsuc 0) ∷ (2, negsuc 0) ∷ []; bound = negsuc 0 } ∷ []
+
+abbrev judged_crossed : List ℕ → Verdict
+judged_crossed lines = verdict_of 2 crossed (codes "embedding proof 2" ++ 10 ∷ codes "m 4" ++ 10 ∷ codes "u 0.1 x1 ;" ++ 10 ∷ lines)
+
+stands : judged_crossed (codes "u 0.2 ;" ++ 10 ∷ [] ++ codes "e 0.2" ++ 10 ∷ []) ≡ Unsatisfiable
+unfolding sorted put
+stands = refl
+
+propagates_no_more : judged_crossed (codes "d 0.1" ++ 10 ∷ [] ++ codes "u 0.2 ;" ++ 10 ∷ []) ≡ Refused 5 NoConflict
+unfolding sorted put
+propagates_no_more = refl
+
+propagates_by_row : judged_crossed (codes "n 0 0.1" ++ 10 ∷ [] ++ codes "d 0.1" ++ 10 ∷ [] ++ codes "u 0.2 ;" ++ 10 ∷ []) ≡ Refused 7 EndsEarly
+unfolding sorted put
+propagates_by_row = refl
+
+propagates_by_no_row : judged_crossed (codes "n 0 0.1" ++ 10 ∷ [] ++ codes "d 0.1" ++ 10 ∷ [] ++ codes "d #0" ++ 10 ∷ [] ++ codes "u 0.2 ;" ++ 10 ∷ []) ≡ Refused 7 NoConflict
+unfolding sorted put
+propagates_by_no_row = refl
 
 no_third_profile : verdict_of 1 two (codes "embedding proof 3" ++ 10 ∷ codes "m 2" ++ 10 ∷ []) ≡ Refused 1 Malformed
 no_third_profile = refl

@@ -15,9 +15,9 @@ use Rattle.log_theory.specs.declared.step.Ref.TheVariants.{Line, Made, Shared}
 use Rattle.log_theory.specs.declared.step.Op.{Op}
 use Rattle.log_theory.specs.declared.step.Op.TheVariants.{Push, Axiom, Add, Times, Divide, Saturate}
 use Rattle.log_theory.specs.declared.step.Step.{Step}
-use Rattle.log_theory.specs.declared.step.Step.TheVariants.{Head, Model, P, U, N, E, Y, Q}
+use Rattle.log_theory.specs.declared.step.Step.TheVariants.{Head, Model, P, U, N, D, E, Y, Q}
 use Rattle.log_theory.specs.Words.{pieces, is_empty, same_word, begins_with, joined}
-use Rattle.log_theory.specs.LogText.{name_text, ref_text, literal_text, op_words, step_words, is_numeral, numeral_below, numeral_of, name_from, name_pieces, name_of, ref_from, row_ref, ref_of, variable_of, literal_from, literal_of, in_front, all_of, Nothing, Star, Dee, OpsRead, op_read, number_op, push_op, op_in_front, ops_in_front, ops_read, ops_from, Parted, parted_in_front, part, closed, p_from, u_from, n_from, e_from, y_from, m_from, when_closed, u_parted, step_behind, step_of_words, read_line, IsName, IsRef, AreRefs, AreLiterals, AreOnes, AreOps, IsStep}
+use Rattle.log_theory.specs.LogText.{name_text, ref_text, literal_text, op_words, step_words, is_numeral, numeral_below, numeral_of, name_from, name_pieces, name_of, ref_from, row_ref, ref_of, variable_of, literal_from, literal_of, in_front, all_of, Nothing, Star, Dee, OpsRead, op_read, number_op, push_op, op_in_front, ops_in_front, ops_read, ops_from, Parted, parted_in_front, part, closed, p_from, u_from, n_from, d_from, e_from, y_from, m_from, when_closed, u_parted, step_behind, step_of_words, read_line, IsName, IsRef, AreRefs, AreLiterals, AreOnes, AreOps, IsStep}
 use Rattle.log_theory.proofs.Splitting.{AllBetween, AllBetween-append, AllBetween-tested, Passes, pieces_front, pieces_whole, IsWord, AreWords, AreWords-append, pieces_joined, decimal_bytes, decimal_some, all_ascii_digits-between, IsWord-decimal}
 
 -- A number has no leading zero.
@@ -294,6 +294,7 @@ words_step (Model m) h = (sign 109 (omega arith) (omega arith), (IsWord-decimal 
 words_step (P name ops) h = (sign 112 (omega arith) (omega arith), (word_name name h.0, AreWords-append (op_words ops) (codes ";" ∷ []) (words_ops ops h.1) (sign 59 (omega arith) (omega arith), tt)))
 words_step (U name lits refs) h = (sign 117 (omega arith) (omega arith), (word_name name h.0, AreWords-append (map literal_text lits) (codes ";" ∷ (map ref_text refs ++ codes ";" ∷ [])) (words_literals lits h.1) (sign 59 (omega arith) (omega arith), AreWords-append (map ref_text refs) (codes ";" ∷ []) (words_refs refs h.2) (sign 59 (omega arith) (omega arith), tt))))
 words_step (N row name) h = let k : row < 2 ^ 22 = h.0 in (sign 110 (omega arith) (omega arith), (IsWord-decimal row (omega arith), (word_name name h.1, tt)))
+words_step (D at) h = (sign 100 (omega arith) (omega arith), (word_ref at h.0, tt))
 words_step (E at) h = (sign 101 (omega arith) (omega arith), (word_ref at h, tt))
 words_step (Y ones) h = (sign 121 (omega arith) (omega arith), words_ones ones h)
 words_step Q h = (sign 113 (omega arith) (omega arith), tt)
@@ -321,6 +322,7 @@ words_read (U name lits refs) h =
 words_read (N row name) h =
     ap (λ (o : Option ℕ). n_from o (name_of (name_text name))) (numeral-decimal (2 ^ 22) row h.0 (omega arith))
     ∙ ap (λ (o : Option Name). n_from (Some row) o) (name_read name h.1)
+words_read (D at) h = ap d_from (ref_read at h.0) ∙ ap (λ (x : Bool). let o : Option Step = cond x None (Some (D at)) in o) h.1
 words_read (E at) h = ap e_from (ref_read at h)
 words_read (Y []) h = refl
 words_read (Y (v ∷ vs)) h = ones_line (map (λ w. 120 ∷ decimal w) (v ∷ vs)) (λ e. cc) ∙ ap y_from (ones_read (v ∷ vs) h)
@@ -339,6 +341,7 @@ step_has_words (Model m) e = cc
 step_has_words (P name ops) e = cc
 step_has_words (U name lits refs) e = cc
 step_has_words (N row name) e = cc
+step_has_words (D at) e = cc
 step_has_words (E at) e = cc
 step_has_words (Y ones) e = cc
 step_has_words Q e = cc

@@ -1,5 +1,5 @@
 -- The text of a log's lines: the words of each step, and the step that words tell.
-use Rattle.std.specs.Prelude.{⊤, ◌≤◌, ◌<◌, ℕ, ◌^◌, Bool, true, false, cond, not, ◌==◌, ◌&&◌, ◌||◌, nat_lt, nat_le, List, [], ◌∷◌, ◌++◌, map, Option, Some, None}
+use Rattle.std.specs.Prelude.{◌≡◌, ⊤, ◌≤◌, ◌<◌, ℕ, ◌^◌, Bool, true, false, cond, not, ◌==◌, ◌&&◌, ◌||◌, nat_lt, nat_le, List, [], ◌∷◌, ◌++◌, map, Option, Some, None}
 use Rattle.std.specs.Fmt.{decimal}
 use Rattle.std.specs.Str.{all_ascii_digits}
 use Rattle.std.specs.Str.Parse.{digits_value}
@@ -11,7 +11,7 @@ use Rattle.log_theory.specs.declared.step.Ref.TheVariants.{Line, Made, Shared}
 use Rattle.log_theory.specs.declared.step.Op.{Op}
 use Rattle.log_theory.specs.declared.step.Op.TheVariants.{Push, Axiom, Add, Times, Divide, Saturate}
 use Rattle.log_theory.specs.declared.step.Step.{Step}
-use Rattle.log_theory.specs.declared.step.Step.TheVariants.{Head, Model, P, U, N, E, Y, Q}
+use Rattle.log_theory.specs.declared.step.Step.TheVariants.{Head, Model, P, U, N, D, E, Y, Q}
 use Rattle.log_theory.specs.Words.{pieces, is_empty, same_word, begins_with}
 
 -- ---- the words of a step
@@ -48,6 +48,7 @@ step_words (P name ops) = codes "p" ∷ name_text name ∷ (op_words ops ++ code
 step_words (U name lits refs) = codes "u" ∷ name_text name ∷ (map literal_text lits
     ++ codes ";" ∷ (map ref_text refs ++ codes ";" ∷ []))
 step_words (N row name) = codes "n" ∷ decimal row ∷ name_text name ∷ []
+step_words (D at) = codes "d" ∷ ref_text at ∷ []
 step_words (E at) = codes "e" ∷ ref_text at ∷ []
 step_words (Y ones) = codes "y" ∷ map (λ v. 120 ∷ decimal v) ones
 step_words Q = codes "q" ∷ []
@@ -221,6 +222,16 @@ abbrev pub n_from : Option ℕ → Option Name → Option Step
 n_from (Some row) (Some name) = Some (N row name)
 n_from _ _ = None
 
+-- Whether a reference is a number of the model.
+abbrev pub is_line : Ref → Bool
+is_line (Line k) = true
+is_line _ = false
+
+-- What a model holds is not deleted.
+abbrev pub d_from : Option Ref → Option Step
+d_from (Some at) = cond (is_line at) None (Some (D at))
+d_from None = None
+
 abbrev pub e_from : Option Ref → Option Step
 e_from (Some at) = Some (E at)
 e_from None = None
@@ -255,8 +266,9 @@ step_behind kind (name ∷ ws) =
     short_step : List ℕ → List (List ℕ) → Option Step
     short_step k (v ∷ []) =
         cond (same_word k (codes "m")) (m_from (numeral_of v))
+        (cond (same_word k (codes "d")) (d_from (ref_of v))
         (cond (same_word k (codes "e")) (e_from (ref_of v)) (cond (same_word k (codes "y"))
-        (y_from (all_of variable_of (v ∷ []))) None))
+        (y_from (all_of variable_of (v ∷ []))) None)))
     short_step k (v ∷ w ∷ []) =
         cond (same_word k (codes "n")) (n_from (numeral_below (2 ^ 22) v) (name_of w))
         (cond (same_word k (codes "embedding") && same_word v (codes "proof")
@@ -322,6 +334,7 @@ IsStep (Model m) = m < 2 ^ 63
 IsStep (P name ops) = IsName name × AreOps ops
 IsStep (U name lits refs) = IsName name × AreLiterals lits × AreRefs refs
 IsStep (N row name) = (row < 2 ^ 22) × IsName name
+IsStep (D at) = IsRef at × (is_line at ≡ false)
 IsStep (E at) = IsRef at
 IsStep (Y ones) = AreOnes ones
 IsStep Q = ⊤

@@ -183,8 +183,8 @@ impl Variables {
     }
 }
 
-/// A line of a log: the first two, a constraint made by operations or by unit propagation, one shared under a row, and the three last
-/// lines, unsatisfiable, satisfiable and undecided.
+/// A line of a log: the first two, a constraint made by operations or by unit propagation, one shared under a row, the deletion of what a
+/// name or a row names, and the three last lines, unsatisfiable, satisfiable and undecided.
 pub enum Step {
     Head,
     Model(u64),
@@ -200,6 +200,9 @@ pub enum Step {
     N {
         row: u32,
         name: Name,
+    },
+    D {
+        at: Ref,
     },
     E {
         at: Ref,
@@ -223,6 +226,7 @@ impl Drop for Step {
                 refs: _,
             } => (),
             Step::N { row: _, name: _ } => (),
+            Step::D { at: _ } => (),
             Step::E { at: _ } => (),
             Step::Y { ones: _ } => (),
             Step::Q => (),

@@ -10,7 +10,7 @@ use Rattle.log_theory.specs.declared.profile.Profile.TheVariants.{Hinted, Plain}
 use Rattle.log_theory.specs.declared.step.Name.{Name}
 use Rattle.log_theory.specs.declared.step.Ref.{Ref}
 use Rattle.log_theory.specs.declared.step.Step.{Step}
-use Rattle.log_theory.specs.declared.step.Step.TheVariants.{Head, Model, P, U, N, E, Y, Q}
+use Rattle.log_theory.specs.declared.step.Step.TheVariants.{Head, Model, P, U, N, D, E, Y, Q}
 use Rattle.log_theory.specs.declared.step.Verdict.{Verdict}
 use Rattle.log_theory.specs.Words.{pieces, line_text}
 use Rattle.log_theory.specs.LogText.{name_text, step_words, AreLiterals, IsName, IsStep}
@@ -79,6 +79,7 @@ line_cut (Model m) h = ap (λ (t : List ℕ). t ++ 10 ∷ []) (sym (line_without
 line_cut (P name ops) h = ap (λ (t : List ℕ). t ++ 10 ∷ []) (sym (line_without (P name ops) h (λ e. cc)))
 line_cut (U name lits refs) h = u_cut name lits refs h.0 h.1 ∙ ap (λ (t : List ℕ). t ++ 10 ∷ []) (sym (line_without (U name lits refs) h (λ e. cc)))
 line_cut (N row name) h = ap (λ (t : List ℕ). t ++ 10 ∷ []) (sym (line_without (N row name) h (λ e. cc)))
+line_cut (D at) h = ap (λ (t : List ℕ). t ++ 10 ∷ []) (sym (line_without (D at) h (λ e. cc)))
 line_cut (E at) h = ap (λ (t : List ℕ). t ++ 10 ∷ []) (sym (line_without (E at) h (λ e. cc)))
 line_cut (Y ones) h = ap (λ (t : List ℕ). t ++ 10 ∷ []) (sym (line_without (Y ones) h (λ e. cc)))
 line_cut Q h = ap (λ (t : List ℕ). t ++ 10 ∷ []) (sym (line_without Q h (λ e. cc)))

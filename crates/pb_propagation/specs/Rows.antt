@@ -1,35 +1,24 @@
--- How a table keeps its forms: by owner in the order of their numbers, and each shared row by the place of its form there.
-use Rattle.std.specs.Prelude.{◌≡◌, ℕ, ◌<◌, ◌≤◌, List, [], ◌∷◌, ◌++◌, length, get_or, set, pos}
+-- How a table keeps its rows: their numbers, which rise, and beside them what stands under each.
+use Rattle.std.specs.Prelude.{◌≡◌, ℕ, ◌<◌, ◌≤◌, List, [], ◌∷◌, ◌++◌, length, get_or, set, Option, Some}
 use Rattle.proof_theory.specs.Forms.{Form}
-use Rattle.pb_propagation.specs.declared.table.Place.{Place}
-
--- What a place without a form is read as.
-abbrev pub no_form : Form
-no_form = record { terms = []; bound = pos 0 }
-
--- The form at a place of an owner's list.
-abbrev pub form_at : List (List Form) → Place → Form
-form_at made p = get_or (get_or made p.owner []) p.index no_form
 
 -- The lists with one more form of an owner.
-abbrev pub grown : List (List Form) → ℕ → Form → List (List Form)
-grown made owner f = set made owner (get_or made owner [] ++ f ∷ [])
+abbrev pub grown : List (List (Option Form)) → ℕ → Form → List (List (Option Form))
+grown made owner f = set made owner (get_or made owner [] ++ Some f ∷ [])
 
--- The rows with their forms.
-abbrev pub rows_of : List (List Form) → List ℕ → List Place → List (ℕ × Form)
-rows_of made (r ∷ rs) (p ∷ ps) = (r, form_at made p) ∷ rows_of made rs ps
-rows_of made _ _ = []
+-- The lists with another item at a place of an owner's.
+abbrev pub replaced : List (List (Option Form)) → ℕ → ℕ → Option Form → List (List (Option Form))
+replaced made owner i f = set made owner (set (get_or made owner []) i f)
 
--- Each place has a form.
-abbrev pub ArePlaced : List (List Form) → List Place → Type 0
-ArePlaced made [] = Unit {0}
-ArePlaced made (p ∷ ps) = (p.index < length (get_or made p.owner [])) × ArePlaced made ps
+-- The rows with what stands under them.
+abbrev pub rows_of : List ℕ → List (Option Form) → List (ℕ × Option Form)
+rows_of (r ∷ rs) (f ∷ fs) = (r, f) ∷ rows_of rs fs
+rows_of _ _ = []
 
--- The rows rise, and each has a place with a form.
-pub record AreKept (made : List (List Form)) (rows : List ℕ) (places : List Place) : Type 0 where
+-- The rows rise, and under each something stands, or stood.
+pub record AreKept (rows : List ℕ) (forms : List (Option Form)) : Type 0 where
   pub rise : (i j : ℕ) → i < j → j < length rows → get_or rows i 0 < get_or rows j 0
-  pub long : length places ≡ length rows
-  pub placed : ArePlaced made places
+  pub long : length forms ≡ length rows
 
 -- The row stands at this index.
 pub record StandsAt (rows : List ℕ) (row i : ℕ) : Type 0 where

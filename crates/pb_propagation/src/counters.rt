@@ -8,6 +8,7 @@ use super::following::greatest_of;
 use super::levels::Levels;
 use super::reach::reach;
 use super::short_following::excess_of;
+use super::slot::Slot;
 use super::table::Table;
 use super::uses::{Use, Uses};
 use log_theory::{Name, Ref};
@@ -23,8 +24,8 @@ pub struct Counter {
 }
 
 /// The counter and the name of each constraint, by its number; the uses of each literal; how many constraints of the model and of each
-/// owner have a number; up to which number all that they force at the root was set; and how many literals of the queue were taken
-/// from the counters.
+/// owner have a number; up to which number all that they force at the root was set; how many literals of the queue were taken
+/// from the counters; whether some were at the root; and how many names and rows were deleted.
 pub struct Counters {
     pub slacks: Vec<Counter>,
     pub names: Vec<Ref>,
@@ -32,6 +33,8 @@ pub struct Counters {
     counted: Vec<usize>,
     pub settled: usize,
     pub taken: usize,
+    has_root: bool,
+    deleted: usize,
 }
 
 impl Drop for Counters {
@@ -44,6 +47,8 @@ impl Drop for Counters {
             counted: _,
             settled: _,
             taken: _,
+            has_root: _,
+            deleted: _,
         } = self;
     }
 }
@@ -154,6 +159,29 @@ impl Counters {
             counted: Vec::new(alloc),
             settled: 0,
             taken: 0,
+            has_root: false,
+            deleted: 0,
+        }
+    }
+
+    /// Notes that a name or a row was deleted, and that what the root had is forgotten.
+    pub fn note_deleted(&mut self) {
+        self.deleted = self.deleted.saturating_add(1);
+    }
+
+    /// Notes whether the root has a literal that the counters may have taken.
+    pub fn note_root(&mut self, set: &Levels) {
+        self.has_root = self.has_root || set.at(0).is_some();
+    }
+
+    /// Begins anew where something was deleted and the root had a literal, which is no longer known to be true; and where as much was
+    /// deleted as half of what has a number, so that the uses of what is gone take no more memory than those of what stands.
+    pub fn renew(&mut self, alloc: Global) {
+        if self.deleted == 0 {
+            return;
+        }
+        if self.has_root || self.deleted.saturating_mul(2) >= self.names.len() {
+            *self = Counters::new(alloc);
         }
     }
 
@@ -190,20 +218,22 @@ impl Counters {
         note_counted(&mut self.counted, 0, model.len())
     }
 
-    /// Numbers what an owner has made that has no number.
+    /// Numbers what an owner has made and stands there without a number.
     fn number_made(
         &mut self,
         alloc: Global,
         set: &Levels,
         owner: u8,
-        made: &[PackedConstraint],
+        made: &[Slot],
     ) -> Result<(), AllocError> {
         let list = usize::from(owner) + 1;
         let from = counted_of(&self.counted, list);
         for at in from..made.len() {
-            let number = (at as u64).saturating_add(1);
-            let name = Ref::Made(Name { owner, number });
-            self.number(alloc, set, name, &made[at])?;
+            if let Some(next) = made[at].constraint() {
+                let number = (at as u64).saturating_add(1);
+                let name = Ref::Made(Name { owner, number });
+                self.number(alloc, set, name, next)?;
+            }
         }
         note_counted(&mut self.counted, list, made.len())
     }

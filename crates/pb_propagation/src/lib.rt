@@ -19,11 +19,13 @@ mod propagator;
 pub mod reach;
 mod short_following;
 mod short_propagate;
+mod slot;
 mod table;
 mod uses;
 
 // What stands, and what keeps a line from being taken.
 pub use fault::LineFault;
+pub use slot::Slot;
 pub use table::Table;
 
 // Constraints of literals.

@@ -56,6 +56,15 @@ impl Propagator {
             counters: Counters::new(alloc),
         })
     }
+
+    /// Forgets what lasts, which may have come from a constraint that was deleted. Constant; but the next line that names nothing finds it
+    /// again, and where something did last it counts all that stands anew. So many deletions between many such lines are slow.
+    pub fn forget(&mut self)
+        ensures { (v : ℕ) → root self.new.levels v ≡ None }
+    {
+        self.levels.forget();
+        self.counters.note_deleted();
+    }
 }
 
 /// Follows the constraint of a name, unless there was a conflict before; whether there is one.
@@ -168,13 +177,15 @@ fn close_root(
     let from = counters.settled;
     counters.settled = 0;
     if follow_from(set, &counters.slacks, &counters.names, from, model, table) {
+        counters.note_root(set);
         return true;
     }
-    if run(set, counters, model, table) {
-        return true;
+    let closed = run(set, counters, model, table);
+    counters.note_root(set);
+    if !closed {
+        counters.settled = counters.slacks.len();
     }
-    counters.settled = counters.slacks.len();
-    false
+    closed
 }
 
 /// Sets a literal that is assumed, if its variable is unset; whether it is false.
@@ -264,6 +275,7 @@ fn close(
     ensures closed { IfOk result (λ b. OnTrue b
         (closes (setting assumed.now) (all_forms model.now table.now) ≡ true)) }
 {
+    counters.renew(alloc);
     levels.begin();
     counters.take_in(alloc, levels, model, table)?;
     levels.grow(counters.reach().max(above(literals) as usize))?;

@@ -11,12 +11,11 @@ use Rattle.proof_theory.specs.Propagation.{IsAmong, Value, ForcesValue, HasConfl
 use Rattle.proof_theory.proofs.Propagation.{extends_itself, extends_on, extends_after, forces_wider, conflict_wider, closes_after, closes_same, closes_at_conflict, closes_not}
 use Rattle.log_theory.specs.declared.step.Cause.TheVariants.{NoConflict}
 use Rattle.log_theory.specs.Lookups.{are_distinct, variables_of, closed_clause}
-use Rattle.log_theory.specs.Tables.{Table, all_forms}
-use Rattle.log_theory.proofs.DroppedLogs.{left_among, right_among}
+use Rattle.log_theory.specs.Tables.{Table, all_forms, somes}
+use Rattle.log_theory.proofs.DroppedLogs.{left_among, right_among, somes-append, some_among, behind_among, list_among}
 use Rattle.pb_terms.specs.Trail.{unset_count}
 use Rattle.pb_propagation.proofs.Backwards.{from_place}
 use Rattle.pb_propagation.proofs.Propagation.{reaches_wider, forms_wider}
-use Rattle.pb_propagation.proofs.SharedRows.{place_among}
 use Rattle.pb_propagation.specs.Reach.{Reaches, AllReach}
 use Rattle.proof_checker.specs.Passing.{Taken, PassedOver, Passed}
 
@@ -36,6 +35,11 @@ take_among f fs zero k = absurd k
 take_among f [] (suc i) k = absurd k
 take_among f (g ∷ gs) (suc i) (inl e) = inl e
 take_among f (g ∷ gs) (suc i) (inr k) = inr (take_among f gs i k)
+
+item_among : (fs : List Form) (i : ℕ) (d : Form) → i < length fs → IsAmong (get_or fs i d) fs
+item_among [] i d h = absurd (omega arith)
+item_among (f ∷ fs) zero d h = inl refl
+item_among (f ∷ fs) (suc i) d h = inr (item_among fs i d (omega arith))
 
 reach_at : (n : ℕ) (fs : List Form) (i : ℕ) (d : Form) → AllReach n fs → i < length fs → Reaches n (get_or fs i d).terms
 reach_at n [] i d h k = absurd (omega arith)
@@ -117,86 +121,162 @@ pass_more s t u fs i x h e p c a r =
 
 pub pass_conflict : (s t : Setting) (fs : List Form) (i : ℕ) (x : Form) → i < length fs → x ≡ get_or fs i x → PassedOver s (take i fs) t → conflict t x ≡ true → (u : Setting) → Passed true s fs u
 pass_conflict s t fs i x h e p c u =
-    passed_conflict s t (take i fs) fs x (λ g k. take_among g fs i k) (subst (λ (y : Form). IsAmong y fs) (sym e) (place_among fs i x h)) p c u
+    passed_conflict s t (take i fs) fs x (λ g k. take_among g fs i k) (subst (λ (y : Form). IsAmong y fs) (sym e) (item_among fs i x h)) p c u
 
--- ---- the loop over lists
+-- ---- the loop over slots
 
-abbrev pub flat : List (List Form) → List Form
+-- The slots up to the next one.
+slots_more : (os : List (Option Form)) (i : ℕ) (o : Option Form) → i < length os → o ≡ get_or os i o → somes (take (i + 1) os) ≡ somes (take i os) ++ somes (o ∷ [])
+slots_more os i o h e =
+    ap somes (take_more os i o h ∙ ap (λ (p : Option Form). take i os ++ p ∷ []) (sym e)) ∙ somes-append (take i os) (o ∷ [])
+
+-- What stands in a slot is among all that does, and so is what stands in those before it.
+slot_among : (os : List (Option Form)) (i : ℕ) (f : Form) → i < length os → Some f ≡ get_or os i (Some f) → IsAmong f (somes os)
+slot_among [] i f h e = absurd (omega arith)
+slot_among (o ∷ os) zero f h e = some_among o os f (sym e)
+slot_among (o ∷ os) (suc i) f h e = behind_among o os f (slot_among os i f (omega arith) e)
+
+front_among : (os : List (Option Form)) (i : ℕ) (f : Form) → IsAmong f (somes (take i os)) → IsAmong f (somes os)
+front_among os zero f k = absurd k
+front_among [] (suc i) f k = absurd k
+front_among (None ∷ os) (suc i) f k = front_among os i f k
+front_among (Some g ∷ os) (suc i) f (inl e) = inl e
+front_among (Some g ∷ os) (suc i) f (inr k) = inr (front_among os i f k)
+
+-- What stands in a slot reaches no further than all that does.
+pub reach_slot : (n m : ℕ) (os : List (Option Form)) (i : ℕ) (o : Option Form) (f : Form) → i < length os → o ≡ get_or os i o → o ≡ Some f → m ≡ n → AllReach n (somes os) → Reaches m f.terms
+reach_slot n m os i o f h e s l a =
+    subst (λ (k : ℕ). Reaches k f.terms) (sym l) (at os i h (sym s ∙ e ∙ ap (λ (d : Option Form). get_or os i d) s) a)
+  where
+    at : (ps : List (Option Form)) (j : ℕ) → j < length ps → Some f ≡ get_or ps j (Some f) → AllReach n (somes ps) → Reaches n f.terms
+    at [] j q g b = absurd (omega arith)
+    at (None ∷ ps) zero q g b = absurd cc
+    at (Some x ∷ ps) zero q g b = subst (λ (y : Form). Reaches n y.terms) (let z : x ≡ f = cc in z) b.0
+    at (None ∷ ps) (suc j) q g b = at ps j (omega arith) g b
+    at (Some x ∷ ps) (suc j) q g b = at ps j (omega arith) g b.1
+
+pub slot_more : (s t u : Setting) (os : List (Option Form)) (i : ℕ) (o : Option Form) (f : Form) → i < length os → o ≡ get_or os i o → o ≡ Some f → PassedOver s (somes (take i os)) t → conflict t f ≡ false → ((v : ℕ) → u v ≡ after t f v) → Rises 0 f.terms
+    → PassedOver s (somes (take (i + 1) os)) u
+slot_more s t u os i o f h e k p c a r =
+    subst (λ (gs : List Form). PassedOver s gs u) (sym (slots_more os i o h e ∙ ap (λ (x : Option Form). somes (take i os) ++ somes (x ∷ [])) k)) (passed_next s t u (somes (take i os)) f p c a r)
+
+pub slot_none : (s t : Setting) (os : List (Option Form)) (i : ℕ) (o : Option Form) → i < length os → o ≡ get_or os i o → o ≡ None → PassedOver s (somes (take i os)) t → PassedOver s (somes (take (i + 1) os)) t
+slot_none s t os i o h e k p =
+    subst (λ (gs : List Form). PassedOver s gs t) (sym (slots_more os i o h e ∙ ap (λ (x : Option Form). somes (take i os) ++ somes (x ∷ [])) k ∙ none_behind (somes (take i os)))) p
+  where
+    none_behind : (fs : List Form) → fs ++ [] ≡ fs
+    none_behind [] = refl
+    none_behind (x ∷ xs) = ap (λ (gs : List Form). x ∷ gs) (none_behind xs)
+
+pub slot_conflict : (s t : Setting) (os : List (Option Form)) (i : ℕ) (o : Option Form) (f : Form) → i < length os → o ≡ get_or os i o → o ≡ Some f → PassedOver s (somes (take i os)) t → conflict t f ≡ true → (u : Setting) → Passed true s (somes os) u
+slot_conflict s t os i o f h e k p c u =
+    passed_conflict s t (somes (take i os)) (somes os) f (λ g m. front_among os i g m) (slot_among os i f h (sym k ∙ e ∙ ap (λ (d : Option Form). get_or os i d) k)) p c u
+
+-- ---- the loop over lists of slots
+
+abbrev pub flat : List (List (Option Form)) → List (Option Form)
 flat lists = flat_map (λ fs. fs) lists
 
-one_flat : (fs : List Form) → flat (fs ∷ []) ≡ fs
+one_flat : (fs : List (Option Form)) → flat (fs ∷ []) ≡ fs
 one_flat [] = refl
-one_flat (f ∷ fs) = ap (λ (gs : List Form). f ∷ gs) (one_flat fs)
+one_flat (f ∷ fs) = ap (λ (gs : List (Option Form)). f ∷ gs) (one_flat fs)
 
-flat_parts : (front rest : List (List Form)) → flat (front ++ rest) ≡ flat front ++ flat rest
+flat_parts : (front rest : List (List (Option Form))) → flat (front ++ rest) ≡ flat front ++ flat rest
 flat_parts [] rest = refl
-flat_parts (fs ∷ front) rest = ap (λ (gs : List Form). fs ++ gs) (flat_parts front rest) ∙ joined fs (flat front) (flat rest)
+flat_parts (fs ∷ front) rest = ap (λ (gs : List (Option Form)). fs ++ gs) (flat_parts front rest) ∙ joined fs (flat front) (flat rest)
   where
-    joined : (a b c : List Form) → a ++ (b ++ c) ≡ (a ++ b) ++ c
+    joined : (a b c : List (Option Form)) → a ++ (b ++ c) ≡ (a ++ b) ++ c
     joined [] b c = refl
-    joined (x ∷ xs) b c = ap (λ (gs : List Form). x ∷ gs) (joined xs b c)
+    joined (x ∷ xs) b c = ap (λ (gs : List (Option Form)). x ∷ gs) (joined xs b c)
 
-pub flat_more : (lists : List (List Form)) (i : ℕ) → i < length lists → flat (take (i + 1) lists) ≡ flat (take i lists) ++ get_or lists i []
-flat_more lists i h = ap flat (take_more lists i [] h) ∙ flat_parts (take i lists) (get_or lists i [] ∷ []) ∙ ap (λ (gs : List Form). flat (take i lists) ++ gs) (one_flat (get_or lists i []))
+-- What stands in the lists up to the next one.
+pub flat_more : (lists : List (List (Option Form))) (i : ℕ) → i < length lists → somes (flat (take (i + 1) lists)) ≡ somes (flat (take i lists)) ++ somes (get_or lists i [])
+flat_more lists i h =
+    ap somes (ap flat (take_more lists i [] h) ∙ flat_parts (take i lists) (get_or lists i [] ∷ []) ∙ ap (λ (gs : List (Option Form)). flat (take i lists) ++ gs) (one_flat (get_or lists i [])))
+    ∙ somes-append (flat (take i lists)) (get_or lists i [])
 
-pub reach_list : (n : ℕ) (lists : List (List Form)) (i : ℕ) → AllReach n (flat lists) → i < length lists → AllReach n (get_or lists i [])
+reach_front : (n : ℕ) (fs gs : List Form) → AllReach n (fs ++ gs) → AllReach n fs
+reach_front n [] gs h = tt
+reach_front n (x ∷ xs) gs h = (h.0, reach_front n xs gs h.1)
+
+reach_rest : (n : ℕ) (fs gs : List Form) → AllReach n (fs ++ gs) → AllReach n gs
+reach_rest n [] gs h = h
+reach_rest n (x ∷ xs) gs h = reach_rest n xs gs h.1
+
+pub reach_list : (n : ℕ) (lists : List (List (Option Form))) (i : ℕ) → AllReach n (somes (flat lists)) → i < length lists → AllReach n (somes (get_or lists i []))
 reach_list n [] i h k = absurd (omega arith)
-reach_list n (fs ∷ lists) zero h k = front fs (flat lists) h
-  where
-    front : (a b : List Form) → AllReach n (a ++ b) → AllReach n a
-    front [] b g = tt
-    front (x ∷ xs) b g = (g.0, front xs b g.1)
-reach_list n (fs ∷ lists) (suc i) h k = reach_list n lists i (rest fs (flat lists) h) (omega arith)
-  where
-    rest : (a b : List Form) → AllReach n (a ++ b) → AllReach n b
-    rest [] b g = g
-    rest (x ∷ xs) b g = rest xs b g.1
+reach_list n (fs ∷ lists) zero h k = reach_front n (somes fs) (somes (flat lists)) (subst (λ (gs : List Form). AllReach n gs) (somes-append fs (flat lists)) h)
+reach_list n (fs ∷ lists) (suc i) h k = reach_list n lists i (reach_rest n (somes fs) (somes (flat lists)) (subst (λ (gs : List Form). AllReach n gs) (somes-append fs (flat lists)) h)) (omega arith)
 
 pub reach_both : (n : ℕ) (fs gs : List Form) → AllReach n fs → AllReach n gs → AllReach n (fs ++ gs)
 reach_both n [] gs h k = k
 reach_both n (f ∷ fs) gs h k = (h.0, reach_both n fs gs h.1 k)
 
-list_of : (lists : List (List Form)) (i : ℕ) → i < length lists → (f : Form) → IsAmong f (get_or lists i []) → IsAmong f (flat lists)
-list_of [] i h f k = absurd (omega arith)
-list_of (fs ∷ lists) zero h f k = left_among f fs (flat lists) k
-list_of (fs ∷ lists) (suc i) h f k = right_among f fs (flat lists) (list_of lists i (omega arith) f k)
+-- What all forms of a table reach, its parts do.
+pub reach_model : (n : ℕ) (model : List Form) (t : Table) → AllReach n (all_forms model t) → AllReach n model
+reach_model n model t h = reach_front n model _ h
 
-taken_of : (lists : List (List Form)) (i : ℕ) (f : Form) → IsAmong f (flat (take i lists)) → IsAmong f (flat lists)
+pub reach_made : (n : ℕ) (model : List Form) (t : Table) → AllReach n (all_forms model t) → AllReach n (somes (flat t.made))
+reach_made n model t h = reach_front n (somes (flat t.made)) _ (reach_rest n model _ h)
+
+pub reach_shared : (n : ℕ) (model : List Form) (t : Table) → AllReach n (all_forms model t) → AllReach n (somes (map (λ s. s.1) t.shared))
+reach_shared n model t h = reach_rest n (somes (flat t.made)) _ (reach_rest n model _ h)
+
+list_of : (lists : List (List (Option Form))) (i : ℕ) → i < length lists → (f : Form) → IsAmong f (somes (get_or lists i [])) → IsAmong f (somes (flat lists))
+list_of lists i h f k = list_among lists i f k
+
+taken_of : (lists : List (List (Option Form))) (i : ℕ) (f : Form) → IsAmong f (somes (flat (take i lists))) → IsAmong f (somes (flat lists))
 taken_of lists zero f k = absurd k
 taken_of [] (suc i) f k = absurd k
-taken_of (fs ∷ lists) (suc i) f k = by (λ g. taken_of lists i f g) (split_among f fs (flat (take i lists)) k)
+taken_of (fs ∷ lists) (suc i) f k =
+    subst (λ (gs : List Form). IsAmong f gs) (sym (somes-append fs (flat lists)))
+    (by (λ g. taken_of lists i f g) (split_among f (somes fs) (somes (flat (take i lists))) (subst (λ (gs : List Form). IsAmong f gs) (somes-append fs (flat (take i lists))) k)))
   where
-    by : (IsAmong f (flat (take i lists)) → IsAmong f (flat lists)) → IsAmong f fs ⊎ IsAmong f (flat (take i lists)) → IsAmong f (fs ++ flat lists)
-    by ih (inl g) = left_among f fs (flat lists) g
-    by ih (inr g) = right_among f fs (flat lists) (ih g)
+    by : (IsAmong f (somes (flat (take i lists))) → IsAmong f (somes (flat lists))) → IsAmong f (somes fs) ⊎ IsAmong f (somes (flat (take i lists))) → IsAmong f (somes fs ++ somes (flat lists))
+    by ih (inl g) = left_among f (somes fs) (somes (flat lists)) g
+    by ih (inr g) = right_among f (somes fs) (somes (flat lists)) (ih g)
 
-pub lists_more : (s t u : Setting) (lists : List (List Form)) (i : ℕ) → i < length lists → PassedOver s (flat (take i lists)) t → PassedOver t (get_or lists i []) u → PassedOver s (flat (take (i + 1) lists)) u
-lists_more s t u lists i h p q = subst (λ (gs : List Form). PassedOver s gs u) (sym (flat_more lists i h)) (passed_both s t u (flat (take i lists)) (get_or lists i []) p q)
+lists_more : (s t u : Setting) (lists : List (List (Option Form))) (i : ℕ) → i < length lists → PassedOver s (somes (flat (take i lists))) t → PassedOver t (somes (get_or lists i [])) u → PassedOver s (somes (flat (take (i + 1) lists))) u
+lists_more s t u lists i h p q = subst (λ (gs : List Form). PassedOver s gs u) (sym (flat_more lists i h)) (passed_both s t u (somes (flat (take i lists))) (somes (get_or lists i [])) p q)
 
-pub lists_conflict : (s t u w : Setting) (lists : List (List Form)) (i : ℕ) → i < length lists → PassedOver s (flat (take i lists)) t → Passed true t (get_or lists i []) u → Passed true s (flat lists) w
+lists_conflict : (s t u w : Setting) (lists : List (List (Option Form))) (i : ℕ) → i < length lists → PassedOver s (somes (flat (take i lists))) t → Passed true t (somes (get_or lists i [])) u → Passed true s (somes (flat lists)) w
 lists_conflict s t u w lists i h p q hs m =
     sym (p.same hs (λ g k. m g (taken_of lists i g k))) ∙ q hs (λ g k. m g (list_of lists i h g k))
 
 -- A list of lists, each told by an item.
-at_list : {X : Type 0} (f : X → List Form) (xs : List X) (i : ℕ) (x : X) (fs : List Form) → i < length xs → x ≡ get_or xs i x → fs ≡ f x → get_or (map f xs) i [] ≡ fs
+at_list : {X : Type 0} (f : X → List (Option Form)) (xs : List X) (i : ℕ) (x : X) (fs : List (Option Form)) → i < length xs → x ≡ get_or xs i x → fs ≡ f x → get_or (map f xs) i [] ≡ fs
 at_list f xs i x fs h e k = get_or-map f xs i x [] h ∙ sym (ap f e) ∙ sym k
 
-as_many : {X : Type 0} (f : X → List Form) (xs : List X) (i : ℕ) → i < length xs → i < length (map f xs)
+as_many : {X : Type 0} (f : X → List (Option Form)) (xs : List X) (i : ℕ) → i < length xs → i < length (map f xs)
 as_many f xs i h = let l = length-map xs f in omega arith
 
-pub item_reach : {X : Type 0} (f : X → List Form) (xs : List X) (i : ℕ) (x : X) (fs : List Form) (n m : ℕ) → i < length xs → x ≡ get_or xs i x → fs ≡ f x → m ≡ n → AllReach n (flat (map f xs)) → AllReach m fs
+pub item_reach : {X : Type 0} (f : X → List (Option Form)) (xs : List X) (i : ℕ) (x : X) (fs : List (Option Form)) (n m : ℕ) → i < length xs → x ≡ get_or xs i x → fs ≡ f x → m ≡ n → AllReach n (somes (flat (map f xs))) → AllReach m (somes fs)
 item_reach f xs i x fs n m h e k l a =
-    subst (λ (j : ℕ). AllReach j fs) (sym l) (subst (λ (gs : List Form). AllReach n gs) (at_list f xs i x fs h e k) (reach_list n (map f xs) i a (as_many f xs i h)))
+    subst (λ (j : ℕ). AllReach j (somes fs)) (sym l) (subst (λ (gs : List (Option Form)). AllReach n (somes gs)) (at_list f xs i x fs h e k) (reach_list n (map f xs) i a (as_many f xs i h)))
 
-pub item_more : {X : Type 0} (f : X → List Form) (xs : List X) (i : ℕ) (x : X) (fs : List Form) (s t u : Setting) → i < length xs → x ≡ get_or xs i x → fs ≡ f x → PassedOver s (flat (take i (map f xs))) t → PassedOver t fs u
-    → PassedOver s (flat (take (i + 1) (map f xs))) u
+pub item_more : {X : Type 0} (f : X → List (Option Form)) (xs : List X) (i : ℕ) (x : X) (fs : List (Option Form)) (s t u : Setting) → i < length xs → x ≡ get_or xs i x → fs ≡ f x → PassedOver s (somes (flat (take i (map f xs)))) t → PassedOver t (somes fs) u
+    → PassedOver s (somes (flat (take (i + 1) (map f xs)))) u
 item_more f xs i x fs s t u h e k p q =
-    lists_more s t u (map f xs) i (as_many f xs i h) p (subst (λ (gs : List Form). PassedOver t gs u) (sym (at_list f xs i x fs h e k)) q)
+    lists_more s t u (map f xs) i (as_many f xs i h) p (subst (λ (gs : List (Option Form)). PassedOver t (somes gs) u) (sym (at_list f xs i x fs h e k)) q)
 
-pub item_conflict : {X : Type 0} (f : X → List Form) (xs : List X) (i : ℕ) (x : X) (fs : List Form) (s t u w : Setting) → i < length xs → x ≡ get_or xs i x → fs ≡ f x → PassedOver s (flat (take i (map f xs))) t → Passed true t fs u
-    → Passed true s (flat (map f xs)) w
+pub item_conflict : {X : Type 0} (f : X → List (Option Form)) (xs : List X) (i : ℕ) (x : X) (fs : List (Option Form)) (s t u w : Setting) → i < length xs → x ≡ get_or xs i x → fs ≡ f x → PassedOver s (somes (flat (take i (map f xs)))) t → Passed true t (somes fs) u
+    → Passed true s (somes (flat (map f xs))) w
 item_conflict f xs i x fs s t u w h e k p q =
-    lists_conflict s t u w (map f xs) i (as_many f xs i h) p (subst (λ (gs : List Form). Passed true t gs u) (sym (at_list f xs i x fs h e k)) q)
+    lists_conflict s t u w (map f xs) i (as_many f xs i h) p (subst (λ (gs : List (Option Form)). Passed true t (somes gs) u) (sym (at_list f xs i x fs h e k)) q)
+
+-- ---- the model, the lists and the rows
+
+pub all_passed : (b : Bool) (s t u w : Setting) (model : List Form) (table : Table) (lists : List (List (Option Form))) (rows : List (Option Form)) → lists ≡ table.made → rows ≡ map (λ e. e.1) table.shared
+    → PassedOver s model t → PassedOver t (somes (flat lists)) u → Passed b u (somes rows) w → Passed b s (all_forms model table) w
+all_passed b s t u w model table lists rows m r p q k =
+    subst (λ (ls : List (List (Option Form))). Passed b s (model ++ (somes (flat ls) ++ somes (map (λ e. e.1) table.shared))) w) m
+    (subst (λ (os : List (Option Form)). Passed b s (model ++ (somes (flat lists) ++ somes os)) w) r
+    (passed_behind b s t w model (somes (flat lists) ++ somes rows) p (passed_behind b t u w (somes (flat lists)) (somes rows) q k)))
+
+pub made_conflict : (s t u w : Setting) (model : List Form) (table : Table) (lists : List (List (Option Form))) → lists ≡ table.made → PassedOver s model t → Passed true t (somes (flat lists)) u → Passed true s (all_forms model table) w
+made_conflict s t u w model table lists m p q =
+    conflict_behind s t w w model (somes (flat table.made) ++ somes (map (λ e. e.1) table.shared)) p
+    (conflict_in_front t u w (somes (flat table.made)) (somes (map (λ e. e.1) table.shared)) (subst (λ (ls : List (List (Option Form))). Passed true t (somes (flat ls)) u) m q))
 
 -- ---- what forms reach, from the last one on
 
@@ -205,14 +285,33 @@ reach_more n m k xs i x ts h l e t r km nm a =
     subst (λ (fs : List Form). AllReach m fs) (ap (λ (y : Form). y ∷ drop i xs) e ∙ sym (from_place xs i x h l))
     (subst (λ (us : List (ℕ × ℤ)). Reaches m us) t (reaches_wider k m ts km r), forms_wider n m (drop i xs) nm a)
 
-pub lists_reach_more : {X : Type 0} (f : X → List Form) (xs : List X) (i : ℕ) (x : X) (fs : List Form) (n m k : ℕ) → 0 < i → i ≤ length xs → x ≡ get_or xs (i - 1) x → fs ≡ f x → AllReach k fs → k ≤ m → n ≤ m
-    → AllReach n (flat (drop i (map f xs))) → AllReach m (flat (drop (i - 1) (map f xs)))
+-- One slot more, from the end: what stands there is below m.
+pub slot_reach_more : (n m : ℕ) (os : List (Option Form)) (i : ℕ) (o : Option Form) (f : Form) (k : ℕ) → 0 < i → i ≤ length os → o ≡ get_or os (i - 1) o → o ≡ Some f → Reaches k f.terms → k ≤ m → n ≤ m → AllReach n (somes (drop i os)) → AllReach m (somes (drop (i - 1) os))
+slot_reach_more n m os i o f k h l e s r km nm a =
+    subst (λ (ps : List (Option Form)). AllReach m (somes ps)) (ap (λ (p : Option Form). p ∷ drop i os) (sym s ∙ e) ∙ sym (from_place os i o h l))
+    (reaches_wider k m f.terms km r, forms_wider n m (somes (drop i os)) nm a)
+
+pub slot_reach_none : (n : ℕ) (os : List (Option Form)) (i : ℕ) (o : Option Form) → 0 < i → i ≤ length os → o ≡ get_or os (i - 1) o → o ≡ None → AllReach n (somes (drop i os)) → AllReach n (somes (drop (i - 1) os))
+slot_reach_none n os i o h l e s a =
+    subst (λ (ps : List (Option Form)). AllReach n (somes ps)) (ap (λ (p : Option Form). p ∷ drop i os) (sym s ∙ e) ∙ sym (from_place os i o h l)) a
+
+pub lists_reach_more : {X : Type 0} (f : X → List (Option Form)) (xs : List X) (i : ℕ) (x : X) (fs : List (Option Form)) (n m k : ℕ) → 0 < i → i ≤ length xs → x ≡ get_or xs (i - 1) x → fs ≡ f x → AllReach k (somes fs) → k ≤ m → n ≤ m
+    → AllReach n (somes (flat (drop i (map f xs)))) → AllReach m (somes (flat (drop (i - 1) (map f xs))))
 lists_reach_more f xs i x fs n m k h l e q r km nm a =
     let long = length-map xs f in
     let d = from_place (map f xs) i [] h (omega arith) in
     let g = at_list f xs (i - 1) x fs (omega arith) e q in
-    subst (λ (ls : List (List Form)). AllReach m (flat ls)) (sym d)
-    (reach_both m (get_or (map f xs) (i - 1) []) (flat (drop i (map f xs))) (subst (λ (gs : List Form). AllReach m gs) (sym g) (forms_wider k m fs km r)) (forms_wider n m (flat (drop i (map f xs))) nm a))
+    let both = reach_both m (somes fs) (somes (flat (drop i (map f xs)))) (forms_wider k m (somes fs) km r) (forms_wider n m (somes (flat (drop i (map f xs)))) nm a) in
+    subst (λ (ls : List (List (Option Form))). AllReach m (somes (flat ls))) (ap (λ (gs : List (Option Form)). gs ∷ drop i (map f xs)) (sym g) ∙ sym d)
+    (subst (λ (gs : List Form). AllReach m gs) (sym (somes-append fs (flat (drop i (map f xs))))) both)
+
+-- The model, the lists and the rows reach no further than the greatest of what each reaches.
+pub table_reach : (n k l m : ℕ) (model : List Form) (table : Table) (lists : List (List (Option Form))) (rows : List (Option Form)) → lists ≡ table.made → rows ≡ map (λ e. e.1) table.shared → k ≤ n → l ≤ n → m ≤ n
+    → AllReach k model → AllReach l (somes (flat lists)) → AllReach m (somes rows) → AllReach n (all_forms model table)
+table_reach n k l m model table lists rows e r kn ln mn a b c =
+    reach_both n model _ (forms_wider k n model kn a)
+    (reach_both n (somes (flat table.made)) _ (forms_wider l n (somes (flat table.made)) ln (subst (λ (ls : List (List (Option Form))). AllReach l (somes (flat ls))) e b))
+    (forms_wider m n (somes (map (λ s. s.1) table.shared)) mn (subst (λ (os : List (Option Form)). AllReach m (somes os)) r c)))
 
 -- ---- a pass that sets nothing
 
@@ -283,24 +382,6 @@ unset_kept (o ∷ os) (n ∷ ns) l h =
         at g (suc v) = g v
 
 -- ---- what a line of literals alone makes
-
--- All forms of a table are among those of the model and of the lists, and these are among all.
-pub lists_close : (s t : Setting) (model : List Form) (table : Table) → ((v : ℕ) → s v ≡ t v) → ((f : Form) → IsAmong f (map (λ e. e.1) table.shared) → IsAmong f (flat table.made))
-    → closes s (model ++ flat table.made) ≡ closes t (all_forms model table)
-lists_close s t model table e h =
-    closes_same s t (model ++ flat table.made) (all_forms model table) e (λ f i. there f (split_among f model (flat table.made) i)) (λ f i. back f (split_among f model (flat table.made ++ map (λ x. x.1) table.shared) i))
-  where
-    there : (f : Form) → IsAmong f model ⊎ IsAmong f (flat table.made) → IsAmong f (all_forms model table)
-    there f (inl i) = left_among f model _ i
-    there f (inr i) = right_among f model _ (left_among f (flat table.made) _ i)
-
-    behind : (f : Form) → IsAmong f (flat table.made) ⊎ IsAmong f (map (λ x. x.1) table.shared) → IsAmong f (model ++ flat table.made)
-    behind f (inl i) = right_among f model _ i
-    behind f (inr i) = right_among f model _ (h f i)
-
-    back : (f : Form) → IsAmong f model ⊎ IsAmong f (flat table.made ++ map (λ x. x.1) table.shared) → IsAmong f (model ++ flat table.made)
-    back f (inl i) = left_among f model _ i
-    back f (inr i) = behind f (split_among f (flat table.made) (map (λ x. x.1) table.shared) i)
 
 pub closed_makes : (fs : List Form) (ls : List Literal) → are_distinct (variables_of ls) ≡ true → closes (negations ls) fs ≡ true → closed_clause fs ls ≡ Ok (clause_form ls)
 closed_makes fs ls d c = rw (d, c)

@@ -1,22 +1,18 @@
--- What lasts goes on to last: each step only adds forms.
-use Rattle.std.proofs.Common.{◌≡◌, ◌⊎◌, inl, inr, ℕ, zero, suc, List, [], ◌∷◌, ◌++◌, map, get_or, set, None, Result, Ok, Err, subst}
-use Rattle.log_theory.specs.declared.profile.Profile.{Profile}
-use Rattle.log_theory.specs.declared.profile.Profile.TheVariants.{Hinted, Plain}
+-- What lasts goes on to last: each step that makes or shares a constraint only adds forms.
+use Rattle.std.proofs.Common.{◌≡◌, ◌⊎◌, inl, inr, ℕ, zero, suc, List, [], ◌∷◌, ◌++◌, map, get_or, set, Option, Some, None, Result, Ok, Err, refl, sym, ap, subst}
+use Rattle.log_theory.specs.declared.profile.Profile.TheVariants.{Plain}
 use Rattle.log_theory.specs.declared.step.Cause.{Cause}
-use Rattle.log_theory.specs.declared.step.Cause.TheVariants.{NoSuchName, NotFalse, NotSolution, Twice}
-use Rattle.log_theory.specs.declared.step.Verdict.{Verdict}
-use Rattle.log_theory.specs.declared.step.Verdict.TheVariants.{Unsatisfiable, Satisfiable, Undecided}
 use Rattle.log_theory.specs.declared.step.Name.{Name}
-use Rattle.log_theory.specs.declared.step.Step.{Step}
-use Rattle.log_theory.specs.declared.step.Step.TheVariants.{Head, Model, P, U, N, E, Y, Q}
+use Rattle.log_theory.specs.declared.step.Op.{Op}
+use Rattle.log_theory.specs.declared.step.Ref.{Ref}
+use Rattle.log_theory.specs.declared.step.Step.TheVariants.{P, U, N}
+use Rattle.proof_theory.specs.declared.literal.Literal.{Literal}
 use Rattle.proof_theory.specs.Forms.{Form}
 use Rattle.proof_theory.specs.Propagation.{IsAmong}
-use Rattle.log_theory.specs.Steps.{◌>>=◌, unless, or_fault}
-use Rattle.log_theory.specs.Lookups.{makes, closed_clause, is_among, are_distinct}
-use Rattle.log_theory.specs.Tables.{Table, find, with_made, with_shared, fresh_name, fresh_row, all_forms, step_in}
-use Rattle.log_theory.specs.Verdicts.{Stage, Proving, Progress, Goes, Ends, progress_of, all_hold_at}
-use Rattle.proof_theory.specs.Rules.{is_contradiction}
-use Rattle.log_theory.proofs.DroppedLogs.{left_among, right_among}
+use Rattle.log_theory.specs.Steps.{◌>>=◌}
+use Rattle.log_theory.specs.Lookups.{makes, closed_clause}
+use Rattle.log_theory.specs.Tables.{Table, find, with_made, with_shared, fresh_name, fresh_row, all_forms, somes, step_of, step_in}
+use Rattle.log_theory.proofs.DroppedLogs.{left_among, right_among, somes-append}
 use Rattle.pb_propagation.specs.Led.{nothing}
 use Rattle.pb_propagation.specs.Levels.{TwoLevels, root}
 use Rattle.pb_propagation.specs.Rooted.{IsRooted}
@@ -27,40 +23,42 @@ use Rattle.pb_propagation.proofs.Led.{led_nothing, led_more}
 abbrev pub Grows : List Form → List Form → Type 0
 Grows fs gs = (f : Form) → IsAmong f fs → IsAmong f gs
 
-grows_flat : (lists : List (List Form)) (owner : ℕ) (g : Form) → Grows (flat lists) (flat (set lists owner (get_or lists owner [] ++ g ∷ [])))
-grows_flat [] owner g f i = absurd i
-grows_flat (fs ∷ lists) zero g f i = by (split_among f fs (flat lists) i)
+grows_parts : (fs gs rs ss : List Form) → Grows fs gs → Grows rs ss → Grows (fs ++ rs) (gs ++ ss)
+grows_parts fs gs rs ss h k f i = by (split_among f fs rs i)
   where
-    by : IsAmong f fs ⊎ IsAmong f (flat lists) → IsAmong f ((fs ++ g ∷ []) ++ flat lists)
-    by (inl k) = left_among f (fs ++ g ∷ []) (flat lists) (left_among f fs (g ∷ []) k)
-    by (inr k) = right_among f (fs ++ g ∷ []) (flat lists) k
-grows_flat (fs ∷ lists) (suc owner) g f i = by (grows_flat lists owner g f) (split_among f fs (flat lists) i)
-  where
-    by : (IsAmong f (flat lists) → IsAmong f (flat (set lists owner (get_or lists owner [] ++ g ∷ [])))) → IsAmong f fs ⊎ IsAmong f (flat lists) → IsAmong f (fs ++ flat (set lists owner (get_or lists owner [] ++ g ∷ [])))
-    by ih (inl k) = left_among f fs _ k
-    by ih (inr k) = right_among f fs _ (ih k)
+    by : IsAmong f fs ⊎ IsAmong f rs → IsAmong f (gs ++ ss)
+    by (inl j) = left_among f gs ss (h f j)
+    by (inr j) = right_among f gs ss (k f j)
 
-grows_parts : (model fs gs : List Form) (rs ss : List Form) → Grows fs gs → Grows rs ss → Grows (model ++ (fs ++ rs)) (model ++ (gs ++ ss))
-grows_parts model fs gs rs ss h k f i = by (split_among f model (fs ++ rs) i)
-  where
-    behind : IsAmong f fs ⊎ IsAmong f rs → IsAmong f (gs ++ ss)
-    behind (inl j) = left_among f gs ss (h f j)
-    behind (inr j) = right_among f gs ss (k f j)
+-- What stands in places, and in more of them.
+grows_somes : (os ps : List (Option Form)) → Grows (somes os) (somes (os ++ ps))
+grows_somes os ps f i = subst (λ (gs : List Form). IsAmong f gs) (sym (somes-append os ps)) (left_among f (somes os) (somes ps) i)
 
-    by : IsAmong f model ⊎ IsAmong f (fs ++ rs) → IsAmong f (model ++ (gs ++ ss))
-    by (inl j) = left_among f model _ j
-    by (inr j) = right_among f model _ (behind (split_among f fs rs j))
+grows_flat : (lists : List (List (Option Form))) (owner : ℕ) (o : Option Form) → Grows (somes (flat lists)) (somes (flat (set lists owner (get_or lists owner [] ++ o ∷ []))))
+grows_flat [] owner o f i = absurd i
+grows_flat (fs ∷ lists) zero o f i =
+    subst (λ (gs : List Form). IsAmong f gs) (sym (somes-append (fs ++ o ∷ []) (flat lists)))
+    (grows_parts (somes fs) (somes (fs ++ o ∷ [])) (somes (flat lists)) (somes (flat lists)) (grows_somes fs (o ∷ [])) (λ g j. j) f (subst (λ (gs : List Form). IsAmong f gs) (somes-append fs (flat lists)) i))
+grows_flat (fs ∷ lists) (suc owner) o f i =
+    subst (λ (gs : List Form). IsAmong f gs) (sym (somes-append fs (flat (set lists owner (get_or lists owner [] ++ o ∷ [])))))
+    (grows_parts (somes fs) (somes fs) (somes (flat lists)) (somes (flat (set lists owner (get_or lists owner [] ++ o ∷ [])))) (λ g j. j) (grows_flat lists owner o) f (subst (λ (gs : List Form). IsAmong f gs) (somes-append fs (flat lists)) i))
 
 grows_made : (model : List Form) (t : Table) (name : Name) (g : Form) → Grows (all_forms model t) (all_forms model (with_made t name g))
-grows_made model t name g = grows_parts model (flat t.made) (flat (with_made t name g).made) (map (λ s. s.1) t.shared) (map (λ s. s.1) t.shared) (grows_flat t.made name.owner g) (λ f i. i)
+grows_made model t name g =
+    grows_parts model model _ _ (λ f i. i)
+    (grows_parts (somes (flat t.made)) (somes (flat (with_made t name g).made)) (somes (map (λ s. s.1) t.shared)) (somes (map (λ s. s.1) t.shared)) (grows_flat t.made name.owner (Some g)) (λ f i. i))
 
 grows_shared : (model : List Form) (t : Table) (row : ℕ) (g : Form) → Grows (all_forms model t) (all_forms model (with_shared t row g))
-grows_shared model t row g = grows_parts model (flat t.made) (flat t.made) (map (λ s. s.1) t.shared) (map (λ s. s.1) (t.shared ++ (row, g) ∷ [])) (λ f i. i) (more t.shared)
+grows_shared model t row g =
+    grows_parts model model _ _ (λ f i. i)
+    (grows_parts (somes (flat t.made)) (somes (flat t.made)) (somes (map (λ s. s.1) t.shared)) (somes (map (λ s. s.1) (t.shared ++ (row, Some g) ∷ []))) (λ f i. i) more)
   where
-    more : (ss : List (ℕ × Form)) → Grows (map (λ s. s.1) ss) (map (λ s. s.1) (ss ++ (row, g) ∷ []))
-    more [] f i = absurd i
-    more (s ∷ ss) f (inl e) = inl e
-    more (s ∷ ss) f (inr i) = inr (more ss f i)
+    behind_rows : (ss : List (ℕ × Option Form)) → map (λ s. s.1) (ss ++ (row, Some g) ∷ []) ≡ map (λ s. s.1) ss ++ Some g ∷ []
+    behind_rows [] = refl
+    behind_rows (s ∷ ss) = ap (λ (os : List (Option Form)). s.1 ∷ os) (behind_rows ss)
+
+    more : Grows (somes (map (λ s. s.1) t.shared)) (somes (map (λ s. s.1) (t.shared ++ (row, Some g) ∷ [])))
+    more f i = subst (λ (os : List (Option Form)). IsAmong f (somes os)) (sym (behind_rows t.shared)) (grows_somes (map (λ s. s.1) t.shared) (Some g ∷ []) f i)
 
 -- ---- steps
 
@@ -73,55 +71,24 @@ behind says (Ok n) (Ok b) k x h g = subst says (same (k b) x g) (h b)
     same : {A : Type 0} (a x : A) → (let y : Result A Cause = Ok a in let z : Result A Cause = Ok x in y ≡ z) → a ≡ x
     same a x e = cc
 
-pub step_grows : (model : List Form) (profile : Profile) (t u : Table) (s : Step) → step_in profile model t s ≡ Ok u → Grows (all_forms model t) (all_forms model u)
-step_grows model Hinted t u Head e = absurd cc
-step_grows model Hinted t u (Model n) e = absurd cc
-step_grows model Hinted t u (P name ops) e = behind (λ x. Grows (all_forms model t) (all_forms model x)) (fresh_name t name) (makes (find model t) (P name ops)) (with_made t name) u (grows_made model t name) e
-step_grows model Hinted t u (U name lits refs) e = behind (λ x. Grows (all_forms model t) (all_forms model x)) (fresh_name t name) (makes (find model t) (U name lits refs)) (with_made t name) u (grows_made model t name) e
-step_grows model Hinted t u (N row name) e = behind (λ x. Grows (all_forms model t) (all_forms model x)) (fresh_row t row) (makes (find model t) (N row name)) (with_shared t row) u (grows_shared model t row) e
-step_grows model Hinted t u (E at) e = absurd cc
-step_grows model Hinted t u (Y ones) e = absurd cc
-step_grows model Hinted t u Q e = absurd cc
-step_grows model Plain t u Head e = absurd cc
-step_grows model Plain t u (Model n) e = absurd cc
-step_grows model Plain t u (P name ops) e = behind (λ x. Grows (all_forms model t) (all_forms model x)) (fresh_name t name) (makes (find model t) (P name ops)) (with_made t name) u (grows_made model t name) e
-step_grows model Plain t u (U name lits refs) e = behind (λ x. Grows (all_forms model t) (all_forms model x)) (fresh_name t name) (closed_clause (all_forms model t) lits) (with_made t name) u (grows_made model t name) e
-step_grows model Plain t u (N row name) e = behind (λ x. Grows (all_forms model t) (all_forms model x)) (fresh_row t row) (makes (find model t) (N row name)) (with_shared t row) u (grows_shared model t row) e
-step_grows model Plain t u (E at) e = absurd cc
-step_grows model Plain t u (Y ones) e = absurd cc
-step_grows model Plain t u Q e = absurd cc
-
 -- ---- what lasts
 
+-- Where nothing lasts.
 pub rooted_none : (model : List Form) (t : Table) (l : TwoLevels) → ((v : ℕ) → root l v ≡ None) → IsRooted model t l
 rooted_none model t l e = record { led = led_nothing nothing (all_forms model t) (root l) e }
 
-rooted_grown : (model : List Form) (t u : Table) (l : TwoLevels) → Grows (all_forms model t) (all_forms model u) → IsRooted model t l → IsRooted model u l
-rooted_grown model t u l g r = record { led = led_more nothing (all_forms model t) (all_forms model u) (root l) g r.led }
+rooted_grown : (model : List Form) (t : Table) (l : TwoLevels) → IsRooted model t l → (u : Table) → Grows (all_forms model t) (all_forms model u) → IsRooted model u l
+rooted_grown model t l r u g = record { led = led_more nothing (all_forms model t) (all_forms model u) (root l) g r.led }
 
-went : (profile : Profile) (t u : Table) (r : Result Table Cause) → (r >>= λ x. Ok (Goes (Proving profile x))) ≡ Ok (Goes (Proving profile u)) → r ≡ Ok u
-went profile t u (Err e) g = absurd cc
-went profile t u (Ok x) g = cc
+-- Behind each kind of line that makes or shares a constraint.
+pub rooted_p : (model : List Form) (t u : Table) (name : Name) (ops : List Op) (l : TwoLevels) → step_of model t (P name ops) ≡ Ok u → IsRooted model t l → IsRooted model u l
+rooted_p model t u name ops l e r = behind (λ x. IsRooted model x l) (fresh_name t name) (makes (find model t) (P name ops)) (with_made t name) u (λ g. rooted_grown model t l r (with_made t name g) (grows_made model t name g)) e
 
--- What stands behind an answer that never goes on does not go on.
-never : {A : Type 0} (r : Result A Cause) (k : A → Result Progress Cause) (stage : Stage) → ((a : A) → k a ≡ Ok (Goes stage) → ⊥) → (r >>= k) ≡ Ok (Goes stage) → ⊥
-never (Err e) k stage h g = absurd cc
-never (Ok a) k stage h g = h a g
+pub rooted_u : (model : List Form) (t u : Table) (name : Name) (lits : List Literal) (refs : List Ref) (l : TwoLevels) → step_of model t (U name lits refs) ≡ Ok u → IsRooted model t l → IsRooted model u l
+rooted_u model t u name lits refs l e r = behind (λ x. IsRooted model x l) (fresh_name t name) (makes (find model t) (U name lits refs)) (with_made t name) u (λ g. rooted_grown model t l r (with_made t name g) (grows_made model t name g)) e
 
-no_end : (v : Verdict) (stage : Stage) → (let x : Result Progress Cause = Ok (Ends v) in let y : Result Progress Cause = Ok (Goes stage) in x ≡ y) → ⊥
-no_end v stage e = cc
+pub rooted_plain : (model : List Form) (t u : Table) (name : Name) (lits : List Literal) (refs : List Ref) (l : TwoLevels) → step_in Plain model t (U name lits refs) ≡ Ok u → IsRooted model t l → IsRooted model u l
+rooted_plain model t u name lits refs l e r = behind (λ x. IsRooted model x l) (fresh_name t name) (closed_clause (all_forms model t) lits) (with_made t name) u (λ g. rooted_grown model t l r (with_made t name g) (grows_made model t name g)) e
 
--- A line that goes on keeps what lasts.
-pub rooted_on : (model : List Form) (profile : Profile) (t u : Table) (s : Step) (l : TwoLevels) → progress_of model (Proving profile t) s ≡ Ok (Goes (Proving profile u)) → IsRooted model t l → IsRooted model u l
-rooted_on model profile t u Head l e r = rooted_grown model t u l (step_grows model profile t u Head (went profile t u (step_in profile model t Head) e)) r
-rooted_on model profile t u (Model n) l e r = rooted_grown model t u l (step_grows model profile t u (Model n) (went profile t u (step_in profile model t (Model n)) e)) r
-rooted_on model profile t u (P name ops) l e r = rooted_grown model t u l (step_grows model profile t u (P name ops) (went profile t u (step_in profile model t (P name ops)) e)) r
-rooted_on model profile t u (U name lits refs) l e r = rooted_grown model t u l (step_grows model profile t u (U name lits refs) (went profile t u (step_in profile model t (U name lits refs)) e)) r
-rooted_on model profile t u (N row name) l e r = rooted_grown model t u l (step_grows model profile t u (N row name) (went profile t u (step_in profile model t (N row name)) e)) r
-rooted_on model profile t u (E at) l e r =
-    absurd (never (or_fault (find model t at) NoSuchName) (λ f. unless (is_contradiction f) NotFalse >>= λ _. Ok (Ends Unsatisfiable)) (Proving profile u)
-    (λ f. never (unless (is_contradiction f) NotFalse) (λ _. Ok (Ends Unsatisfiable)) (Proving profile u) (λ n. no_end Unsatisfiable (Proving profile u))) e)
-rooted_on model profile t u (Y ones) l e r =
-    absurd (never (unless (are_distinct ones) Twice) (λ _. unless (all_hold_at (λ v. is_among v ones) model) NotSolution >>= λ _. Ok (Ends Satisfiable)) (Proving profile u)
-    (λ n. never (unless (all_hold_at (λ v. is_among v ones) model) NotSolution) (λ _. Ok (Ends Satisfiable)) (Proving profile u) (λ m. no_end Satisfiable (Proving profile u))) e)
-rooted_on model profile t u Q l e r = absurd (no_end Undecided (Proving profile u) e)
+pub rooted_n : (model : List Form) (t u : Table) (row : ℕ) (name : Name) (l : TwoLevels) → step_of model t (N row name) ≡ Ok u → IsRooted model t l → IsRooted model u l
+rooted_n model t u row name l e r = behind (λ x. IsRooted model x l) (fresh_row t row) (makes (find model t) (N row name)) (with_shared t row) u (λ g. rooted_grown model t l r (with_shared t row g) (grows_shared model t row g)) e

@@ -1,13 +1,13 @@
 // Unit propagation over all constraints so far, for lines that name none: by counters, which find a conflict fast, and where they find
 // none by passes over all constraints until one sets nothing.
 
-ghost use Rattle.std.specs.Prelude.{◌≡◌, ◌≤◌, ◌^◌, ◌++◌, List, map, length};
+ghost use Rattle.std.specs.Prelude.{◌≡◌, ◌≤◌, ◌^◌, List, map, length};
 ghost use Rattle.std.specs.List.{flat_map};
 ghost use Rattle.proof_theory.specs.Forms.{Form};
 ghost use Rattle.proof_theory.specs.Slack.{setting};
 ghost use Rattle.proof_theory.specs.Propagation.{closes};
 ghost use Rattle.log_theory.specs.Lookups.{closed_clause};
-ghost use Rattle.log_theory.specs.Tables.{all_forms};
+ghost use Rattle.log_theory.specs.Tables.{all_forms, somes};
 ghost use Rattle.pb_propagation.specs.Told.{Told};
 ghost use Rattle.pb_propagation.specs.Reach.{AllReach};
 ghost use Rattle.proof_checker.specs.Passing.{Passed};
@@ -17,7 +17,7 @@ use log_theory::Cause;
 use packed_terms::PackedConstraint;
 use pb_propagation::reach::reach;
 use pb_propagation::{
-    LineFault, Propagator, Table, above, clause, clear, follow, is_closed, negate_all,
+    LineFault, Propagator, Slot, Table, above, clause, clear, follow, is_closed, negate_all,
 };
 use pb_terms::{Literal, Literals};
 use std::alloc::Global;
@@ -36,49 +36,64 @@ fn pass(set: &mut Literals, constraints: &[PackedConstraint]) -> bool
     false
 }
 
-/// One pass over lists of constraints.
-fn pass_lists(set: &mut Literals, lists: &[Vec<PackedConstraint>]) -> bool
-    requires { AllReach (length set.old) (flat_map (λ fs. fs) (map (λ v. v.items) lists.now)) }
+/// One pass over what stands in slots.
+fn pass_slots(set: &mut Literals, slots: &[Slot]) -> bool
+    requires { AllReach (length set.old) (somes slots.now) }
+    ensures passed { Passed result (setting set.old) (somes slots.now) (setting set.new) }
+    ensures long { length set.new ≡ length set.old }
+{
+    for slot in slots {
+        if let Some(next) = slot.constraint() {
+            if follow(set, next) {
+                return true;
+            }
+        }
+    }
+    false
+}
+
+/// One pass over what stands in lists of slots.
+fn pass_lists(set: &mut Literals, lists: &[Vec<Slot>]) -> bool
+    requires { AllReach (length set.old)
+        (somes (flat_map (λ fs. fs) (map (λ v. v.items) lists.now))) }
     ensures passed { Passed result (setting set.old)
-        (flat_map (λ fs. fs) (map (λ v. v.items) lists.now)) (setting set.new) }
+        (somes (flat_map (λ fs. fs) (map (λ v. v.items) lists.now))) (setting set.new) }
     ensures long { length set.new ≡ length set.old }
 {
     for list in lists {
-        if pass(set, list) {
+        if pass_slots(set, list) {
             return true;
         }
     }
     false
 }
 
-/// One pass over the model and all lists.
-fn pass_all(set: &mut Literals, model: &[PackedConstraint], lists: &[Vec<PackedConstraint>]) -> bool
-    requires model { AllReach (length set.old) model.now }
-    requires lists { AllReach (length set.old)
-        (flat_map (λ fs. fs) (map (λ v. v.items) lists.now)) }
-    ensures passed { Passed result (setting set.old)
-        (model.now ++ flat_map (λ fs. fs) (map (λ v. v.items) lists.now)) (setting set.new) }
+/// One pass over the model and all that stands.
+fn pass_all(set: &mut Literals, model: &[PackedConstraint], table: &Table) -> bool
+    requires { AllReach (length set.old) (all_forms model.now table.now) }
+    ensures passed { Passed result (setting set.old) (all_forms model.now table.now)
+        (setting set.new) }
     ensures long { length set.new ≡ length set.old }
 {
     if pass(set, model) {
         return true;
     }
-    pass_lists(set, lists)
+    if pass_lists(set, table.lists()) {
+        return true;
+    }
+    pass_slots(set, table.shared())
 }
 
-/// Whether unit propagation over the model and all lists comes to a conflict. Each pass but the last sets a variable, so there are at most
-/// as many as variables become set, and one.
-fn close(set: &mut Literals, model: &[PackedConstraint], lists: &[Vec<PackedConstraint>]) -> bool
-    requires model { AllReach (length set.old) model.now }
-    requires lists { AllReach (length set.old)
-        (flat_map (λ fs. fs) (map (λ v. v.items) lists.now)) }
-    ensures { result ≡ closes (setting set.old)
-        (model.now ++ flat_map (λ fs. fs) (map (λ v. v.items) lists.now)) }
+/// Whether unit propagation over the model and all that stands comes to a conflict. Each pass but the last sets a variable, so there are
+/// at most as many as variables become set, and one.
+fn close(set: &mut Literals, model: &[PackedConstraint], table: &Table) -> bool
+    requires { AllReach (length set.old) (all_forms model.now table.now) }
+    ensures { result ≡ closes (setting set.old) (all_forms model.now table.now) }
 {
     let mut moved = true;
     while moved {
         let before = set.count();
-        if pass_all(set, model, lists) {
+        if pass_all(set, model, table) {
             return true;
         }
         moved = before < set.count();
@@ -100,18 +115,42 @@ fn reach_all(constraints: &[PackedConstraint]) -> u64
     most
 }
 
-/// A number above all variables of the constraints of lists. Constant for each constraint.
-fn reach_lists(lists: &[Vec<PackedConstraint>]) -> u64
-    ensures reach { AllReach result (flat_map (λ fs. fs) (map (λ v. v.items) lists.now)) }
+/// A number above all variables of what stands in slots. Constant for each.
+fn reach_slots(slots: &[Slot]) -> u64
+    ensures reach { AllReach result (somes slots.now) }
+    ensures small { result ≤ 2 ^ 32 }
+{
+    let mut most: u64 = 0;
+    let mut i = slots.len();
+    while i > 0 {
+        i -= 1;
+        if let Some(next) = slots[i].constraint() {
+            most = most.max(reach(next));
+        }
+    }
+    most
+}
+
+/// A number above all variables of what stands in lists of slots. Constant for each slot.
+fn reach_lists(lists: &[Vec<Slot>]) -> u64
+    ensures reach { AllReach result (somes (flat_map (λ fs. fs) (map (λ v. v.items) lists.now))) }
     ensures small { result ≤ 2 ^ 32 }
 {
     let mut most: u64 = 0;
     let mut i = lists.len();
     while i > 0 {
         i -= 1;
-        most = most.max(reach_all(&lists[i]));
+        most = most.max(reach_slots(&lists[i]));
     }
     most
+}
+
+/// A number above all variables of the model and of all that stands. Constant for each constraint and each slot.
+fn reach_table(model: &[PackedConstraint], table: &Table) -> u64
+    ensures reach { AllReach result (all_forms model.now table.now) }
+    ensures small { result ≤ 2 ^ 32 }
+{
+    reach_all(model).max(reach_lists(table.lists()).max(reach_slots(table.shared())))
 }
 
 /// The clause of the literals, if unit propagation from its negation over all constraints so far comes to a conflict, or the first fault.
@@ -126,13 +165,11 @@ fn derive_by_passes(
 ) -> Result<PackedConstraint, LineFault>
     ensures { Told result (closed_clause (all_forms model.now table.now) literals.now) }
 {
-    let lists = table.lists();
-    let named = reach_all(model).max(reach_lists(lists));
-    clear(alloc, set, above(literals).max(named))?;
+    clear(alloc, set, above(literals).max(reach_table(model, table)))?;
     if !negate_all(set, literals) {
         return Err(LineFault::Cause(Cause::Twice));
     }
-    if !close(set, model, lists) {
+    if !close(set, model, table) {
         return Err(LineFault::Cause(Cause::NoConflict));
     }
     Ok(clause(alloc, literals)?)

@@ -1,11 +1,16 @@
-// The checker of proof logs. It reads a log line by line over the constraints of a model, and tells exactly the verdict of the
-// definition: the claim of the last line, or the first faulty line with its first cause. It shares no code with a search, names no
-// graph, and takes a log of any origin. The lines are those of a pseudo-Boolean proof log (Gocht, McCreesh, Nordström 2020): cutting
-// planes in reverse Polish notation, clauses by unit propagation along the references that they name, or over all constraints so
-// far where the log's first line tells that it has no hints, and shared rows. Propagation itself, and the table of what stands, are below
-// in `pb_propagation`; here stand the kinds of lines and what each leads to. What the layers above use is `check`, over a log in
-// memory, and `check_file`, which reads a file piece by piece. Both stand on `Checker`, which is fed a log cut anywhere and keeps of
-// its text the unfinished line alone; `LineChecker` below it takes one line at a time.
+//! The checker: a model and a log go in, and a verdict comes out.
+//!
+//! It checks a log of any origin line by line, and tells the claim of the last line, or the first faulty line with its first
+//! cause. It knows no graph and shares no code with a search.
+//!
+//! It keeps the constraints of the model and those of the log that stand, and of the text only the line that has not ended.
+//! It offers `check` for a log in memory, `check_file` for one in a file, `Checker` for one in pieces, and `LineChecker` for
+//! single lines.
+//!
+//! The lines are those of pseudo-Boolean proof logs (Gocht, McCreesh and Nordström 2020): cutting planes in reverse Polish
+//! notation, and clauses by unit propagation. A clause names the constraints that it needs. If the first line says that there
+//! are no hints, all constraints so far are used. A line costs its bytes and the terms that it touches, and `check_file`
+//! reads pieces of 64 KiB.
 #![tactic(auto)]
 
 mod checker;

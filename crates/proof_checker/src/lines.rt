@@ -1,6 +1,6 @@
 // What each kind of line leads to, behind the first two lines of a log.
 
-ghost use Rattle.std.specs.Prelude.{◌≡◌, true, []};
+ghost use Rattle.std.specs.Prelude.{◌≡◌, true, [], OnOk};
 ghost use Rattle.proof_theory.specs.Forms.{Form};
 ghost use Rattle.log_theory.specs.declared.step.Step.TheVariants.{P, U};
 ghost use Rattle.log_theory.specs.declared.profile.Profile.TheVariants.{Plain};
@@ -38,7 +38,7 @@ fn make_by_operations(
 {
     table.fresh_name(name)?;
     let made = evaluate(alloc, model, table, ops)?;
-    table.push_made(name, made)?;
+    table.push_made(alloc, name, made)?;
     Ok(())
 }
 
@@ -56,7 +56,7 @@ fn make_by_propagation(
 {
     table.fresh_name(name)?;
     let made = derive(alloc, set, model, table, literals, refs)?;
-    table.push_made(name, made)?;
+    table.push_made(alloc, name, made)?;
     Ok(())
 }
 
@@ -76,7 +76,7 @@ fn make_by_closing(
 {
     table.fresh_name(name)?;
     let made = derive_alone(alloc, work, model, table, literals)?;
-    table.push_made(name, made)?;
+    table.push_made(alloc, name, made)?;
     Ok(())
 }
 
@@ -107,7 +107,7 @@ pub fn prove(
     requires rooted { IsRooted model.now table.old work.old.levels }
     ensures turns { Turns result (progress_of model.now (Proving profile table.old) step.now)
         (Proving profile table.new) }
-    ensures rooted { IsRooted model.now table.old work.new.levels }
+    ensures rooted { OnOk result (IsRooted model.now table.new work.new.levels) }
 {
     match (profile, step) {
         (Profile::Hinted, Step::U { name, lits, refs }) => {
@@ -132,6 +132,11 @@ pub fn prove(
         }
         (_, Step::N { row, name }) => {
             table.share(*row, *name)?;
+            Ok(Turn::Goes)
+        }
+        (_, Step::D { at }) => {
+            table.delete(*at)?;
+            work.forget();
             Ok(Turn::Goes)
         }
         (_, Step::E { at }) => refute_by(model, table, *at),

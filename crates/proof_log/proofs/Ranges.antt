@@ -8,8 +8,9 @@ use Rattle.log_theory.specs.declared.step.Ref.{Ref}
 use Rattle.log_theory.specs.declared.step.Op.{Op}
 use Rattle.log_theory.specs.declared.step.Op.TheVariants.{Times, Divide}
 use Rattle.log_theory.specs.declared.step.Step.{Step}
+use Rattle.log_theory.specs.declared.step.Step.TheVariants.{D}
 use Rattle.log_theory.specs.Words.{same_word, pieces}
-use Rattle.log_theory.specs.LogText.{is_numeral, numeral_below, numeral_of, name_from, name_pieces, name_of, ref_from, row_ref, ref_of, variable_of, literal_from, literal_of, in_front, all_of, Behind, Nothing, Star, Dee, OpsRead, op_read, number_op, push_op, op_in_front, ops_in_front, ops_read, ops_from, Parted, part, closed, when_closed, p_from, u_from, n_from, e_from, y_from, m_from, u_parted, step_behind, IsName, IsRef, AreRefs, AreLiterals, AreOnes, IsOp, AreOps, IsStep}
+use Rattle.log_theory.specs.LogText.{is_numeral, numeral_below, numeral_of, name_from, name_pieces, name_of, ref_from, row_ref, ref_of, variable_of, literal_from, literal_of, in_front, all_of, Behind, Nothing, Star, Dee, OpsRead, op_read, number_op, push_op, op_in_front, ops_in_front, ops_read, ops_from, Parted, part, closed, when_closed, p_from, u_from, n_from, is_line, d_from, e_from, y_from, m_from, u_parted, step_behind, IsName, IsRef, AreRefs, AreLiterals, AreOnes, IsOp, AreOps, IsStep}
 use Rattle.proof_log.specs.declared.fault.StepFault.{StepFault}
 use Rattle.proof_log.specs.Reading.{IsTold}
 
@@ -188,6 +189,14 @@ n_within None n h k = record { is = tt }
 n_within (Some row) None h k = record { is = tt }
 n_within (Some row) (Some n) h k = record { is = (h.is, k.is) }
 
+d_within : (o : Option Ref) → Within IsRef o → Within IsStep (d_from o)
+d_within None h = record { is = tt }
+d_within (Some at) h = by (is_line at) refl
+  where
+    by : (b : Bool) → is_line at ≡ b → Within IsStep (cond b None (Some (D at)))
+    by true e = record { is = tt }
+    by false e = record { is = (h.is, e) }
+
 e_within : (o : Option Ref) → Within IsRef o → Within IsStep (e_from o)
 e_within None h = record { is = tt }
 e_within (Some at) h = record { is = h.is }
@@ -216,7 +225,8 @@ step_within kind [] = either IsStep (same_word kind (codes "y")) _ _ (record { i
 step_within kind (v ∷ []) =
     long_within kind v [] _
     (either IsStep (same_word kind (codes "m")) _ _ (m_within (numeral_of v) (numeral_within (2 ^ 63) v))
-    (either IsStep (same_word kind (codes "e")) _ _ (e_within (ref_of v) (ref_within v)) (either IsStep (same_word kind (codes "y")) _ _ (ones_line_within (v ∷ [])) (record { is = tt }))))
+    (either IsStep (same_word kind (codes "d")) _ _ (d_within (ref_of v) (ref_within v))
+    (either IsStep (same_word kind (codes "e")) _ _ (e_within (ref_of v) (ref_within v)) (either IsStep (same_word kind (codes "y")) _ _ (ones_line_within (v ∷ [])) (record { is = tt })))))
 step_within kind (v ∷ w ∷ []) =
     long_within kind v (w ∷ []) _
     (either IsStep (same_word kind (codes "n")) _ _ (n_within (numeral_below (2 ^ 22) v) (name_of w) (numeral_within (2 ^ 22) v) (name_within w))

@@ -47,6 +47,7 @@ pub fn plain(alloc: Global, step: &Step) -> Result<Step, AllocError>
             row: *row,
             name: *name,
         }),
+        Step::D { at } => Ok(Step::D { at: *at }),
         Step::E { at } => Ok(Step::E { at: *at }),
         Step::Y { ones } => Ok(Step::Y {
             ones: copied_ones(alloc, ones)?,

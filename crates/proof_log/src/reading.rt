@@ -10,7 +10,7 @@ use crate::fault::StepFault;
 use crate::items::{name_in, numeral_in, ref_in, row_in};
 use crate::lists::{read_literals, read_ones, read_ops, read_refs};
 use crate::pieces::{Pieces, is_byte, is_word};
-use log_theory::{Clause, Name, Profile, Refs, Step};
+use log_theory::{Clause, Name, Profile, Ref, Refs, Step};
 use std::alloc::Global;
 
 /// The only word that is left.
@@ -129,6 +129,25 @@ fn read_n(words: &mut Pieces) -> Result<Step, StepFault>
     }
 }
 
+/// The words behind `d`: a name or a row, since no line deletes a constraint of the model.
+fn read_d(words: &mut Pieces) -> Result<Step, StepFault>
+    ensures { IsTold result (step_behind (codes "d") words.old) }
+{
+    let Some(word) = last_word(words) else {
+        return Err(StepFault::Form);
+    };
+    match ref_in(word) {
+        Some(Ref::Made(name)) => Ok(Step::D {
+            at: Ref::Made(name),
+        }),
+        Some(Ref::Shared(row)) => Ok(Step::D {
+            at: Ref::Shared(row),
+        }),
+        Some(Ref::Line(_)) => Err(StepFault::Form),
+        None => Err(StepFault::Form),
+    }
+}
+
 /// The words behind `e`.
 fn read_e(words: &mut Pieces) -> Result<Step, StepFault>
     ensures { IsTold result (step_behind (codes "e") words.old) }
@@ -171,6 +190,8 @@ fn read_behind(alloc: Global, kind: &[u8], words: &mut Pieces) -> Result<Step, S
         read_p(alloc, words)
     } else if is_byte(kind, b'n') {
         read_n(words)
+    } else if is_byte(kind, b'd') {
+        read_d(words)
     } else if is_byte(kind, b'm') {
         read_model(words)
     } else if is_byte(kind, b'e') {

@@ -247,8 +247,8 @@ fn write_n<S: Sink>(row: u32, name: Name, sink: &mut S) -> Result<(), Failed>
     )
 }
 
-/// Puts a last line, unsatisfiable, between its two ends.
-fn write_e<S: Sink>(front: &[u8], at: Ref, end: &[u8], sink: &mut S) -> Result<(), Failed>
+/// Puts a line of one reference between its two ends.
+fn write_at<S: Sink>(front: &[u8], at: Ref, end: &[u8], sink: &mut S) -> Result<(), Failed>
     ensures text { Wrote (S.spot sink.old).steady (S.contents sink.old) (S.contents sink.new) result
         ((front.now ++ ref_text at) ++ end.now) }
     ensures cause { HasBlame S.spot S.rest S.faults S.blamed sink.old sink.new result }
@@ -307,7 +307,8 @@ fn write_hinted<S: Sink>(step: &Step, sink: &mut S) -> Result<(), Failed>
             sink,
         ),
         Step::N { row, name } => write_n(*row, *name, sink),
-        Step::E { at } => write_e(b"e ", *at, b"\n", sink),
+        Step::D { at } => write_at(b"d ", *at, b"\n", sink),
+        Step::E { at } => write_at(b"e ", *at, b"\n", sink),
         Step::Y { ones } => write_y(b"y", ones.as_slice(), b"\n", sink),
         Step::Q => sink.put(b"q\n"),
     }
@@ -325,6 +326,7 @@ fn write_plain<S: Sink>(step: &Step, sink: &mut S) -> Result<(), Failed>
         Step::Model(_) => write_hinted(step, sink),
         Step::P { .. } => write_hinted(step, sink),
         Step::N { .. } => write_hinted(step, sink),
+        Step::D { .. } => write_hinted(step, sink),
         Step::E { .. } => write_hinted(step, sink),
         Step::Y { .. } => write_hinted(step, sink),
         Step::Q => write_hinted(step, sink),

@@ -106,6 +106,64 @@ fn logs_over_two_lines(rt: HostRuntime) -> Result<(), Fail> {
     all_hold(&rt, rt.alloc(), &OVER_TWO_LINES)
 }
 
+static DELETED: [Shows; 19] = [
+    Shows(
+        "p 0.1 1 ;\nd 0.1\np 0.2 0.1 ;\n",
+        Stops(5, Cause::NoSuchName),
+    ),
+    Shows(
+        "p 0.1 1 ;\nd 0.1\nu 0.2 ; 2 0.1 ;\n",
+        Stops(5, Cause::NoSuchName),
+    ),
+    Shows("p 0.1 1 ;\nd 0.1\nn 7 0.1\n", Stops(5, Cause::NoSuchName)),
+    Shows("u 0.1 ; 1 2 ;\nd 0.1\ne 0.1\n", Stops(5, Cause::NoSuchName)),
+    Shows("p 0.1 1 ;\nd 0.1\nd 0.1\n", Stops(5, Cause::NoSuchName)),
+    Shows("d 0.1\n", Stops(3, Cause::NoSuchName)),
+    Shows("d #7\n", Stops(3, Cause::NoSuchName)),
+    Shows("d 3\n", Stops(3, Cause::Form)),
+    Shows("d 2\n", Stops(3, Cause::Form)),
+    Shows("p 0.1 1 ;\nd 0.1\np 0.1 1 ;\n", Stops(5, Cause::NameUsed)),
+    Shows("p 0.1 1 ;\nd 0.1\np 0.3 1 ;\n", Stops(5, Cause::Order)),
+    Shows(
+        "p 0.1 1 ;\nn 7 0.1\nd #7\nn 7 0.1\n",
+        Stops(6, Cause::NameUsed),
+    ),
+    Shows(
+        "p 0.1 1 ;\nn 7 0.1\nd #7\nn 3 0.1\n",
+        Stops(6, Cause::Order),
+    ),
+    Shows(
+        "p 0.1 1 ;\nn 7 0.1\nd #7\nd #7\n",
+        Stops(6, Cause::NoSuchName),
+    ),
+    Shows(
+        "p 0.1 1 ;\nd 0.1\np 0.2 1 2 + ;\ne 0.2\n",
+        Is(Verdict::Unsatisfiable),
+    ),
+    // A row goes on naming what a name no longer names, and the other way round.
+    Shows(
+        "u 0.1 ; 1 2 ;\nn 7 0.1\nd 0.1\ne #7\n",
+        Is(Verdict::Unsatisfiable),
+    ),
+    Shows(
+        "u 0.1 ; 1 2 ;\nn 7 0.1\nd #7\ne 0.1\n",
+        Is(Verdict::Unsatisfiable),
+    ),
+    Shows(
+        "u 0.1 ; 1 2 ;\nn 7 0.1\nn 8 0.1\nd 0.1\nd #7\ne #8\n",
+        Is(Verdict::Unsatisfiable),
+    ),
+    Shows(
+        "u 0.1 ; 1 2 ;\nn 7 0.1\nd #7\ne #7\n",
+        Stops(6, Cause::NoSuchName),
+    ),
+];
+
+#[test]
+fn lines_that_delete(rt: HostRuntime) -> Result<(), Fail> {
+    all_hold(&rt, rt.alloc(), &DELETED)
+}
+
 /// A model's text, a whole log, and its verdict.
 pub struct Whole {
     pub model: &'static [u8],
@@ -338,7 +396,23 @@ impl<R> Example<R> for Cut {
     }
 }
 
-static CUT: [Cut; 2] = [
+static CUT: [Cut; 5] = [
+    // so is one that deletes, with its hints and without
+    Cut(Whole {
+        model: THREE_INTO_TWO,
+        log: b"embedding proof 1\nm 8\np 0.1 1 3 + 5 + ;\nn 7 0.1\nd 0.1\np 0.2 #7 7 + 8 + 3 d ;\nd #7\ne 0.2\n",
+        verdict: Is(Verdict::Unsatisfiable),
+    }),
+    Cut(Whole {
+        model: THREE_INTO_TWO,
+        log: b"embedding proof 2\nm 8\nu 0.1 ~x1 ;\nn 7 0.1\nd 0.1\nu 0.2 ;\nd #7\ne 0.2\n",
+        verdict: Is(Verdict::Unsatisfiable),
+    }),
+    Cut(Whole {
+        model: NOT_BOTH,
+        log: b"embedding proof 1\nm 2\np 0.1 1 ;\nd 0.1\np 0.2 0.1 ;\n",
+        verdict: Stops(5, Cause::NoSuchName),
+    }),
     // a log is accepted however it is cut
     Cut(Whole {
         model: TRIANGLE_INTO_CYCLE,

@@ -36,7 +36,7 @@ impl<R> Example<R> for Kept {
     }
 }
 
-static KEPT: [Kept; 46] = [
+static KEPT: [Kept; 50] = [
     // a triangle into a cycle of four
     Kept(b"embedding proof 1"),
     Kept(b"m 34"),
@@ -86,6 +86,11 @@ static KEPT: [Kept; 46] = [
     Kept(b"e 9223372036854775807"),
     Kept(b"y x1 x4294967295 x0"),
     Kept(b"y x7 x7"),
+    // deletions
+    Kept(b"d 0.1"),
+    Kept(b"d 64.9223372036854775807"),
+    Kept(b"d #0"),
+    Kept(b"d #4194303"),
 ];
 
 #[test]
@@ -105,7 +110,7 @@ impl<R> Example<R> for Refused {
     }
 }
 
-static REFUSED: [Refused; 40] = [
+static REFUSED: [Refused; 46] = [
     // an owner out of range
     Refused(b"p 65.1 1 ;"),
     // a leading zero
@@ -186,6 +191,18 @@ static REFUSED: [Refused; 40] = [
     Refused(b"m 99999999999999999999"),
     // a number that wraps to 0
     Refused(b"e 340282366920938463463374607431768211456"),
+    // a deletion of a constraint of the encoding
+    Refused(b"d 1"),
+    // of nothing
+    Refused(b"d"),
+    // of two
+    Refused(b"d 0.1 0.2"),
+    // of a row of 2^22
+    Refused(b"d #4194304"),
+    // of a number 0
+    Refused(b"d 0.0"),
+    // of a variable
+    Refused(b"d x1"),
 ];
 
 #[test]
@@ -265,13 +282,15 @@ impl<R> Example<R> for Dropped {
     }
 }
 
-static DROPPED: [Dropped; 9] = [
+static DROPPED: [Dropped; 11] = [
     Dropped(b"embedding proof 1", b"embedding proof 2"),
     Dropped(b"m 34", b"m 34"),
     Dropped(b"p 0.1 15 24 + 6 + ;", b"p 0.1 15 24 + 6 + ;"),
     Dropped(b"u 0.3 ~x1 ; 0.1 0.2 11 ;", b"u 0.3 ~x1 ;"),
     Dropped(b"u 0.13 ; #3 ;", b"u 0.13 ;"),
     Dropped(b"n 0 1.1", b"n 0 1.1"),
+    Dropped(b"d 0.3", b"d 0.3"),
+    Dropped(b"d #3", b"d #3"),
     Dropped(b"e 0.13", b"e 0.13"),
     Dropped(b"y x1 x2", b"y x1 x2"),
     Dropped(b"q", b"q"),

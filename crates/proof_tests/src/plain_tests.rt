@@ -20,7 +20,7 @@ impl<R> Example<R> for Behind {
     }
 }
 
-static SHORT: [Behind; 16] = [
+static SHORT: [Behind; 20] = [
     Behind(NOT_BOTH, "u 0.1 ;\ne 0.1\n", Is(Verdict::Unsatisfiable)),
     Behind(
         NOT_BOTH,
@@ -58,11 +58,77 @@ static SHORT: [Behind; 16] = [
         "p 0.1 1 ;\nn 3 0.1\nu 0.2 x1 ;\nq\n",
         Is(Verdict::Undecided),
     ),
+    Behind(
+        OPEN,
+        "u 0.1 x1 ;\nu 0.2 x1 ;\nd 0.1\nd 0.2\nu 0.3 x1 ;\nu 0.4 x2 ;\n",
+        Stops(8, Cause::NoConflict),
+    ),
+    Behind(
+        NOT_BOTH,
+        "u 0.1 ;\nd 0.1\nu 0.1 ;\n",
+        Stops(5, Cause::NameUsed),
+    ),
+    Behind(
+        NOT_BOTH,
+        "u 0.1 ;\nd 0.1\nu 0.3 ;\n",
+        Stops(5, Cause::Order),
+    ),
+    Behind(NOT_BOTH, "d 1\n", Stops(3, Cause::Form)),
 ];
 
 #[test]
 fn short_logs_without_hints(rt: HostRuntime) -> Result<(), Fail> {
     all_hold(&rt, rt.alloc(), &SHORT)
+}
+
+static DELETED: [Whole; 8] = [
+    Whole {
+        model: THREE_INTO_TWO,
+        log: b"embedding proof 2\nm 8\nu 0.1 ~x1 ;\nu 0.2 ;\ne 0.2\n",
+        verdict: Is(Verdict::Unsatisfiable),
+    },
+    Whole {
+        model: THREE_INTO_TWO,
+        log: b"embedding proof 2\nm 8\nu 0.1 ~x1 ;\nd 0.1\nu 0.2 ;\n",
+        verdict: Stops(5, Cause::NoConflict),
+    },
+    // What is deleted propagates on by its row, and what loses its row by its name; without both it does not.
+    Whole {
+        model: THREE_INTO_TWO,
+        log: b"embedding proof 2\nm 8\nu 0.1 ~x1 ;\nn 7 0.1\nd 0.1\nu 0.2 ;\ne 0.2\n",
+        verdict: Is(Verdict::Unsatisfiable),
+    },
+    Whole {
+        model: THREE_INTO_TWO,
+        log: b"embedding proof 2\nm 8\nu 0.1 ~x1 ;\nn 7 0.1\nd #7\nu 0.2 ;\ne 0.2\n",
+        verdict: Is(Verdict::Unsatisfiable),
+    },
+    Whole {
+        model: THREE_INTO_TWO,
+        log: b"embedding proof 2\nm 8\nu 0.1 ~x1 ;\nn 7 0.1\nd #7\nd 0.1\nu 0.2 ;\n",
+        verdict: Stops(7, Cause::NoConflict),
+    },
+    // What lasted from line to line is forgotten with the constraint that it came from, and with a conflict.
+    Whole {
+        model: THREE_INTO_TWO,
+        log: b"embedding proof 2\nm 8\nu 0.1 ~x1 ;\nu 0.2 ~x1 x6 ;\nd 0.1\nd 0.2\nu 0.3 ;\n",
+        verdict: Stops(7, Cause::NoConflict),
+    },
+    Whole {
+        model: THREE_INTO_TWO,
+        log: b"embedding proof 2\nm 8\nu 0.1 ~x1 ;\nu 0.2 ;\nd 0.2\nd 0.1\nu 0.3 ;\n",
+        verdict: Stops(7, Cause::NoConflict),
+    },
+    Whole {
+        model: THREE_INTO_TWO,
+        log: b"embedding proof 2\nm 8\nu 0.1 ~x1 ;\nu 0.2 ~x3 ;\nd 0.1\nu 0.3 ;\ne 0.3\n",
+        verdict: Is(Verdict::Unsatisfiable),
+    },
+];
+
+#[test]
+fn deletions_without_hints(rt: HostRuntime) -> Result<(), Fail> {
+    all_hold(&rt, rt.alloc(), &DELETED)
 }
 
 // Neither pigeons nor triangles are refuted by propagation alone.

@@ -162,6 +162,8 @@ static WITH_HINTS: [Family; 4] = [
             b"embedding proof 1\nm 2\np 0.1 1 2 + 2 d s x2 + 3 * ~x1 + ;\nn 0 0.1\n\
                 n 4194303 0.1\nu 64.1 x1 ; #0 2 ;\nq\n",
             b"embedding proof 1\nm 2\np 0.1 1 2 * 3 * 2 d 3 d ;\nq\n",
+            b"embedding proof 1\nm 2\np 0.1 1 2 + 2 d ;\nn 7 0.1\nd 0.1\nu 0.2 x1 ; #7 ;\nd #7\n\
+                p 0.3 0.2 ;\nd 0.2\ny x1\n",
         ],
     },
     Family {
@@ -198,6 +200,8 @@ static WITHOUT_HINTS: [Family; 4] = [
             b"embedding proof 2\nm 2\np 0.1 1 2 + 2 d s x2 + 3 * ~x1 + ;\nn 0 0.1\n\
                 n 4194303 0.1\nu 64.1 x1 ;\nq\n",
             b"embedding proof 2\nm 2\np 0.1 1 2 * 3 * 2 d 3 d ;\nq\n",
+            b"embedding proof 2\nm 2\np 0.1 1 2 + 2 d ;\nn 7 0.1\nd 0.1\nu 0.2 x1 ;\nd #7\n\
+                p 0.3 0.2 ;\nd 0.2\ny x1\n",
         ],
     },
     Family {
@@ -207,6 +211,8 @@ static WITHOUT_HINTS: [Family; 4] = [
             b"embedding proof 2\nm 8\np 1.1 1 3 + 5 + ;\nn 0 1.1\np 2.1 7 8 + ;\nn 1 2.1\n\
                 p 0.1 #0 #1 + s ;\ne 0.1\n",
             b"embedding proof 2\nm 8\nu 0.1 ~x1 ;\nu 0.2 ;\ne 0.2\n",
+            b"embedding proof 2\nm 8\nu 0.1 ~x1 ;\nn 7 0.1\nd 0.1\nu 0.2 ;\nd 0.2\nu 0.3 ;\nd #7\n\
+                u 0.4 x2 ;\ne 0.3\n",
         ],
     },
     Family {

@@ -14,19 +14,32 @@ use log_theory::{Cause, Name, Op, Ref, Verdict};
 use proof_theory::Literal;
 use std::alloc::{AllocError, Global};
 
-/// What stands while a log is gone through: the constraints by all that refers to them, those of the encoding in front.
+/// What stands while a log is gone through: the constraints by all that refers to them, those of the encoding in front. What was
+/// deleted leaves its name without one.
 #[derive(Drop)]
 pub struct Log {
     variables: u32,
     constraints: usize,
     is_hinted: bool,
-    named: Vec<(Ref, Row)>,
+    named: Vec<(Ref, Option<Row>)>,
+}
+
+/// Where a name is among those that were given.
+fn place_of(log: &Log, reference: Ref) -> Option<usize> {
+    for at in 0..log.named.len() {
+        if log.named[at].0 == reference {
+            return Some(at);
+        }
+    }
+    None
 }
 
 /// What a reference names.
 fn find<'a>(log: &'a Log, reference: Ref) -> Result<&'a Row, Stop> {
     for (name, row) in &log.named {
-        if *name == reference {
+        if let Some(row) = row
+            && *name == reference
+        {
             return Ok(row);
         }
     }
@@ -55,7 +68,7 @@ fn bearing_on(log: &Log, reference: Ref) -> u64 {
 
 /// Refuses a name that is given, or out of order where so many have to bear on it.
 fn expect_new(log: &Log, reference: Ref, bearing: u64) -> Result<(), Stop> {
-    refuse_if(find(log, reference).is_ok(), Cause::NameUsed)?;
+    refuse_if(place_of(log, reference).is_some(), Cause::NameUsed)?;
     refuse_if(bearing_on(log, reference) != bearing, Cause::Order)
 }
 
@@ -66,7 +79,7 @@ fn expect_next(log: &Log, name: Name) -> Result<(), Stop> {
 
 /// Keeps a row under its name; a line that has one kept claims nothing.
 fn keep(log: &mut Log, reference: Ref, row: Row) -> Result<Option<Verdict>, Stop> {
-    log.named.push((reference, row))?;
+    log.named.push((reference, Some(row)))?;
     Ok(None)
 }
 
@@ -160,7 +173,9 @@ fn contradict(log: &Log, values: &mut [Option<bool>], references: &[Ref]) -> Res
 /// Whether one of all constraints is contradicted, when they are gone through once.
 fn is_any_contradicted(log: &Log, values: &mut [Option<bool>]) -> bool {
     for (_, row) in &log.named {
-        if is_contradicted(row, values) {
+        if let Some(row) = row
+            && is_contradicted(row, values)
+        {
             return true;
         }
     }
@@ -247,6 +262,27 @@ fn rename(alloc: Global, log: &mut Log, words: &[&[u8]]) -> Result<Option<Verdic
     keep(log, Ref::Shared(row), named)
 }
 
+/// Takes the row from a name that one stands under.
+fn take_from(log: &mut Log, reference: Ref) -> Result<Option<Verdict>, Stop> {
+    find(log, reference)?;
+    if let Some(at) = place_of(log, reference)
+        && at < log.named.len()
+    {
+        log.named[at].1 = None;
+    }
+    Ok(None)
+}
+
+/// `d REFERENCE`, from the reference on.
+fn delete(log: &mut Log, words: &[&[u8]]) -> Result<Option<Verdict>, Stop> {
+    let [word] = words else {
+        return Err(Stop::Cause(Cause::Form));
+    };
+    let reference = of_form(reference_of(word))?;
+    refuse_if(matches!(reference, Ref::Line(_)), Cause::Form)?;
+    take_from(log, reference)
+}
+
 /// Whether a variable stands twice.
 fn is_one_twice(ones: &[u32]) -> bool {
     for i in 0..ones.len() {
@@ -260,7 +296,7 @@ fn is_one_twice(ones: &[u32]) -> bool {
 /// Whether each constraint of the encoding holds where exactly these variables are 1.
 fn do_hold(log: &Log, ones: &[u32]) -> bool {
     for (name, row) in &log.named {
-        if let Ref::Line(_) = name
+        if let (Ref::Line(_), Some(row)) = (name, row)
             && !holds(row, ones)
         {
             return false;
@@ -304,6 +340,7 @@ fn take_words(alloc: Global, log: &mut Log, all: &[&[u8]]) -> Result<Option<Verd
         b"p" => calculate(alloc, log, words),
         b"u" => follow(alloc, log, words),
         b"n" => rename(alloc, log, words),
+        b"d" => delete(log, words),
         _ => claim(alloc, log, kind, words),
     }
 }
@@ -383,7 +420,7 @@ pub fn begun(alloc: Global, variables: u32, constraints: &[Terms]) -> Result<Log
     for terms in constraints {
         number = number.wrapping_add(1);
         let row = row_of(alloc, variables, &terms.terms, terms.bound)?;
-        named.push((Ref::Line(number), row))?;
+        named.push((Ref::Line(number), Some(row)))?;
     }
     Ok(Log {
         variables,

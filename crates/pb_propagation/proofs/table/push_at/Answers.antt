@@ -1,5 +1,5 @@
-use Rattle.std.proofs.Common.{Result, Ok, Err, OnErr}
-use Rattle.pb_propagation.proofs.SharedRows.{pushed, unpushed}
+use Rattle.std.proofs.Common.{◌++◌, ◌∷◌, [], Result, Ok, Err, Some, OnErr, ap, ◌∙◌}
+use Rattle.pb_propagation.proofs.SharedRows.{changed, unpushed}
 use Rattle.pb_propagation.proofs.table.push_at.Goals as goal
 
 on_err : {T E : Type 0} (r : Result T E) (P : Type 0) → P → OnErr r P
@@ -11,4 +11,6 @@ returns-in_err-push-clause-err c =
     on_err _ _ (unpushed (λ v. v.items) c.args.lists.now.items c.args.owner c.index_mut.result.now c.push.new.self c.index_mut.ensures.value c.in_err-push.ensures.items)
 
 pub returns-clause-ok : goal.returns-clause-ok
-returns-clause-ok c = pushed (λ v. v.items) c.args.lists.now.items c.args.owner c.index_mut.result.now c.push.new.self c.args.made c.requires c.index_mut.ensures.value c.in_ok-push.ensures.items
+returns-clause-ok c =
+    changed (λ v. v.items) (λ fs. fs ++ Some c.args.made ∷ []) c.args.lists.now.items c.args.owner c.index_mut.result.now c.push.new.self c.requires c.index_mut.ensures.value
+    (c.in_ok-push.ensures.items ∙ ap (λ o. c.index_mut.result.now.items ++ o ∷ []) c.in_ok-slot.ensures)

@@ -9,16 +9,16 @@ returns-then-at-len c =
     let w = subst (λ (rs : List ℕ). WouldStand rs c.args.row c.in-Err.at) c.deref.ensures.value c.in-Err.ensures in
     let h = c.if-at-len.true in
     let o = c.self.inside.rows.ok.0 in
-    row_below _ _ _ c.args.row c.in-Err.at c.args.self.now (sym (ap (λ (t : Table). t.shared) c.self.view_is)) c.self.invariant w (omega arith)
+    row_below _ _ c.args.row c.in-Err.at c.args.self.now (sym (ap (λ (t : Table). t.shared) c.self.view_is)) c.self.invariant w (omega arith)
 
 pub returns-in-Ok : goal.returns-in-Ok
 returns-in-Ok c =
     let s = subst (λ (rs : List ℕ). StandsAt rs c.args.row c.in-Ok.field-0) c.deref.ensures.value c.in-Ok.ensures in
-    row_used _ _ _ c.args.row c.in-Ok.field-0 c.args.self.now (sym (ap (λ (t : Table). t.shared) c.self.view_is)) c.self.invariant s
+    row_used _ _ c.args.row c.in-Ok.field-0 c.args.self.now (sym (ap (λ (t : Table). t.shared) c.self.view_is)) c.self.invariant s
 
 pub returns-else-at-len : goal.returns-else-at-len
 returns-else-at-len c =
     let w = subst (λ (rs : List ℕ). WouldStand rs c.args.row c.in-Err.at) c.deref.ensures.value c.in-Err.ensures in
     let h = c.if-at-len.false in
     let o = c.self.inside.rows.ok.0 in
-    row_above _ _ _ c.args.row c.in-Err.at c.args.self.now (sym (ap (λ (t : Table). t.shared) c.self.view_is)) c.self.invariant w (omega arith)
+    row_above _ _ c.args.row c.in-Err.at c.args.self.now (sym (ap (λ (t : Table). t.shared) c.self.view_is)) c.self.invariant w (omega arith)
