@@ -9,3 +9,4 @@ pub mod Scanning
 pub mod OneLook
 pub mod Showing
 pub mod Decided
+pub mod Parts

@@ -1,99 +1,65 @@
-//! Taking the values of a set of domains from all later ones.
+//! Taking the union of the domains found from all later ones.
 
-ghost use Rattle.std.specs.Prelude.{◌≡◌, ℕ, ◌+◌, ◌*◌, ◌<◌, ◌≤◌, true, false, not, length, if◌then◌else◌};
+ghost use Rattle.std.specs.Prelude.{◌≡◌, ℕ, ◌+◌, ◌*◌, ◌<◌, ◌≤◌, not, length, take, if◌then◌else◌};
 ghost use Rattle.bit_rows.specs.BitRows.{has, words_for};
-ghost use Rattle.graph_theory.specs.Neighbours.{count};
 ghost use Rattle.domain_bits.specs.Removals.{intersected, size_of};
-ghost use Rattle.all_different.specs.Pruning.{without_union};
+ghost use Rattle.all_different.specs.Prefixes.{in_union};
+ghost use Rattle.all_different.specs.Pruning.{Prunes, without_union};
 ghost use Rattle.all_different.specs.Ranks.{before, rank};
-ghost use Rattle.all_different.specs.Prefixes.{in_union, First, Tight};
-ghost use Rattle.all_different.specs.Steps.{Apart, BalancedTo, Ordered, Shares, TightWithin, in_rest};
+ghost use Rattle.all_different.specs.Steps.{Begins, Finds};
 
+use crate::Pruned;
+use crate::finding::Found;
 use crate::ordering::is_later;
-use crate::uniting::{meets, unite_first, unite_rest};
-use bit_rows::{count_ones, or_into};
 use domain_bits::{Domains, Trail};
 
-/// Finds the first prefix with just enough values that a later domain has one of, which is none of at most `from` domains, and takes
-/// them from all later domains. Gives the size of the prefix, and leaves its union in `union`.
-pub(crate) fn take_values<T: Trail>(
+/// Answers as `prune` does what was found of the domains of all vertices. Gives the size of the set found too.
+#[inline(always)]
+pub(crate) fn take_found<T: Trail>(
     d: &mut Domains<T>,
-    from: usize,
+    found: Found,
     order: &[u16],
-    k: usize,
-    union: &mut [u64],
+    union: &[u64],
     keep: &mut [u64],
-) -> usize
-    requires begun { BalancedTo d.old from }
-    requires from { from ≤ length order.now }
-    requires ordered { Ordered d.old order.now }
-    requires within { k ≤ length order.now }
-    requires apart { Apart d.old order.now k }
-    requires some { TightWithin d.old k }
-    requires union { length union.old ≡ words_for d.old.values }
+) -> (Pruned, usize)
+    requires finds { Finds found d.old order.now union.now }
+    requires union { length union.now ≡ words_for d.old.values }
     requires keep { length keep.old ≡ words_for d.old.values }
-    ensures first { First (Tight d.old) result }
-    ensures within { result ≤ length order.now }
-    ensures union { (t : ℕ) → has union.new t ≡ in_union d.old result t }
-    ensures after { d.new ≡ without_union d.old result }
+    ensures prunes { Prunes result.0 d.old d.new (take result.1 order.now) union.now }
+    ensures within { result.1 ≤ length order.now }
 {
-    unite_rest(d, order[k - 1], keep);
-    let n = first_tight(d, from, order, k, union, keep);
-    complement(union, keep);
-    clear_later(d, order[n - 1], keep);
-    n
-}
-
-/// The first prefix with just enough values that a later domain has one of; only domains from place `k` on, whose union is `rest`, can
-/// have one, and it is none of at most `from` domains. Its union is left in `union`.
-fn first_tight<T: Trail>(
-    d: &Domains<T>,
-    from: usize,
-    order: &[u16],
-    k: usize,
-    union: &mut [u64],
-    rest: &[u64],
-) -> usize
-    requires begun { BalancedTo d.now from }
-    requires from { from ≤ length order.now }
-    requires ordered { Ordered d.now order.now }
-    requires within { k ≤ length order.now }
-    requires apart { Apart d.now order.now k }
-    requires some { TightWithin d.now k }
-    requires long { length union.old ≡ words_for d.now.values }
-    requires rest_long { length rest.now ≡ words_for d.now.values }
-    requires rest { (t : ℕ) → has rest.now t ≡ in_rest d.now k t }
-    ensures first { First (Tight d.now) result }
-    ensures within { result ≤ length order.now }
-    ensures union { (t : ℕ) → has union.new t ≡ in_union d.now result t }
-{
-    unite_first(d, order, from, union);
-    for n in from..k {
-        or_into(union, d.row(order[n]));
-        if is_tight(union, rest, n + 1) {
-            return n + 1;
+    match found {
+        Found::Nothing => (Pruned::Quiet, 0),
+        Found::Short(n) => (Pruned::Fail, n),
+        Found::Tight(n) => {
+            take_values(d, order, n, union, keep);
+            (Pruned::Hall, n)
         }
     }
-    unreachable!()
 }
 
-/// Whether a union has just `n` values and shares one with the rest.
-fn is_tight(union: &[u64], rest: &[u64], n: usize) -> bool
-    requires long { length union.now ≡ length rest.now }
-    requires short { length union.now ≤ 1024 }
-    ensures full { result ≡ true → count (has union.now) (64 * length union.now) ≡ n }
-    ensures found { result ≡ true → Shares union.now rest.now }
-    ensures none { result ≡ false → count (has union.now) (64 * length union.now) ≡ n → (t : ℕ)
-        → has union.now t ≡ true → has rest.now t ≡ true → ⊥ }
+/// Takes the union of the first `n` domains from all later ones.
+#[inline(never)]
+fn take_values<T: Trail>(
+    d: &mut Domains<T>,
+    order: &[u16],
+    n: usize,
+    union: &[u64],
+    keep: &mut [u64],
+)
+    requires begins { Begins d.old n order.now }
+    requires some { 0 < n }
+    requires long { length union.now ≡ words_for d.old.values }
+    requires keep { length keep.old ≡ words_for d.old.values }
+    requires union { (t : ℕ) → has union.now t ≡ in_union d.old n t }
+    ensures { d.new ≡ without_union d.old n }
 {
-    if count_ones(union) != n as u64 {
-        return false;
-    }
-    meets(union, rest)
+    complement(union, keep);
+    clear_later(d, order[n - 1], keep);
 }
 
 /// Writes into `keep` all that is not in the row.
-fn complement(row: &[u64], keep: &mut [u64])
+pub(crate) fn complement(row: &[u64], keep: &mut [u64])
     requires { length keep.old ≡ length row.now }
     ensures { (t : ℕ) → t < 64 * length row.now → has keep.new t ≡ not (has row.now t) }
 {

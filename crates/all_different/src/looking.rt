@@ -8,10 +8,10 @@ ghost use Rattle.all_different.specs.Ranks.{rank};
 ghost use Rattle.all_different.specs.Prefixes.{in_union, First, Short};
 ghost use Rattle.all_different.specs.Steps.{BalancedTo, Meets, MissesAt, Ordered, Scans, Shares, in_later};
 
+use crate::family::Family;
 use crate::ordering::is_later;
 use crate::uniting::{add_domains, meets};
 use bit_rows::{clear, count_ones, or_into};
-use domain_bits::{Domains, Trail};
 
 /// How far the first domains were looked at.
 #[derive(Clone, Copy)]
@@ -30,19 +30,19 @@ pub(crate) enum Scan {
 /// kept in `full`, and the next domain is held against it, so that one look at each domain is enough. Cost: one step for each word of
 /// these domains, another once one is kept, and two where the union may have as few values as members; where one is kept at the end, that
 /// of `add_domains` for those before.
-pub(crate) fn look<T: Trail>(
-    d: &Domains<T>,
+pub(crate) fn look<F: Family>(
+    d: &F,
     from: usize,
     order: &[u16],
     union: &mut [u64],
     full: &mut [u64],
 ) -> Scan
-    requires begun { BalancedTo d.now from }
+    requires begun { BalancedTo (F.state d.now) from }
     requires within { from ≤ length order.now }
-    requires ordered { Ordered d.now order.now }
-    requires long { length union.old ≡ words_for d.now.values }
-    requires full { length full.old ≡ words_for d.now.values }
-    ensures { Scans result d.now from order.now union.new full.new }
+    requires ordered { Ordered (F.state d.now) order.now }
+    requires long { length union.old ≡ words_for (F.state d.now).values }
+    requires full { length full.old ≡ words_for (F.state d.now).values }
+    ensures { Scans result (F.state d.now) from order.now union.new full.new }
 {
     begin_union(union);
     let mut last = 0;
@@ -112,23 +112,23 @@ fn size_up_to(row: &[u64], least: u64, few: u64) -> u64
 
 /// The first prefix with too few values, where none of at most `k` domains has, as `look` left it: `union` has what these have and the
 /// first `from` have not. Cost: two steps for each word of the domains from place `k` on, up to the last one that is looked at.
-pub(crate) fn first_short<T: Trail>(
-    d: &Domains<T>,
+pub(crate) fn first_short<F: Family>(
+    d: &F,
     from: usize,
     order: &[u16],
     k: usize,
     union: &mut [u64],
 ) -> Option<usize>
-    requires begun { BalancedTo d.now from }
-    requires ordered { Ordered d.now order.now }
+    requires begun { BalancedTo (F.state d.now) from }
+    requires ordered { Ordered (F.state d.now) order.now }
     requires after { from ≤ k }
     requires within { k ≤ length order.now }
-    requires long { length union.old ≡ words_for d.now.values }
-    requires union { (t : ℕ) → has union.old t ≡ in_later d.now from k t }
-    requires none { (m : ℕ) → m ≤ k → Short d.now m → ⊥ }
-    ensures some { IfSome result (λ n. First (Short d.now) n) }
+    requires long { length union.old ≡ words_for (F.state d.now).values }
+    requires union { (t : ℕ) → has union.old t ≡ in_later (F.state d.now) from k t }
+    requires none { (m : ℕ) → m ≤ k → Short (F.state d.now) m → ⊥ }
+    ensures some { IfSome result (λ n. First (Short (F.state d.now)) n) }
     ensures within { IfSome result (λ n. n ≤ length order.now) }
-    ensures none { IfNone result ((n : ℕ) → Short d.now n → ⊥) }
+    ensures none { IfNone result ((n : ℕ) → Short (F.state d.now) n → ⊥) }
 {
     for j in k..order.len() {
         or_into(union, d.row(order[j]));
@@ -140,13 +140,16 @@ pub(crate) fn first_short<T: Trail>(
 }
 
 /// Whether a domain after those of a prefix meets their union.
-pub(crate) fn later_meets<T: Trail>(d: &Domains<T>, last: u16, union: &[u64]) -> bool
-    requires last_in { last < d.now.vertices }
-    requires long { length union.now ≡ words_for d.now.values }
+pub(crate) fn later_meets<F: Family>(d: &F, last: u16, union: &[u64]) -> bool
+    requires last_in { last < (F.state d.now).vertices }
+    requires long { length union.now ≡ words_for (F.state d.now).values }
     requires union { (t : ℕ)
-        → has union.now t ≡ in_union d.now (rank (size_of d.now) d.now.vertices last + 1) t }
-    ensures found { result ≡ true → Meets d.now (rank (size_of d.now) d.now.vertices last + 1) }
-    ensures none { result ≡ false → Meets d.now (rank (size_of d.now) d.now.vertices last + 1) → ⊥ }
+        → has union.now t ≡ in_union (F.state d.now)
+        (rank (size_of (F.state d.now)) (F.state d.now).vertices last + 1) t }
+    ensures found { result ≡ true → Meets (F.state d.now)
+        (rank (size_of (F.state d.now)) (F.state d.now).vertices last + 1) }
+    ensures none { result ≡ false → Meets (F.state d.now)
+        (rank (size_of (F.state d.now)) (F.state d.now).vertices last + 1) → ⊥ }
 {
     for p in 0..d.vertices() {
         if meets_after(d, last, p, union) {
@@ -157,15 +160,18 @@ pub(crate) fn later_meets<T: Trail>(d: &Domains<T>, last: u16, union: &[u64]) ->
 }
 
 /// Whether one domain is after those of a prefix and meets their union.
-fn meets_after<T: Trail>(d: &Domains<T>, last: u16, p: u16, union: &[u64]) -> bool
-    requires last_in { last < d.now.vertices }
-    requires p_in { p < d.now.vertices }
-    requires long { length union.now ≡ words_for d.now.values }
+fn meets_after<F: Family>(d: &F, last: u16, p: u16, union: &[u64]) -> bool
+    requires last_in { last < (F.state d.now).vertices }
+    requires p_in { p < (F.state d.now).vertices }
+    requires long { length union.now ≡ words_for (F.state d.now).values }
     requires union { (t : ℕ)
-        → has union.now t ≡ in_union d.now (rank (size_of d.now) d.now.vertices last + 1) t }
-    ensures found { result ≡ true → Meets d.now (rank (size_of d.now) d.now.vertices last + 1) }
+        → has union.now t ≡ in_union (F.state d.now)
+        (rank (size_of (F.state d.now)) (F.state d.now).vertices last + 1) t }
+    ensures found { result ≡ true → Meets (F.state d.now)
+        (rank (size_of (F.state d.now)) (F.state d.now).vertices last + 1) }
     ensures none { result ≡ false
-        → MissesAt d.now (rank (size_of d.now) d.now.vertices last + 1) p }
+        → MissesAt (F.state d.now)
+        (rank (size_of (F.state d.now)) (F.state d.now).vertices last + 1) p }
 {
     if !is_later(d, last, p) {
         return false;

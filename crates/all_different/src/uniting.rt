@@ -8,15 +8,15 @@ ghost use Rattle.all_different.specs.Ranks.{rank};
 ghost use Rattle.all_different.specs.Prefixes.{in_prefix, in_union};
 ghost use Rattle.all_different.specs.Steps.{Ordered, Shares, in_rest};
 
+use crate::family::Family;
 use crate::ordering::is_later;
 use bit_rows::{WORDS, are_apart, blocks_of, clear, or_into, set_bit};
-use domain_bits::{Domains, Trail};
 
 /// Adds a domain to the row. Cost: one step for a domain of one value, else one for each word.
-fn add_domain<T: Trail>(d: &Domains<T>, p: u16, row: &mut [u64])
-    requires p_in { p < d.now.vertices }
-    requires long { length row.old ≡ words_for d.now.values }
-    ensures { (t : ℕ) → has row.new t ≡ (has row.old t || in_domain d.now p t) }
+fn add_domain<F: Family>(d: &F, p: u16, row: &mut [u64])
+    requires p_in { p < (F.state d.now).vertices }
+    requires long { length row.old ≡ words_for (F.state d.now).values }
+    ensures { (t : ℕ) → has row.new t ≡ (has row.old t || in_domain (F.state d.now) p t) }
 {
     match d.only(p) {
         Some(t) => set_bit(row, usize::from(t)),
@@ -25,10 +25,11 @@ fn add_domain<T: Trail>(d: &Domains<T>, p: u16, row: &mut [u64])
 }
 
 /// Adds the domains of a list of vertices to the row. Cost: that of `add_domain` for each of them.
-pub(crate) fn add_domains<T: Trail>(d: &Domains<T>, list: &[u16], row: &mut [u64])
-    requires inside { (k : ℕ) → k < length list.now → slice_index list.now k < d.now.vertices }
-    requires long { length row.old ≡ words_for d.now.values }
-    ensures { (t : ℕ) → has row.new t ≡ (has row.old t || in_one_of d.now list.now t) }
+pub(crate) fn add_domains<F: Family>(d: &F, list: &[u16], row: &mut [u64])
+    requires inside { (k : ℕ) → k < length list.now
+        → slice_index list.now k < (F.state d.now).vertices }
+    requires long { length row.old ≡ words_for (F.state d.now).values }
+    ensures { (t : ℕ) → has row.new t ≡ (has row.old t || in_one_of (F.state d.now) list.now t) }
 {
     for k in 0..list.len() {
         add_domain(d, list[k], row);
@@ -36,34 +37,36 @@ pub(crate) fn add_domains<T: Trail>(d: &Domains<T>, list: &[u16], row: &mut [u64
 }
 
 /// The union of the domains of a list of vertices. Cost: one step for each word, and that of `add_domain` for each vertex.
-pub(crate) fn unite<T: Trail>(d: &Domains<T>, list: &[u16], row: &mut [u64])
-    requires inside { (k : ℕ) → k < length list.now → slice_index list.now k < d.now.vertices }
-    requires long { length row.old ≡ words_for d.now.values }
-    ensures { (t : ℕ) → has row.new t ≡ in_one_of d.now list.now t }
+pub(crate) fn unite<F: Family>(d: &F, list: &[u16], row: &mut [u64])
+    requires inside { (k : ℕ) → k < length list.now
+        → slice_index list.now k < (F.state d.now).vertices }
+    requires long { length row.old ≡ words_for (F.state d.now).values }
+    ensures { (t : ℕ) → has row.new t ≡ in_one_of (F.state d.now) list.now t }
 {
     clear(row);
     add_domains(d, list, row);
 }
 
 /// The union of the first `n` domains in the order. Cost: that of `unite`.
-pub(crate) fn unite_first<T: Trail>(d: &Domains<T>, order: &[u16], n: usize, row: &mut [u64])
-    requires ordered { Ordered d.now order.now }
+pub(crate) fn unite_first<F: Family>(d: &F, order: &[u16], n: usize, row: &mut [u64])
+    requires ordered { Ordered (F.state d.now) order.now }
     requires within { n ≤ length order.now }
-    requires long { length row.old ≡ words_for d.now.values }
-    ensures { (t : ℕ) → has row.new t ≡ in_union d.now n t }
+    requires long { length row.old ≡ words_for (F.state d.now).values }
+    ensures { (t : ℕ) → has row.new t ≡ in_union (F.state d.now) n t }
 {
     unite(d, &order[..n], row);
 }
 
 /// Adds a domain to the row, if it is after those of a prefix.
-fn add_later<T: Trail>(d: &Domains<T>, last: u16, p: u16, row: &mut [u64])
-    requires last_in { last < d.now.vertices }
-    requires p_in { p < d.now.vertices }
-    requires long { length row.old ≡ words_for d.now.values }
+fn add_later<F: Family>(d: &F, last: u16, p: u16, row: &mut [u64])
+    requires last_in { last < (F.state d.now).vertices }
+    requires p_in { p < (F.state d.now).vertices }
+    requires long { length row.old ≡ words_for (F.state d.now).values }
     ensures { (t : ℕ)
         → has row.new t ≡ (has row.old t
-        || (not (in_prefix d.now (rank (size_of d.now) d.now.vertices last + 1) p)
-        && in_domain d.now p t)) }
+        || (not (in_prefix (F.state d.now)
+        (rank (size_of (F.state d.now)) (F.state d.now).vertices last + 1) p)
+        && in_domain (F.state d.now) p t)) }
 {
     if is_later(d, last, p) {
         or_into(row, d.row(p));
@@ -71,11 +74,12 @@ fn add_later<T: Trail>(d: &Domains<T>, last: u16, p: u16, row: &mut [u64])
 }
 
 /// The union of the domains after those of a prefix.
-pub(crate) fn unite_rest<T: Trail>(d: &Domains<T>, last: u16, row: &mut [u64])
-    requires last_in { last < d.now.vertices }
-    requires long { length row.old ≡ words_for d.now.values }
+pub(crate) fn unite_rest<F: Family>(d: &F, last: u16, row: &mut [u64])
+    requires last_in { last < (F.state d.now).vertices }
+    requires long { length row.old ≡ words_for (F.state d.now).values }
     ensures { (t : ℕ)
-        → has row.new t ≡ in_rest d.now (rank (size_of d.now) d.now.vertices last + 1) t }
+        → has row.new t ≡ in_rest (F.state d.now)
+        (rank (size_of (F.state d.now)) (F.state d.now).vertices last + 1) t }
 {
     clear(row);
     for p in 0..d.vertices() {

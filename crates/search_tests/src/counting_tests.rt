@@ -1,10 +1,11 @@
 //! Domains that are counted together.
 
-ghost use Rattle.std.specs.Prelude.{◌≡◌, ℕ, ◌<◌, true, length, slice_index, IfOk};
+ghost use Rattle.std.specs.Prelude.{◌≡◌, ℕ, ◌-◌, ◌<◌, true, length, slice_index, IfOk};
 ghost use Rattle.domain_bits.specs.Removals.{in_domain};
+ghost use Rattle.all_different.specs.Members.{AreMembers};
 ghost use Rattle.all_different.specs.Pruning.{DecidedApart};
 
-use all_different::{Pruned, Scratch, prune, prune_undecided};
+use all_different::{Pruned, Scratch, prune, prune_of, prune_undecided};
 use domain_bits::Domains;
 use std::alloc::{AllocError, Global};
 use std::test::Fail;
@@ -166,4 +167,134 @@ static COUNTED: [Counted; 6] = [
 #[test]
 fn both_answer_alike_on_domains_at_rest(rt: HostRuntime) -> Result<(), Fail> {
     all_hold(&rt, rt.alloc(), &COUNTED)
+}
+
+/// Whether the number at place `k` is more than the one before it.
+fn follows(list: &[u16], k: usize) -> bool
+    requires { k < length list.now }
+    ensures { result ≡ true → 0 < k → slice_index list.now (k - 1) < slice_index list.now k }
+{
+    k == 0 || list[k - 1] < list[k]
+}
+
+/// Whether these are vertices, each once and rising.
+fn are_members(list: &[u16], vertices: u16) -> bool
+    ensures { result ≡ true → AreMembers vertices list.now }
+{
+    for k in 0..list.len() {
+        if list[k] >= vertices {
+            return false;
+        }
+        if !follows(list, k) {
+            return false;
+        }
+    }
+    true
+}
+
+/// Domains of five vertices and six values that have just the values of these rows.
+fn five_domains(alloc: Global, rows: [u64; 5]) -> Result<Domains, AllocError>
+    ensures vertices { IfOk result (λ d. d.vertices ≡ 5) }
+    ensures values { IfOk result (λ d. d.values ≡ 6) }
+{
+    let mut domains = Domains::new(alloc, 5, 6)?;
+    domains.intersect(0, &[rows[0]]);
+    domains.intersect(1, &[rows[1]]);
+    domains.intersect(2, &[rows[2]]);
+    domains.intersect(3, &[rows[3]]);
+    domains.intersect(4, &[rows[4]]);
+    Ok(domains)
+}
+
+/// Whether the domains have just these rows.
+fn have_rows(d: &Domains, rows: [u64; 5]) -> bool
+    requires { d.now.vertices ≡ 5 }
+{
+    d.row(0) == [rows[0]].as_slice()
+        && d.row(1) == [rows[1]].as_slice()
+        && d.row(2) == [rows[2]].as_slice()
+        && d.row(3) == [rows[3]].as_slice()
+        && d.row(4) == [rows[4]].as_slice()
+}
+
+/// The rows of five domains and the members that are counted; what this answers, the set that it tells with the values of that set, and
+/// the rows that it leaves.
+struct CountedOf {
+    rows: [u64; 5],
+    members: &'static [u16],
+    answer: Pruned,
+    set: &'static [u16],
+    values: u64,
+    left: [u64; 5],
+}
+
+impl<R> Example<R> for CountedOf {
+    fn holds(&self, _rt: &R, alloc: Global) -> Result<bool, AllocError> {
+        if !are_members(self.members, 5) {
+            return Ok(false);
+        }
+        let mut domains = five_domains(alloc, self.rows)?;
+        let mut scratch = Scratch::new(alloc, 5, 6)?;
+        let answer = prune_of(&mut domains, &mut scratch, self.members);
+        if answer != self.answer || scratch.set() != self.set || !have_rows(&domains, self.left) {
+            return Ok(false);
+        }
+        if answer == Pruned::Fail && are_vertices(scratch.set(), 5) {
+            scratch.unite(&domains);
+        }
+        Ok(answer == Pruned::Quiet || is_left(&scratch, self.set, self.values))
+    }
+}
+
+static COUNTED_OF: [CountedOf; 5] = [
+    // two empty a third beside others, one of which has a value of theirs alone
+    CountedOf {
+        rows: [0b11, 0b1, 0b11, 0b111111, 0b111],
+        members: &[0, 2, 4],
+        answer: Pruned::Hall,
+        set: &[0, 2],
+        values: 0b11,
+        left: [0b11, 0b1, 0b11, 0b111111, 0b100],
+    },
+    // three of two values, by size and then by number
+    CountedOf {
+        rows: [0b111111, 0b11, 0b1, 0b1000, 0b11],
+        members: &[1, 2, 4],
+        answer: Pruned::Fail,
+        set: &[2, 1, 4],
+        values: 0b11,
+        left: [0b111111, 0b11, 0b1, 0b1000, 0b11],
+    },
+    // two at rest beside three of two values
+    CountedOf {
+        rows: [0b11, 0b11, 0b11, 0b11, 0b110],
+        members: &[3, 4],
+        answer: Pruned::Quiet,
+        set: &[],
+        values: 0,
+        left: [0b11, 0b11, 0b11, 0b11, 0b110],
+    },
+    // no members
+    CountedOf {
+        rows: [0b1, 0b1, 0b0, 0b1, 0b1],
+        members: &[],
+        answer: Pruned::Quiet,
+        set: &[],
+        values: 0,
+        left: [0b1, 0b1, 0b0, 0b1, 0b1],
+    },
+    // an empty one
+    CountedOf {
+        rows: [0b1, 0b0, 0b1, 0b111, 0b1],
+        members: &[1, 3],
+        answer: Pruned::Fail,
+        set: &[1],
+        values: 0,
+        left: [0b1, 0b0, 0b1, 0b111, 0b1],
+    },
+];
+
+#[test]
+fn members_are_counted_beside_others(rt: HostRuntime) -> Result<(), Fail> {
+    all_hold(&rt, rt.alloc(), &COUNTED_OF)
 }

@@ -1,4 +1,4 @@
-use Rattle.std.proofs.Common.{◌≡◌, Bool, true, false, ◌||◌, length, get_or, take, refl, sym, ap, ◌∙◌, subst, arith}
+use Rattle.std.proofs.Common.{◌≡◌, Bool, true, false, ◌||◌, get_or, take, refl, sym, ap, ◌∙◌, arith}
 use Rattle.std.proofs.lemmas.List.{take_more, take_all}
 use Rattle.bit_rows.specs.BitRows.{has}
 use Rattle.domain_bits.specs.Removals.{in_domain}
@@ -19,7 +19,7 @@ loop-k-init g c = record { long = c.requires.long; union = λ t. alone (has c.ar
 
 pub loop-k-preserved : goal.loop-k-preserved
 loop-k-preserved g c =
-    let d = c.args.d.now in
+    let d = g.F.Family.state c.args.d.now in
     let list = c.args.list.now in
     let k = c.loop-k.k in
     record {
@@ -30,4 +30,4 @@ loop-k-preserved g c =
 
 pub returns : goal.returns
 returns g c t = c.loop-k.invariant.union t
-    ∙ ap (λ xs. has c.args.row.now t || in_one_of c.args.d.now xs t) (take_all c.loop-k.k c.args.list.now (omega (arith, c.loop-k-test.false)))
+    ∙ ap (λ xs. has c.args.row.now t || in_one_of (g.F.Family.state c.args.d.now) xs t) (take_all c.loop-k.k c.args.list.now (omega (arith, c.loop-k-test.false)))
