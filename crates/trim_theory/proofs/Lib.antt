@@ -1,0 +1,15 @@
+mod Renaming
+mod Simulating
+mod Stepped
+mod Keeping
+mod Writing
+mod Telling
+mod Accepting
+mod Listing
+mod Referring
+mod Distinct
+mod Placed
+mod Marking
+mod Marked
+mod Uniqueness
+mod TrimRows
