@@ -62,14 +62,14 @@ pub fn solve_with<R: Threads + Sync, G: Gate + Sync>(
     ensures { IsSolved result q.now s.now.threads s.now.budget s.now.prove }
 {
     if s.prove {
-        return solve_logged(rt, alloc, q, s, gate);
+        return solve_with_log(rt, alloc, q, s, gate);
     }
     let maker = KeepsNothing::new(q);
-    solve_by::<R, G, Unlogged, KeepsNothing>(rt, alloc, q, s, gate, &maker, Silent)
+    share_kinds::<R, G, Unlogged, KeepsNothing>(rt, alloc, q, s, gate, &maker, Silent)
 }
 
 /// The same, with a log of what a refutation rests on.
-fn solve_logged<R: Threads + Sync, G: Gate + Sync>(
+fn solve_with_log<R: Threads + Sync, G: Gate + Sync>(
     rt: &R,
     alloc: Global,
     q: &Problem,
@@ -88,11 +88,12 @@ fn solve_logged<R: Threads + Sync, G: Gate + Sync>(
     let ground = Ground::new(alloc, &lines);
     let maker = KeepsLines::new(q, &ground);
     let told = Causes::new(alloc);
-    solve_by::<R, G, OwnerLog, KeepsLines>(rt, alloc, q, s, gate, &maker, told)
+    share_kinds::<R, G, OwnerLog, KeepsLines>(rt, alloc, q, s, gate, &maker, told)
 }
 
-/// The same, with loggers and a proof by this maker, and a recorder that was told nothing.
-fn solve_by<R: Threads + Sync, G: Gate + Sync, L: ProofLogger + Send, M: ProofMaker<L>>(
+/// Makes the kinds of pairs, which all workers share, and decides the problem from its root, with loggers and a proof by this maker, and a
+/// recorder that was told nothing.
+fn share_kinds<R: Threads + Sync, G: Gate + Sync, L: ProofLogger + Send, M: ProofMaker<L>>(
     rt: &R,
     alloc: Global,
     q: &Problem,
@@ -122,11 +123,11 @@ where
         maker,
         settings: s,
     };
-    solve_root(rt, &root, told, gate)
+    decide_root(rt, &root, told, gate)
 }
 
 /// Takes the root, with a recorder that was told nothing, and decides the problem from there.
-fn solve_root<'a, R: Threads + Sync, G: Gate + Sync, L: ProofLogger + Send, M: ProofMaker<L>>(
+fn decide_root<'a, R: Threads + Sync, G: Gate + Sync, L: ProofLogger + Send, M: ProofMaker<L>>(
     rt: &R,
     root: &Root<'_, 'a, M>,
     told: L::Told,
@@ -146,14 +147,14 @@ where
         root.now.settings.now.budget (M.logged root.now.maker.now) }
 {
     match take_root::<WordTrail, L::Told>(root.alloc, root.q, root.kinds, MOST_WORDS, told) {
-        Rooted::Quiet(domains, told) => solve_from(rt, root, domains, told, gate),
-        Rooted::Failed(failure, told) => answer_root(root, &told, failure),
+        Rooted::Quiet(domains, told) => search_below_root(rt, root, domains, told, gate),
+        Rooted::Failed(failure, told) => answer_of_root(root, &told, failure),
         Rooted::NoMemory => Solved::NoMemory,
     }
 }
 
 /// The answer where the root's domains failed so, with what was told of them.
-fn answer_root<L: ProofLogger, M: ProofMaker<L>>(
+fn answer_of_root<L: ProofLogger, M: ProofMaker<L>>(
     root: &Root<'_, '_, M>,
     told: &L::Told,
     failure: Failure,
@@ -189,14 +190,14 @@ fn root_proof<L: ProofLogger, M: ProofMaker<L>>(
     maker.of_root(alloc, log)
 }
 
-/// Decides the problem from the domains of the root, with what was told of them.
-fn solve_from<'a, R: Threads + Sync, G: Gate + Sync, L: ProofLogger + Send, M: ProofMaker<L>>(
-    rt: &R,
-    root: &Root<'_, 'a, M>,
-    domains: Domains<WordTrail>,
-    told: L::Told,
-    gate: &G,
-) -> Solved
+/// Makes the book and the workers, and has them search from the domains of the root, with what was told of them.
+fn search_below_root<
+    'a,
+    R: Threads + Sync,
+    G: Gate + Sync,
+    L: ProofLogger + Send,
+    M: ProofMaker<L>,
+>(rt: &R, root: &Root<'_, 'a, M>, domains: Domains<WordTrail>, told: L::Told, gate: &G) -> Solved
 where
     L::Told: Send,
     requires kinds { root.now.kinds.now.problem ≡ root.now.q.now }
@@ -215,7 +216,7 @@ where
         return Solved::NoMemory;
     };
     match make_team(root, domains, told, &book, &mut first) {
-        Ok(jobs) => solve_by_team(rt, root, &book, &mut first, jobs, gate),
+        Ok(jobs) => search_by_team(rt, root, &book, &mut first, jobs, gate),
         Err(_) => Solved::NoMemory,
     }
 }
@@ -231,7 +232,7 @@ fn rooms<L: ProofLogger>(alloc: Global, threads: u32) -> Result<(Vec<Account>, V
 }
 
 /// Runs the workers, and answers what they say together.
-fn solve_by_team<'a, R: Threads + Sync, G: Gate + Sync, L: ProofLogger + Send, M: ProofMaker<L>>(
+fn search_by_team<'a, R: Threads + Sync, G: Gate + Sync, L: ProofLogger + Send, M: ProofMaker<L>>(
     rt: &R,
     root: &Root<'_, 'a, M>,
     book: &RowBook,

@@ -26,7 +26,8 @@ use Rattle.restart_search.specs.Sharing.{KeepsUp}
 use Rattle.restart_search.specs.declared.outcome.Stage.{Stage}
 use Rattle.restart_search.specs.declared.outcome.Stage.TheVariants.{Fresh, Halfway, Over}
 use Rattle.restart_search.specs.Logging.{IfRefuted, LoggedAt}
-use Rattle.restart_search.specs.Searching.{stage_after, Sound, IsNow, IsAtRoot, NotBegun, Begun, AtStage, TookUp, BeganAgain, Ends, IsTrueFor, IsNotStopped, FoundOf, Leaves, Search, IsPaused}
+use Rattle.worker_gate.specs.Answers.{NoteView}
+use Rattle.restart_search.specs.Searching.{stage_after, Sound, IsNow, IsAtRoot, NotBegun, Begun, AtStage, TookUp, BeganAgain, Ends, IsTrueFor, IfStopped, IsNotStopped, FoundOf, Leaves, Search, IsPaused}
 use Rattle.restart_search.proofs.Beginning.{sound_fresh}
 use Rattle.restart_search.proofs.Closing.{sound_restarted, rest_again}
 use Rattle.restart_search.proofs.Moments.{acting_fresh}
@@ -141,6 +142,14 @@ found_alone Refuted q h = tt
 found_alone Spent q h = tt
 found_alone (Stopped n) q h = absurd h
 found_alone NoMemory q h = tt
+
+-- an embedding that is found was not stopped at
+pub found_note : (o : Outcome) (q : Problem) (P : NoteView → Type 0) → FoundOf q o → IfStopped o P
+found_note (Found m) q P h = tt
+found_note Refuted q P h = tt
+found_note Spent q P h = tt
+found_note (Stopped n) q P h = absurd h
+found_note NoMemory q P h = tt
 
 pub ends_true : (o : Outcome) (q : Problem) (a : Account) → Ends o q a → IsTrueFor q o
 ends_true (Found m) q a h = h

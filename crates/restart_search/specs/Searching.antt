@@ -118,6 +118,14 @@ IsNotStopped Spent = Unit {0}
 IsNotStopped (Stopped n) = ⊥
 IsNotStopped NoMemory = Unit {0}
 
+-- This is so of the note by which the run was stopped, if it was.
+abbrev pub IfStopped : Outcome → (NoteView → Type 0) → Type 0
+IfStopped (Found m) P = Unit {0}
+IfStopped Refuted P = Unit {0}
+IfStopped Spent P = Unit {0}
+IfStopped (Stopped n) P = P n
+IfStopped NoMemory P = Unit {0}
+
 -- What is left after an outcome, unless nothing can go on from there.
 abbrev pub Leaves : Outcome → Type 0 → Type 0
 Leaves (Found m) P = P

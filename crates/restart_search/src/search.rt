@@ -13,7 +13,7 @@ ghost use Rattle.recorder.specs.Holding.{HoldsRows, KeepsSame};
 ghost use Rattle.recorder.specs.Telling.{IsOf};
 ghost use Rattle.restart_search.specs.Logging.{IfRefuted};
 ghost use Rattle.restart_search.specs.Positions.{Acts, GoesOn, IsAtStage, IsSound, LogsAt};
-ghost use Rattle.restart_search.specs.Searching.{Ends, FoundOf, IfMemory, IsNotStopped, Knows, Leaves};
+ghost use Rattle.restart_search.specs.Searching.{Ends, FoundOf, IfMemory, IfStopped, IsNotStopped, Knows, Leaves};
 ghost use Rattle.restart_search.specs.Sharing.{GoesWithinRun, IsSeatFor, LearnedInRuns, LearnedPart};
 ghost use Rattle.restart_search.specs.Working.{IsWalkOf};
 
@@ -194,6 +194,7 @@ fn found<'a, T: Trail>(alloc: Global, q: &Problem, d: &Domains<T>) -> Outcome<'a
 fn stop_at<'a>(cell: Option<&AnswerCell<'a>>, asks: &mut bool, q: &Problem) -> Option<Note<'a>>
     ensures knows { IfSome result (Knows q.now) }
     ensures alone { cell.entry ≡ None → result ≡ None }
+    ensures cell { IfSome result (λ n. IfSome cell.entry (λ c. n.cell ≡ c.now)) }
 {
     if !*asks {
         return None;
@@ -233,6 +234,7 @@ pub(crate) fn run<'a, T: Trail, B: Book, L: ProofLogger, G: Gate>(
     ensures seat { IsSeatFor author.now.problem.now author.now.owner (B.Seat.shows seat.new) }
     ensures ends { Ends result author.now.problem.now walk.new.position.account }
     ensures alone { signals.now.cell ≡ None → IsNotStopped result }
+    ensures cell { IfStopped result (λ n. IfSome signals.now.cell (λ c. n.cell ≡ c.now)) }
     ensures budget { walk.new.position.account.budget ≡ walk.old.position.account.budget }
     ensures learned { IfMemory result
         (LearnedInRuns author.now.problem.now walk.old.position.account walk.new.position.account

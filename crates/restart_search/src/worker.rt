@@ -1,6 +1,6 @@
 //! A worker: one search beside others over the same problem, which share a book of nogoods and a cell for the first answer.
 
-ghost use Rattle.std.specs.Prelude.{◌≡◌, ℕ, [], ◌^◌, ◌<◌, ◌≤◌, ◌≢◌, None, IfOk, length, vec_capacity};
+ghost use Rattle.std.specs.Prelude.{◌≡◌, ℕ, [], ◌^◌, ◌<◌, ◌≤◌, ◌≢◌, None, IfOk, IfSome, length, vec_capacity};
 ghost use Rattle.graph_theory.specs.Graph.{size};
 ghost use Rattle.graph_theory.specs.Embedding.{Embeds};
 ghost use Rattle.domain_bits.specs.Removals.{in_domain};
@@ -12,7 +12,7 @@ ghost use Rattle.propagation.specs.Learning.{unlearned};
 ghost use Rattle.propagation.specs.Propagation.{LeavesPast};
 ghost use Rattle.restart_search.specs.Sharing.{IsSeatFor, LearnedInRuns, LearnedPart};
 ghost use Rattle.restart_search.specs.Logging.{IsTold, IfRefuted};
-ghost use Rattle.restart_search.specs.Searching.{AtRest, Ends, IfMemory, IsNotStopped, IsPaused, IsTrueFor, Leaves, stage_after};
+ghost use Rattle.restart_search.specs.Searching.{AtRest, Ends, IfMemory, IfStopped, IsNotStopped, IsPaused, IsTrueFor, Leaves, stage_after};
 
 use crate::outcome::{Outcome, Stage, stage_of};
 use crate::position::{Moment, Position, Propagator, present};
@@ -310,6 +310,7 @@ impl<'a, S: RowSeat + Drop, T: Trail, L: ProofLogger> Worker<'a, S, T, L> {
         ensures seat { IsSeatFor self.new.problem self.new.number self.new.facts }
         ensures ends { Ends result self.new.problem self.new.account }
         ensures alone { cell.entry ≡ None → IsNotStopped result }
+        ensures cell { IfStopped result (λ n. IfSome cell.entry (λ c. n.cell ≡ c.now)) }
         ensures problem { self.new.problem ≡ self.old.problem }
         ensures number { self.new.number ≡ self.old.number }
         ensures owner { L.owner self.new.log ≡ L.owner self.old.log }

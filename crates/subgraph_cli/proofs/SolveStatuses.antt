@@ -142,7 +142,7 @@ refused_says (Err NoMemory) w p t accounts d out err says line e = absurd (omega
 -- Status 5 is that of a fault: of the files, where nothing was written, or of the output within an answer.
 fault_says : (r : Result Decision Stop) (w : SolveWords) (p t : Option (List ℕ)) (accounts : List Account) (d : Disk) (out : Stream)
     → SolveSays r w p t accounts d out → IfErr r (λ (s : Stop). SparesOutput s out) → solve_status r ≡ 5
-    → (IsAsBefore out × StopsAtFiles w p t d) ⊎ StopsInAnswer w p t accounts d out
+    → (IsAsBefore out × StopsAtFiles w p t accounts d) ⊎ StopsInAnswer w p t accounts d out
 fault_says (Err FilesFault) w p t accounts d out says spares e = inl (spares, says)
 fault_says (Err OutputFault) w p t accounts d out says spares e = inr says
 fault_says (Ok Yes) w p t accounts d out says spares e = absurd (omega arith)
@@ -153,7 +153,7 @@ fault_says (Err NoMemory) w p t accounts d out says spares e = absurd (omega ari
 
 -- Status 6 is that of want of memory.
 memory_says : (r : Result Decision Stop) (w : SolveWords) (p t : Option (List ℕ)) (accounts : List Account) (d : Disk) (out : Stream)
-    → SolveSays r w p t accounts d out → solve_status r ≡ 6 → StopsForMemory w p t d
+    → SolveSays r w p t accounts d out → solve_status r ≡ 6 → StopsForMemory w p t accounts d
 memory_says (Err NoMemory) w p t accounts d out says e = says
 memory_says (Ok Yes) w p t accounts d out says e = absurd (omega arith)
 memory_says (Ok Nothing) w p t accounts d out says e = absurd (omega arith)

@@ -9,7 +9,7 @@ use Rattle.command_line.specs.declared.commands.SolveWords.{SolveWords}
 use Rattle.command_line.specs.declared.commands.VerifyWords.{VerifyWords}
 use Rattle.subgraph_cli.specs.Disk.{Disk, disk, IsReadingOf, KeepsFiles, KeepsAllBut, IsUntouched}
 use Rattle.subgraph_cli.specs.Deciding.{IsRight, AreKept, Shows, decision_of, answer_text, LeavingSays, TellingSays, IsOfWriting}
-use Rattle.subgraph_cli.specs.Proving.{IsWritingOfProof, IsFaultOfSolve}
+use Rattle.subgraph_cli.specs.Proving.{IsReached, IsWritingOfProof, IsFaultOfSolve}
 use Rattle.subgraph_cli.specs.Streams.{Stream, IsAsBefore}
 use Rattle.subgraph_cli.specs.Questions.{Asks, AskSays, IsFaultOfTwo}
 use Rattle.subgraph_cli.specs.Stops.{HasCause, IsOfFiles, SparesOutput}
@@ -73,31 +73,39 @@ loading_says OutputFault w p t accounts d out of_files says cause kept = absurd 
 loading_says (Refused role fault) w p t accounts d out of_files says cause kept = (says, kept)
 loading_says NoMemory w p t accounts d out of_files says cause kept = inl kept
 
+-- What is kept of an answer shows that its decision was reached.
+reached_by : (a : Answer) (q : Problem) (w : SolveWords) (accounts : List Account) → AreKept a q w accounts → IsReached (decision_of a) q w accounts
+reached_by (answer.Yes m) q w accounts kept = tt
+reached_by (answer.Nothing proof) q w accounts kept = tt
+reached_by answer.Unknown q w accounts kept = kept
+
 -- A stop where the proof is written, of the answer to the problem that the files ask.
 pub leaving_says : (s : Stop) (a : Answer) (q : Problem) (w : SolveWords) (p t : Option (List ℕ)) (accounts : List Account) (d : Disk) (out : Stream)
-    → LeavingSays (Err s) a q w.prove d → Asks p t w.format w.induced q → SolveSays (Err s) w p t accounts d out
-leaving_says FilesFault a q w p t accounts d out says asks = inr record {
+    → LeavingSays (Err s) a q w.prove d → Asks p t w.format w.induced q → AreKept a q w accounts → SolveSays (Err s) w p t accounts d out
+leaving_says FilesFault a q w p t accounts d out says asks kept = inr record {
   names = says.names;
   asked = says.asked;
   problem = q;
   asks = asks;
   decision = decision_of a;
+  reached = reached_by a q w accounts kept;
   log = says.log;
   log_is = says.log_is;
   stopped = says.stopped;
 }
-leaving_says NoMemory a q w p t accounts d out says asks = inr record {
+leaving_says NoMemory a q w p t accounts d out says asks kept = inr record {
   names = says.names;
   asked = says.asked;
   problem = q;
   asks = asks;
   decision = decision_of a;
+  reached = reached_by a q w accounts kept;
   log = says.log;
   log_is = says.log_is;
   stopped = says.stopped;
 }
-leaving_says OutputFault a q w p t accounts d out says asks = absurd says
-leaving_says (Refused role fault) a q w p t accounts d out says asks = absurd says
+leaving_says OutputFault a q w p t accounts d out says asks kept = absurd says
+leaving_says (Refused role fault) a q w p t accounts d out says asks kept = absurd says
 
 -- A stop where the proof is written spares an output that nothing was put to.
 pub writing_spares : (s : Stop) (out : Stream) → IsOfWriting s → IsAsBefore out → SparesOutput s out

@@ -2,6 +2,8 @@
 
 use Rattle.std.specs.Prelude.{◌≡◌, ℕ, ◌⊎◌, IsTrue, List, length, Option, Some, IfSome, IsSomeAnd}
 use Rattle.graph_theory.specs.Embedding.{Problem, Embeds, HasNone}
+use Rattle.search_theory.specs.Account.{Account}
+use Rattle.parallel_solve.specs.Solving.{AreSpent}
 use Rattle.encoding_theory.specs.Variables.{variables}
 use Rattle.encoding_theory.specs.Encoding.{encoding}
 use Rattle.log_theory.specs.declared.step.Verdict.{Verdict}
@@ -60,6 +62,12 @@ IsLogOf Yes q log = (m : List ℕ) × Embeds q m × (log ≡ map_log q m)
 IsLogOf Nothing q log = HasNone q × Accepts (variables q) (encoding q) log Unsatisfiable
 IsLogOf Unknown q log = log ≡ open_log q
 
+-- The decision was reached: its log shows an embedding or that none exists, and where there is neither each of the threads spent its budget, as their accounts show.
+abbrev pub IsReached : Decision → Problem → SolveWords → List Account → Type 0
+IsReached Yes q w accounts = Unit {0}
+IsReached Nothing q w accounts = Unit {0}
+IsReached Unknown q w accounts = AreSpent q w.threads w.budget accounts
+
 -- The files as the writing of a proof speaks of them.
 abbrev pub files_of : ProveWords → Disk → TwoFiles
 files_of p d = record {
@@ -73,14 +81,15 @@ files_of p d = record {
   fault_at = d.fault_at;
 }
 
--- A proof is asked for, and its writing stopped in this way, when the problem that the graphs' files ask was decided.
+-- A proof is asked for, and its writing stopped in this way, once a decision was reached on the problem that the graphs' files ask.
 pub record StopsInProof (stops : TwoFiles → Texts → Type 0) (w : SolveWords)
-    (pattern target : Option (List ℕ)) (d : Disk) : Type 0 where
+    (pattern target : Option (List ℕ)) (accounts : List Account) (d : Disk) : Type 0 where
   pub names : ProveWords
   pub asked : w.prove ≡ Some names
   pub problem : Problem
   pub asks : Asks pattern target w.format w.induced problem
   pub decision : Decision
+  pub reached : IsReached decision problem w accounts
   pub log : List ℕ
   pub log_is : IsLogOf decision problem log
   pub stopped : stops (files_of names d)

@@ -84,15 +84,17 @@ pub record StopsInAnswer (w : SolveWords) (pattern target : Option (List ℕ))
   pub answers : Answers decision w pattern target accounts d text
   pub front : GotFront out text
 
--- A call on the files failed: where the graphs are read, and no file was written, or where the proof is.
-abbrev pub StopsAtFiles : SolveWords → Option (List ℕ) → Option (List ℕ) → Disk → Type 0
-StopsAtFiles w pattern target d = (IsFaultOfTwo w.pattern w.target w.format d × IsUntouched d)
-    ⊎ StopsInProof FailsInWriting w pattern target d
+-- A call on the files failed: where the graphs are read, and no file was written, or where the proof of what was decided is.
+abbrev pub StopsAtFiles : SolveWords → Option (List ℕ) → Option (List ℕ) → List Account → Disk
+    → Type 0
+StopsAtFiles w pattern target accounts d = (IsFaultOfTwo w.pattern w.target w.format d × IsUntouched d)
+    ⊎ StopsInProof FailsInWriting w pattern target accounts d
 
--- Memory was refused: before any file was written, or where the encoding is.
-abbrev pub StopsForMemory : SolveWords → Option (List ℕ) → Option (List ℕ) → Disk → Type 0
-StopsForMemory w pattern target d =
-    IsUntouched d ⊎ StopsInProof StopsInEncoding w pattern target d
+-- Memory was refused: before any file was written, as wherever nothing was decided, or where the encoding of what was decided is.
+abbrev pub StopsForMemory : SolveWords → Option (List ℕ) → Option (List ℕ) → List Account → Disk
+    → Type 0
+StopsForMemory w pattern target accounts d =
+    IsUntouched d ⊎ StopsInProof StopsInEncoding w pattern target accounts d
 
 -- What a solve says: its decision of the problem that the files ask, or why it stopped, and what it left of the files of a proof.
 abbrev pub SolveSays : Result Decision Stop → SolveWords → Option (List ℕ) → Option (List ℕ)
@@ -103,8 +105,8 @@ SolveSays (Err (Refused role fault)) w pattern target accounts d out =
     IsFirstRefused pattern target w.format role fault × IsUntouched d
 SolveSays (Err OutputFault) w pattern target accounts d out =
     StopsInAnswer w pattern target accounts d out
-SolveSays (Err FilesFault) w pattern target accounts d out = StopsAtFiles w pattern target d
-SolveSays (Err NoMemory) w pattern target accounts d out = StopsForMemory w pattern target d
+SolveSays (Err FilesFault) w pattern target accounts d out = StopsAtFiles w pattern target accounts d
+SolveSays (Err NoMemory) w pattern target accounts d out = StopsForMemory w pattern target accounts d
 
 -- The status of an answer.
 abbrev pub decision_status : Decision → ℕ
@@ -157,9 +159,9 @@ pub record SolveStatus (o : Outcome) (w : SolveWords)
   pub refused : o.status ≡ 4 → (role : Role) × (fault : TextFault)
       × IsFirstRefused pattern target w.format role fault × Tells o.err (refusal_text role fault)
       × IsUntouched o.disk
-  pub fault : o.status ≡ 5 → (IsAsBefore o.out × StopsAtFiles w pattern target o.disk)
+  pub fault : o.status ≡ 5 → (IsAsBefore o.out × StopsAtFiles w pattern target o.accounts o.disk)
       ⊎ StopsInAnswer w pattern target o.accounts o.disk o.out
-  pub no_memory : o.status ≡ 6 → StopsForMemory w pattern target o.disk
+  pub no_memory : o.status ≡ 6 → StopsForMemory w pattern target o.accounts o.disk
   pub leads : SolveLeads o.status w pattern target
 
 -- The status is `yes` or `none`.

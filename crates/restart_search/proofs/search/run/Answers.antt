@@ -7,7 +7,7 @@ use Rattle.propagation.proofs.Holding.{holds_same}
 use Rattle.restart_search.proofs.Closing.{dead_where_all_refuted, none_where_dead, may_guess, spends_where_due}
 use Rattle.restart_search.proofs.Steps.{none_left, enough_for}
 use Rattle.restart_search.proofs.Runs.{learned_none, learned_on, learned_again, part_again, part_of, within_fail, memory_of}
-use Rattle.restart_search.proofs.BetweenRuns.{goes_on, found_ends, found_alone, found_refutes, leaves_of}
+use Rattle.restart_search.proofs.BetweenRuns.{goes_on, found_ends, found_alone, found_note, found_refutes, leaves_of}
 use Rattle.nogood_book.specs.declared.row.Row.{Row}
 use Rattle.restart_search.specs.Logging.{IsLogged}
 use Rattle.restart_search.proofs.Logging.{ends_path, logs_true}
@@ -25,6 +25,9 @@ returns-in_default-clause-ends g c = found_ends c.found.result _ _ c.found.ensur
 
 pub returns-in_default-clause-alone : goal.returns-in_default-clause-alone
 returns-in_default-clause-alone g c = λ none. found_alone c.found.result _ c.found.ensures
+
+pub returns-in_default-clause-cell : goal.returns-in_default-clause-cell
+returns-in_default-clause-cell g c = found_note c.found.result _ _ c.found.ensures
 
 pub returns-in_default-clause-begun : goal.returns-in_default-clause-begun
 returns-in_default-clause-begun g c = leaves_of c.found.result _ c.loop-p.invariant.begun

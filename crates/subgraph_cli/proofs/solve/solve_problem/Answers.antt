@@ -8,7 +8,7 @@ use Rattle.subgraph_cli.proofs.solve.solve_problem.Goals as goal
 pub returns-in_err-leave_proof-clause-says : goal.returns-in_err-leave_proof-clause-says
 returns-in_err-leave_proof-clause-says g c told =
     let p = err_from_is_err_and c.from_residual-in_err-leave_proof.result c.from_residual-in_err-leave_proof.ensures.1 in
-    rw (p.1, p.2) (leaving_says _ c.in_ok-answer.answer c.args.q.now c.args.words.now _ _ _ _ _ (c.in_err-leave_proof.ensures.says told) (c.requires.asks told))
+    rw (p.1, p.2) (leaving_says _ c.in_ok-answer.answer c.args.q.now c.args.words.now _ _ _ _ _ (c.in_err-leave_proof.ensures.says told) (c.requires.asks told) c.in_ok-answer.ensures.kept)
 
 pub returns-clause-says : goal.returns-clause-says
 returns-clause-says g c told =
