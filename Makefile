@@ -2,11 +2,13 @@
 #
 #   make install PREFIX=/usr/local    the program (proved and built first), its manual page and the Python package
 #   make uninstall PREFIX=..          takes them away again
+#   make quick                        each test of the crates, the answers on the pages and the Python tests, by builds without
+#                                     proofs: a first look, which proves nothing
 #   make test                         the package's tests, each answer that a page tells, both checkers of logs against each
-#                                     other, and what is made from other files
+#                                     other, what is made from other files, and that no page or sentence is too long
 #   make hostile TEXTS=10000          the program on hostile texts, each held against a plain reading; with each allocation refused; and
 #                                     over files and streams that fail
-#   make docs                         makes the manual page and the picture of the crates anew
+#   make docs                         makes the manual page, the picture of the crates and the lists of statements anew
 #   make house MOST=20                lists what is longer than it should be and what stands twice, the longest first
 
 PREFIX ?= /usr/local
@@ -19,11 +21,11 @@ TEXTS ?= 10000
 # How many rows of each list.
 MOST ?= 20
 
-MODULES = $(wildcard python/subgraph_solver/*.py) python/subgraph_solver/py.typed
+MODULES = $(wildcard python/subgraph_solver/*.py) python/subgraph_solver/py.typed VERSION
 FOLDER := $(shell $(PYTHON) tools/package_folder.py $(PREFIX) 2>/dev/null)
 PACKAGES = $(DESTDIR)$(or $(FOLDER),$(error $(PYTHON) does not run))/subgraph_solver
 
-.PHONY: build install uninstall test hostile docs house
+.PHONY: build install uninstall quick test hostile docs house
 
 build:
 ifeq ($(PROGRAM),crates/subgraph/out/subgraph)
@@ -41,14 +43,19 @@ uninstall:
 	rm -f $(DESTDIR)$(PREFIX)/bin/subgraph $(DESTDIR)$(PREFIX)/share/man/man1/subgraph.1
 	rm -rf $(PACKAGES)
 
+quick:
+	$(PYTHON) tools/quick.py
+
 test: build
 	cd python && SUBGRAPH_PROGRAM=$(abspath $(PROGRAM)) $(PYTHON) -m unittest
 	$(PYTHON) examples/check.py --program $(PROGRAM)
 	$(PYTHON) tools/test_plain_check.py
 	$(PYTHON) bench/check_logs.py '$(PROGRAM) check' '$(PYTHON) tools/plain_check.py' --cases --mutants 1
 	$(PYTHON) tools/man.py --check
+	$(PYTHON) tools/man.py --run $(PROGRAM)
 	$(PYTHON) docs/crates.py --check
 	$(PYTHON) tools/claims.py --check
+	$(PYTHON) tools/pages.py --check
 
 hostile: build
 	$(PYTHON) bench/hostile.py $(PROGRAM) --texts $(TEXTS)
