@@ -6,10 +6,9 @@
 >>> print(find([("a", "b"), ("b", "c"), ("c", "a")], [(1, 2), (2, 3)]))
 None
 
-``find`` answers the images of the pattern's vertices, or ``None`` where no embedding exists, and raises ``Undecided``
-where the budget is spent. Graphs come from networkx, igraph and RDKit, or as plain lists of edges, and the answer is in
-their own names. What the answers are worth is what the program proves of itself; this package only writes its
-questions and reads its answers, and is tested, not proved.
+``find`` answers the image of each pattern vertex, or ``None`` if no embedding exists. It raises ``Undecided`` when the budget
+is spent. Graphs come from networkx, igraph and RDKit, or as plain lists of edges, and the answer is in their names. The
+program is proved. This package writes its questions and reads its answers, and is tested, not proved.
 """
 from .errors import (
     Fault,
@@ -29,6 +28,7 @@ from .program import Progress
 from .questions import Proof, check, encode, find, verify
 from .draw import draw
 from .reading import read_graph
+from .version import VERSION as __version__
 
 __all__ = [
     "DiGraphMatcher",
@@ -54,4 +54,3 @@ __all__ = [
     "read_graph",
     "verify",
 ]
-__version__ = "0.1"

@@ -1,4 +1,4 @@
-"""``python -m subgraph_solver``: a question about two files, answered in their own names."""
+"""``python -m subgraph_solver``: asks about two files, and answers in their names."""
 from __future__ import annotations
 
 import argparse
@@ -11,7 +11,7 @@ from .errors import SubgraphError, Undecided
 from .questions import Proof, check, encode, find, verify
 from .reading import read_graph
 
-#: The status where the words or the files are at fault, before the program is asked.
+#: The status if the words or the files are at fault, before the program is asked.
 BAD_INPUT = 3
 
 
@@ -20,14 +20,14 @@ def _words() -> argparse.ArgumentParser:
         prog="python -m subgraph_solver",
         description="Does a pattern occur in a target? Graphs are files (GraphML, GML, edge lists, LAD, SMILES "
         "by their endings), or molecules as smiles:CCO.",
-        epilog="The status is the program's: 0 yes, 1 none, 2 unknown, and above these what went wrong.",
+        epilog="Exit status: 0 yes, 1 none, 2 unknown; 3 and more as the program's, 3 also for a fault of the words or files.",
     )
     commands = words.add_subparsers(dest="command", required=True)
     for name, what in (
         ("find", "print the images of the pattern's vertices"),
         ("verify", "test a mapping: a file of lines NAME -> NAME"),
         ("encode", "write the question as pseudo-Boolean constraints"),
-        ("draw", "draw the two graphs, with an embedding where one is found"),
+        ("draw", "draw the two graphs, with an embedding if one is found"),
     ):
         _graphs(commands.add_parser(name, help=what), name)
     of_check = commands.add_parser("check", help="judge a proof log over an encoding")
@@ -43,20 +43,21 @@ def _graphs(words: argparse.ArgumentParser, name: str) -> None:
         words.add_argument("mapping")
     if name in ("encode", "draw"):
         words.add_argument("out", help="the file to write")
-    apart = "images of vertices without an edge have none either"
+    apart = "images of vertices without an edge have no edge either"
     words.add_argument("--induced", action="store_true", help=apart)
-    words.add_argument("--kind", help="what both files are, whatever their endings say")
-    shared = "an attribute that images share; may be repeated"
+    words.add_argument("--kind", help="the format of both files, whatever their endings say")
+    shared = "an attribute that a vertex and its image share; may be repeated"
     words.add_argument("--label", action="append", metavar="NAME", help=shared)
-    words.add_argument("--edge-label", action="append", metavar="NAME", help="the same for edges and their images")
-    words.add_argument("--directed", action="store_true", help="edge lists have directions, from the first name")
+    words.add_argument("--edge-label", action="append", metavar="NAME", help="the same for edges")
+    words.add_argument("--directed", action="store_true", help="edge lists have directions, from the first name to the second")
     if name in ("find", "draw"):
-        words.add_argument("--seed", type=int)
-        words.add_argument("--budget", type=int, help="the most fails")
-        words.add_argument("--threads", type=int)
-        words.add_argument("--progress", action="store_true", help="tell how long it takes and what is spent")
+        words.add_argument("--seed", type=int, help="where choices begin")
+        words.add_argument("--budget", type=int, help="the most failed guesses of each thread")
+        words.add_argument("--threads", type=int, help="how many searches share the work, 1 to 64")
+        words.add_argument("--book", type=int, help="rows that threads share; 1048576 for several threads")
+        words.add_argument("--progress", action="store_true", help="tell how long it takes and what was spent")
     if name == "find":
-        words.add_argument("--prove", metavar="FOLDER", help="where there is none, put a proof there")
+        words.add_argument("--prove", metavar="FOLDER", help="if there is none, put a proof into this folder")
         words.add_argument("--draw", metavar="FILE", help="draw the answer")
 
 
@@ -80,7 +81,8 @@ def _label(names: Optional[List[str]]) -> Any:
 
 
 def _find(asked: argparse.Namespace, how: dict, pattern: Any, target: Any) -> int:
-    searching = {"seed": asked.seed, "budget": asked.budget, "threads": asked.threads, "progress": asked.progress}
+    names = ("seed", "budget", "threads", "book", "progress")
+    searching = {name: getattr(asked, name) for name in names}
     prove = getattr(asked, "prove", None)
     to = asked.out if asked.command == "draw" else asked.draw
     answer, status, said = None, 1, "none"
@@ -119,7 +121,7 @@ def _answer(asked: argparse.Namespace) -> int:
 
 
 def main(words: Optional[List[str]] = None) -> int:
-    """Answers the command of these words, and gives the status to end with."""
+    """Runs the command of these words, and answers the exit status."""
     asked = _words().parse_args(words)
     try:
         return _answer(asked)

@@ -1,4 +1,4 @@
-"""A picture of an answer: the pattern beside the target, and where each vertex goes."""
+"""Pictures: the pattern beside the target, and where each vertex goes."""
 from __future__ import annotations
 
 import math
@@ -80,19 +80,19 @@ def draw(
     pattern, target : graphs
         As `find` has them.
     mapping : mapping, optional
-        What `find` answered. Each image has its vertex's colour, and the images of edges are drawn bold. Without it
-        the graphs are drawn alone. Edges with a direction are arrows, but for loops.
+        What `find` answered. Each image has its vertex's colour, and images of edges are bold. Without it the two graphs
+        are drawn alone. Edges with a direction are arrows, except loops.
     path : path, optional
         The file that gets the picture.
     answer : str, optional
-        A word for the head, as ``unknown``.
-    node_label : as `find` has it
-        Labels are written beside the vertices; edges' labels are not drawn.
+        A word for the head, such as ``unknown``.
+    node_label : as in `find`
+        Labels stand beside the vertices. Labels of edges are not drawn.
 
     Returns
     -------
     str
-        The picture. Two molecules are drawn by RDKit.
+        The picture. RDKit draws two molecules.
     """
     said = answer if answer is not None else ("yes" if mapping is not None else "")
     if is_molecule(pattern) and is_molecule(target):

@@ -1,4 +1,4 @@
-"""An exception for each way in which the program ends without an answer."""
+"""The exceptions: one for each way to end without an answer."""
 from __future__ import annotations
 
 import re
@@ -6,14 +6,14 @@ from typing import List, Optional, Sequence, Tuple
 
 
 class SubgraphError(Exception):
-    """What all exceptions of this package are.
+    """The base class of all exceptions of this package.
 
     Attributes
     ----------
     status : int or None
-        The status that the program ended with, ``None`` where it did not run.
+        The program's exit status, ``None`` if it did not run.
     line : str
-        The line of its error stream, empty where there is none.
+        The program's message, empty if there is none.
     """
 
     def __init__(self, message: str, status: Optional[int] = None, line: str = "") -> None:
@@ -23,24 +23,24 @@ class SubgraphError(Exception):
 
 
 class ProgramMissing(SubgraphError):
-    """There is no program to ask. The message says how it is built."""
+    """The program is not there. The message says how to build it."""
 
 
 class NotAvailable(SubgraphError, NotImplementedError):
-    """The question is of a kind that the program does not decide yet."""
+    """The program does not decide questions of this kind."""
 
 
 class Undecided(SubgraphError):
-    """The budget is spent, and whether an embedding exists is open (status 2).
+    """The budget is spent, and it is open whether an embedding exists (status 2).
 
     Attributes
     ----------
     spent : int
-        The fails that each thread of the last run counted, which is its budget.
+        The failed guesses of each thread in the last run, which is its budget.
     threads : int
         The threads of that run.
     slices : list of int
-        What each run spent, where there were several.
+        What each run spent, if there were several.
     """
 
     def __init__(self, spent: int, threads: int = 1, slices: Sequence[int] = ()) -> None:
@@ -52,14 +52,14 @@ class Undecided(SubgraphError):
 
 
 class NotACommand(SubgraphError, ValueError):
-    """The program does not know these words (status 3).
+    """The program refuses the command line (status 3).
 
-    A number out of its range is a reason, and an option that this build of the program does not have yet.
+    A number is out of its range, or this build of the program does not know an option.
 
     Attributes
     ----------
     words : list of str
-        The words of the command, without the program's name.
+        The command line, without the program's name.
     """
 
     def __init__(self, line: str, words: Sequence[str]) -> None:
@@ -77,7 +77,7 @@ class TextRefused(SubgraphError, ValueError):
     who : str
         ``pattern``, ``target``, ``mapping``, ``encoding`` or ``log``.
     place : tuple of (str, int), or None
-        ``("word", number)`` or ``("line", number)``, from 1, of the first fault; ``None`` where the text is too long.
+        ``("word", number)`` or ``("line", number)`` of the first fault, from 1; ``None`` if the text is too long.
     cause : str
         The fault's name, as ``TooMany``.
     """
@@ -91,21 +91,21 @@ class TextRefused(SubgraphError, ValueError):
 
 
 class Fault(SubgraphError, OSError):
-    """A file or the output failed while the program ran (status 5)."""
+    """The program could not read or write a file, or its output (status 5)."""
 
     def __init__(self, line: str) -> None:
         SubgraphError.__init__(self, line, 5, line)
 
 
 class OutOfMemory(SubgraphError, MemoryError):
-    """The program was refused memory (status 6)."""
+    """The program ran out of memory (status 6)."""
 
     def __init__(self, line: str) -> None:
         super().__init__(line, 6, line)
 
 
 class LogRefused(SubgraphError):
-    """A log is of its form up to a line that does not follow (status 7 of ``check``).
+    """``check`` refuses the log, at its first faulty line (status 7).
 
     Attributes
     ----------
@@ -123,7 +123,7 @@ class LogRefused(SubgraphError):
 
 
 class ProgramFailed(SubgraphError):
-    """The program was stopped from outside, or ended in a way that it does not promise."""
+    """The program was stopped from outside, or ended with a status that it does not have."""
 
 
 def error_of(status: int, line: str, words: Sequence[str]) -> SubgraphError:

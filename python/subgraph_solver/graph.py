@@ -1,4 +1,4 @@
-"""Plain graphs with names and labels, and what is made of them: the LAD text that the program reads."""
+"""Plain graphs with names and labels, and the LAD text that the program reads."""
 from __future__ import annotations
 
 import sys
@@ -20,16 +20,15 @@ class Graph:
     Parameters
     ----------
     edges : iterable of pairs of names
-        A pair of one name twice is a loop, and a pair that comes twice is one edge; in an undirected graph it may come
-        either way round.
+        A pair of one name twice is a loop. A pair that comes twice is one edge, in an undirected graph in either order.
     vertices : iterable of names
-        Put before those that the edges name; the way to have a vertex without edges.
+        These come before those that the edges name. A vertex without edges stands here.
     labels : mapping from names to labels, optional
-        Where it is given it has each vertex.
+        If given, it has each vertex.
     directed : bool
-        Is a pair an edge from its first name to its second alone?
+        Does a pair lead from its first name to its second only?
     edge_labels : mapping from pairs of names to labels, optional
-        Where it is given it has each edge, in an undirected graph either way round.
+        If given, it has each edge, in an undirected graph in either order.
 
     Attributes
     ----------
@@ -38,15 +37,15 @@ class Graph:
     number : dict
         Each name's place in that list.
     neighbours : list of set of int
-        For each vertex the places of its neighbours, in a directed graph of those that an edge leads to.
+        For each vertex the places of its neighbours. In a directed graph these are the ends of edges from it.
     labels : list, or None
-        For each vertex its label; ``None`` where the graph has no labels.
+        The label of each vertex; ``None`` if the graph has no labels.
     directed : bool
-        Have edges directions?
+        Do edges have directions?
     edge_labels : dict, or None
-        For each of `edges()` its label; ``None`` where edges have no labels.
+        The label of each of `edges()`; ``None`` if edges have no labels.
     source : object
-        What the graph was made of, as an RDKit molecule; ``None`` where it was made of edges.
+        What the graph was made from, such as an RDKit molecule; ``None`` if it was made from edges.
     """
 
     def __init__(
@@ -154,10 +153,10 @@ def lad_text(
 
 
 def label_numbers(pattern: Graph, target: Graph) -> Optional[Dict[Hashable, int]]:
-    """A number for each label of two graphs, or ``None`` where neither has labels.
+    """A number for each label of two graphs, or ``None`` if neither has labels.
 
-    Labels that are all numbers from 0 to 4,294,967,295 stand for themselves, so that a file shows an atomic number as
-    what it is. Others are counted from 0 as they come.
+    If all labels are numbers from 0 to 4,294,967,295, each stands for itself. So a file shows an atomic number as it is. Other
+    labels are counted from 0 as they come.
     """
     return _numbers(pattern.labels, target.labels, "labels")
 
@@ -175,7 +174,7 @@ def _numbers(
         return None
     if of_pattern is None or of_target is None:
         bare = "pattern" if of_pattern is None else "target"
-        raise ValueError(f"the {bare} has no {what}, and the other graph has")
+        raise ValueError(f"the {bare} has no {what}, and the other graph has some")
     labels = dict.fromkeys([*of_pattern, *of_target])
     if all(type(it) is int and 0 <= it < 1 << 32 for it in labels):
         return {it: it for it in labels}
@@ -185,7 +184,7 @@ def _numbers(
 def read_lad(text: str, labelled: bool = False, directed: bool = False, edges_labelled: bool = False) -> Graph:
     """The graph of a LAD text, its vertices named from 0.
 
-    It takes what the program takes and looks for fewer faults.
+    It takes what the program takes, and finds fewer faults.
     """
     words = iter(text.split())
     labels: Dict[Name, Hashable] = {}
@@ -208,21 +207,21 @@ def read_lad(text: str, labelled: bool = False, directed: bool = False, edges_la
 
 
 def as_graph(source: Any, node_label: NodeLabel = None, edge_label: EdgeLabel = None) -> Graph:
-    """A graph of this package, of whatever holds one.
+    """A graph of this package, made from another library's graph or from plain pairs.
 
     Parameters
     ----------
     source : Graph, networkx.Graph or DiGraph, igraph.Graph, rdkit Mol, dict of neighbours, or iterable of pairs
-        The vertices keep their names: networkx's nodes, igraph's ``name`` where there is one and else its index,
-        RDKit's atom indices. Directed graphs stay directed; pairs have directions in ``Graph(pairs, directed=True)``.
+        The vertices keep their names: networkx's nodes, igraph's ``name`` or else its index, RDKit's atom indices.
+        Directed graphs stay directed. For pairs with directions give ``Graph(pairs, directed=True)``.
     node_label : str, sequence of str, or callable, optional
-        The attribute (or attributes) that images must share, or a function of a vertex's name and attributes. Without
-        it networkx's and igraph's vertices have no labels, and atoms have the label ``element``. An atom's attributes
-        are ``element`` (its atomic number), ``charge``, ``aromatic`` and ``isotope``.
+        The attribute (or attributes) that a vertex and its image share, or a function of a vertex's name and attributes.
+        Without it the vertices of networkx and igraph have no labels, and atoms have the label ``element``. An atom's
+        attributes are ``element`` (its atomic number), ``charge``, ``aromatic`` and ``isotope``.
     edge_label : str, sequence of str, or callable, optional
-        The same for edges: an attribute, or a function of an edge's ends and attributes, which gets the ends of an
-        undirected edge in either order, once. Without it all edges are alike. A bond's attributes are ``order`` (1.0,
-        2.0, 3.0, or 1.5 where it is aromatic) and ``aromatic``.
+        The same for edges: an attribute, or a function of an edge's two ends and attributes. It is called once for an
+        undirected edge, with its ends in either order. Without it all edges are alike. A bond's attributes are ``order``
+        (1.0, 2.0, 3.0, or 1.5 if it is aromatic) and ``aromatic``.
 
     Returns
     -------
@@ -247,7 +246,7 @@ def _labelled_anew(graph: Graph, node_label: NodeLabel, edge_label: EdgeLabel) -
     if node_label is None and edge_label is None:
         return graph
     if graph.source is None:
-        raise ValueError("a Graph of edges has its labels from when it was made")
+        raise ValueError("a Graph of edges gets its labels when it is made: give Graph(edges, labels=.., edge_labels=..)")
     made = as_graph(graph.source, node_label, edge_label)
     if node_label is None:
         made.labels = graph.labels
@@ -298,7 +297,7 @@ def _edge_labels(
 def _of_networkx(source: Any, node_label: NodeLabel, edge_label: EdgeLabel) -> Graph:
     directed = source.is_directed()
     if source.is_multigraph() and any(count > 1 for count in _counts(source.edges(), directed)):
-        raise NotAvailable("the graph has parallel edges, and the program takes graphs without")
+        raise NotAvailable("the graph has parallel edges, which the program does not take")
     edges = ((a, b) for a, b in source.edges())
     labels = _labels(node_label, source.nodes(data=True))
     return Graph(edges, source.nodes(), labels, directed, _edge_labels(edge_label, source.edges(data=True)))
@@ -314,11 +313,11 @@ def _counts(edges: Iterable[Tuple[Name, Name]], directed: bool) -> Iterable[int]
 
 def _of_igraph(source: Any, node_label: NodeLabel, edge_label: EdgeLabel) -> Graph:
     if source.has_multiple():
-        raise NotAvailable("the graph has parallel edges, and the program takes graphs without")
+        raise NotAvailable("the graph has parallel edges, which the program does not take")
     named = "name" in source.vs.attributes()
     names = source.vs["name"] if named else range(source.vcount())
     if len(set(names)) < source.vcount():
-        raise ValueError("two vertices have one name")
+        raise ValueError("two vertices have the same name")
     edges = [(names[a], names[b]) for a, b in source.get_edgelist()]
     labels = _labels(node_label, ((name, vertex.attributes()) for name, vertex in zip(names, source.vs)))
     with_attributes = ((a, b, edge.attributes()) for (a, b), edge in zip(edges, source.es))
@@ -328,7 +327,7 @@ def _of_igraph(source: Any, node_label: NodeLabel, edge_label: EdgeLabel) -> Gra
 def _of_molecule(source: Any, node_label: NodeLabel, edge_label: EdgeLabel) -> Graph:
     atoms, bonds = list(source.GetAtoms()), list(source.GetBonds())
     if any(it.HasQuery() for it in atoms) or (edge_label is not None and any(it.HasQuery() for it in bonds)):
-        raise NotAvailable("a SMARTS query asks for more than labels: make the pattern by MolFromSmiles")
+        raise NotAvailable("a SMARTS query asks for more than labels: make the pattern with MolFromSmiles")
     edges = [
         (
             it.GetBeginAtomIdx(),
@@ -356,7 +355,7 @@ def _of_molecule(source: Any, node_label: NodeLabel, edge_label: EdgeLabel) -> G
 
 def _of_plain(source: Any, node_label: NodeLabel, edge_label: EdgeLabel) -> Graph:
     if isinstance(source, (str, bytes)):
-        raise TypeError("a text is no graph: read_graph reads files and SMILES")
+        raise TypeError("a text is not a graph: read_graph reads files and SMILES")
     if not (node_label is None or callable(node_label)):
         raise ValueError("a list of edges has no attributes: give Graph(edges, labels=..) or a function of the name")
     if not (edge_label is None or callable(edge_label)):

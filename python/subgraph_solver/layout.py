@@ -1,10 +1,9 @@
 """Places for the vertices of a picture: distances on paper near to distances in the graph.
 
-The stress of a layout is the weighted sum of squares by which the distances on paper miss the numbers of steps between
-vertices; it is made small by moving pairs, one by one in a mixed order, with steps that shrink (Zheng, Pawar, Goodman,
-2018). The same graph is always laid out the same. Up to `DENSE` vertices each pair is moved `ROUNDS` times; past that
-there are as many pairs as that many vertices have, with at least 20 for each vertex: its neighbours, and some vertices to
-which all hold.
+The stress of a layout is a weighted sum of squares: by how much distances on paper miss the numbers of steps between vertices.
+It is made small by moving pairs, one by one in a mixed order, with steps that shrink (Zheng, Pawar, Goodman, 2018). The same
+graph is always laid out the same. Up to `DENSE` vertices each pair is moved `ROUNDS` times. A larger graph has as many pairs as
+that many vertices have, and at least 20 for each vertex: its neighbours, and some vertices to which all hold.
 """
 from __future__ import annotations
 

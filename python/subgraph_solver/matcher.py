@@ -1,4 +1,4 @@
-"""The same questions under the names that users of networkx know."""
+"""The same questions under the names of networkx."""
 from __future__ import annotations
 
 from typing import Any, Dict, Optional
@@ -8,25 +8,25 @@ from .questions import StrPath, find
 
 
 class GraphMatcher:
-    """Stands in for ``networkx.algorithms.isomorphism.GraphMatcher`` where one embedding is enough.
+    """Replaces ``networkx.algorithms.isomorphism.GraphMatcher`` if one embedding is enough.
 
     Parameters
     ----------
     G1 : graph
-        The larger graph, the target, first as in networkx.
+        The target, first as in networkx.
     G2 : graph
-        The smaller one, the pattern.
+        The pattern.
     node_label : str, sequence of str, or callable, optional
-        In place of networkx's `node_match`: what two vertices must share, and not a test of two.
+        In place of `node_match`: what two vertices share. It is no test of two vertices.
     seed, budget : int, optional
         As `find` has them.
     edge_label : str, sequence of str, or callable, optional
-        In place of `edge_match`: what two edges must share.
+        In place of `edge_match`: what two edges share.
 
     Attributes
     ----------
     mapping : dict
-        After a question that was answered by true, from vertices of G1 to those of G2, as in networkx.
+        After the answer `True`: from vertices of G1 to those of G2, as in networkx. Else empty.
     """
 
     def __init__(
@@ -46,11 +46,11 @@ class GraphMatcher:
         self._how = {**labels, "seed": seed, "budget": budget, "program": program}
 
     def subgraph_is_isomorphic(self) -> bool:
-        """Is a subgraph of G1 that vertices induce isomorphic to G2?"""
+        """Does G1 have an induced copy of G2?"""
         return self._ask(True)
 
     def subgraph_is_monomorphic(self) -> bool:
-        """Is any subgraph of G1 isomorphic to G2?"""
+        """Does G1 have a copy of G2, induced or not?"""
         return self._ask(False)
 
     def _ask(self, induced: bool) -> bool:
@@ -60,4 +60,4 @@ class GraphMatcher:
 
 
 class DiGraphMatcher(GraphMatcher):
-    """As `GraphMatcher`, which takes directed graphs too, under networkx's name for these."""
+    """`GraphMatcher` under networkx's name for directed graphs."""

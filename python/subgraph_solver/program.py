@@ -1,4 +1,4 @@
-"""The program itself: where it is, a run of it, and what a caller sees of a long one."""
+"""The program: where it is, how it is run, and what a caller sees of a long run."""
 from __future__ import annotations
 
 import os
@@ -12,28 +12,28 @@ from typing import IO, Callable, List, Optional, Sequence, Tuple, Union
 
 from .errors import ProgramMissing
 
-#: The environment's variable that names the program.
+#: The environment variable that names the program.
 VARIABLE = "SUBGRAPH_PROGRAM"
 HOW_TO_BUILD = (
-    "the program `subgraph` is not here. At the top of its repository, `./subgraph demo 7` builds it and "
-    f"`make install PREFIX=..` puts it on the path; or name it by program=.. or in the variable {VARIABLE}"
+    "the program `subgraph` was not found. At the top of its repository `./subgraph demo 7` builds it, and "
+    f"`make install PREFIX=..` installs it. Or name it by program=.. or in the variable {VARIABLE}"
 )
 
 
 @dataclass(frozen=True)
 class Progress:
-    """How far a long question is.
+    """How far a long search is.
 
     Attributes
     ----------
     seconds : float
         The time since the question was asked.
     slice : int
-        The number of the run that goes on or has just ended, from 1.
+        The number of this run, from 1.
     budget : int
-        The fails that this run may spend.
-    spent : list of int
-        What each run that ended undecided has spent.
+        The most failed guesses of this run.
+    spent : tuple of int
+        What each undecided run has spent.
     ended : bool
         Has this run just ended, undecided?
     """
@@ -51,19 +51,19 @@ Watcher = Callable[[], None]
 def find_program(program: Optional[Union[str, os.PathLike]] = None) -> str:
     """The path of the program.
 
-    The argument comes first, then the environment's ``SUBGRAPH_PROGRAM``, then the build of the repository that this
-    package lies in, then ``subgraph`` on the path.
+    It is the argument, else the one that ``SUBGRAPH_PROGRAM`` names, else the build of the repository that this package
+    lies in, else ``subgraph`` on the path.
 
     Raises
     ------
     ProgramMissing
-        There is none; the message says how it is built.
+        There is none. The message says how to build it.
     """
     named = program or os.environ.get(VARIABLE)
     if named:
         found = shutil.which(os.fspath(named))
         if found is None:
-            raise ProgramMissing(f"{os.fspath(named)} is no program. {HOW_TO_BUILD}")
+            raise ProgramMissing(f"{os.fspath(named)} is not a program. {HOW_TO_BUILD}")
         return found
     top = Path(__file__).resolve().parents[2]
     built = top / "crates" / "subgraph" / "out" / "subgraph"
@@ -82,9 +82,9 @@ def run(
     watcher: Optional[Watcher] = None,
     every: float = 0.5,
 ) -> Tuple[int, str, str]:
-    """Runs the program and answers its status, its output and its error line.
+    """Runs the program. Answers its exit status, its output and its message.
 
-    Whatever ends this call, an interrupt too, the program has ended with it.
+    When this call ends, also by an interrupt, the program has ended.
 
     Parameters
     ----------
@@ -92,9 +92,9 @@ def run(
     words : sequence of str
         The words behind the program's name.
     out : file, optional
-        Takes the output, which then is not answered.
+        Gets the output, which is then not answered.
     watcher : callable, optional
-        Called each time that `every` seconds have passed.
+        Called every `every` seconds.
     every : float
     """
     whole: List[str] = [program, *words]
@@ -124,7 +124,7 @@ def _line(error: bytes) -> str:
 
 
 class Teller:
-    """Tells of a question's progress: on standard error, or to a function of the caller's."""
+    """Tells the progress of a search: on standard error, or to the caller's function."""
 
     def __init__(self, to: Union[bool, Callable[[Progress], None]]) -> None:
         self.to = self._write if to is True else to
@@ -157,7 +157,7 @@ class Teller:
         on_terminal = sys.stderr.isatty()
         if not it.ended and not on_terminal:
             return
-        spent = f"{sum(it.spent):,} fails spent" if it.spent else "nothing spent yet"
+        spent = f"{sum(it.spent):,} fails spent" if it.spent else "no fails spent yet"
         text = f"{it.seconds:8.1f} s  slice {it.slice} of {it.budget:,} fails  {spent}"
         head, end = ("\r", "" if not it.ended else "\n") if on_terminal else ("", "\n")
         print(head + text, end=end, file=sys.stderr, flush=True)

@@ -1,4 +1,4 @@
-"""The questions: find an embedding, test one, write the question as constraints, judge a proof."""
+"""The questions: find an embedding, test a mapping, write the question as constraints, judge a proof."""
 from __future__ import annotations
 
 import os
@@ -14,24 +14,27 @@ from .graph import EdgeLabel, Graph, Name, NodeLabel, as_graph, edge_label_numbe
 from .program import Progress, Teller, find_program, run
 
 StrPath = Union[str, "os.PathLike[str]"]
-#: Is progress told, and to whom?
+#: Is progress told, and to which function?
 Told = Union[bool, Callable[[Progress], None]]
-#: The budget where none is named: the greatest that the program takes.
+#: The budget if none is named: the greatest that the program takes.
 GREATEST_BUDGET = (1 << 63) - 1
-#: The first slice of budget where progress is told; each later one is twice as large.
+#: The first slice of the budget when progress is told. Each later one is twice as large.
 FIRST_SLICE = 1 << 12
+#: The book of several threads if none is named. The program's own default is 65,536 rows; once they are full nothing more is
+#: learned, and several threads can then be slower than one.
+LARGE_BOOK = 1 << 20
 
 
 @dataclass(frozen=True)
 class Proof:
-    """A proof that no embedding exists, which the program's checker has accepted.
+    """A proof that no embedding exists. The program's checker has accepted it.
 
-    It counts as false, so that ``if find(..)`` reads the same with a proof and without.
+    It counts as false, so ``if find(..)`` reads the same with a proof and without.
 
     Attributes
     ----------
     encoding : Path
-        The question as pseudo-Boolean constraints; its solutions are the embeddings.
+        The question as pseudo-Boolean constraints. Its solutions are the embeddings.
     log : Path
         The steps from them to a contradiction.
     """
@@ -52,7 +55,7 @@ class _Files:
         self.target = target
         if pattern.directed != target.directed:
             kinds = [f"the {it} is {'' if graph.directed else 'un'}directed" for it, graph in self._graphs()]
-            raise ValueError(f"{kinds[0]}, and {kinds[1]}: both have directions, or neither has")
+            raise ValueError(f"{kinds[0]}, and {kinds[1]}: give both directions, or neither")
         numbers, edge_numbers = label_numbers(pattern, target), edge_label_numbers(pattern, target)
         self.format = lad_format(pattern.directed, numbers is not None, edge_numbers is not None)
         paths = []
@@ -99,6 +102,7 @@ def find(
     prove: Literal[False] = ...,
     progress: Told = ...,
     program: Optional[StrPath] = ...,
+    book: Optional[int] = ...,
 ) -> Optional[Dict[Name, Name]]: ...
 
 
@@ -116,6 +120,7 @@ def find(
     prove: Union[Literal[True], StrPath],
     progress: Told = ...,
     program: Optional[StrPath] = ...,
+    book: Optional[int] = ...,
 ) -> Union[Dict[Name, Name], Proof]: ...
 
 
@@ -131,8 +136,9 @@ def find(
     prove: Union[bool, StrPath] = False,
     progress: Told = False,
     program: Optional[StrPath] = None,
+    book: Optional[int] = None,
 ) -> Union[Dict[Name, Name], None, Proof]:
-    """Finds where the pattern occurs in the target.
+    """Finds an embedding of the pattern in the target.
 
     Parameters
     ----------
@@ -140,32 +146,36 @@ def find(
         Whatever `as_graph` takes: graphs of networkx or igraph, molecules of RDKit, pairs of names. Both have
         directions, or neither has.
     induced : bool
-        Are images of vertices without an edge to have none either? (networkx calls the two kinds
+        Must images of vertices without an edge have none either? (networkx calls the two kinds
         ``subgraph_is_isomorphic`` and ``subgraph_is_monomorphic``.)
     node_label : str, sequence of str, or callable, optional
         What vertices and their images share; `as_graph` says more.
     edge_label : str, sequence of str, or callable, optional
         What edges and their images share.
     seed : int, optional
-        Where choices begin; the same seed gives the same search.
+        Where choices begin. With one thread the same seed gives the same search.
     budget : int, optional
-        The most fails that each thread may spend. Without it the search goes on until it knows.
+        The most failed guesses of each thread. Without it the search goes on until it knows.
     threads : int, optional
-        How many searches share the work, from 1 to 64.
+        How many searches share the work, from 1 to 64. The default is 1.
     prove : bool or path
-        Where no embedding exists, answer a `Proof` in place of ``None``, checked before this returns. Its two files
+        If no embedding exists, answer a `Proof` in place of ``None``, checked before this returns. Its two files
         lie in the folder that is named, or in a new one.
     progress : bool or callable
-        Tell how long it takes and, after each slice of budget, what was spent: on standard error, or to a function that
-        gets a `Progress`. The search then is run with budgets that double, from its beginning each time; so it takes up
-        to twice as long, and the answer is the one that it gives without.
+        Tell how long it takes and, after each slice of the budget, what was spent: on standard error, or to a function
+        that gets a `Progress`. The search is then run with budgets that double, from its beginning each time. This
+        takes up to twice as long, and the answer is the same.
     program : path, optional
-        The program to ask; `find_program` says which is taken otherwise.
+        The program to ask; `find_program` says which one is the default.
+    book : int, optional
+        How many rows of refuted paths the threads share, from 0 to 4,194,304. With more than one thread the default is
+        1,048,576, with one thread the program's own, 65,536. Name more rows for a long search: once they are full,
+        nothing more is learned. A row takes 24 bytes, and 16 more for each thread.
 
     Returns
     -------
     dict, None or Proof
-        For each of the pattern's vertices its image; ``None`` where no embedding exists, or its proof.
+        The image of each pattern vertex; ``None`` if no embedding exists, or its proof.
 
     Raises
     ------
@@ -176,7 +186,7 @@ def find(
     """
     asked = find_program(program)
     with _files(pattern, target, induced, node_label, edge_label) as files:
-        options = _options(seed=seed, threads=threads)
+        options = _options(seed=seed, threads=threads, book=_rows(book, threads))
         proof = _proof_paths(prove, files.folder)
         if proof is not None:
             options += ["--prove", str(proof.encoding), "--log", str(proof.log)]
@@ -190,6 +200,11 @@ def find(
         return None if proof is None else _kept(asked, proof, prove)
 
 
+def _rows(book: Optional[int], threads: Optional[int]) -> Optional[int]:
+    """The rows of the book to ask for: those that are named, and else more than the program's own for several threads."""
+    return LARGE_BOOK if book is None and threads is not None and threads > 1 else book
+
+
 def _options(**numbers: Optional[int]) -> List[str]:
     return [word for name, it in numbers.items() if it is not None for word in (f"--{name}", str(int(it)))]
 
@@ -201,7 +216,7 @@ def _solve(
     threads: Optional[int],
     teller: Optional[Teller] = None,
 ) -> Optional[str]:
-    """The output where an embedding was found, ``None`` where none exists."""
+    """The output if an embedding was found, ``None`` if none exists."""
     whole = ["solve", *_options(budget=budget), *words]
     status, out, line = run(program, whole, watcher=teller.going if teller else None)
     if status == 0 and out.startswith("yes\n"):
@@ -220,7 +235,7 @@ def _in_slices(
     threads: Optional[int],
     progress: Told,
 ) -> Optional[str]:
-    """As `_solve`, by budgets that double up to the whole one."""
+    """As `_solve`, with budgets that double up to the whole one."""
     whole = GREATEST_BUDGET if budget is None else budget
     teller = Teller(progress)
     part = min(FIRST_SLICE, whole)
@@ -271,12 +286,12 @@ def verify(
     pattern, target, induced, node_label, edge_label, program
         As `find` has them.
     mapping : mapping from the pattern's names to the target's
-        Whoever made it. One that leaves out a vertex of the pattern is no embedding.
+        It may come from anywhere. One that leaves out a pattern vertex is no embedding.
 
     Raises
     ------
     ValueError
-        It names a vertex that the pattern or the target does not have.
+        The mapping names a vertex that the pattern or the target does not have.
     """
     asked = find_program(program)
     with _files(pattern, target, induced, node_label, edge_label) as files:
@@ -309,7 +324,7 @@ def encode(
     edge_label: EdgeLabel = None,
     program: Optional[StrPath] = None,
 ) -> Tuple[int, int]:
-    """Writes the question as pseudo-Boolean constraints, whose solutions are the embeddings.
+    """Writes the question as pseudo-Boolean constraints. Their solutions are the embeddings.
 
     Parameters
     ----------
@@ -321,8 +336,8 @@ def encode(
     Returns
     -------
     variables, constraints : int
-        How many there are. Variable ``p * len(target) + t + 1`` says that `t` is the image of `p`, where both are
-        places in the order of the graphs' names.
+        How many there are. Variable ``p * len(target) + t + 1`` says that `t` is the image of `p`. Both are places in
+        the order of the graphs' names.
     """
     asked = find_program(program)
     with _files(pattern, target, induced, node_label, edge_label) as files:
@@ -337,7 +352,7 @@ def encode(
 
 
 def check(encoding: StrPath, log: StrPath, program: Optional[StrPath] = None) -> str:
-    """Judges a proof log over an encoding, both of any origin.
+    """Judges a proof log over an encoding. Both may come from anywhere.
 
     Parameters
     ----------
@@ -347,7 +362,8 @@ def check(encoding: StrPath, log: StrPath, program: Optional[StrPath] = None) ->
     Returns
     -------
     str
-        ``"unsatisfiable"``, ``"satisfiable"`` or ``"undecided"``: what an accepted log shows of the encoding.
+        ``"unsatisfiable"``, ``"satisfiable"`` or ``"undecided"``: what the accepted log shows of the encoding. A log that
+        shows nothing is accepted too, as ``"undecided"``.
 
     Raises
     ------

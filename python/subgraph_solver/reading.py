@@ -1,4 +1,4 @@
-"""Graphs from files, and molecules from SMILES, by the libraries that read them."""
+"""Graphs from files and molecules from SMILES, read by the libraries that know them."""
 from __future__ import annotations
 
 import importlib
@@ -7,7 +7,7 @@ from typing import Any, Callable, Dict, List, Optional
 
 from .graph import Graph, read_lad
 
-#: How a word names a molecule in place of a file.
+#: A word that begins so is a molecule, not a file.
 SMILES = "smiles:"
 
 
@@ -20,16 +20,15 @@ def read_graph(word: str, kind: Optional[str] = None, directed: bool = False) ->
         A file, or ``smiles:`` and a molecule.
     kind : str, optional
         ``graphml``, ``gml``, ``edges``, ``smi``, ``lad``, ``vertexlabelledlad``, ``directedlad`` or ``labelledlad``;
-        without it the ending says it. An edge list has two names a line, a lone name is a vertex, and ``#`` begins a
-        comment. Of a file of SMILES the first word is read.
+        without it the ending says it. An edge list has two names a line; a single name is a vertex, and ``#`` begins a
+        comment. A file of SMILES is read up to its first word.
     directed : bool
-        Has an edge of an edge list a direction, from the first name to the second? Other files tell themselves.
+        Does an edge of an edge list lead from the first name to the second? Other files say so themselves.
 
     Returns
     -------
     networkx.Graph or DiGraph, igraph.Graph, rdkit Mol or Graph
-        GraphML and GML are read by networkx where it is installed, and else by igraph; SMILES by RDKit. The rest needs
-        neither.
+        networkx reads GraphML and GML if it is installed, else igraph. RDKit reads SMILES. The rest needs no library.
     """
     if word.startswith(SMILES) and kind is None:
         return _molecule(word[len(SMILES):])
@@ -38,7 +37,7 @@ def read_graph(word: str, kind: Optional[str] = None, directed: bool = False) ->
     reader = _READERS.get(kind or ending)
     if reader is None:
         kinds = ", ".join(sorted(_READERS))
-        raise ValueError(f"{word}: its ending tells no kind of graph; name one of {kinds}")
+        raise ValueError(f"{word}: its ending tells no kind of graph; name one of these: {kinds}")
     return _edges(word, directed) if reader is _edges else reader(word)
 
 
@@ -48,7 +47,7 @@ def _module(why: str, *names: str) -> Any:
             return importlib.import_module(name)
         except ImportError:
             pass
-    raise ImportError(f"{why} is read by {' or '.join(names)}, which is not installed")
+    raise ImportError(f"{why} needs {' or '.join(names)}, which is not installed")
 
 
 def _by_library(kind: str) -> Callable[[str], Any]:

@@ -39,6 +39,8 @@ class Command(unittest.TestCase):
         self.assertEqual({line.split(" -> ")[1] for line in out.splitlines()[1:]}, {"x", "y", "z"})
         self.assertTrue(os.path.getsize(os.path.join(self.folder, "it.svg")) > 500)
         self.assertEqual(ask("find", "path.edges", "triangle.edges", "--induced", cwd=self.folder)[:2], (1, "none\n"))
+        shared = ask("find", "triangle.edges", "cycle.lad", "--threads", "2", "--book", "0", cwd=self.folder)
+        self.assertEqual(shared, (1, "none\n", ""))
         spent = ask("find", "triangle.edges", "cycle.lad", "--budget", "3", cwd=self.folder)
         self.assertEqual(spent[:2], (2, "unknown\n"))
 

@@ -53,9 +53,23 @@ class Statuses(unittest.TestCase):
             self.assertIsNone(solver.find(PATH, TRIANGLE, program=program.path, **how))
             self.assertIsNone(solver.find(PATH, TRIANGLE, program=program.path))
             first, second = program.words()
-        options = "solve --budget 9 --seed 7 --threads 3 --induced --format vertexlabelledlad"
+        options = "solve --budget 9 --seed 7 --threads 3 --book 1048576 --induced --format vertexlabelledlad"
         self.assertEqual(first[:-2], options.split())
         self.assertEqual(second[:-2], ["solve"])
+
+    def test_book(self) -> None:
+        rows = (
+            ({}, []),
+            ({"threads": 1}, ["--threads", "1"]),
+            ({"threads": 2}, ["--threads", "2", "--book", "1048576"]),
+            ({"threads": 64, "book": 0}, ["--threads", "64", "--book", "0"]),
+            ({"book": 70000}, ["--book", "70000"]),
+            ({"threads": 1, "book": 4194304}, ["--threads", "1", "--book", "4194304"]),
+        )
+        for how, options in rows:
+            with self.subTest(how), StandIn(1, "none\n") as program:
+                self.assertIsNone(solver.find(PATH, TRIANGLE, program=program.path, **how))
+                self.assertEqual(program.words()[0][:-2], ["solve", *options])
 
     def test_formats(self) -> None:
         def same(*_: object) -> str:

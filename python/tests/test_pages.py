@@ -8,6 +8,7 @@ import subgraph_solver
 
 from .asked import needs, needs_program
 
+TOP = os.path.dirname(os.path.dirname(os.path.dirname(os.path.abspath(__file__))))
 README = os.path.join(os.path.dirname(os.path.dirname(os.path.abspath(__file__))), "README.md")
 
 
@@ -27,6 +28,23 @@ class Pages(unittest.TestCase):
         if not os.path.isfile(README):
             self.skipTest("the package stands without its README")
         self.assertEqual(doctest.testfile(README, module_relative=False).failed, 0)
+
+    @needs("networkx")
+    def test_formats(self) -> None:
+        page = os.path.join(TOP, "docs", "FORMATS.md")
+        if not os.path.isfile(page):
+            self.skipTest("the package stands without its repository")
+        failed, tried = doctest.testfile(page, module_relative=False)
+        self.assertEqual((failed, tried > 0), (0, True))
+
+
+class Version(unittest.TestCase):
+    def test_is_that_of_the_repository(self) -> None:
+        path = os.path.join(TOP, "VERSION")
+        if not os.path.isfile(path):
+            self.skipTest("the package stands without its repository")
+        with open(path, encoding="ascii") as file:
+            self.assertEqual(subgraph_solver.__version__, file.read().strip())
 
 
 if __name__ == "__main__":
