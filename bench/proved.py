@@ -191,7 +191,7 @@ def words_of_the_line():
 
 
 def figures(totals):
-    """The counts as a sentence for the README, and a table of what was asked."""
+    """The counts as a sentence for docs/TESTING.md, and a table of what was asked."""
     print(
         f"{sum(totals[answer] for answer in SHOWN)} runs on {totals['problems']} problems: {totals['none']} times none, {totals['yes']} times yes and"
         f" {totals['unknown']} times unknown; both checkers accepted each log for its answer, and {totals['without hints']} more without hints;"

@@ -1,12 +1,11 @@
 #!/usr/bin/env python3
-"""Draws docs/crates.svg: the crates of crates.txt, each above those that it stands on.
+"""Draws docs/crates.svg: the groups of crates of crates.txt, each above those that it stands on.
 
     docs/crates.py [--check]
 
-A crate's row is one above the highest that it stands on; in a row crates are put near to those that they are joined to.
-A line is left out where other lines tell it: where a crate stands on one that stands on the other. The colours are
-the parts that comments of crates.txt name. With --check nothing is written, and the status is 1 where the picture is not of
-today's crates.txt.
+A group is what a comment of crates.txt names; groups of tests and benches are left out. An arrow leads from a group to one that it stands on, and is
+left out where a way over other groups leads there too. Groups that stand on each other, crate by crate, are side by side, with an arrow of two heads.
+With --check nothing is written, and the status is 1 where the picture is not of today's crates.txt.
 """
 from __future__ import annotations
 
@@ -20,126 +19,150 @@ PICTURE = TOP / "docs" / "crates.svg"
 COLOURS = ("#dbe7f6", "#d9efe2", "#fbe6cc", "#ecdff5", "#f7dcdf", "#e6e8ea")
 LINES = ("#4a77b4", "#3c8f63", "#c0792a", "#8558b0", "#b8505c", "#7a838c")
 INK = "#27313b"
-HIGH, ROW, GAP, MARGIN, LEGEND = 30, 78, 16, 24, 44
+#: How groups begin that are no part of the program.
+ASIDE = ("tests", "how fast")
+CHIP, HEAD, PAD, GAP, BETWEEN, WIDE, MARGIN = 26, 26, 10, 8, 58, 500, 20
+
+Groups = Dict[str, List[str]]
 
 
-def read() -> Tuple[Dict[str, List[str]], Dict[str, str]]:
-    """For each crate those of this repository that it stands on, and the part that it belongs to."""
+def read() -> Tuple[Groups, Dict[str, Set[str]]]:
+    """The crates of each group, and the groups that each one stands on."""
+    groups: Groups = {}
     below: Dict[str, List[str]] = {}
-    part: Dict[str, str] = {}
     comment = ""
-    for line in (TOP / "crates.txt").read_text().splitlines():
+    for line in (TOP / "crates.txt").read_text(encoding="utf-8").splitlines():
         head, _, _ = line.partition("#")
         if line.startswith("#"):
             comment = line[1:].strip()
         if ":" in head:
             name, _, rest = head.partition(":")
-            below[name.split()[0]] = rest.split()
-            part[name.split()[0]] = comment
-    return {name: [it for it in deps if it in below] for name, deps in below.items()}, part
-
-
-def everything_below(name: str, below: Dict[str, List[str]], known: Dict[str, Set[str]]) -> Set[str]:
-    if name not in known:
-        known[name] = {it for dep in below[name] for it in (dep, *everything_below(dep, below, known))}
-    return known[name]
-
-
-def reduced(below: Dict[str, List[str]]) -> Dict[str, List[str]]:
-    """The lines that no others tell."""
-    known: Dict[str, Set[str]] = {}
-    for name in below:
-        everything_below(name, below, known)
-    return {
-        name: [it for it in deps if not any(it in known[other] for other in deps if other != it)]
-        for name, deps in below.items()
+            name = name.split()[0]
+            if not comment.startswith(ASIDE):
+                groups.setdefault(comment, []).append(name)
+            below[name] = rest.split()
+    home = {name: group for group, names in groups.items() for name in names}
+    return groups, {
+        group: {home[it] for name in names for it in below[name] if it in home} - {group} for group, names in groups.items()
     }
 
 
-def rows_of(below: Dict[str, List[str]]) -> List[List[str]]:
-    """The crates row by row, the lowest first."""
+def reach(below: Dict[str, Set[str]]) -> Dict[str, Set[str]]:
+    """All groups that each one stands on, over others too."""
+    found = {it: set(deps) for it, deps in below.items()}
+    for _ in found:
+        for it in found:
+            found[it] |= {far for dep in found[it] for far in found[dep]}
+    return found
+
+
+def rows_of(groups: Groups, far: Dict[str, Set[str]]) -> List[List[str]]:
+    """The groups row by row, the lowest first; groups that stand on each other are in one row."""
     height: Dict[str, int] = {}
 
-    def of(name: str) -> int:
-        if name not in height:
-            height[name] = 1 + max((of(it) for it in below[name]), default=-1)
-        return height[name]
+    def of(it: str) -> int:
+        if it not in height:
+            team = {it} | {other for other in far[it] if it in far[other]}
+            value = 1 + max((of(other) for one in team for other in far[one] if other not in team), default=-1)
+            for one in team:
+                height[one] = value
+        return height[it]
 
-    rows: List[List[str]] = [[] for _ in range(1 + max(map(of, below)))]
-    for name in below:
-        rows[of(name)].append(name)
+    rows: List[List[str]] = [[] for _ in range(1 + max(map(of, groups)))]
+    for it in groups:
+        rows[of(it)].append(it)
     return rows
 
 
+def arrows(below: Dict[str, Set[str]], far: Dict[str, Set[str]]) -> List[Tuple[str, str, bool]]:
+    """The arrows that no way over other groups tells, and whether each leads back too."""
+    found = []
+    for one, deps in below.items():
+        for other in deps:
+            back = one in below[other]
+            if back and list(below).index(one) > list(below).index(other):
+                continue
+            if not back and any(other in far[way] and one not in far[way] and way not in far[other] for way in deps if way != other):
+                continue
+            found.append((one, other, back))
+    return sorted(found)
+
+
 def width_of(name: str) -> float:
-    return 7.2 * len(name) + 22
+    return 7.4 * len(name) + 16
 
 
-def places_of(rows: List[List[str]], lines: Dict[str, List[str]]) -> Tuple[Dict[str, float], float]:
-    """The middle of each crate from left to right, and the width of the picture."""
-    near: Dict[str, Set[str]] = {name: set(deps) for name, deps in lines.items()}
-    for name, deps in lines.items():
-        for dep in deps:
-            near[dep].add(name)
-    wide = max(sum(map(width_of, row)) + GAP * (len(row) - 1) for row in rows) + 2 * MARGIN
-    middle = {name: wide * (place + 1) / (len(row) + 1) for row in rows for place, name in enumerate(row)}
-    for turn in range(24):
-        for row in rows if turn % 2 else rows[::-1]:
-            wanted = {it: sum(middle[n] for n in near[it]) / len(near[it]) if near[it] else middle[it] for it in row}
-            row.sort(key=lambda it: wanted[it])
-            spread(row, wanted, middle, wide)
-    return middle, wide
-
-
-def spread(row: List[str], wanted: Dict[str, float], middle: Dict[str, float], wide: float) -> None:
-    """Puts the crates of a row near to where each is wanted, in this order, none over another."""
-    right = MARGIN - GAP
-    for it in row:
-        middle[it] = max(wanted[it], right + GAP + width_of(it) / 2)
-        right = middle[it] + width_of(it) / 2
-    left = wide - MARGIN + GAP
-    for it in reversed(row):
-        middle[it] = min(middle[it], left - GAP - width_of(it) / 2)
-        left = middle[it] - width_of(it) / 2
+def chips(names: List[str]) -> Tuple[List[Tuple[str, float, float]], float]:
+    """Where each crate stands in its group's box, and the height of the box."""
+    x, y = float(PAD), float(HEAD + PAD)
+    placed = []
+    for name in names:
+        if x + width_of(name) > WIDE - PAD and x > PAD:
+            x, y = float(PAD), y + CHIP + GAP
+        placed.append((name, x, y))
+        x += width_of(name) + GAP
+    return placed, y + CHIP + PAD
 
 
 def drawn() -> str:
-    below, part = read()
-    lines = reduced(below)
-    rows = rows_of(below)
-    middle, wide = places_of(rows, lines)
-    parts = list(dict.fromkeys(part.values()))
-    high = LEGEND + ROW * len(rows)
-    top = {name: high - ROW * (number + 1) + (ROW - HIGH) / 2 for number, row in enumerate(rows) for name in row}
+    groups, below = read()
+    far = reach(below)
+    rows = rows_of(groups, far)
+    wide = max(len(row) for row in rows) * (WIDE + BETWEEN) - BETWEEN + 2 * MARGIN
+    place: Dict[str, Tuple[float, float, float]] = {}
+    y = float(MARGIN)
+    for row in reversed(rows):
+        left = (wide - len(row) * (WIDE + BETWEEN) + BETWEEN) / 2
+        for number, it in enumerate(row):
+            place[it] = (left + number * (WIDE + BETWEEN), y, chips(groups[it])[1])
+        y += max(place[it][2] for it in row) + BETWEEN
+    high = y - BETWEEN + MARGIN
     out = [
-        f'<svg xmlns="http://www.w3.org/2000/svg" viewBox="0 0 {wide:.0f} {high}" width="{wide:.0f}" height="{high}" '
+        f'<svg xmlns="http://www.w3.org/2000/svg" viewBox="0 0 {wide:.0f} {high:.0f}" width="{wide:.0f}" height="{high:.0f}" '
         'style="font-family:Helvetica,Arial,sans-serif">',
+        '<defs><marker id="head" viewBox="0 0 8 8" refX="7" refY="4" markerWidth="8" markerHeight="8" orient="auto-start-reverse">'
+        f'<path d="M0 0 L8 4 L0 8 Z" fill="{INK}"/></marker></defs>',
         '<rect width="100%" height="100%" fill="#ffffff"/>',
     ]
-    x = MARGIN
-    for number, name in enumerate(parts):
-        out.append(f'<rect x="{x}" y="16" width="16" height="16" rx="4" fill="{COLOURS[number % 6]}" stroke="{LINES[number % 6]}"/>')
-        out.append(f'<text x="{x + 22}" y="28" font-size="13" fill="{INK}">{escape(name)}</text>')
-        x += 22 + round(6.6 * len(name)) + 24
-    for name, deps in lines.items():
-        for dep in deps:
-            out.append(line(middle[name], top[name] + HIGH, middle[dep], top[dep], LINES[parts.index(part[name]) % 6]))
-    for name in below:
-        out += box(name, middle[name], top[name], parts.index(part[name]) % 6)
+    for one, other, back in arrows(below, far):
+        out.append(arrow(place[one], place[other], back))
+    for number, (group, names) in enumerate(groups.items()):
+        out += box(group, names, place[group], number % 6)
     return "\n".join([*out, "</svg>"]) + "\n"
 
 
-def line(x: float, y: float, u: float, v: float, colour: str) -> str:
-    bend = (v - y) * 0.45
+def arrow(one: Tuple[float, float, float], other: Tuple[float, float, float], back: bool) -> str:
+    start = ' marker-start="url(#head)"' if back else ""
+    if one[1] == other[1] and abs(one[0] - other[0]) > WIDE + BETWEEN + 1:
+        # Boxes stand between: the arrow goes below them.
+        x, y, u, v = one[0] + WIDE / 2, one[1] + one[2], other[0] + WIDE / 2, other[1] + other[2] + 2
+        low = max(y, v) + 0.9 * BETWEEN
+        way = f"M{x:.1f} {y:.1f} C{x:.1f} {low:.1f} {u:.1f} {low:.1f} {u:.1f} {v:.1f}"
+        return f'<path d="{way}" fill="none" stroke="{INK}" stroke-width="1.4" marker-end="url(#head)"{start}/>'
+    if one[1] == other[1]:
+        left, right = min(one, other), max(one, other)
+        y = one[1] + min(one[2], other[2]) / 2
+        x, u, v = left[0] + WIDE + 2, right[0] - 2, y
+    else:
+        shift = (other[0] - one[0]) * 0.12
+        x, y, u, v = one[0] + WIDE / 2 + shift, one[1] + one[2], other[0] + WIDE / 2 - shift, other[1] - 2
+    bend = (v - y) * 0.5
     way = f"M{x:.1f} {y:.1f} C{x:.1f} {y + bend:.1f} {u:.1f} {v - bend:.1f} {u:.1f} {v:.1f}"
-    return f'<path d="{way}" fill="none" stroke="{colour}" stroke-opacity="0.55" stroke-width="1.3"/>'
+    return f'<path d="{way}" fill="none" stroke="{INK}" stroke-width="1.4" marker-end="url(#head)"{start}/>'
 
 
-def box(name: str, middle: float, top: float, part: int) -> List[str]:
-    wide = width_of(name)
-    where = f'x="{middle - wide / 2:.1f}" y="{top:.1f}" width="{wide:.1f}" height="{HIGH}" rx="7"'
-    text = f'x="{middle:.1f}" y="{top + 19.5:.1f}" text-anchor="middle" font-size="13" fill="{INK}"'
-    return [f'<rect {where} fill="{COLOURS[part]}" stroke="{LINES[part]}"/>', f"<text {text}>{escape(name)}</text>"]
+def box(group: str, names: List[str], place: Tuple[float, float, float], part: int) -> List[str]:
+    x, y, high = place
+    out = [
+        f'<rect x="{x:.1f}" y="{y:.1f}" width="{WIDE}" height="{high:.1f}" rx="8" fill="{COLOURS[part]}" stroke="{LINES[part]}"/>',
+        f'<text x="{x + PAD:.1f}" y="{y + 21:.1f}" font-size="13.5" font-weight="bold" fill="{INK}">{escape(group)}</text>',
+    ]
+    for name, dx, dy in chips(names)[0]:
+        wide = width_of(name)
+        where = f'x="{x + dx:.1f}" y="{y + dy:.1f}" width="{wide:.1f}" height="{CHIP}" rx="6"'
+        text = f'x="{x + dx + wide / 2:.1f}" y="{y + dy + 17.5:.1f}" text-anchor="middle" font-size="12.5" fill="{INK}"'
+        out += [f'<rect {where} fill="#ffffff" stroke="{LINES[part]}"/>', f"<text {text}>{escape(name)}</text>"]
+    return out
 
 
 def main(words: List[str]) -> int:

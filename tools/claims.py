@@ -1,12 +1,13 @@
 #!/usr/bin/env python3
-"""Writes the lists of docs/CLAIMS.md anew: which definitions a statement stands on, by crate, with how many lines they have.
+"""Writes docs/STATEMENTS.md, and holds the definitions that docs/CLAIMS.md prints.
 
 usage: python3 tools/claims.py [--check]
 
-A definition stands on each name of its text that is defined in the repository, and on what that stands on; the kit's prelude is not
-counted. A type that the code declares (an enum or a struct that definitions speak of) counts as one definition without lines. The lists stand
-between two marks in the page, one pair for each statement of STATEMENTS. README tells the two numbers of `none` in words (TOLD), and they
-are written there. With --check nothing is written, and the status is 1 where a list or a number is not as it would be.
+STATEMENTS.md lists which definitions a statement stands on, by crate, with how many lines they have, and which clauses each public function of a
+crate has. A definition stands on each name of its text that is defined in the repository, and on what that stands on; the kit's prelude is not
+counted. A type that the code declares (an enum or a struct that definitions speak of) counts as one definition without lines. A block of CLAIMS.md
+behind a mark `<!-- definition of NAME in CRATE/specs/FILE.antt -->` is that definition as it stands in the source. With --check nothing is written,
+and the status is 1 where a page is not as it would be written.
 """
 import glob
 import os
@@ -17,10 +18,17 @@ STATEMENTS = {
     "none": ("subgraph_cli", "Solving", "NoneWritten"),
     "run": ("subgraph_cli", "Running", "Ran"),
 }
+#: What each statement is, in words.
+TITLES = {"none": "What `none` alone stands on", "run": "What all clauses of a run stand on"}
+#: Crates that are no part of the program.
+ASIDE = ("_tests", "test_support", "memory_runs", "kernel_bench")
 HERE = os.path.dirname(os.path.dirname(os.path.abspath(__file__)))
-PAGE = os.path.join(HERE, "docs", "CLAIMS.md")
-README = os.path.join(HERE, "README.md")
-TOLD = re.compile(r"(walks through `none` definition by definition) \(\d+ of them, \d+ lines\)")
+LISTS = os.path.join(HERE, "docs", "STATEMENTS.md")
+CLAIMS = os.path.join(HERE, "docs", "CLAIMS.md")
+PRINTED = re.compile(r"(<!-- definition of (\S+) in (\S+?)/specs/(\S+)\.antt -->\n\n)((?:    .*\n|\n(?=    ))*)")
+BLOCK = re.compile(r"(?:pub )?(?:impl|trait)\b(?:<.*?>+)? (?:.* for )?([A-Za-z]+)")
+CALL = re.compile(r"(\s*)(pub )?(?:const |final )*fn ([a-z0-9_]+)")
+CLAUSE = re.compile(r"\s*ensures (?:([a-z_0-9]+) )?\{")
 WORD = re.compile(r"[A-Za-z_◌][\w◌\-'≡≤]*(?:\.[A-Za-z_][\w\-]*)*")
 HEAD = re.compile(r"(?:(?:pub|abbrev|unfoldable|record|data)\s+)+([^\s:{(]+)")
 PLAIN = re.compile(r"([^\s:]+) :")
@@ -119,35 +127,86 @@ def listed(seen):
     return "\n".join(rows)
 
 
-def with_lists(page, read):
-    """The page with each list as it is today."""
+def clauses_in(path):
+    """Each public call of a file, and each call of a trait, with the names of its clauses."""
+    block, is_trait, call = "", False, None
+    for line in open(path, encoding="utf-8"):
+        found = BLOCK.match(line)
+        if found or line.startswith("}"):
+            block, is_trait, call = (found.group(1), "trait " in line, None) if found else ("", False, None)
+        found = CALL.match(line)
+        if found:
+            indent, public, name = found.groups()
+            call = None
+            if public or is_trait and indent:
+                call = (f"{block}::{name}" if indent else name, [])
+                yield call
+        found = CLAUSE.match(line)
+        if found and call:
+            call[1].append(found.group(1) or "")
+
+
+def clauses():
+    """A row for each crate: its public calls that have clauses."""
+    rows = ["| crate | calls and their clauses |", "|---|---|"]
+    for folder in sorted(glob.glob(os.path.join(HERE, "crates", "*", ""))):
+        crate = os.path.basename(os.path.dirname(folder))
+        if crate.endswith(ASIDE):
+            continue
+        told = []
+        for path in sorted(glob.glob(os.path.join(folder, "src", "**", "*.rt"), recursive=True)):
+            for call, names in list(clauses_in(path)):
+                named = ", ".join(it for it in names if it)
+                if names:
+                    told.append(f"`{call}`" + (f" ({named})" if named else ""))
+        rows.append(f"| `{crate}` | {'; '.join(told)} |")
+    return "\n".join(rows)
+
+
+def statements(read):
+    """The page of lists."""
+    parts = [
+        "# What each statement stands on",
+        "`python3 tools/claims.py` writes this page. [CLAIMS.md](CLAIMS.md) says how to read it. A type that the code declares counts without lines.",
+    ]
     for mark, start in STATEMENTS.items():
-        opening, closing = f"<!-- list of {mark} -->\n", f"<!-- end of {mark} -->"
-        before, _, rest = page.partition(opening)
-        _, _, after = rest.partition(closing)
-        page = before + opening + listed(closure(read, start)) + "\n" + closing + after
-    return page
+        parts += [f"## {TITLES[mark]}", f"The statement is `{start[2]}` (`{start[0]}/specs/{start[1]}.antt`).", listed(closure(read, start))]
+    parts += [
+        "## The clauses of each crate",
+        "The public calls of each crate, and the calls of its traits. The names of a call's clauses stand in brackets behind it; a call without "
+        "brackets has one clause without a name. What a clause says stands at the call, in `crates/*/src/`.",
+        clauses(),
+    ]
+    return "\n\n".join(parts) + "\n"
 
 
-def with_numbers(page, read):
-    """README with the numbers of today."""
-    seen = closure(read, STATEMENTS["none"])
-    made, count = TOLD.subn(rf"\1 ({len(seen)} of them, {sum(seen.values())} lines)", page)
-    if count != 1:
-        sys.exit("README.md: no line tells how many definitions `none` stands on, or more than one does")
-    return made
+def definition(name, crate, module):
+    """The lines of a definition as they stand in its source, without the comment above."""
+    lines, found = [], False
+    for line in open(os.path.join(HERE, "crates", crate, "specs", module + ".antt"), encoding="utf-8"):
+        line = line.rstrip("\n")
+        head = None if line[:1].isspace() or line.startswith("--") else HEAD.match(line) or PLAIN.match(line)
+        if head or not line.strip() or line.startswith("--"):
+            found = bool(head) and head.group(1) == name or found and line.startswith(name + " ")
+        if found:
+            lines.append(line)
+    if not lines:
+        sys.exit(f"docs/CLAIMS.md: {crate} has no definition {name} in specs/{module}.antt")
+    return "".join(f"    {it}\n" for it in lines)
+
+
+def with_definitions(page):
+    """The page of claims with each definition as it is today."""
+    return PRINTED.sub(lambda it: it.group(1) + definition(*it.group(2, 3, 4)), page)
 
 
 def main():
-    read = modules()
-    for path, as_today in ((PAGE, with_lists), (README, with_numbers)):
-        with open(path, encoding="utf-8") as file:
-            old = file.read()
-        page = as_today(old, read)
+    claims = open(CLAIMS, encoding="utf-8").read()
+    for path, page in ((LISTS, statements(modules())), (CLAIMS, with_definitions(claims))):
         if "--check" not in sys.argv[1:]:
             with open(path, "w", encoding="utf-8") as file:
                 file.write(page)
-        elif page != old:
+        elif not os.path.isfile(path) or open(path, encoding="utf-8").read() != page:
             sys.exit(f"{os.path.relpath(path, HERE)}: not what tools/claims.py writes")
 
 

@@ -1,40 +1,77 @@
 #!/usr/bin/env python3
-"""Writes docs/subgraph.1, the manual page, from the README's synopsis and its tables of options and of statuses.
+"""Writes docs/subgraph.1, the manual page. Its statuses are those of the README's table, and its version is that of the file VERSION.
 
-    tools/man.py [--check]
+    tools/man.py [--check] [--run PROGRAM]
 
-With --check nothing is written, and the status is 1 where the page is not of today's README. The commands of its session
-stand in the pages of the examples and the formats too, and are run there.
+With --check nothing is written, and the status is 1 where the page is not the one that would be written. With --run nothing is written either:
+the session of the page is run by a shell in an empty folder, with PROGRAM as `subgraph`, and the status is 1 where an answer differs.
 """
 from __future__ import annotations
 
+import argparse
+import os
 import re
+import subprocess
 import sys
+import tempfile
 from pathlib import Path
-from typing import List
+from typing import List, Tuple
 
 TOP = Path(__file__).resolve().parent.parent
 PAGE = TOP / "docs" / "subgraph.1"
 
-SESSION = """$ cat triangle.lad
-3
-2 1 2
-2 0 2
-2 0 1
-$ cat four-cycle.lad
-4
-2 1 3
-2 0 2
-2 1 3
-2 0 2
+SYNOPSIS = """\
+subgraph solve [OPTION]... PATTERN TARGET
+subgraph verify [--format F] [--induced] PATTERN TARGET MAPPING
+subgraph encode [--format F] [--induced] PATTERN TARGET
+subgraph check ENCODING LOG
+subgraph demo [--threads N] [--budget N] SEED
+"""
+DESCRIPTION = """\
+An embedding maps each vertex of PATTERN to a vertex of TARGET of its own, and keeps labels and edges. `solve` finds one, or
+tells that none exists, or that its budget is spent. `verify` tests the mapping of a file. `encode` writes the question as
+pseudo-Boolean constraints, whose solutions are the embeddings. `check` judges a proof log over such constraints. `demo` makes
+two problems from SEED and decides them: a planted pattern, and a cycle that does not embed.
+Options stand after the command's word, each at most once. After `--` every word is a name.
+"""
+OPTIONS: List[Tuple[str, str]] = [
+    ("--format lad", "The default: the number of vertices, then for each vertex how many neighbours it lists, and these, from 0."),
+    ("--format vertexlabelledlad", "The same, with each vertex's label before the number of its neighbours."),
+    ("--format directedlad", "As `lad`, but a listed neighbour is an edge in one direction."),
+    ("--format labelledlad", "Directed, with labels of vertices, and after each neighbour the label of the edge to it."),
+    ("--induced", "Images of vertices without an edge have no edge either."),
+    ("--threads N", "From 1, the default, to 64 searches share the work. What the answer says does not depend on N."),
+    ("--budget N", "At most N failed guesses of each thread, from 1 to 9,223,372,036,854,775,807, the default."),
+    (
+        "--book N",
+        "The threads share N rows of what they have refuted, from 0 to 4,194,304; the default is 65,536. Once the book is full nothing more is "
+        "learned. For a search of more than a few seconds name 1048576.",
+    ),
+    (
+        "--seed N",
+        "Where the choices begin, from 0, the default, to 18,446,744,073,709,551,615. With one thread the same seed gives the same search.",
+    ),
+    (
+        "--prove ENC --log LOG",
+        "Writes a proof before the answer: the constraints of `encode` to ENC, and a log over them to LOG. The two names differ, and neither "
+        "is PATTERN or TARGET. Names are compared as texts.",
+    ),
+    ("--profile N", "With `--prove`. 1, the default, writes hints into LOG. 2 writes none: a shorter log, which takes longer to check."),
+]
+SESSION = """\
+$ printf '3\\n2 1 2\\n2 0 2\\n2 0 1\\n' > triangle.lad
+$ printf '4\\n2 1 3\\n2 0 2\\n2 1 3\\n2 0 2\\n' > four-cycle.lad
 $ subgraph solve triangle.lad four-cycle.lad
 none
 $ subgraph solve --budget 3 triangle.lad four-cycle.lad
 unknown
-$ subgraph solve path.lad triangle.lad > answer
-$ subgraph verify path.lad triangle.lad answer
+$ subgraph solve --threads 4 --book 1048576 triangle.lad four-cycle.lad
+none
+$ subgraph solve triangle.lad triangle.lad > answer
+$ subgraph verify triangle.lad triangle.lad answer
 embedding
-$ subgraph encode triangle.lad four-cycle.lad > question.opb
+$ subgraph solve triangle.lad four-cycle.lad --prove question.opb --log proof.log
+none
 $ subgraph check question.opb proof.log
 accepted unsatisfiable
 """
@@ -57,14 +94,9 @@ def rows_of(text: str, head: str) -> List[List[str]]:
     return found
 
 
-def synopsis(text: str) -> List[str]:
-    """The README's lines of commands."""
-    return re.findall(r"^    (subgraph (?:solve|verify|encode|check|demo).*)$", text, re.M)
-
-
 def roff(text: str) -> str:
-    """A text of the README as the page has it."""
-    text = re.sub(r"\[([^]]*)\]\([^)]*\)", r"\1", text).replace("\\", "\\e").replace("-", "\\-")
+    """A text as the page has it."""
+    text = re.sub(r"\[([^]]*)\]\([^)]*\)", r"\1", text).replace("\\", "\\e").replace("-", "\\-").replace("**", "")
     text = re.sub(r"`([^`]*)`", r"\\fB\1\\fR", text)
     return re.sub(r"^([.'])", r"\\&\1", text)
 
@@ -75,52 +107,74 @@ def command(line: str) -> str:
     return re.sub(r"^subgraph (\w+)", r"\\fBsubgraph \1\\fR", re.sub(r"(\\-\\-[a-z]+)", r"\\fB\1\\fR", made))
 
 
-def page(text: str) -> str:
+def page(text: str, version: str) -> str:
     lines = [
-        ".\\\" Made by tools/man.py from README.md.",
-        '.TH SUBGRAPH 1 "" "" "User Commands"',
+        ".\\\" Made by tools/man.py.",
+        f'.TH SUBGRAPH 1 "" "subgraph {version}" "User Commands"',
         ".SH NAME",
         "subgraph \\- does a pattern graph occur in a target graph?",
         ".SH SYNOPSIS",
         ".nf",
-        *(command(re.sub(r"  +", " ", it)) for it in synopsis(text)),
+        *map(command, SYNOPSIS.splitlines()),
         ".fi",
         ".SH DESCRIPTION",
-        "An embedding maps the vertices of the pattern to vertices of the target of their own, keeps labels, and takes",
-        "edges to edges. \\fBsolve\\fR finds one, or tells that none exists, or that the budget of fails is spent;",
-        "\\fBverify\\fR tests a mapping that \\fBsolve\\fR or anybody else has written; \\fBencode\\fR writes the",
-        "question as pseudo\\-Boolean constraints whose solutions are the embeddings; \\fBcheck\\fR judges a proof log over such",
-        "constraints; \\fBdemo\\fR makes two problems from a seed and decides them. What the answers mean is proved of the program.",
-        ".PP",
-        "Options stand behind the command's word, at most once each. Graphs are files of LAD text: the number of",
-        "vertices, then for each how many neighbours it lists, and these, from 0.",
+        *map(roff, DESCRIPTION.splitlines()),
         ".SH OPTIONS",
     ]
-    for option, meaning, *_ in rows_of(text, "option"):
-        lines += [".TP", roff(option), roff(meaning)]
+    for option, meaning in OPTIONS:
+        lines += [".TP", roff(f"`{option}`"), roff(meaning)]
     lines += [".SH EXIT STATUS"]
     for status, answer, meaning, *_ in rows_of(text, "status"):
         lines += [".TP", f"\\fB{status}\\fR", roff(f"{answer}: {meaning}" if answer else meaning)]
     lines += [
+        ".PP",
+        roff("`check` ends with 0 for `accepted undecided` too: read the line, not the status alone."),
         ".SH EXAMPLES",
         ".nf",
         *(roff(it) for it in SESSION.splitlines()),
         ".fi",
         ".SH LIMITS",
-        "A pattern of 1,024 vertices, a target of 8,192, files of 67,108,864 bytes; encodings and logs of 2^40 bytes.",
+        "A pattern of 1,024 vertices, a target of 8,192; 67,108,864 bytes a graph or mapping, 2^40 an encoding or log; 4,095 bytes a name.",
         ".SH SEE ALSO",
-        "The formats, the definitions and what is proved of the program are documents of its repository.",
+        "docs/FORMATS.md of the repository for the formats, docs/CLAIMS.md for what is proved of the answers.",
     ]
     return "\n".join(lines) + "\n"
 
 
-def main(words: List[str]) -> int:
-    made = page((TOP / "README.md").read_text(encoding="utf-8"))
-    if words == ["--check"]:
+def run_session(program: str) -> int:
+    """Runs the session, and tells where it prints something else than the page says."""
+    words, wanted = [], []
+    for line in SESSION.splitlines():
+        if line.startswith("$ "):
+            words.append(line[2:])
+        else:
+            wanted.append(line)
+    with tempfile.TemporaryDirectory() as folder:
+        os.symlink(os.path.abspath(program), os.path.join(folder, "subgraph"))
+        environment = {**os.environ, "PATH": f"{folder}:{os.environ['PATH']}"}
+        done = subprocess.run(
+            ["sh", "-c", "\n".join(words)], cwd=folder, env=environment, capture_output=True, text=True, timeout=120, check=False
+        )
+    found = (done.stdout + done.stderr).splitlines()
+    if found != wanted:
+        print("the session of docs/subgraph.1 answers", *found, sep="\n  ")
+        return 1
+    return 0
+
+
+def main() -> int:
+    words = argparse.ArgumentParser(description=__doc__.splitlines()[0])
+    words.add_argument("--check", action="store_true")
+    words.add_argument("--run", metavar="PROGRAM")
+    asked = words.parse_args()
+    if asked.run:
+        return run_session(asked.run)
+    made = page((TOP / "README.md").read_text(encoding="utf-8"), (TOP / "VERSION").read_text(encoding="utf-8").strip())
+    if asked.check:
         return 0 if PAGE.is_file() and PAGE.read_text(encoding="utf-8") == made else 1
     PAGE.write_text(made, encoding="utf-8")
     return 0
 
 
 if __name__ == "__main__":
-    sys.exit(main(sys.argv[1:]))
+    sys.exit(main())

@@ -1,11 +1,15 @@
-//! The line of a log by which a dead path is refuted.
+//! The line of a log that refutes a dead path.
 //!
-//! A search tells why values left its domains, and how its path ended. This layer goes back from the end over the changes, chooses those that
-//! the end rests on, has the lines made that they need and are not there yet, and gives the keeper one line that names them all:
-//! the clause that not all pairs of the path hold. So a log says of a dead path a few lines, whatever else was removed. Lines for first
-//! domains, for pairs of vertices and for sets of vertices that were counted together come from a maker, which makes each when it is first
-//! asked. (Lazily explained changes are those of Ohrimenko, Stuckey and Codish 2009; the lines of a
-//! search those of Gocht, McCreesh and Nordström 2020.)
+//! The crate walks back over the changes that a search recorded, and chooses those on which the end of the path rests. Then
+//! it has the lines made that these need, and adds one line: the clause that not all pairs of the path hold.
+//!
+//! It keeps `Ground`, the encoding with the rows of values that share neighbours, which all workers read, and `Scratch`,
+//! memory that one path leaves to the next. It offers `explain`, which does this, and the traits `LineMaker` and `RowNames`,
+//! by which it asks for lines. `keep_set` makes the line of vertices that were counted together.
+//!
+//! Changes that are explained only when needed are those of Ohrimenko, Stuckey and Codish (2009), and the lines those of
+//! Gocht, McCreesh and Nordström (2020). A path costs one step back for each change since the domains were full, and for each
+//! chosen change its lines. The log gets a few lines, whatever else was removed.
 #![tactic(auto)]
 
 mod beside;

@@ -1,11 +1,13 @@
-//! Graphs and problems over bit rows, and the text of a mapping.
+//! Graphs as bit rows, problems of two graphs, and mappings as text.
 //!
-//! A graph is kept as its labels and one bit row for each vertex, the form in which a search tests edges and cuts
-//! domains by whole words (J. R. Ullmann, "Bit-vector algorithms for binary constraint satisfaction and subgraph
-//! isomorphism", 2010). A problem is a pattern, a target and the kind of copy that is asked for; it keeps its sizes
-//! within their limits. A graph with directions has another row for each vertex, of the edges that lead in, and one with labels
-//! of edges a label for each edge, in the order of the rows. The layers above use `edge`, `label`, the degrees, the rows and the two tests `allowed` and
-//! `compatible`, by which a problem is a binary constraint problem, and never the words themselves.
+//! The crate makes a graph from the parts of a text, tests whether a mapping is an embedding, and reads and writes mappings.
+//!
+//! It keeps for each vertex a label, a degree and a bit row of its neighbours. Directions add a row and a degree for each
+//! vertex, and labels of edges a label for each edge. It offers `Graph` with `edge`, `label`, degrees and rows, `Problem`
+//! with the tests `allowed` and `compatible`, and `read_mapping` and `write_mapping`.
+//!
+//! By bit rows a search cuts domains by whole words (Ullmann 2010). A graph of n vertices takes n rows of n bits, or twice as
+//! many with directions. `has_edge` costs one word, and `is_embedding` one test for each two pattern vertices.
 #![tactic(auto)]
 
 mod edge_labels;

@@ -1,9 +1,15 @@
-//! LAD text, from bytes to the parts of a graph.
+//! The reader of graphs: it turns LAD text into the parts of a graph, or names the first fault.
 //!
-//! This layer reads a text in one pass over its bytes and answers with the labels and the listed neighbours of its
-//! vertices, or with the first faulty word and the cause. Its contract is the grammar in both directions, so the layer
-//! above needs nothing of how it reads. The format is that of C. Solnon, "AllDifferent-based filtering for subgraph
-//! isomorphism" (2010), with this project's formats that have labels of vertices, directions, and labels of edges.
+//! It reads four formats: plain, with labels of vertices, with directions, and with directions and labels of vertices and
+//! edges.
+//!
+//! It keeps nothing. The parts are the labels, the listed neighbours and the labels of edges, in the order of the text. It
+//! offers `read_lad`, whose contract is the grammar: the answer is the one reading that a text has, or its first faulty word
+//! and the cause.
+//!
+//! The plain format is that of Solnon (2010), and the formats with labels or directions are this project's. It passes once
+//! over the bytes and takes memory for words that it has read. With labels of edges it also takes two words for each vertex
+//! that the text announces.
 #![tactic(auto)]
 
 mod labelled;

@@ -1,14 +1,14 @@
 #![tactic(auto)]
 //! The book of nogoods that workers share: one list of rows, which only grows.
 //!
-//! A row is a guess below another row's path, or a nogood there: its path is that of its parent, and then its own pair. A worker
-//! writes what a run has refuted as rows, and takes up what others have written. The layer keeps the list sound for its problem:
-//! whatever a worker sees there of its own and of others, each nogood's path is one that no embedding extends.
+//! Several threads add rows to it and catch up with what others have added. In `RowBook` none of them waits.
 //!
-//! A layer above works over the trait `Book` alone, and over the seats of it: what a seat has seen is a beginning of the list that
-//! never shrinks. What `publish` wrote stands at its place, and the rows that came in between are of others.
+//! It keeps rows. A row is a guess or a nogood: a pair of a vertex and a value, below the path of its parent row. No
+//! embedding extends the path of a nogood, whoever wrote it. It offers the trait `Book` with `catch_up` and `publish`, and
+//! the type `RowBook`. A seat shows the rows that its owner has seen, and `push_path` tells the path of a row.
 //!
-//! Nogoods at restarts are those of C. Lecoutre, L. Sais, S. Tabary and V. Vidal (2007).
+//! Nogoods at restarts are those of Lecoutre, Sais, Tabary and Vidal (2007). Each row for which a `RowBook` has room takes 8
+//! bytes, and 16 more for each seat. To add a row takes one try, and one more for each row that others add first.
 
 mod book;
 mod laws;

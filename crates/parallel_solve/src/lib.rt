@@ -1,9 +1,15 @@
-//! A problem decided by workers, each a search of its own, which share what they refute.
+//! Several workers decide one problem.
 //!
-//! This layer takes the root once, runs as many workers as it is told beside each other, each with a stream and a budget of its own,
-//! and brings their answers together: an embedding where one of them found it, that none exists where one of them refuted it, and else one account
-//! for each worker. The layer above may use what an answer says, which is the same for every number of workers; which of
-//! them gave it, and which embedding it is, is nobody's promise.
+//! The crate propagates the root once. Then 1 to 64 searches run in parallel and share what they refute in one book. They end
+//! when one of them has an answer, or when all have spent their budgets.
+//!
+//! It keeps nothing between calls. If a log is asked for, the answer carries it. It offers `solve`, and `solve_with`, in
+//! which each worker passes a gate. What an answer means is the same for every number of workers. Which embedding is found
+//! can differ.
+//!
+//! Workers that differ in their random choices and share nogoods at restarts are those of Archibald et al. (2019). Each
+//! worker takes memory for its domains, its nogoods, 16 bytes for each row of the book, and its part of 64 MiB of rows. A log
+//! also takes the encoding and the lines of each dead path.
 #![tactic(auto)]
 
 pub mod answers;

@@ -1,10 +1,15 @@
-//! The pseudo-Boolean encoding of a problem, line by line.
+//! The pseudo-Boolean encoding of a problem: 0/1 constraints whose solutions are the embeddings.
 //!
-//! This layer keeps no list of constraints. It keeps the numbers of the pairs that have lines of their own, and from these
-//! makes the constraint of a line, or tells the number of a line, without a search through the encoding, so that a log can
-//! name a line for each value that is removed. The layers above use the lines and their numbers; that the solutions are
-//! exactly the embeddings is the law of the definition that both are of. (Gocht, McCreesh, Nordström, "Subgraph
-//! isomorphism meets cutting planes", IJCAI 2020.)
+//! It makes the constraint of a line when it is asked for, tells the number of a line, and writes the whole as OPB text.
+//!
+//! It keeps no list of constraints, only the problem's sizes and the numbers of the pairs that have lines of their own. It
+//! offers `Encoding`, by whose numbers a log names a line for each value that is removed. A law of `encoding_theory` says
+//! that its solutions are the embeddings.
+//!
+//! The encoding is that of Gocht, McCreesh and Nordström (2020), and the order of its lines this project's. To make an
+//! `Encoding` costs a test for each pattern vertex and target vertex, and two for each pair of pattern vertices. A number
+//! costs at most a logarithmic search, and a constraint a few steps for each term. One about two pattern vertices also costs
+//! the words of a few rows, and with labels of edges a test for each place to which edges lead.
 #![tactic(auto)]
 
 pub mod encoding;

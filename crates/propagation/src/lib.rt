@@ -1,10 +1,17 @@
-//! Propagation: what follows from the domains as they stand.
+//! Propagation: it removes values that no embedding within the domains has.
 //!
-//! The domains of pattern vertices lose the values that no embedding within them has: what is not consistent with a vertex of one value,
-//! what nogoods force, what domains counted together leave no room for, what has no support along an edge or would crowd its neighbours.
-//! The layer above hands the domains over, with a flag for each vertex whose consequences are still to be taken, and a recorder, which is
-//! told why values leave. It has the domains back at rest, or learns why no embedding is within them, and undoes them itself; nothing
-//! here has to be undone with them but what the recorder keeps.
+//! It removes what is inconsistent with a decided vertex, what nogoods force out, and what domains counted together leave no
+//! room for. It also removes what has no support along edges or would crowd neighbours. It tells a recorder the cause of each
+//! removal.
+//!
+//! It keeps `Filters`: rows of consistent values, nogoods with their watches, and working memory. The domains are the
+//! caller's, who also undoes them. It offers `propagate` and `propagate_again`, which leave the domains at rest or say why
+//! they hold no embedding, and the single steps `narrow`, `narrow_first`, `give` and `lower`.
+//!
+//! Bit rows are those of Ullmann (2010), counting is that of McCreesh and Prosser (2015), and arc consistency that of
+//! Mackworth (1977). Neighbours are matched after Solnon (2010). Nogoods are those of Lecoutre, Sais, Tabary and Vidal
+//! (2007). A decided vertex costs at most one row of words for each other vertex, the values that leave, and a look at the
+//! nogoods that watch it. Looks along edges stop at a credit, which grows with what the search costs.
 #![tactic(auto)]
 
 mod along_edges;

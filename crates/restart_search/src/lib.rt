@@ -1,13 +1,15 @@
-//! The search of one worker.
+//! The search of one worker: it guesses, propagates, takes back, and restarts.
 //!
-//! A worker walks down a path of guesses and back, with domains that hold only what is sound for the path and at rest
-//! under propagation, an account of where it stands and how often it failed, and restarts at the account's cutoffs. At a restart
-//! it publishes what its position has refuted in a book of nogoods, and takes up those that it sees there, its own and others', so
-//! that workers beside each other spare each other what one of them has refuted.
-//! The layer above may use what an outcome says: an embedding, that none exists, an account whose budget is spent where a guess is
-//! due, or a note that knows an answer; and that no nogood seen is left to follow from where a worker has paused. The search is
-//! that of the Glasgow subgraph solver (McCreesh, Prosser, Trimble, ICGT 2020) with restarts after Luby (Archibald et al., CPAIOR
-//! 2019).
+//! A worker guesses a value for a vertex of a smallest domain, propagates, and takes the guess back if it fails. At a restart
+//! it publishes what its position has refuted, and takes up the nogoods of the book.
+//!
+//! It keeps a position (the path of guesses, the domains, an account of its fails) and the nogoods that it has taken up. It
+//! offers `root`, which propagates the first domains, and `Worker`, whose `run` ends with an embedding, a refutation, a spent
+//! budget, another worker's answer, or no memory.
+//!
+//! The search is that of the Glasgow subgraph solver (McCreesh, Prosser and Trimble 2020), with restarts and biased values of
+//! Archibald et al. (2019). A guess costs a propagation, and to take it back costs what was removed since. A restart costs a
+//! row of the book for each refuted value and a propagation from the root.
 #![tactic(auto)]
 
 mod degrees;

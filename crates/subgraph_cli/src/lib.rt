@@ -1,11 +1,14 @@
-//! The program: from words and files to an answer and a status.
+//! The program: `run` takes words and files, and gives an answer and an exit status.
 //!
-//! `run` does all that the program does, over any files and sinks. It reads the words, loads and reads the graphs in
-//! their order, lets workers decide, tests a mapping or encodes the problem, and writes the answer, behind a proof of it
-//! where one is asked for; or it checks a proof log, without any graph, or decides two problems that it makes from a seed.
-//! What an answer means is stated by `run` itself, in the words of the definitions: an embedding, that none exists, or
-//! accounts that are spent. The layers below are the command line, the files' graphs and mappings, and the search of
-//! several workers; nothing stands above but a `main` that makes the real files and streams.
+//! It reads the words, runs the command that they name, and writes the answer. With `--prove` it writes the two files of the
+//! proof first.
+//!
+//! It keeps nothing between calls, and works over any files and sinks, so tests run it over memory. It offers `run`, whose
+//! contract says what each status means, and a function for each of `solve`, `verify`, `encode`, `check` and `demo`.
+//!
+//! The search and the logs come from the crates below, whose heads name the authors. The commands are this project's own.
+//! `solve` keeps both graphs in memory while it searches, `encode` the graphs and one constraint, and `check` the encoding
+//! and what the log makes.
 #![tactic(auto)]
 
 mod accepting;
