@@ -1,7 +1,7 @@
 use Rattle.std.proofs.Common.{ℕ, ◌+◌, length, ap, sym, subst, ◌∙◌, arith}
 use Rattle.parallel_solve.specs.Gathering.{HasMade}
 use Rattle.parallel_solve.specs.Solving.{IsSolved}
-use Rattle.parallel_solve.proofs.solving.solve_by_team.Goals as goal
+use Rattle.parallel_solve.proofs.solving.search_by_team.Goals as goal
 
 pub conclude-requires-clause-none : goal.conclude-requires-clause-none
 conclude-requires-clause-none g c = ap length c.in-Ok.ensures.accounts.0
