@@ -1,9 +1,9 @@
-// The definitions of OPB texts and of proof logs, and the laws that follow from them alone: the written text of a model and its
-// lenient reading, with the first faulty line and its cause; the words of a log's lines and the step that words tell; what a step
-// makes, as a function of a lookup of references; the table of what was made; and the verdict of a whole log. The log's text and
-// rules are this project's own, in the manner of pseudo-Boolean proof logging (Gocht, McCreesh, Nordström 2020). The crate keeps
-// only plain types for lines, causes and verdicts: the layers above cite its definitions in their contracts, and take its laws from
-// the contracts of functions with empty bodies. It names no graph.
+//! The definitions of OPB texts and of proof logs, and the laws that follow from them alone: the written text of a model and its
+//! lenient reading, with the first faulty line and its cause; the words of a log's lines and the step that words tell; what a step
+//! makes, as a function of a lookup of references; the table of what was made; and the verdict of a whole log. The log's text and
+//! rules are this project's own, in the manner of pseudo-Boolean proof logging (Gocht, McCreesh, Nordström 2020). The crate keeps
+//! only plain types for lines, causes and verdicts: the layers above cite its definitions in their contracts, and take its laws from
+//! the contracts of functions with empty bodies. It names no graph.
 #![tactic(auto)]
 
 ghost use Rattle.log_theory.specs.TextLaws.{AnswerLaws, LogLaws, OpbLaw, ProfileLaws, StepLaw};

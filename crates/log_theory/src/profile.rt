@@ -1,4 +1,4 @@
-// The two forms that a proof log may have.
+//! The two forms that a proof log may have.
 
 /// Which form a log has, as its first line tells. A log without hints is shorter and easier to write, and dearer to check: the checker
 /// finds by itself what a log with hints names. (The two are to each other as LRAT is to DRAT; Cruz-Filipe and others 2017.)

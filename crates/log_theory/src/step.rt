@@ -1,5 +1,5 @@
-// The lines of a proof log, what keeps one from being accepted, and what a whole log shows. The text and its rules are this
-// project's own; the idea of a log of cutting planes steps follows Gocht, McCreesh and Nordström (2020).
+//! The lines of a proof log, what keeps one from being accepted, and what a whole log shows. The text and its rules are this
+//! project's own; the idea of a log of cutting planes steps follows Gocht, McCreesh and Nordström (2020).
 
 ghost use Rattle.std.specs.Prelude.{◌≡◌, List};
 

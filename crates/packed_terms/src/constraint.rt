@@ -1,4 +1,4 @@
-// A constraint of short terms.
+//! A constraint of short terms.
 
 ghost use Rattle.std.specs.Prelude.{◌≡◌, ◌<◌, ◌^◌, ◌↔◌, IsTrue, IfOk, unsigned_abs};
 ghost use Rattle.proof_theory.specs.Forms.{Form, Holds, IsNarrow, Rises, assignment, form_of, size};

@@ -1,4 +1,4 @@
-// Short terms in any order as sorted ones, like terms added.
+//! Short terms in any order as sorted ones, like terms added.
 
 ghost use Rattle.std.specs.Prelude.{◌≡◌, ℕ, ℤ, ◌+◌, ◌<◌, ◌≤◌, ◌^◌, ◌↔◌, ◌++◌, [], drop, length, take, IsTrue, IfOk};
 ghost use Rattle.std.specs.List.Sorted.{IsNonDecreasingBy};

@@ -1,4 +1,4 @@
-// A constraint as it is kept: in short terms where it is light, else in wide ones.
+//! A constraint as it is kept: in short terms where it is light, else in wide ones.
 
 ghost use Rattle.std.specs.Prelude.{◌≡◌, ◌↔◌, IsTrue, IfOk, IfSome};
 ghost use Rattle.proof_theory.specs.Forms.{Holds, assignment};

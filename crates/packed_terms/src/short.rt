@@ -1,5 +1,5 @@
-// Terms of eight bytes each, and what is read of them. Their absolute coefficients sum to less than 2^31, so that no coefficient, and no
-// sum of some of them, leaves 32 bits.
+//! Terms of eight bytes each, and what is read of them. Their absolute coefficients sum to less than 2^31, so that no coefficient, and no
+//! sum of some of them, leaves 32 bits.
 
 ghost use Rattle.std.specs.Prelude.{◌≡◌, ◌<◌, ◌≤◌, ◌^◌, ◌↔◌, ◌-ℤ◌, IsTrue, IfOk, pos, zero, cond, unsigned_abs};
 ghost use Rattle.proof_theory.specs.Forms.{assignment, size, value};

@@ -1,4 +1,4 @@
-// Sums of kept constraints, put in order once at their end.
+//! Sums of kept constraints, put in order once at their end.
 
 ghost use Rattle.std.specs.Prelude.{◌≡◌, ◌+◌, ◌++◌, IfOk};
 ghost use Rattle.proof_theory.specs.Forms.{Form, size, sorted};

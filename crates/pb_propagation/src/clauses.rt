@@ -1,4 +1,4 @@
-// Constraints of literals: the axiom of one, and the clause of many.
+//! Constraints of literals: the axiom of one, and the clause of many.
 
 ghost use Rattle.std.specs.Prelude.{◌≡◌, ◌∷◌, ◌≤◌, [], ℕ, ℤ, pos, neg_ℤ, cond, List, length, map, IfOk};
 ghost use Rattle.proof_theory.specs.Slack.{axiom_form, clause_form, literal_term, negated_count};

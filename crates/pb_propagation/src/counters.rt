@@ -1,8 +1,8 @@
-// Counters of slack over all constraints, by which unit propagation sees whom a literal concerns (Sheini, Sakallah 2006; Elffers,
-// Nordström 2018; Devriendt 2020). Each constraint has a number, and each literal the list of the constraints in which it stands. Once a
-// literal is false its coefficients leave the slacks of these, and a constraint is looked at only where its slack is below its greatest
-// coefficient. What counters say is advice, and no contract speaks of it: whoever takes it looks at the constraint itself before
-// anything follows (`follow`), so that a wrong counter would cost time and no answer.
+//! Counters of slack over all constraints, by which unit propagation sees whom a literal concerns (Sheini, Sakallah 2006; Elffers,
+//! Nordström 2018; Devriendt 2020). Each constraint has a number, and each literal the list of the constraints in which it stands. Once a
+//! literal is false its coefficients leave the slacks of these, and a constraint is looked at only where its slack is below its greatest
+//! coefficient. What counters say is advice, and no contract speaks of it: whoever takes it looks at the constraint itself before
+//! anything follows (`follow`), so that a wrong counter would cost time and no answer.
 
 use super::following::greatest_of;
 use super::levels::Levels;

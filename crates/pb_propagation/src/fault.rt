@@ -1,4 +1,4 @@
-// What keeps a line from being taken.
+//! What keeps a line from being taken.
 
 use log_theory::Cause;
 use std::alloc::{AllocError, AllocFailed};

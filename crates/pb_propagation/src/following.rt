@@ -1,4 +1,4 @@
-// One constraint under the literals of both levels: whether it is a conflict, and what it forces (Chai, Kuehlmann 2003, by slack).
+//! One constraint under the literals of both levels: whether it is a conflict, and what it forces (Chai, Kuehlmann 2003, by slack).
 
 ghost use Rattle.std.specs.Prelude.{◌≡◌, ◌≤◌, ◌^◌, ◌-ℤ◌, ℕ, ℤ, Bool, List, pos, zero, unsigned_abs};
 ghost use Rattle.proof_theory.specs.Forms.{Form, size};

@@ -1,5 +1,5 @@
-// The literals that are true, on two levels: those of the root last from line to line, a line's own end with it. Each variable has a
-// stamp, 0 where its value lasts and else the number of the line that set it, so that a line's level is undone by counting on.
+//! The literals that are true, on two levels: those of the root last from line to line, a line's own end with it. Each variable has a
+//! stamp, 0 where its value lasts and else the number of the line that set it, so that a line's level is undone by counting on.
 
 ghost use Rattle.std.specs.Prelude.{◌≡◌, ◌<◌, ◌≤◌, ◌^◌, ℕ, Bool, true, false, cond, ◌==◌, Option, Some, None, List, length, get_or, set, IfOk, OnOk};
 ghost use Rattle.proof_theory.specs.Propagation.{Extends};

@@ -1,6 +1,6 @@
-// Unit propagation along the references of a line (Chai, Kuehlmann 2003, by slack): the negations of a clause's literals are set, and
-// each reference in its order gives a conflict or sets what it forces. What was set is listed, so that clearing costs no more than
-// setting did.
+//! Unit propagation along the references of a line (Chai, Kuehlmann 2003, by slack): the negations of a clause's literals are set, and
+//! each reference in its order gives a conflict or sets what it forces. What was set is listed, so that clearing costs no more than
+//! setting did.
 
 ghost use Rattle.std.specs.Prelude.{◌≡◌, ◌<◌, ◌≤◌, ◌^◌, ◌↔◌, ℕ, ℤ, pos, cond, ◌==◌, unsigned_abs, List, Bool, Option, None, true, length, replicate, OnOk, MatchBool, MatchResult, is_some, Ok, Err, Some, ◌∷◌, IfOk, IfErr, []};
 ghost use Rattle.std.specs.Bool.{OnTrue};

@@ -1,6 +1,6 @@
-// Unit propagation over all constraints so far, by counters and on two levels: what is forced without assumptions stays from line to
-// line, and grows with the constraints; a line's own level ends with the line. Each literal is set by the constraint itself, which its
-// counter only points to. So an answer that there is a conflict stands whatever the counters say.
+//! Unit propagation over all constraints so far, by counters and on two levels: what is forced without assumptions stays from line to
+//! line, and grows with the constraints; a line's own level ends with the line. Each literal is set by the constraint itself, which its
+//! counter only points to. So an answer that there is a conflict stands whatever the counters say.
 
 ghost use Rattle.std.specs.Prelude.{◌≡◌, ℕ, Bool, true, false, List, Option, Some, None, IfOk};
 ghost use Rattle.std.specs.Bool.{OnTrue};

@@ -1,4 +1,4 @@
-// How far a constraint's variables go.
+//! How far a constraint's variables go.
 
 ghost use Rattle.std.specs.Prelude.{◌≤◌, ◌^◌};
 ghost use Rattle.proof_theory.specs.Forms.{Rises};

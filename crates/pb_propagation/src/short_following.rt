@@ -1,4 +1,4 @@
-// One constraint in short terms under the literals of both levels, as `following` treats wide ones.
+//! One constraint in short terms under the literals of both levels, as `following` treats wide ones.
 
 ghost use Rattle.std.specs.Prelude.{◌≡◌, ◌<◌, ◌^◌, ◌-ℤ◌, List, pos, unsigned_abs};
 ghost use Rattle.proof_theory.specs.Forms.{Form, size};

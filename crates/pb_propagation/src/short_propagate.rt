@@ -1,4 +1,4 @@
-// Unit propagation along the references of a line, as `propagate` does it, of constraints in short terms.
+//! Unit propagation along the references of a line, as `propagate` does it, of constraints in short terms.
 
 ghost use Rattle.std.specs.Prelude.{◌≡◌, ◌<◌, ℕ, cond, ◌==◌, None, length};
 ghost use Rattle.proof_theory.specs.Forms.{Rises};

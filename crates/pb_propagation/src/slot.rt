@@ -1,4 +1,4 @@
-// What stands under a name or a row: a constraint, which several of them may share, or nothing once a line has deleted it.
+//! What stands under a name or a row: a constraint, which several of them may share, or nothing once a line has deleted it.
 
 ghost use Rattle.std.specs.Prelude.{◌≡◌, Some, None, IfOk, option_copied};
 

@@ -1,4 +1,4 @@
-// The table of the constraints that a log has made, by owner and number, and of the rows that they are shared under.
+//! The table of the constraints that a log has made, by owner and number, and of the rows that they are shared under.
 
 ghost use Rattle.std.specs.Prelude.{◌≡◌, ◌<◌, ◌≤◌, ◌∷◌, ◌++◌, [], ℕ, List, length, slice_get, get_or, set, map, replicate, None, IfOk, OnOk, OnErr, MatchResult, option_copied, Ok};
 ghost use Rattle.proof_theory.specs.Forms.{Form};

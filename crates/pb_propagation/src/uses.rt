@@ -1,5 +1,5 @@
-// The constraints in which each literal stands. A literal that stands in none has four bytes, so that a log which names great variables
-// takes little for those below. Like the counters that it serves this is advice, and no contract speaks of it.
+//! The constraints in which each literal stands. A literal that stands in none has four bytes, so that a log which names great variables
+//! takes little for those below. Like the counters that it serves this is advice, and no contract speaks of it.
 
 use packed_terms::{Kept, PackedConstraint};
 use std::alloc::{AllocError, Global};

@@ -1,4 +1,4 @@
-// A constraint and the rules on it.
+//! A constraint and the rules on it.
 
 ghost use Rattle.std.specs.Prelude.{◌≡◌, ℕ, ℤ, pos, zero, ◌+◌, ◌≤◌, ◌<◌, ◌^◌, ◌↔◌, List, Bool, length, slice_index_or, IsTrue, IfOk};
 ghost use Rattle.proof_theory.specs.Forms.{Form, Holds, IsNarrow, Rises, assignment, form_of, size, sorted};

@@ -1,4 +1,4 @@
-// What keeps a constraint from being made.
+//! What keeps a constraint from being made.
 
 use std::alloc::AllocError;
 

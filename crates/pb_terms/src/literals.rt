@@ -1,4 +1,4 @@
-// The set of true literals, a value for some of the variables, as unit propagation keeps it.
+//! The set of true literals, a value for some of the variables, as unit propagation keeps it.
 
 ghost use Rattle.std.specs.Prelude.{◌≡◌, ℕ, ◌+◌, ◌≤◌, ◌<◌, Bool, not, List, length, replicate, slice_set, IfOk, OnOk};
 ghost use Rattle.proof_theory.specs.Slack.{setting};

@@ -1,4 +1,4 @@
-// Multiples, quotients and saturation, coefficient by coefficient, through the normal form.
+//! Multiples, quotients and saturation, coefficient by coefficient, through the normal form.
 
 ghost use Rattle.std.specs.Prelude.{◌≡◌, ℕ, zero, ◌+◌, ◌*◌, ◌≤◌, ◌<◌, ◌^◌, ℤ, pos, ◌*ℤ◌, unsigned_abs, map, IfOk};
 ghost use Rattle.proof_theory.specs.Forms.{Form, IsNarrow, size};

@@ -1,4 +1,4 @@
-// Slack and forced literals of sorted terms, under a value for some of the variables.
+//! Slack and forced literals of sorted terms, under a value for some of the variables.
 
 ghost use Rattle.std.specs.Prelude.{◌≡◌, ◌↔◌, IsTrue, ◌<ℤ◌, ◌-ℤ◌, ℕ, ◌≤◌, ◌^◌, cond, pos, zero, unsigned_abs};
 ghost use Rattle.proof_theory.specs.Forms.{assignment, size, value};

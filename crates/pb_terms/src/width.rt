@@ -1,5 +1,5 @@
-// The size of terms, and the test that keeps arithmetic exact: with no coefficient, bound or sum above 2^125, sums of two
-// constraints, degrees and slacks stay far inside i128.
+//! The size of terms, and the test that keeps arithmetic exact: with no coefficient, bound or sum above 2^125, sums of two
+//! constraints, degrees and slacks stay far inside i128.
 
 ghost use Rattle.std.specs.Prelude.{◌≡◌, ◌*◌, ◌≤◌, ◌^◌, ◌↔◌, IsTrue, unsigned_abs};
 ghost use Rattle.proof_theory.specs.Forms.{size, IsNarrow};

@@ -1,4 +1,4 @@
-// A checker of a proof log that is fed the log's text piece by piece, and keeps of it only the line that has not ended yet.
+//! A checker of a proof log that is fed the log's text piece by piece, and keeps of it only the line that has not ended yet.
 
 ghost use Rattle.std.specs.Prelude.{◌≡◌, ◌+◌, ◌↔◌, ◌∷◌, ◌++◌, ◌==◌, ℕ, List, [], false, IfOk, OnOk, IsErr, IsTrue};
 ghost use Rattle.log_theory.specs.Acceptance.{NoFeed};

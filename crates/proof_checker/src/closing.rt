@@ -1,5 +1,5 @@
-// Unit propagation over all constraints so far, for lines that name none: by counters, which find a conflict fast, and where they find
-// none by passes over all constraints until one sets nothing.
+//! Unit propagation over all constraints so far, for lines that name none: by counters, which find a conflict fast, and where they find
+//! none by passes over all constraints until one sets nothing.
 
 ghost use Rattle.std.specs.Prelude.{◌≡◌, ◌≤◌, ◌^◌, List, map, length};
 ghost use Rattle.std.specs.List.{flat_map};

@@ -1,4 +1,4 @@
-// A text cut at its first line end.
+//! A text cut at its first line end.
 
 ghost use Rattle.std.specs.Prelude.{◌≡◌, ◌≢◌, ◌<◌, ℕ, length, slice_index, MatchOption, None, Some};
 ghost use Rattle.proof_checker.specs.Turns.{FirstFeed, Splits};

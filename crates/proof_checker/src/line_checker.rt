@@ -1,5 +1,5 @@
-// A checker of a proof log, line by line. It keeps the model, the table of what was made and where the log stands, and needs no more
-// of the log than the next line.
+//! A checker of a proof log, line by line. It keeps the model, the table of what was made and where the log stands, and needs no more
+//! of the log than the next line.
 
 ghost use Rattle.std.specs.Prelude.{◌≡◌, true, length, IfOk};
 ghost use Rattle.log_theory.specs.Verdicts.{Opening, Counting, Proving, in_range, further_progress, line_progress, progress_of, step_variables};

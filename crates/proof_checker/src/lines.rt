@@ -1,4 +1,4 @@
-// What each kind of line leads to, behind the first two lines of a log.
+//! What each kind of line leads to, behind the first two lines of a log.
 
 ghost use Rattle.std.specs.Prelude.{◌≡◌, true, [], OnOk};
 ghost use Rattle.proof_theory.specs.Forms.{Form};

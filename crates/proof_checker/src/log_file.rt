@@ -1,4 +1,4 @@
-// The verdict of a log in a file, which is read piece by piece and never held whole.
+//! The verdict of a log in a file, which is read piece by piece and never held whole.
 
 ghost use Rattle.std.specs.Prelude.{◌≡◌, ◌≤◌, ◌⊎◌, ℕ, List, length, IsTrue, IsSome, Some};
 ghost use Rattle.log_theory.specs.Verdicts.{verdict_of};

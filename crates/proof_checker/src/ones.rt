@@ -1,4 +1,4 @@
-// The last line that claims a solution: the variables that are one, and a test of every constraint of the model under them.
+//! The last line that claims a solution: the variables that are one, and a test of every constraint of the model under them.
 
 ghost use Rattle.std.specs.Prelude.{◌≡◌, ◌<◌, ◌≤◌, ℕ, Bool, true, false, List, length, replicate, MatchBool, IfOk};
 ghost use Rattle.std.specs.Bool.{OnTrue};

@@ -1,4 +1,4 @@
-// Whether the variables that a line names are the model's, which are numbered from 1.
+//! Whether the variables that a line names are the model's, which are numbered from 1.
 
 ghost use Rattle.std.specs.Prelude.{◌≡◌, ◌&&◌, nat_lt, nat_le, List, [], ◌∷◌};
 ghost use Rattle.log_theory.specs.Lookups.{variables_of};

@@ -1,4 +1,4 @@
-// The operations of a derivation in reverse Polish notation over a stack of constraints.
+//! The operations of a derivation in reverse Polish notation over a stack of constraints.
 
 ghost use Rattle.std.specs.Prelude.{◌≡◌, ◌∷◌, [], ℕ, List, IfOk, OnOk, OnErr, MatchOption, Result, Ok};
 ghost use Rattle.proof_theory.specs.Forms.{Form};

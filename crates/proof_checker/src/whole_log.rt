@@ -1,4 +1,4 @@
-// The verdict of a whole log.
+//! The verdict of a whole log.
 
 ghost use Rattle.std.specs.Prelude.{◌≡◌, ℕ, Bool, List, IfOk};
 ghost use Rattle.proof_theory.specs.Forms.{HasNoSolution, IsSolution};

@@ -1,8 +1,8 @@
-// The definitions of linear forms over 0/1 variables, `sum of c_v x_v >= b`, for everything that speaks of pseudo-Boolean
-// constraints and proofs, and the laws that follow from them alone: satisfaction, the rules of the cutting planes proof system
-// (Cook, Coullard, Turan 1987), slack (Chai, Kuehlmann 2003), refutation along a list of forms and unit propagation over all of
-// them, as pseudo-Boolean proof logging uses them (Gocht, McCreesh, Nordström 2020). This crate keeps nothing: the layers above cite
-// its definitions in their contracts and take its laws from the contracts of functions with empty bodies.
+//! The definitions of linear forms over 0/1 variables, `sum of c_v x_v >= b`, for everything that speaks of pseudo-Boolean
+//! constraints and proofs, and the laws that follow from them alone: satisfaction, the rules of the cutting planes proof system
+//! (Cook, Coullard, Turan 1987), slack (Chai, Kuehlmann 2003), refutation along a list of forms and unit propagation over all of
+//! them, as pseudo-Boolean proof logging uses them (Gocht, McCreesh, Nordström 2020). This crate keeps nothing: the layers above cite
+//! its definitions in their contracts and take its laws from the contracts of functions with empty bodies.
 #![tactic(auto)]
 
 ghost use Rattle.proof_theory.specs.FormLaws.{SortLaws, RuleLaws, RefutationLaws, PropagationLaws, ClosureLaws};

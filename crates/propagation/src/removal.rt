@@ -1,4 +1,4 @@
-//! Where values leave domains: the one module that takes them, and tells a recorder why.
+//! Where values leave domains pair by pair, and a recorder is told why. What counting takes, `all_different` takes.
 //!
 //! Each function notes how many values are left: a vertex of one value waits from then on. What has left is told once for each call,
 //! whatever left, and before anybody looks whether a domain is empty.
