@@ -33,10 +33,22 @@ use std::alloc::{AllocError, Global};
 use std::thread::Threads;
 use worker_gate::{Gate, OpenGate};
 
-/// Decides a problem by the workers that the settings ask for, which search beside each other and share what they refute. The root is taken
-/// once for all of them. Memory: beside the target's own, for each worker its domains, the watches of its nogoods, 16 bytes for
-/// each row of the book, and its part of 64 MiB for rows of pairs; where a log is kept, also the encoding, the rows
-/// of values that share neighbours, and the lines of each dead path.
+/// The pairs of a pattern vertex and a target vertex up to which a problem is small: most of these are decided before a book could help.
+const SMALL: u32 = 16_384;
+
+/// The fails of the short search with which one worker begins at a small problem. It is below the 128 of a run, so the search never
+/// restarts, and what it decides, the search with a book would have decided in the same way.
+const SHORT_BUDGET: u64 = 64;
+
+/// Whether the problem has so few pairs of a pattern vertex and a target vertex that one worker begins with a short search.
+fn is_small(q: &Problem) -> bool {
+    u32::from(q.pattern().size()) * u32::from(q.target().size()) <= SMALL
+}
+
+/// Decides a problem by the workers that the settings ask for, which search beside each other and share what they refute. One worker alone
+/// begins at a small problem with a search of 64 fails, for which no book is made. Memory: beside the target's own, for each
+/// worker its domains, the watches of its nogoods, 16 bytes for each row of the book, and its part of 64 MiB for rows of pairs;
+/// where a log is kept, also the encoding, the rows of values that share neighbours, and the lines of each dead path.
 pub fn solve<R: Threads + Sync>(rt: &R, alloc: Global, q: &Problem, s: &Settings) -> Solved
     requires some { 1 ≤ s.now.threads }
     requires few { s.now.threads ≤ 64 }
@@ -44,6 +56,17 @@ pub fn solve<R: Threads + Sync>(rt: &R, alloc: Global, q: &Problem, s: &Settings
     requires rows { s.now.rows ≤ 4194304 }
     ensures { IsSolved result q.now s.now.threads s.now.budget s.now.prove }
 {
+    if s.threads == 1 && s.budget > SHORT_BUDGET && is_small(q) {
+        let short = Settings {
+            budget: SHORT_BUDGET,
+            rows: 0,
+            ..*s
+        };
+        match solve_with(rt, alloc, q, &short, &OpenGate) {
+            Solved::Unknown(_) => (),
+            decided => return decided,
+        }
+    }
     solve_with(rt, alloc, q, s, &OpenGate)
 }
 
