@@ -4,8 +4,8 @@
 //! cause. It knows no graph and shares no code with a search.
 //!
 //! It keeps the constraints of the model and those of the log that stand, and of the text only the line that has not ended.
-//! It offers `check` for a log in memory, `check_file` for one in a file, `Checker` for one in pieces, and `LineChecker` for
-//! single lines.
+//! It offers `check` for a log in memory, `check_file` for one in a file, `Checker` for one in pieces, `LineChecker` for
+//! single lines, and `evaluate` for the operations of one.
 //!
 //! The lines are those of pseudo-Boolean proof logs (Gocht, McCreesh and Nordström 2020): cutting planes in reverse Polish
 //! notation, and clauses by unit propagation. A clause names the constraints that it needs. If the first line says that there
@@ -29,4 +29,5 @@ pub use line_checker::LineChecker;
 pub use lines::Turn;
 pub use log_file::{Checked, check_file};
 pub use pb_propagation::LineFault;
+pub use stack::evaluate;
 pub use whole_log::check;

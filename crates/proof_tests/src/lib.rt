@@ -24,3 +24,5 @@ mod model_tests;
 mod plain_tests;
 #[cfg(test)]
 mod sum_tests;
+#[cfg(test)]
+mod trim_tests;

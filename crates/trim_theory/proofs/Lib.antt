@@ -2,14 +2,14 @@ mod Renaming
 mod Simulating
 mod Stepped
 mod Keeping
-mod Writing
-mod Telling
-mod Accepting
-mod Listing
+pub mod Writing
+pub mod Telling
+pub mod Accepting
+pub mod Listing
 mod Referring
-mod Distinct
-mod Placed
-mod Marking
+pub mod Distinct
+pub mod Placed
+pub mod Marking
 mod Marked
 mod Uniqueness
 mod TrimRows

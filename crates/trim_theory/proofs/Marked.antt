@@ -449,18 +449,22 @@ module _ (log : List Step) (last : Step) (mark : ℕ → ℕ) (marked : Marked l
           ∙ ap (λ (xs : List Step). new_line new (rank mark j) s ∷ (deletions (rank mark j) (step_refs (new_line new (rank mark j) s)) (later_refs (renewed new mark (j + 1) ss) (new_last new last)) ++ xs))
           (more ∙ ap (λ (n : ℕ). with_deletions n (renewed new mark (j + 1) ss) (new_last new last)) (rank_kept mark j is))
 
-  pub trims_marked : (profile : Profile) (model : List Form) → HintsStand profile (keeps names mark) model empty_table log → Trims profile model (map (told_in profile) log) last (marked_log new mark 0 all) (new_last new last)
-  trims_marked profile model hints = record {
-    keep = keeps names mark;
-    hinted = log;
-    told = refl;
-    hints = hints;
-    lines = renewed new mark 0 all;
-    renamed = subst (λ (ss : List Step). LinesRenamed to 0 ss (renewed new mark 0 all)) (sym kept_are) (lines_renamed 0 all start);
-    ends = last_renamed to new last is_last last_fits;
-    used = lines_used 0 all start;
-    deleted = log_is 0 all start;
-  }
+  pub trims_marked : (profile : Profile) (model : List Form) → HintsStand profile (keeps names mark) model empty_table log
+      → (t : Trims profile model (map (told_in profile) log) last (marked_log new mark 0 all) (new_last new last)) × (t.hinted ≡ log)
+  trims_marked profile model hints = (
+    record {
+      keep = keeps names mark;
+      hinted = log;
+      told = refl;
+      hints = hints;
+      lines = renewed new mark 0 all;
+      renamed = subst (λ (ss : List Step). LinesRenamed to 0 ss (renewed new mark 0 all)) (sym kept_are) (lines_renamed 0 all start);
+      ends = last_renamed to new last is_last last_fits;
+      used = lines_used 0 all start;
+      deleted = log_is 0 all start;
+    },
+    refl,
+  )
     where
       start : Stand 0 all
       start k = let e : 0 + k ≡ k = omega arith in ap (slice_get all) e

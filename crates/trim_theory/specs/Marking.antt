@@ -124,7 +124,7 @@ IsLast (Y ones) = Unit {0}
 IsLast Q = Unit {0}
 IsLast s = ⊥
 
--- Where lines are marked, and what the last one names is there in the end, the marked ones are the trimmed log.
+-- Where lines are marked, and what the last one names is there in the end, the marked ones are the trimmed log, by these very hints.
 abbrev pub MarkLaw : Type 0
 MarkLaw = (profile : Profile) (model : List Form) (hinted : List Step) (z : Table) (last : Step)
     (mark : ℕ → ℕ) → AreSteps hinted
@@ -133,6 +133,6 @@ MarkLaw = (profile : Profile) (model : List Form) (hinted : List Step) (z : Tabl
     → IsLast last
     → ((q : Ref) → IsAmong q (step_refs last) → (f : Form) × (find model z q ≡ Some f))
     → Marked hinted last mark
-    → Trims profile model (map (told_in profile) hinted) last
+    → (t : Trims profile model (map (told_in profile) hinted) last
     (marked_log (new_ref hinted mark) mark 0 (made_lines hinted))
-    (new_last (new_ref hinted mark) last)
+    (new_last (new_ref hinted mark) last)) × (t.hinted ≡ hinted)

@@ -1,0 +1,125 @@
+-- Needed lines one after the other, and the places that bear each mark.
+use Rattle.std.proofs.Common.{◌⊎◌, inl, inr, ◌≡◌, ◌≢◌, ℕ, zero, suc, ◌+◌, ◌<◌, ◌≤◌, ◌==◌, Bool, true, false, cond, List, [], ◌∷◌, ◌++◌, length, map, get_or, set, replicate, drop, refl, sym, ap, ◌∙◌, subst, arith}
+use Rattle.std.proofs.lemmas.Bool.{cases_eq, eq-eqb, ne_eqb}
+use Rattle.std.proofs.lemmas.List.{append_assoc, append-nil, length-set, get_or-set_same, get_or-set_other, map-set, length-map, get_or-map, drop_more}
+use Rattle.log_theory.specs.declared.step.Ref.{Ref}
+use Rattle.log_theory.specs.declared.step.Ref.TheVariants.{Made}
+use Rattle.log_theory.specs.declared.step.Step.{Step}
+use Rattle.log_theory.specs.declared.step.Step.TheVariants.{D}
+use Rattle.journal_theory.specs.Journals.{own_name}
+use Rattle.trim_theory.specs.Marking.{rank, new_line, marked_deletions, marked_log}
+use Rattle.proof_trim.specs.Ranks.{mark_at, AreBelow, places_with, AreListed}
+
+-- The deletions of places.
+pub deleted : (mark : ℕ → ℕ) (m n : ℕ) → map (λ i. D (Made (own_name 0 (rank mark i)))) (places_with mark m n) ≡ marked_deletions mark m n
+deleted mark m zero = refl
+deleted mark m (suc n) = on (places_with mark m n) (cond (mark n == m) (n ∷ []) []) ∙ ap (λ (xs : List Step). xs ++ map deletion (cond (mark n == m) (n ∷ []) [])) (deleted mark m n) ∙ ap (λ (xs : List Step). marked_deletions mark m n ++ xs) (by (mark n == m))
+  where
+    deletion : ℕ → Step
+    deletion i = D (Made (own_name 0 (rank mark i)))
+
+    on : (xs ys : List ℕ) → map deletion (xs ++ ys) ≡ map deletion xs ++ map deletion ys
+    on [] ys = refl
+    on (x ∷ xs) ys = ap (λ (zs : List Step). deletion x ∷ zs) (on xs ys)
+
+    by : (b : Bool) → map deletion (cond b (n ∷ []) []) ≡ cond b (D (Made (own_name 0 (rank mark n))) ∷ []) []
+    by true = refl
+    by false = refl
+
+-- Places with a mark lie below the limit.
+pub below : (mark : ℕ → ℕ) (m n limit : ℕ) → n ≤ limit → AreBelow limit (places_with mark m n)
+below mark m zero limit l = tt
+below mark m (suc n) limit l = on (places_with mark m n) (below mark m n limit (omega (arith, l))) (mark n == m)
+  where
+    on : (xs : List ℕ) → AreBelow limit xs → (b : Bool) → AreBelow limit (xs ++ cond b (n ∷ []) [])
+    on [] h true = (omega (arith, l), tt)
+    on [] h false = tt
+    on (x ∷ xs) h b = (h.0, on xs h.1 b)
+
+-- No places yet.
+pub listed_none : (marks : List ℕ) (lists : List (List ℕ)) (count : ℕ) → lists ≡ replicate count [] → AreListed marks 0 lists
+listed_none marks lists count e m some within = ap (λ (ls : List (List ℕ)). get_or ls m []) e ∙ empty count m
+  where
+    empty : (n i : ℕ) → let xs : List ℕ = get_or (replicate n []) i [] in xs ≡ []
+    empty zero i = refl
+    empty (suc n) zero = refl
+    empty (suc n) (suc i) = empty n i
+
+-- A place without a mark is listed nowhere.
+pub listed_left : (marks : List ℕ) (n : ℕ) (lists : List (List ℕ)) → mark_at marks n ≡ 0 → AreListed marks n lists → AreListed marks (n + 1) lists
+listed_left marks n lists none h m some within =
+    h m some within
+    ∙ sym (append-nil (places_with (mark_at marks) m n))
+    ∙ ap (λ (b : Bool). places_with (mark_at marks) m n ++ cond b (n ∷ []) []) (sym (ne_eqb (mark_at marks n) m (λ e. some (sym e ∙ none))))
+    ∙ ap (places_with (mark_at marks) m) (let e : suc n ≡ n + 1 = omega arith in e)
+
+-- A place with a mark is listed there.
+pub listed_more : (marks : List ℕ) (n mark : ℕ) (old new : List (List ℕ)) → mark < length old → mark_at marks n ≡ mark → new ≡ set old mark (get_or old mark [] ++ n ∷ []) → AreListed marks n old → AreListed marks (n + 1) new
+listed_more marks n mark old new inside is change h m some within =
+    ap (λ (ls : List (List ℕ)). get_or ls m []) change
+    ∙ by (cases_eq mark m)
+    ∙ ap (places_with (mark_at marks) m) (let e : suc n ≡ n + 1 = omega arith in e)
+  where
+    long : length new ≡ length old
+    long = ap (λ (ls : List (List ℕ)). length ls) change ∙ length-set old mark (get_or old mark [] ++ n ∷ [])
+
+    by : (mark ≡ m) ⊎ (mark ≡ m → ⊥) → get_or (set old mark (get_or old mark [] ++ n ∷ [])) m [] ≡ places_with (mark_at marks) m n ++ cond (mark_at marks n == m) (n ∷ []) []
+    by (inl e) =
+        ap (λ (i : ℕ). get_or (set old mark (get_or old mark [] ++ n ∷ [])) i []) (sym e)
+        ∙ get_or-set_same old mark (get_or old mark [] ++ n ∷ []) [] inside
+        ∙ ap (λ (i : ℕ). get_or old i [] ++ n ∷ []) e
+        ∙ ap (λ (xs : List ℕ). xs ++ n ∷ []) (h m some (omega (arith, within, long)))
+        ∙ ap (λ (b : Bool). places_with (mark_at marks) m n ++ cond b (n ∷ []) []) (sym (eq-eqb (mark_at marks n) m (is ∙ e)))
+    by (inr ne) =
+        get_or-set_other old mark m (get_or old mark [] ++ n ∷ []) [] (λ e. ne (sym e))
+        ∙ h m some (omega (arith, within, long))
+        ∙ sym (append-nil (places_with (mark_at marks) m n))
+        ∙ ap (λ (b : Bool). places_with (mark_at marks) m n ++ cond b (n ∷ []) []) (sym (ne_eqb (mark_at marks n) m (λ e. ne (sym is ∙ e))))
+
+-- ---- what is written
+
+-- What is written so far, and what the lines from a place on become.
+abbrev pub IsWrittenTo : (Ref → Ref) → List ℕ → List Step → ℕ → List Step → Type 0
+IsWrittenTo new marks made place out = out ++ marked_log new (mark_at marks) place (drop place made) ≡ marked_log new (mark_at marks) 0 made
+
+-- A list grows by the place.
+pub place_listed : {X : Type 0} (f : X → List ℕ) (marks : List ℕ) (n mark : ℕ) (xs : List X) (x y : X) → mark < length xs → x ≡ get_or xs mark x → f y ≡ f x ++ n ∷ [] → mark_at marks n ≡ mark → AreListed marks n (map f xs)
+    → AreListed marks (n + 1) (map f (set xs mark y))
+place_listed f marks n mark xs x y inside here grown is h =
+    listed_more marks n mark (map f xs) (map f (set xs mark y)) (let l = length-map xs f in omega (arith, inside, l)) is
+    (map-set f xs mark y ∙ ap (set (map f xs) mark) (grown ∙ ap (λ (zs : List ℕ). zs ++ n ∷ []) (ap f here ∙ sym (get_or-map f xs mark x [] inside)))) h
+
+-- The places that the line behind is to delete.
+pub listed_there : {X : Type 0} (f : X → List ℕ) (marks : List ℕ) (n m : ℕ) (xs : List X) (x : X) → m ≢ 0 → m < length xs → x ≡ get_or xs m x → AreListed marks n (map f xs) → f x ≡ places_with (mark_at marks) m n
+listed_there f marks n m xs x some inside here h = ap f here ∙ sym (get_or-map f xs m x [] inside) ∙ h m some (let l = length-map xs f in omega (arith, inside, l))
+
+-- A line and its deletions are put.
+pub line_put : (mark : ℕ → ℕ) (place : ℕ) (s : Step) (old pushed new : List Step) (named : List ℕ) → pushed ≡ old ++ s ∷ [] → new ≡ pushed ++ map (λ i. D (Made (own_name 0 (rank mark i)))) named → named ≡ places_with mark (place + 1) place
+    → new ≡ old ++ (s ∷ marked_deletions mark (place + 1) place)
+line_put mark place s old pushed new named push put is =
+    put
+    ∙ ap (λ (xs : List Step). xs ++ map (λ i. D (Made (own_name 0 (rank mark i)))) named) push
+    ∙ append_assoc old (s ∷ []) (map (λ i. D (Made (own_name 0 (rank mark i)))) named)
+    ∙ ap (λ (ns : List ℕ). old ++ (s ∷ map (λ i. D (Made (own_name 0 (rank mark i)))) ns)) is
+    ∙ ap (λ (xs : List Step). old ++ (s ∷ xs)) (deleted mark (place + 1) place)
+
+-- A needed line is the next of the trimmed log.
+pub next_kept : (new : Ref → Ref) (mark : ℕ → ℕ) (place : ℕ) (s : Step) (rest old out : List Step) → mark place ≢ 0 → out ≡ old ++ (new_line new (rank mark place) s ∷ marked_deletions mark (place + 1) place)
+    → out ++ marked_log new mark (place + 1) rest ≡ old ++ marked_log new mark place (s ∷ rest)
+next_kept new mark place s rest old out some put =
+    ap (λ (xs : List Step). xs ++ marked_log new mark (place + 1) rest) put
+    ∙ append_assoc old (new_line new (rank mark place) s ∷ marked_deletions mark (place + 1) place) (marked_log new mark (place + 1) rest)
+    ∙ ap (λ (b : Bool). old ++ cond b (marked_log new mark (place + 1) rest) (new_line new (rank mark place) s ∷ (marked_deletions mark (place + 1) place ++ marked_log new mark (place + 1) rest))) (sym (ne_eqb (mark place) 0 some))
+
+-- Another is left out.
+pub next_left : (new : Ref → Ref) (mark : ℕ → ℕ) (place : ℕ) (s : Step) (rest out : List Step) → mark place ≡ 0 → out ++ marked_log new mark (place + 1) rest ≡ out ++ marked_log new mark place (s ∷ rest)
+next_left new mark place s rest out none =
+    ap (λ (b : Bool). out ++ cond b (marked_log new mark (place + 1) rest) (new_line new (rank mark place) s ∷ (marked_deletions mark (place + 1) place ++ marked_log new mark (place + 1) rest))) (sym (eq-eqb (mark place) 0 none))
+
+-- So the lines from the next place on are still to come.
+pub written_on : (new : Ref → Ref) (marks : List ℕ) (made : List Step) (place : ℕ) (s : Step) (old out : List Step) → place < length made → s ≡ get_or made place s → ((rest : List Step) → out ++ marked_log new (mark_at marks) (place + 1) rest ≡ old ++ marked_log new (mark_at marks) place (s ∷ rest))
+    → IsWrittenTo new marks made place old → IsWrittenTo new marks made (place + 1) out
+written_on new marks made place s old out within is put before =
+    put (drop (place + 1) made)
+    ∙ ap (λ (xs : List Step). old ++ marked_log new (mark_at marks) place xs) (ap (λ (x : Step). x ∷ drop (place + 1) made) is ∙ sym (drop_more made place s within))
+    ∙ before

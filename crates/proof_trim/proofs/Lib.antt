@@ -1,0 +1,7 @@
+pub mod Indexing
+pub mod Marking
+pub mod LinesRead
+pub mod Advancing
+pub mod Renewing
+pub mod Accepted
+pub mod Hinting

@@ -1,0 +1,7 @@
+pub mod Places
+pub mod Marks
+pub mod Ranks
+pub mod Reading
+pub mod Trimmed
+pub mod Hints
+pub mod Says

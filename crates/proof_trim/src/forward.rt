@@ -1,0 +1,106 @@
+//! The needed lines under their new names, each with its deletions behind it.
+
+ghost use Rattle.std.specs.Prelude.{◌≡◌, ◌≢◌, ℕ, ◌+◌, ◌<◌, ◌≤◌, ◌-◌, ◌^◌, ◌++◌, ◌∷◌, List, [], length, map, get_or, replicate, IfOk, OnOk};
+ghost use Rattle.log_theory.specs.declared.step.Step.{Step as TheStep};
+ghost use Rattle.trim_theory.specs.Marking.{rank, new_line, marked_deletions, marked_log};
+ghost use Rattle.proof_trim.specs.Ranks.{mark_at, renamed, places_with, AreListed};
+
+use crate::renaming::Renaming;
+use log_theory::Step;
+use std::alloc::{AllocError, Global};
+
+/// So many lists, all without an item.
+fn no_lists(alloc: Global, count: usize) -> Result<Vec<Vec<usize>>, AllocError>
+    ensures { IfOk result (λ lists. map (λ v. v.items) lists.items ≡ replicate count []) }
+{
+    let mut lists = Vec::with_capacity(alloc, count)?;
+    for _ in 0..count {
+        lists.push(Vec::new(alloc))?;
+    }
+    Ok(lists)
+}
+
+/// Puts a place behind the others of its mark.
+fn put_place(lists: &mut Vec<Vec<usize>>, mark: usize, place: usize) -> Result<(), AllocError>
+    requires { mark < length lists.old.items }
+    ensures listed { OnOk result ((marks : List ℕ) → get_or marks place 0 ≡ mark → mark ≢ 0
+        → AreListed marks place (map (λ v. v.items) lists.old.items)
+        → AreListed marks (place + 1) (map (λ v. v.items) lists.new.items)) }
+    ensures long { length lists.new.items ≡ length lists.old.items }
+{
+    lists[mark].push(place)?;
+    Ok(())
+}
+
+/// Puts a needed line and its deletions behind other lines.
+fn put_line(
+    alloc: Global,
+    renaming: &Renaming,
+    out: &mut Vec<Step>,
+    place: usize,
+    step: &Step,
+    named: &[usize],
+) -> Result<(), AllocError>
+    requires within { place < length renaming.now.marks.now }
+    requires named { named.now ≡ places_with (mark_at renaming.now.marks.now) (place + 1) place }
+    ensures { OnOk result (out.new.items ≡ out.old.items
+        ++ (new_line (renamed renaming.now.index.now renaming.now.marks.now)
+        (rank (mark_at renaming.now.marks.now) place) step.now
+        ∷ marked_deletions (mark_at renaming.now.marks.now) (place + 1) place)) }
+{
+    out.push(renaming.new_line(alloc, place, step)?)?;
+    renaming.put_deletions(out, named)?;
+    Ok(())
+}
+
+/// Goes on behind the next line: puts it with its deletions if it is needed, and its place to those of its mark.
+fn put_next(
+    alloc: Global,
+    renaming: &Renaming,
+    out: &mut Vec<Step>,
+    lists: &mut Vec<Vec<usize>>,
+    place: usize,
+    step: &Step,
+) -> Result<(), AllocError>
+    requires within { place < length renaming.now.marks.now }
+    requires next { place + 1 < length lists.old.items }
+    requires low { get_or renaming.now.marks.now place 0 < length lists.old.items }
+    requires listed { AreListed renaming.now.marks.now place (map (λ v. v.items) lists.old.items) }
+    ensures put { OnOk result ((rest : List TheStep) → out.new.items
+        ++ marked_log (renamed renaming.now.index.now renaming.now.marks.now)
+        (mark_at renaming.now.marks.now) (place + 1) rest ≡ out.old.items
+        ++ marked_log (renamed renaming.now.index.now renaming.now.marks.now)
+        (mark_at renaming.now.marks.now) place (step.now ∷ rest)) }
+    ensures listed { OnOk result
+        (AreListed renaming.now.marks.now (place + 1) (map (λ v. v.items) lists.new.items)) }
+    ensures long { length lists.new.items ≡ length lists.old.items }
+{
+    let mark = renaming.marks[place];
+    if mark != 0 {
+        put_line(alloc, renaming, out, place, step, &lists[place + 1])?;
+        put_place(lists, mark, place)?;
+    }
+    Ok(())
+}
+
+/// All needed lines, in order. Some 30 bytes for each line that makes a constraint, beside what is given.
+pub(crate) fn kept_of(
+    alloc: Global,
+    renaming: &Renaming,
+    made: &[Step],
+) -> Result<Vec<Step>, AllocError>
+    requires long { length renaming.now.marks.now ≡ length made.now }
+    requires low { (i : ℕ) → get_or renaming.now.marks.now i 0 ≤ length made.now + 1 }
+    ensures { IfOk result (λ out. out.items
+        ≡ marked_log (renamed renaming.now.index.now renaming.now.marks.now)
+        (mark_at renaming.now.marks.now) 0 made.now) }
+{
+    let mut lists = no_lists(alloc, made.len() + 2)?;
+    let mut out = Vec::new(alloc);
+    let mut place = 0;
+    while place < made.len() {
+        put_next(alloc, renaming, &mut out, &mut lists, place, &made[place])?;
+        place += 1;
+    }
+    Ok(out)
+}
