@@ -3,3 +3,5 @@ pub mod Missing
 pub mod Simple
 pub mod Numbers
 pub mod Rows
+pub mod Apart
+mod BatchRows

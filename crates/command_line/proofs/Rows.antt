@@ -7,8 +7,8 @@ use Rattle.log_theory.specs.declared.profile.Profile.TheVariants.{Hinted, Plain}
 use Rattle.graph_theory.specs.Text.{words}
 use Rattle.graph_theory.specs.declared.lad_text.LadKind.TheVariants.{Lad, VertexLabelledLad, DirectedLad, LabelledLad}
 use Rattle.command_line.specs.CommandLine.{command}
-use Rattle.command_line.specs.Grammar.{grammar, answering, solve_grammar, verify_grammar, encode_grammar, check_grammar, reading, demo_grammar, with_graphs, with_kind, with_mapping, with_search, with_proof}
-use Rattle.command_line.specs.declared.commands.Command.TheVariants.{Solve, Verify, Encode, Check, Demo}
+use Rattle.command_line.specs.Grammar.{grammar, answering, solve_grammar, verify_grammar, encode_grammar, check_grammar, trim_grammar, reading, trimming, demo_grammar, batch_grammar, with_graphs, with_kind, with_mapping, with_search, with_proof}
+use Rattle.command_line.specs.declared.commands.Command.TheVariants.{Solve, Verify, Encode, Check, Trim, Demo}
 
 -- the words of the line are no command
 abbrev is_refused : List ℕ → Bool
@@ -23,7 +23,7 @@ pub wrong_count : list_all is_refused (
     ∷ codes "subgraph solve p t --induced=true" ∷ codes "solve p t" ∷ codes "subgraph encode p" ∷ codes "subgraph encode p t u"
     ∷ codes "subgraph encode p t --budget 4" ∷ codes "subgraph check e" ∷ codes "subgraph check e l m" ∷ codes "subgraph check e l --induced"
     ∷ codes "subgraph demo" ∷ codes "subgraph demo 7 8" ∷ codes "subgraph demo 7 --seed 8" ∷ codes "subgraph demo 7 --induced" ∷ []) ≡ true
-unfolding command grammar answering solve_grammar verify_grammar encode_grammar check_grammar reading demo_grammar with_graphs with_kind with_mapping with_search with_proof clap_on_literals
+unfolding command grammar answering solve_grammar verify_grammar encode_grammar check_grammar trim_grammar reading trimming demo_grammar batch_grammar with_graphs with_kind with_mapping with_search with_proof clap_on_literals
 wrong_count = refl
 
 -- words that the grammar does not have, abbreviations among them
@@ -34,7 +34,7 @@ pub unknown_words : list_all is_refused (
     ∷ codes "subgraph verify p t m --seed 1" ∷ codes "subgraph encode p t --prove e --log l" ∷ codes "subgraph verify p t m --budget 4"
     ∷ codes "subgraph demo 7 --book 4" ∷ codes "subgraph verify p t m --threads 4" ∷ codes "subgraph --induced solve p t"
     ∷ codes "subgraph -- solve p t" ∷ codes "subgraph solve -p t" ∷ codes "subgraph solve p -1" ∷ []) ≡ true
-unfolding command grammar answering solve_grammar verify_grammar encode_grammar check_grammar reading demo_grammar with_graphs with_kind with_mapping with_search with_proof clap_on_literals
+unfolding command grammar answering solve_grammar verify_grammar encode_grammar check_grammar trim_grammar reading trimming demo_grammar batch_grammar with_graphs with_kind with_mapping with_search with_proof clap_on_literals
 unknown_words = refl
 
 -- a proof with one file alone, or with two that are one or one of the graphs', and a profile without one or out of range
@@ -47,7 +47,7 @@ pub wrong_proofs : list_all is_refused (
     ∷ codes "subgraph solve p t --prove e --log l --profile 3" ∷ codes "subgraph solve p t --prove e --log l --profile 0"
     ∷ codes "subgraph solve p t --prove e --log l --profile 2 --profile 2" ∷ codes "subgraph solve p t --prove e --profile 2"
     ∷ codes "subgraph solve p t --prove e --log l --profile=" ∷ codes "subgraph check e l --profile 2" ∷ []) ≡ true
-unfolding command grammar answering solve_grammar verify_grammar encode_grammar check_grammar reading demo_grammar with_graphs with_kind with_mapping with_search with_proof clap_on_literals
+unfolding command grammar answering solve_grammar verify_grammar encode_grammar check_grammar trim_grammar reading trimming demo_grammar batch_grammar with_graphs with_kind with_mapping with_search with_proof clap_on_literals
 wrong_proofs = refl
 
 -- numbers out of range or form, and formats that are none
@@ -65,7 +65,7 @@ pub wrong_values : list_all is_refused (
     ∷ codes "subgraph solve p t --threads 0" ∷ codes "subgraph solve p t --threads 65" ∷ codes "subgraph solve p t --threads +4"
     ∷ codes "subgraph solve p t --threads 4294967297" ∷ codes "subgraph solve p t --book 4194305" ∷ codes "subgraph solve p t --book -1"
     ∷ codes "subgraph demo 7 --threads 0" ∷ codes "subgraph demo 7 --threads 65" ∷ []) ≡ true
-unfolding command grammar answering solve_grammar verify_grammar encode_grammar check_grammar reading demo_grammar with_graphs with_kind with_mapping with_search with_proof clap_on_literals
+unfolding command grammar answering solve_grammar verify_grammar encode_grammar check_grammar trim_grammar reading trimming demo_grammar batch_grammar with_graphs with_kind with_mapping with_search with_proof clap_on_literals
 wrong_values = refl
 
 -- solves
@@ -88,7 +88,7 @@ pub solves : map (λ (text : List ℕ). command (words text)) (
     ∷ Some (Solve (record { pattern = codes "p"; target = codes "t"; induced = false; format = DirectedLad; threads = 1; seed = 0; budget = 9223372036854775807; book = 65536; prove = None }))
     ∷ Some (Solve (record { pattern = codes "p"; target = codes "t"; induced = true; format = LabelledLad; threads = 1; seed = 0; budget = 9223372036854775807; book = 65536; prove = None }))
     ∷ []
-unfolding command grammar answering solve_grammar verify_grammar encode_grammar check_grammar reading demo_grammar with_graphs with_kind with_mapping with_search with_proof clap_on_literals
+unfolding command grammar answering solve_grammar verify_grammar encode_grammar check_grammar trim_grammar reading trimming demo_grammar batch_grammar with_graphs with_kind with_mapping with_search with_proof clap_on_literals
 solves = refl
 
 -- solves with a proof
@@ -103,7 +103,7 @@ pub proves : map (λ (text : List ℕ). command (words text)) (
     ∷ Some (Solve (record { pattern = codes "p"; target = codes "t"; induced = false; format = DirectedLad; threads = 1; seed = 0; budget = 9223372036854775807; book = 65536; prove = Some (record { encoding = codes "e"; log = codes "l"; profile = Hinted }) }))
     ∷ Some (Solve (record { pattern = codes "p"; target = codes "t"; induced = false; format = LabelledLad; threads = 1; seed = 0; budget = 9223372036854775807; book = 65536; prove = Some (record { encoding = codes "e"; log = codes "l"; profile = Hinted }) }))
     ∷ []
-unfolding command grammar answering solve_grammar verify_grammar encode_grammar check_grammar reading demo_grammar with_graphs with_kind with_mapping with_search with_proof clap_on_literals
+unfolding command grammar answering solve_grammar verify_grammar encode_grammar check_grammar trim_grammar reading trimming demo_grammar batch_grammar with_graphs with_kind with_mapping with_search with_proof clap_on_literals
 proves = refl
 
 -- verifies
@@ -113,7 +113,7 @@ pub verifies : map (λ (text : List ℕ). command (words text)) (
     ∷ Some (Verify (record { pattern = codes "p"; target = codes "t"; mapping = codes "m"; induced = true; format = VertexLabelledLad }))
     ∷ Some (Verify (record { pattern = codes "p"; target = codes "t"; mapping = codes "m"; induced = false; format = DirectedLad }))
     ∷ []
-unfolding command grammar answering solve_grammar verify_grammar encode_grammar check_grammar reading demo_grammar with_graphs with_kind with_mapping with_search with_proof clap_on_literals
+unfolding command grammar answering solve_grammar verify_grammar encode_grammar check_grammar trim_grammar reading trimming demo_grammar batch_grammar with_graphs with_kind with_mapping with_search with_proof clap_on_literals
 verifies = refl
 
 -- encodes
@@ -125,27 +125,39 @@ pub encodes : map (λ (text : List ℕ). command (words text)) (
     ∷ Some (Encode (record { pattern = codes "p"; target = codes "t"; induced = false; format = DirectedLad }))
     ∷ Some (Encode (record { pattern = codes "p"; target = codes "t"; induced = false; format = LabelledLad }))
     ∷ []
-unfolding command grammar answering solve_grammar verify_grammar encode_grammar check_grammar reading demo_grammar with_graphs with_kind with_mapping with_search with_proof clap_on_literals
+unfolding command grammar answering solve_grammar verify_grammar encode_grammar check_grammar trim_grammar reading trimming demo_grammar batch_grammar with_graphs with_kind with_mapping with_search with_proof clap_on_literals
 encodes = refl
 
 -- checks
 pub checks : map (λ (text : List ℕ). command (words text)) (codes "subgraph check e l" ∷ codes "subgraph check e e" ∷ [])
     ≡ Some (Check (record { encoding = codes "e"; log = codes "l" })) ∷ Some (Check (record { encoding = codes "e"; log = codes "e" })) ∷ []
-unfolding command grammar answering solve_grammar verify_grammar encode_grammar check_grammar reading demo_grammar with_graphs with_kind with_mapping with_search with_proof clap_on_literals
+unfolding command grammar answering solve_grammar verify_grammar encode_grammar check_grammar trim_grammar reading trimming demo_grammar batch_grammar with_graphs with_kind with_mapping with_search with_proof clap_on_literals
 checks = refl
+
+-- trims, and words that are none: two files, four, and a third that is one of the others
+pub trims : map (λ (text : List ℕ). command (words text)) (codes "subgraph trim e l o" ∷ codes "subgraph trim e e o" ∷ [])
+    ≡ Some (Trim (record { encoding = codes "e"; log = codes "l"; out = codes "o" })) ∷ Some (Trim (record { encoding = codes "e"; log = codes "e"; out = codes "o" })) ∷ []
+unfolding command grammar answering solve_grammar verify_grammar encode_grammar check_grammar trim_grammar reading trimming demo_grammar batch_grammar with_graphs with_kind with_mapping with_search with_proof clap_on_literals
+trims = refl
+
+pub wrong_trims : list_all is_refused (
+    codes "subgraph trim e l" ∷ codes "subgraph trim e l o x" ∷ codes "subgraph trim e l e" ∷ codes "subgraph trim e l l"
+    ∷ codes "subgraph trim e l o --profile 1" ∷ codes "subgraph trim e l --out o" ∷ []) ≡ true
+unfolding command grammar answering solve_grammar verify_grammar encode_grammar check_grammar trim_grammar reading trimming demo_grammar batch_grammar with_graphs with_kind with_mapping with_search with_proof clap_on_literals
+wrong_trims = refl
 
 -- demos
 pub demos : map (λ (text : List ℕ). command (words text)) (codes "subgraph demo 7" ∷ codes "subgraph demo --budget 4 18446744073709551615" ∷ codes "subgraph demo 007 --budget=1 --threads 4" ∷ [])
     ≡ Some (Demo (record { seed = 7; threads = 1; budget = 9223372036854775807 })) ∷ Some (Demo (record { seed = 18446744073709551615; threads = 1; budget = 4 }))
     ∷ Some (Demo (record { seed = 7; threads = 4; budget = 1 })) ∷ []
-unfolding command grammar answering solve_grammar verify_grammar encode_grammar check_grammar reading demo_grammar with_graphs with_kind with_mapping with_search with_proof clap_on_literals
+unfolding command grammar answering solve_grammar verify_grammar encode_grammar check_grammar trim_grammar reading trimming demo_grammar batch_grammar with_graphs with_kind with_mapping with_search with_proof clap_on_literals
 demos = refl
 
 -- an empty word is a name, and no words at all are no command
 pub empty_words : (command (codes "subgraph" ∷ codes "solve" ∷ [] ∷ codes "t" ∷ [])
     ≡ Some (Solve (record { pattern = []; target = codes "t"; induced = false; format = Lad; threads = 1; seed = 0; budget = 9223372036854775807; book = 65536; prove = None })))
     × (command [] ≡ None)
-unfolding command grammar answering solve_grammar verify_grammar encode_grammar check_grammar reading demo_grammar with_graphs with_kind with_mapping with_search with_proof clap_on_literals
+unfolding command grammar answering solve_grammar verify_grammar encode_grammar check_grammar trim_grammar reading trimming demo_grammar batch_grammar with_graphs with_kind with_mapping with_search with_proof clap_on_literals
 empty_words = (refl, refl)
 
 -- a name of 4,095 bytes is taken, and one of 4,096 is not
@@ -154,5 +166,5 @@ pub long_names : (is_some (command (codes "subgraph" ∷ codes "solve" ∷ repli
     × (command (codes "subgraph" ∷ codes "solve" ∷ replicate 4096 112 ∷ codes "t" ∷ []) ≡ None)
     × (command (codes "subgraph" ∷ codes "solve" ∷ codes "p" ∷ replicate 4096 116 ∷ []) ≡ None)
     × (command (codes "subgraph" ∷ codes "verify" ∷ codes "p" ∷ codes "t" ∷ replicate 4096 109 ∷ []) ≡ None)
-unfolding command grammar answering solve_grammar verify_grammar encode_grammar check_grammar reading demo_grammar with_graphs with_kind with_mapping with_search with_proof clap_on_literals
+unfolding command grammar answering solve_grammar verify_grammar encode_grammar check_grammar trim_grammar reading trimming demo_grammar batch_grammar with_graphs with_kind with_mapping with_search with_proof clap_on_literals
 long_names = (refl, refl, refl, refl, refl)

@@ -1,6 +1,6 @@
 -- Which command a list of words is.
 
-use Rattle.std.specs.Prelude.{◌≢◌, ℕ, ◌<◌, ◌≤◌, ◌^◌, Bool, true, false, not, ◌&&◌, if◌then◌else◌, List, length, Option, Some, None, IfSome, option_and_then, codes}
+use Rattle.std.specs.Prelude.{◌≢◌, ℕ, ◌<◌, ◌≤◌, ◌^◌, Bool, true, false, not, ◌&&◌, ◌||◌, if◌then◌else◌, List, length, Option, Some, None, IfSome, option_and_then, codes}
 use Rattle.std.specs.Option.{option_map_or}
 use Rattle.std.specs.Str.{bytes_eq}
 use Rattle.clap.specs.Words.{Row, Text, first_of, fault_of, subcommand_of}
@@ -12,12 +12,13 @@ use Rattle.graph_theory.specs.declared.lad_text.LadKind.TheVariants.{Lad, Vertex
 use Rattle.command_line.specs.Words.{file_name, threads, budget, seed, book, profile, format}
 use Rattle.command_line.specs.Grammar.{grammar}
 use Rattle.command_line.specs.declared.commands.Command.{Command}
-use Rattle.command_line.specs.declared.commands.Command.TheVariants.{Solve, Verify, Encode, Check, Demo}
+use Rattle.command_line.specs.declared.commands.Command.TheVariants.{Solve, Verify, Encode, Check, Trim, Demo}
 use Rattle.command_line.specs.declared.commands.SolveWords.{SolveWords}
 use Rattle.command_line.specs.declared.commands.ProveWords.{ProveWords}
 use Rattle.command_line.specs.declared.commands.VerifyWords.{VerifyWords}
 use Rattle.command_line.specs.declared.commands.EncodeWords.{EncodeWords}
 use Rattle.command_line.specs.declared.commands.CheckWords.{CheckWords}
+use Rattle.command_line.specs.declared.commands.TrimWords.{TrimWords}
 use Rattle.command_line.specs.declared.commands.DemoWords.{DemoWords}
 
 -- The name of a file that stands in the place of this name.
@@ -116,6 +117,12 @@ abbrev pub check_from : Option Text → Option Text → Option Command
 check_from (Some e) (Some l) = Some (Check (record { encoding = e; log = l }))
 check_from _ _ = None
 
+-- A trim, where each of its words is good, and its third file is neither of the others.
+abbrev pub trim_from : Option Text → Option Text → Option Text → Option Command
+trim_from (Some e) (Some l) (Some o) = if bytes_eq o e || bytes_eq o l then None
+    else Some (Trim (record { encoding = e; log = l; out = o }))
+trim_from _ _ _ = None
+
 -- A demo, where both of its numbers are good.
 abbrev pub demo_from : Option ℕ → Option ℕ → Option ℕ → Option Command
 demo_from (Some s) (Some n) (Some b) = Some (Demo (record { seed = s; threads = n; budget = b }))
@@ -141,6 +148,11 @@ encode_of rows = encode_from (name_at (codes "pattern") rows) (name_at (codes "t
 abbrev pub check_of : List Row → Option Command
 check_of rows = check_from (name_at (codes "encoding") rows) (name_at (codes "log") rows)
 
+-- The trim that the words after `trim` are.
+abbrev pub trim_of : List Row → Option Command
+trim_of rows = trim_from (name_at (codes "encoding") rows) (name_at (codes "log") rows)
+    (name_at (codes "out") rows)
+
 -- The demo that the words after `demo` are; its seed is the first of them.
 abbrev pub demo_of : List Row → Option Command
 demo_of rows = demo_from (option_and_then seed (first_of (codes "seed") rows)) (threads_at rows)
@@ -152,7 +164,8 @@ named_command name rows = if bytes_eq name (codes "solve") then solve_of rows
     else (if bytes_eq name (codes "verify") then verify_of rows
     else (if bytes_eq name (codes "encode") then encode_of rows else (if bytes_eq name
     (codes "check") then check_of rows
-    else (if bytes_eq name (codes "demo") then demo_of rows else None))))
+    else (if bytes_eq name (codes "trim") then trim_of rows else (if bytes_eq name
+    (codes "demo") then demo_of rows else None)))))
 
 -- The command that a parse entered, if it entered one.
 abbrev pub entered_command : Option (Text × List Row) → Option Command
@@ -198,6 +211,13 @@ pub record IsCheckInRange (w : CheckWords) : Type 0 where
   pub encoding : length w.encoding ≤ 4095
   pub log : length w.log ≤ 4095
 
+pub record IsTrimInRange (w : TrimWords) : Type 0 where
+  pub encoding : length w.encoding ≤ 4095
+  pub log : length w.log ≤ 4095
+  pub out : length w.out ≤ 4095
+  pub not_encoding : w.out ≢ w.encoding
+  pub not_log : w.out ≢ w.log
+
 pub record IsDemoInRange (w : DemoWords) : Type 0 where
   pub some : 1 ≤ w.threads
   pub few : w.threads ≤ 64
@@ -210,4 +230,5 @@ IsInRange (Solve w) = IsSolveInRange w
 IsInRange (Verify w) = IsVerifyInRange w
 IsInRange (Encode w) = IsEncodeInRange w
 IsInRange (Check w) = IsCheckInRange w
+IsInRange (Trim w) = IsTrimInRange w
 IsInRange (Demo w) = IsDemoInRange w

@@ -69,11 +69,22 @@ unfoldable pub check_grammar : App
 check_grammar = with_rule (with_rule (new_app (codes "check")) (positional (codes "encoding")))
     (positional (codes "log"))
 
+-- `trim ENC LOG OUT`
+unfoldable pub trim_grammar : App
+trim_grammar = with_rule (with_rule (with_rule (new_app (codes "trim")) (positional
+    (codes "encoding"))) (positional (codes "log")))
+    (positional (codes "out"))
+
 -- `demo K [--threads N] [--budget N]`
 unfoldable pub demo_grammar : App
 demo_grammar = with_rule (with_rule (with_rule (new_app (codes "demo")) (positional
     (codes "seed"))) (option (codes "threads")))
     (option (codes "budget"))
+
+-- `batch LIST [--format F] [--threads N] [--seed N] [--budget N] [--book N]`
+unfoldable pub batch_grammar : App
+batch_grammar = with_rule (with_search (with_rule (with_rule (new_app (codes "batch")) (positional
+    (codes "list"))) (option (codes "format")))) (option (codes "book"))
 
 -- A command without help flag, help command and version flag; its subcommands have none either.
 abbrev pub quiet : App → App
@@ -92,6 +103,10 @@ answering = with_subcommand (with_subcommand (quiet (new_app
 unfoldable pub reading : App
 reading = with_subcommand (with_subcommand answering encode_grammar.top) check_grammar.top
 
+-- The commands that read files, and the one that writes a trimmed log.
+unfoldable pub trimming : App
+trimming = with_subcommand reading trim_grammar.top
+
 -- All commands.
 unfoldable pub grammar : App
-grammar = with_subcommand reading demo_grammar.top
+grammar = with_subcommand (with_subcommand trimming demo_grammar.top) batch_grammar.top

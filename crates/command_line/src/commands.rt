@@ -15,6 +15,8 @@ pub enum Command<'a> {
     Encode(EncodeWords<'a>),
     /// Check a proof log over an encoding.
     Check(CheckWords<'a>),
+    /// Trim a proof log over an encoding.
+    Trim(TrimWords<'a>),
     /// Decide two problems that are made from a seed.
     Demo(DemoWords),
 }
@@ -88,6 +90,17 @@ pub struct CheckWords<'a> {
     pub encoding: FileName<'a>,
     /// The file of the log; it may be the encoding's too.
     pub log: FileName<'a>,
+}
+
+/// What the words of `trim` tell.
+#[derive(Drop)]
+pub struct TrimWords<'a> {
+    /// The file of the encoding.
+    pub encoding: FileName<'a>,
+    /// The file of the log; it may be the encoding's too.
+    pub log: FileName<'a>,
+    /// The file of the trimmed log; it is neither the encoding's nor the log's.
+    pub out: FileName<'a>,
 }
 
 /// What the words of `demo` tell.

@@ -152,6 +152,17 @@ fn check_command<'a>(alloc: Global) -> Made<'a>
     add_positional(alloc, with_encoding, "log")
 }
 
+/// `trim ENC LOG OUT`
+#[tactic(auto, unfolding(crate::specs::Grammar::trim_grammar))]
+fn trim_command<'a>(alloc: Global) -> Made<'a>
+    ensures app { Makes spec.trim_grammar result }
+    ensures local { IsLocal result }
+{
+    let with_encoding = add_positional(alloc, Ok(Command::new(alloc, "trim")), "encoding");
+    let with_log = add_positional(alloc, with_encoding, "log");
+    add_positional(alloc, with_log, "out")
+}
+
 /// `demo K [--threads N] [--budget N]`
 #[tactic(auto, unfolding(crate::specs::Grammar::demo_grammar))]
 fn demo_command<'a>(alloc: Global) -> Made<'a>
@@ -161,6 +172,18 @@ fn demo_command<'a>(alloc: Global) -> Made<'a>
     let with_seed = add_positional(alloc, Ok(Command::new(alloc, "demo")), "seed");
     let with_threads = add_option(alloc, with_seed, "threads");
     add_option(alloc, with_threads, "budget")
+}
+
+/// `batch LIST [--format F] [--threads N] [--seed N] [--budget N] [--book N]`
+#[tactic(auto, unfolding(crate::specs::Grammar::batch_grammar))]
+fn batch_command<'a>(alloc: Global) -> Made<'a>
+    ensures app { Makes spec.batch_grammar result }
+    ensures local { IsLocal result }
+{
+    let with_list = add_positional(alloc, Ok(Command::new(alloc, "batch")), "list");
+    let with_format = add_option(alloc, with_list, "format");
+    let with_search = add_search(alloc, with_format);
+    add_option(alloc, with_search, "book")
 }
 
 /// The command without help and version, which its subcommands take from it.
@@ -202,11 +225,20 @@ fn reading<'a>(alloc: Global) -> Made<'a>
     enter(with_encode, check_command(alloc))
 }
 
+/// The commands that read files, and `trim`, which writes one.
+#[tactic(auto, unfolding(crate::specs::Grammar::trimming))]
+fn trimming<'a>(alloc: Global) -> Made<'a>
+    ensures { Makes spec.trimming result }
+{
+    enter(reading(alloc), trim_command(alloc))
+}
+
 /// All commands. It takes memory for each argument, and is to be built once a run.
 /// Where memory is refused for one part, those behind it are still made, and are dropped.
 #[tactic(auto, unfolding(crate::specs::Grammar::grammar))]
 pub(crate) fn whole_grammar<'a>(alloc: Global) -> Result<Command<'a>, AllocError>
     ensures { Makes spec.grammar result }
 {
-    enter(reading(alloc), demo_command(alloc))
+    let with_demo = enter(trimming(alloc), demo_command(alloc));
+    enter(with_demo, batch_command(alloc))
 }

@@ -13,7 +13,7 @@ ghost use Rattle.command_line.specs.Grammar.{grammar};
 ghost use Rattle.command_line.specs.CommandLine as line;
 
 use crate::commands::{
-    CheckWords, Command, DemoWords, EncodeWords, ProveWords, SolveWords, VerifyWords,
+    CheckWords, Command, DemoWords, EncodeWords, ProveWords, SolveWords, TrimWords, VerifyWords,
 };
 use crate::file_name::FileName;
 use crate::grammar::whole_grammar;
@@ -120,7 +120,7 @@ fn word_at<'a>(matches: &ArgMatches<'a>, id: &str) -> Option<&'a str>
 }
 
 /// The name of a file that was found for an argument.
-fn name_at<'a>(matches: &ArgMatches<'a>, id: &str) -> Option<FileName<'a>>
+pub(crate) fn name_at<'a>(matches: &ArgMatches<'a>, id: &str) -> Option<FileName<'a>>
     ensures { result ≡ line.name_at id.now (rows_of (found_of matches.now)) }
 {
     match word_at(matches, id) {
@@ -140,7 +140,7 @@ fn flag_at(matches: &ArgMatches, id: &str) -> bool
 }
 
 /// The format of both graphs.
-fn format_at(matches: &ArgMatches) -> Option<LadKind>
+pub(crate) fn format_at(matches: &ArgMatches) -> Option<LadKind>
     ensures { result ≡ line.format_at (rows_of (found_of matches.now)) }
 {
     match word_at(matches, "format") {
@@ -150,7 +150,7 @@ fn format_at(matches: &ArgMatches) -> Option<LadKind>
 }
 
 /// The seed.
-fn seed_at(matches: &ArgMatches) -> Option<u64>
+pub(crate) fn seed_at(matches: &ArgMatches) -> Option<u64>
     ensures { result ≡ line.seed_at (rows_of (found_of matches.now)) }
 {
     match word_at(matches, "seed") {
@@ -171,7 +171,7 @@ fn given_seed(matches: &ArgMatches) -> Option<u64>
 }
 
 /// The budget.
-fn budget_at(matches: &ArgMatches) -> Option<u64>
+pub(crate) fn budget_at(matches: &ArgMatches) -> Option<u64>
     ensures value { result ≡ line.budget_at (rows_of (found_of matches.now)) }
     ensures range { IfSome result (λ n. (1 ≤ n) × (n < 2 ^ 63)) }
 {
@@ -182,7 +182,7 @@ fn budget_at(matches: &ArgMatches) -> Option<u64>
 }
 
 /// How many workers search.
-fn threads_at(matches: &ArgMatches) -> Option<u32>
+pub(crate) fn threads_at(matches: &ArgMatches) -> Option<u32>
     ensures value { result ≡ line.threads_at (rows_of (found_of matches.now)) }
     ensures range { IfSome result (λ n. (1 ≤ n) × (n ≤ 64)) }
 {
@@ -193,7 +193,7 @@ fn threads_at(matches: &ArgMatches) -> Option<u32>
 }
 
 /// How many rows the workers share.
-fn book_at(matches: &ArgMatches) -> Option<u32>
+pub(crate) fn book_at(matches: &ArgMatches) -> Option<u32>
     ensures value { result ≡ line.book_at (rows_of (found_of matches.now)) }
     ensures range { IfSome result (λ n. n ≤ 4194304) }
 {
@@ -348,6 +348,20 @@ fn check_words<'a>(matches: &ArgMatches<'a>) -> Option<Command<'a>>
     Some(Command::Check(CheckWords { encoding, log }))
 }
 
+/// The trim that was found.
+fn trim_words<'a>(matches: &ArgMatches<'a>) -> Option<Command<'a>>
+    ensures words { result ≡ line.trim_of (rows_of (found_of matches.now)) }
+    ensures ranges { IfSome result line.IsInRange }
+{
+    let encoding = name_at(matches, "encoding")?;
+    let log = name_at(matches, "log")?;
+    let out = name_at(matches, "out")?;
+    if out.as_str() == encoding.as_str() || out.as_str() == log.as_str() {
+        return None;
+    }
+    Some(Command::Trim(TrimWords { encoding, log, out }))
+}
+
 /// The demo that was found.
 fn demo_words<'a>(matches: &ArgMatches<'a>) -> Option<Command<'a>>
     ensures words { result ≡ line.demo_of (rows_of (found_of matches.now)) }
@@ -376,6 +390,8 @@ fn named_command<'a>(name: &str, matches: &ArgMatches<'a>) -> Option<Command<'a>
         encode_words(matches)
     } else if name == "check" {
         check_words(matches)
+    } else if name == "trim" {
+        trim_words(matches)
     } else if name == "demo" {
         demo_words(matches)
     } else {
@@ -405,7 +421,7 @@ fn refusal_of(error: &Error) -> Refusal
 }
 
 /// What `clap` finds among the words.
-fn parsed<'a>(alloc: Global, words: &'a [String]) -> Result<ArgMatches<'a>, Refusal>
+pub(crate) fn parsed<'a>(alloc: Global, words: &'a [String]) -> Result<ArgMatches<'a>, Refusal>
     ensures ok { IfOk result (λ m. (fault_of grammar (map string_bytes words.entry.now) ≡ [])
         × (subcommand_rows_of m ≡ subcommand_of grammar (map string_bytes words.entry.now))) }
     ensures refused { IsErrOf result Refusal.NotACommand

@@ -61,6 +61,12 @@ fn told(alloc: Global, command: &Command) -> Result<String, AllocError> {
             words.encoding.as_str(),
             words.log.as_str()
         ),
+        Command::Trim(words) => format!(in alloc;
+            "trim {} {} {}",
+            words.encoding.as_str(),
+            words.log.as_str(),
+            words.out.as_str()
+        ),
         Command::Demo(words) => format!(in alloc;
             "demo {} {} {}",
             words.seed, words.threads, words.budget
@@ -96,7 +102,7 @@ impl<R> Example<R> for Says {
     }
 }
 
-static SAYS: [Says; 25] = [
+static SAYS: [Says; 26] = [
     Says {
         line: "subgraph solve p t",
         told: "solve p t false Lad 1 0 9223372036854775807 65536 unproved",
@@ -190,6 +196,10 @@ static SAYS: [Says; 25] = [
         told: "check e l",
     },
     Says {
+        line: "subgraph trim e e o",
+        told: "trim e e o",
+    },
+    Says {
         line: "subgraph demo 7",
         told: "demo 7 1 9223372036854775807",
     },
@@ -212,12 +222,15 @@ impl<R> Example<R> for Refused {
     }
 }
 
-static REFUSED: [Refused; 43] = [
+static REFUSED: [Refused; 46] = [
     Refused(""),
     Refused("subgraph solve p"),
     Refused("subgraph solve p t m"),
     Refused("subgraph verify p t"),
     Refused("subgraph check e"),
+    Refused("subgraph trim e l"),
+    Refused("subgraph trim e l e"),
+    Refused("subgraph trim e l l"),
     Refused("subgraph demo"),
     Refused("subgraph demo +7"),
     Refused("subgraph solve p t --threads 0"),

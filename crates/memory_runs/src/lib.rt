@@ -6,8 +6,9 @@
 
 use outer_io::{MemoryFiles, MemoryPart, MemorySink};
 use std::alloc::{AllocError, Global};
+use std::sync::Wait;
 use std::thread::Threads;
-use subgraph_cli::run;
+use whole_program::run;
 
 /// A triangle.
 pub const TRIANGLE: &str = "3\n2 1 2\n2 0 2\n2 0 1\n";
@@ -139,7 +140,7 @@ fn calls(alloc: Global, number: u64) -> Result<Vec<u64>, AllocError> {
 }
 
 /// Runs the program on the words of a line, over these files.
-pub fn run_over<R: Threads + Sync>(
+pub fn run_over<R: Threads + Wait + Sync>(
     rt: &R,
     alloc: Global,
     line: &str,
@@ -181,7 +182,7 @@ impl<'a> Judge for Gives<'a> {
 }
 
 /// Runs the program on the words of a line, over these files, and asks the judge.
-pub fn is_judged<R: Threads + Sync, J: Judge>(
+pub fn is_judged<R: Threads + Wait + Sync, J: Judge>(
     rt: &R,
     alloc: Global,
     line: &str,
@@ -194,7 +195,7 @@ pub fn is_judged<R: Threads + Sync, J: Judge>(
 }
 
 /// Runs the program over a pattern in the file `p` and a target in the file `t`.
-pub fn run_pair<R: Threads + Sync>(
+pub fn run_pair<R: Threads + Wait + Sync>(
     rt: &R,
     alloc: Global,
     line: &str,
@@ -211,7 +212,7 @@ pub fn run_pair<R: Threads + Sync>(
 }
 
 /// Runs the program over a pattern in the file `p`, a target in the file `t`, and two files `e` and `l` that are not there yet.
-pub fn run_proof<R: Threads + Sync>(
+pub fn run_proof<R: Threads + Wait + Sync>(
     rt: &R,
     alloc: Global,
     line: &str,

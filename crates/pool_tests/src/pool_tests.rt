@@ -23,6 +23,8 @@ impl Work for AddOne {
 
     ghost use Rattle.std.specs.Prelude.{◌≡◌, ◌+◌};
 
+    ghost ready = { λ work. Unit {0} };
+
     ghost answers = { λ work job out. out ≡ job + 1 };
 
     fn does(&self, job: &u32) -> Result<u64, AllocError> {
@@ -42,6 +44,8 @@ impl Work for Refused {
     type Out = u64;
 
     ghost use Rattle.std.specs.Prelude.{◌≡◌, ◌+◌};
+
+    ghost ready = { λ work. Unit {0} };
 
     ghost answers = { λ work job out. out ≡ job + 1 };
 
@@ -100,7 +104,8 @@ fn ran<R: Threads + Wait + Sync, W: Work<Job = u32, Out = u64> + Sync, G: JobGat
     work: &W,
     gate: &G,
 ) -> Result<Ran<u64>, AllocError>
-    requires { length jobs.now < 2 ^ 32 }
+    requires ready { W.ready work.now }
+    requires few { length jobs.now < 2 ^ 32 }
 {
     let jobs = Vec::from_slice(alloc, jobs)?;
     run_jobs(rt, alloc, jobs, workers, work, gate)

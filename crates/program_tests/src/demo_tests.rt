@@ -3,6 +3,7 @@
 use crate::ends::{Ends, all_end};
 use memory_runs::{CLEAN, Failing, Judge, Ran, is_judged};
 use std::alloc::{AllocError, Global};
+use std::sync::Wait;
 use std::test::Fail;
 use std::thread::Threads;
 
@@ -38,7 +39,7 @@ static CUT_OFF: Ends = Ends(
 );
 
 /// Whether it does.
-fn is_cut_off<R: Threads + Sync>(rt: &R, alloc: Global) -> Result<bool, AllocError> {
+fn is_cut_off<R: Threads + Wait + Sync>(rt: &R, alloc: Global) -> Result<bool, AllocError> {
     let failing = Failing { out: 1, ..CLEAN };
     is_judged(rt, alloc, CUT_OFF.0, Vec::new(alloc), failing, &CUT_OFF)
 }
@@ -62,7 +63,7 @@ impl Judge for Spent {
 }
 
 /// Whether it was, with a budget of one.
-fn is_spent<R: Threads + Sync>(rt: &R, alloc: Global) -> Result<bool, AllocError> {
+fn is_spent<R: Threads + Wait + Sync>(rt: &R, alloc: Global) -> Result<bool, AllocError> {
     let line = "subgraph demo 7 --budget 1 --threads 3";
     is_judged(rt, alloc, line, Vec::new(alloc), CLEAN, &Spent)
 }

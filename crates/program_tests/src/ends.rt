@@ -3,12 +3,13 @@
 use memory_runs::{CLEAN, Judge, Ran, is_judged, parts, run_over};
 use outer_io::MemoryPart;
 use std::alloc::{AllocError, Global};
+use std::sync::Wait;
 use std::test::Fail;
 use std::thread::Threads;
 use test_support::none_wrong;
 
 /// Runs the program on the words of a line, over these files, and gives its status and its output.
-pub fn output_of<R: Threads + Sync>(
+pub fn output_of<R: Threads + Wait + Sync>(
     rt: &R,
     alloc: Global,
     line: &str,
@@ -35,12 +36,12 @@ impl Judge for Ends {
 }
 
 /// Whether the run of a row ends so.
-fn holds<R: Threads + Sync>(rt: &R, alloc: Global, row: &Ends) -> Result<bool, AllocError> {
+fn holds<R: Threads + Wait + Sync>(rt: &R, alloc: Global, row: &Ends) -> Result<bool, AllocError> {
     is_judged(rt, alloc, row.0, parts(alloc, row.1)?, CLEAN, row)
 }
 
 /// The place, from 0, of the first row that does not hold.
-fn first_wrong<R: Threads + Sync>(
+fn first_wrong<R: Threads + Wait + Sync>(
     rt: &R,
     alloc: Global,
     rows: &[Ends],
@@ -54,6 +55,6 @@ fn first_wrong<R: Threads + Sync>(
 }
 
 /// That the runs of all rows end so, or which is the first that does not, as the failure of a test.
-pub fn all_end<R: Threads + Sync>(rt: &R, alloc: Global, rows: &[Ends]) -> Result<(), Fail> {
+pub fn all_end<R: Threads + Wait + Sync>(rt: &R, alloc: Global, rows: &[Ends]) -> Result<(), Fail> {
     none_wrong(first_wrong(rt, alloc, rows)?)
 }

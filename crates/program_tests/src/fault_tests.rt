@@ -6,11 +6,13 @@ use memory_runs::{
 };
 use outer_io::MemoryPart;
 use std::alloc::{AllocError, Global};
+use std::sync::Wait;
 use std::test::Fail;
 use std::thread::Threads;
 use test_support::none_wrong;
 
-/// An edge as pattern and target, a good and a bad mapping of it, an encoding with a good and a bad log of each kind, and faulty graphs.
+/// An edge as pattern and target, a good and a bad mapping of it, an encoding with a good and a bad log of each kind, faulty graphs, and lists of
+/// jobs.
 const TEXTS: &[(&str, &str)] = &[
     ("p", EDGE),
     ("t", EDGE),
@@ -26,6 +28,9 @@ const TEXTS: &[(&str, &str)] = &[
     ("letter", "1\nx\n"),
     ("other", "2\n1 2\n0\n"),
     ("more", "1\n0 7\n"),
+    ("j", "p t\np t induced\n"),
+    ("jt", "p t\np cut\n"),
+    ("jl", "p\n"),
 ];
 
 /// What fails.
@@ -93,13 +98,13 @@ impl<'a> Judge for But<'a> {
 }
 
 /// Whether the run of a row ends so.
-fn is_so<R: Threads + Sync>(rt: &R, alloc: Global, but: &But) -> Result<bool, AllocError> {
+fn is_so<R: Threads + Wait + Sync>(rt: &R, alloc: Global, but: &But) -> Result<bool, AllocError> {
     let failing = failing(but.0.1, but.1);
     is_judged(rt, alloc, but.0.0, parts(alloc, TEXTS)?, failing, but)
 }
 
 /// Whether the run of a row ends so with each of the calls failing.
-fn are_so<R: Threads + Sync>(
+fn are_so<R: Threads + Wait + Sync>(
     rt: &R,
     alloc: Global,
     row: &Faults,
@@ -114,13 +119,17 @@ fn are_so<R: Threads + Sync>(
 }
 
 /// Whether the runs of a row end so.
-fn holds<R: Threads + Sync>(rt: &R, alloc: Global, row: &Faults) -> Result<bool, AllocError> {
+fn holds<R: Threads + Wait + Sync>(
+    rt: &R,
+    alloc: Global,
+    row: &Faults,
+) -> Result<bool, AllocError> {
     let (_, whole) = output_of(rt, alloc, row.0, parts(alloc, TEXTS)?)?;
     are_so(rt, alloc, row, &whole)
 }
 
 /// The place, from 0, of the first row that does not hold.
-fn first_wrong<R: Threads + Sync>(
+fn first_wrong<R: Threads + Wait + Sync>(
     rt: &R,
     alloc: Global,
     rows: &[Faults],
@@ -135,7 +144,7 @@ fn first_wrong<R: Threads + Sync>(
 
 // Status 6 is none of these: what a run takes of memory is granted here, and `bench/refused_memory.py --full` refuses each piece of
 // it to the built program in turn, with an error stream that is full.
-static FAULTS: [Faults; 26] = [
+static FAULTS: [Faults; 30] = [
     Faults("subgraph solve p t", Stream::Files, 7, 0),
     Faults("subgraph verify p t m", Stream::Files, 10, 0),
     Faults("subgraph encode p t", Stream::Files, 7, 0),
@@ -146,6 +155,10 @@ static FAULTS: [Faults; 26] = [
     Faults("subgraph encode p t", Stream::Output, 7, 0),
     Faults("subgraph check e l", Stream::Output, 2, 0),
     Faults("subgraph check e h", Stream::Output, 2, 0),
+    Faults("subgraph batch j", Stream::Files, 16, 0),
+    Faults("subgraph batch j --threads 2", Stream::Output, 15, 0),
+    Faults("subgraph batch jt", Stream::Errors, 9, 4),
+    Faults("subgraph batch jl", Stream::Errors, 7, 4),
     Faults("subgraph solve p", Stream::Errors, 6, 3),
     Faults("subgraph solve m t", Stream::Errors, 6, 4),
     Faults("subgraph solve other t", Stream::Errors, 6, 4),
@@ -179,7 +192,7 @@ fn front_files(alloc: Global, front: &[u8]) -> Result<Vec<MemoryPart>, AllocErro
 }
 
 /// Whether a front of a target's text ends early, in place of this word.
-fn ends_early<R: Threads + Sync>(
+fn ends_early<R: Threads + Wait + Sync>(
     rt: &R,
     alloc: Global,
     front: &[u8],
@@ -198,7 +211,7 @@ fn ends_early<R: Threads + Sync>(
 }
 
 /// How many bytes the first front of a text of words of one byte has that does not end early, at the word after its last one.
-fn first_front_that_is_read<R: Threads + Sync>(
+fn first_front_that_is_read<R: Threads + Wait + Sync>(
     rt: &R,
     alloc: Global,
     text: &[u8],

@@ -4,6 +4,7 @@ use crate::ends::{Ends, all_end};
 use memory_runs::{CLEAN, Gives, is_judged, part};
 use outer_io::MemoryPart;
 use std::alloc::{AllocError, Global};
+use std::sync::Wait;
 use std::test::Fail;
 use std::thread::Threads;
 
@@ -139,7 +140,11 @@ fn pattern_file(alloc: Global, text: &[u8]) -> Result<Vec<MemoryPart>, AllocErro
 }
 
 /// Whether this text of a pattern is too long.
-fn is_too_long<R: Threads + Sync>(rt: &R, alloc: Global, text: &[u8]) -> Result<bool, AllocError> {
+fn is_too_long<R: Threads + Wait + Sync>(
+    rt: &R,
+    alloc: Global,
+    text: &[u8],
+) -> Result<bool, AllocError> {
     let files = pattern_file(alloc, text)?;
     let judge = Gives(4, "", "pattern: too long\n");
     is_judged(rt, alloc, "subgraph solve p t", files, CLEAN, &judge)

@@ -4,6 +4,7 @@ use crate::ends::{Ends, all_end, output_of};
 use memory_runs::{CLEAN, EDGE, FOUR_CYCLE, Gives, Judge, Ran, TRIANGLE, is_judged, part, parts};
 use outer_io::MemoryPart;
 use std::alloc::{AllocError, Global};
+use std::sync::Wait;
 use std::test::Fail;
 use std::thread::Threads;
 use test_support::none_wrong;
@@ -284,7 +285,7 @@ impl Judge for Told {
 }
 
 /// Whether a text is found in itself, and the embedding told in so many lines.
-fn is_found<R: Threads + Sync>(
+fn is_found<R: Threads + Wait + Sync>(
     rt: &R,
     alloc: Global,
     text: &str,
@@ -320,7 +321,7 @@ fn files_of(alloc: Global, row: &Embedded, mapping: &[u8]) -> Result<Vec<MemoryP
 }
 
 /// Whether this mapping is found to be an embedding.
-fn verifies<R: Threads + Sync>(
+fn verifies<R: Threads + Wait + Sync>(
     rt: &R,
     alloc: Global,
     row: &Embedded,
@@ -332,7 +333,7 @@ fn verifies<R: Threads + Sync>(
 }
 
 /// Whether the runs of a row end so.
-fn holds_embedded<R: Threads + Sync>(
+fn holds_embedded<R: Threads + Wait + Sync>(
     rt: &R,
     alloc: Global,
     row: &Embedded,
@@ -343,7 +344,7 @@ fn holds_embedded<R: Threads + Sync>(
 }
 
 /// The place, from 0, of the first row that does not hold.
-fn first_wrong_embedded<R: Threads + Sync>(
+fn first_wrong_embedded<R: Threads + Wait + Sync>(
     rt: &R,
     alloc: Global,
     rows: &[Embedded],

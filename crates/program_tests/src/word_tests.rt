@@ -3,6 +3,7 @@
 use crate::ends::{Ends, all_end};
 use memory_runs::{CLEAN, Gives, is_judged, parts};
 use std::alloc::{AllocError, Global};
+use std::sync::Wait;
 use std::test::Fail;
 use std::thread::Threads;
 
@@ -123,7 +124,7 @@ fn words_with_name(alloc: Global, bytes: u32) -> Result<String, AllocError> {
 }
 
 /// Whether words that name a target by so many bytes end so.
-fn end_so<R: Threads + Sync>(
+fn end_so<R: Threads + Wait + Sync>(
     rt: &R,
     alloc: Global,
     bytes: u32,

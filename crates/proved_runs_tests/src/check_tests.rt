@@ -3,6 +3,7 @@
 use crate::judged::checks_so;
 use memory_runs::{CLEAN, Gives, Judge, Ran, is_judged, parts};
 use std::alloc::{AllocError, Global};
+use std::sync::Wait;
 use std::test::Fail;
 use std::thread::Threads;
 use test_support::none_wrong;
@@ -20,12 +21,16 @@ impl Judge for Checked {
 }
 
 /// Whether the run of a row ends so.
-fn holds<R: Threads + Sync>(rt: &R, alloc: Global, row: &Checked) -> Result<bool, AllocError> {
+fn holds<R: Threads + Wait + Sync>(
+    rt: &R,
+    alloc: Global,
+    row: &Checked,
+) -> Result<bool, AllocError> {
     checks_so(rt, alloc, row.0.as_bytes(), row.1.as_bytes(), row)
 }
 
 /// The place, from 0, of the first row that does not hold.
-fn first_wrong<R: Threads + Sync>(
+fn first_wrong<R: Threads + Wait + Sync>(
     rt: &R,
     alloc: Global,
     rows: &[Checked],
@@ -39,7 +44,7 @@ fn first_wrong<R: Threads + Sync>(
 }
 
 /// That all rows hold, or which is the first that does not, as the failure of a test.
-fn all_hold<R: Threads + Sync>(rt: &R, alloc: Global, rows: &[Checked]) -> Result<(), Fail> {
+fn all_hold<R: Threads + Wait + Sync>(rt: &R, alloc: Global, rows: &[Checked]) -> Result<(), Fail> {
     none_wrong(first_wrong(rt, alloc, rows)?)
 }
 

@@ -3,6 +3,7 @@
 use memory_runs::{CLEAN, Failing, Judge, Ran, is_judged, part, run_pair, run_proof};
 use outer_io::MemoryPart;
 use std::alloc::{AllocError, Global};
+use std::sync::Wait;
 use std::thread::Threads;
 
 /// An encoding and a log.
@@ -14,7 +15,7 @@ fn check_files(alloc: Global, encoding: &[u8], log: &[u8]) -> Result<Vec<MemoryP
 }
 
 /// Whether a check of the log over the encoding is as the judge tells.
-pub fn checks_so<R: Threads + Sync, J: Judge>(
+pub fn checks_so<R: Threads + Wait + Sync, J: Judge>(
     rt: &R,
     alloc: Global,
     encoding: &[u8],
@@ -30,7 +31,7 @@ pub fn checks_so<R: Threads + Sync, J: Judge>(
 pub struct Asked<'a>(pub &'a str, pub &'a str, pub &'a str);
 
 /// Whether a run of these words that writes a proof is as the judge tells.
-pub fn proves_so<R: Threads + Sync, J: Judge>(
+pub fn proves_so<R: Threads + Wait + Sync, J: Judge>(
     rt: &R,
     alloc: Global,
     asked: &Asked,
@@ -61,7 +62,7 @@ fn left_by<J: Judge>(alloc: Global, ran: &Ran, judge: &J) -> Result<Left, AllocE
 }
 
 /// What a run of these words that writes a proof leaves.
-pub fn leaves<R: Threads + Sync, J: Judge>(
+pub fn leaves<R: Threads + Wait + Sync, J: Judge>(
     rt: &R,
     alloc: Global,
     asked: &Asked,
@@ -73,7 +74,7 @@ pub fn leaves<R: Threads + Sync, J: Judge>(
 }
 
 /// The status with which a run of these words ends, and what it writes to its output.
-pub fn encoding<R: Threads + Sync>(
+pub fn encoding<R: Threads + Wait + Sync>(
     rt: &R,
     alloc: Global,
     asked: &Asked,

@@ -14,4 +14,6 @@ mod proof_tests;
 #[cfg(test)]
 mod shown_tests;
 #[cfg(test)]
+mod trim_tests;
+#[cfg(test)]
 mod whole_tests;

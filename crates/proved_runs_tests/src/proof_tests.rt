@@ -6,6 +6,7 @@ use memory_runs::{
 };
 use outer_io::MemoryPart;
 use std::alloc::{AllocError, Global};
+use std::sync::Wait;
 use std::test::Fail;
 use std::thread::Threads;
 
@@ -108,7 +109,7 @@ impl<'a> Judge for Encodes<'a> {
 
 /// The number of the first call on the files whose fault leaves something else, of those where one call after the other fails,
 /// or 0.
-fn first_out_of_order<R: Threads + Sync>(
+fn first_out_of_order<R: Threads + Wait + Sync>(
     rt: &R,
     alloc: Global,
     asked: &Asked,
@@ -136,7 +137,7 @@ fn first_out_of_order<R: Threads + Sync>(
 }
 
 /// Whether there is none.
-fn are_in_order<R: Threads + Sync>(
+fn are_in_order<R: Threads + Wait + Sync>(
     rt: &R,
     alloc: Global,
     asked: &Asked,
@@ -163,7 +164,7 @@ impl<'a> Judge for Logs<'a> {
 }
 
 /// Whether a fault of that call on the files leaves this log.
-fn leaves_log<R: Threads + Sync>(
+fn leaves_log<R: Threads + Wait + Sync>(
     rt: &R,
     alloc: Global,
     number: u64,
@@ -173,7 +174,7 @@ fn leaves_log<R: Threads + Sync>(
 }
 
 /// The number of the first such call whose fault leaves the two head lines of the log, or 0.
-fn call_after_the_head<R: Threads + Sync>(rt: &R, alloc: Global) -> Result<u64, AllocError> {
+fn call_after_the_head<R: Threads + Wait + Sync>(rt: &R, alloc: Global) -> Result<u64, AllocError> {
     for number in 1..1000 {
         if leaves_log(rt, alloc, number, HEAD)? {
             return Ok(number);
@@ -183,7 +184,7 @@ fn call_after_the_head<R: Threads + Sync>(rt: &R, alloc: Global) -> Result<u64, 
 }
 
 /// Whether a fault of the call before that one leaves the log empty.
-fn is_empty_before<R: Threads + Sync>(
+fn is_empty_before<R: Threads + Wait + Sync>(
     rt: &R,
     alloc: Global,
     number: u64,
@@ -213,7 +214,7 @@ fn files_again(alloc: Global, encoding: &[u8], log: &[u8]) -> Result<Vec<MemoryP
 }
 
 /// Whether a second run over the files that a run left makes the log whole.
-fn is_made_whole<R: Threads + Sync>(
+fn is_made_whole<R: Threads + Wait + Sync>(
     rt: &R,
     alloc: Global,
     encoding: &[u8],
@@ -227,7 +228,11 @@ fn is_made_whole<R: Threads + Sync>(
 static EARLY: Gives = Gives(7, "", "log: line 3: EndsEarly\n");
 
 /// Whether the log that a fault of that call leaves ends early for its check, and a second run makes it whole.
-fn is_mended<R: Threads + Sync>(rt: &R, alloc: Global, number: u64) -> Result<bool, AllocError> {
+fn is_mended<R: Threads + Wait + Sync>(
+    rt: &R,
+    alloc: Global,
+    number: u64,
+) -> Result<bool, AllocError> {
     let it = leaves(rt, alloc, &REFUTED, of_files(number), &EARLY)?;
     Ok(
         checks_so(rt, alloc, &it.encoding, &it.log, &EARLY)?
@@ -257,7 +262,7 @@ impl<'a> Judge for Untold<'a> {
 
 /// The number of the first call on the output that a run no longer makes, where the fault of each earlier one leaves the proof
 /// whole; 0 where one does not, or there is none.
-fn first_told<R: Threads + Sync>(
+fn first_told<R: Threads + Wait + Sync>(
     rt: &R,
     alloc: Global,
     untold: &Untold,
@@ -278,7 +283,7 @@ fn first_told<R: Threads + Sync>(
 }
 
 /// Whether there is one beyond the first.
-fn is_kept<R: Threads + Sync>(rt: &R, alloc: Global) -> Result<bool, AllocError> {
+fn is_kept<R: Threads + Wait + Sync>(rt: &R, alloc: Global) -> Result<bool, AllocError> {
     let whole = leaves(rt, alloc, &REFUTED, CLEAN, &TOLD)?;
     Ok(first_told(rt, alloc, &Untold(&whole.encoding, &whole.log))? > 1)
 }
@@ -301,7 +306,7 @@ impl Judge for Untouched {
 }
 
 /// Whether nothing is written where one of these texts is refused.
-fn is_untouched<R: Threads + Sync>(
+fn is_untouched<R: Threads + Wait + Sync>(
     rt: &R,
     alloc: Global,
     pattern: &str,

@@ -4,6 +4,7 @@ use crate::judged::{Asked, checks_so, leaves};
 use crate::proof_tests::{HEAD, REFUTATION};
 use memory_runs::{CLEAN, FOUR_CYCLE, Gives, Judge, Ran, TRIANGLE};
 use std::alloc::{AllocError, Global};
+use std::sync::Wait;
 use std::test::Fail;
 use std::thread::Threads;
 use test_support::none_wrong;
@@ -50,7 +51,7 @@ impl Judge for Shown {
 }
 
 /// Whether the runs of a row end so: it gave the answer, its files begin as the row tells, and a check of the log over the encoding ends so.
-fn holds<R: Threads + Sync>(rt: &R, alloc: Global, row: &Shown) -> Result<bool, AllocError> {
+fn holds<R: Threads + Wait + Sync>(rt: &R, alloc: Global, row: &Shown) -> Result<bool, AllocError> {
     let asked = Asked(row.line, row.pattern, row.target);
     let it = leaves(rt, alloc, &asked, CLEAN, row)?;
     let judge = Gives(0, row.told, "");
@@ -58,7 +59,7 @@ fn holds<R: Threads + Sync>(rt: &R, alloc: Global, row: &Shown) -> Result<bool, 
 }
 
 /// The place, from 0, of the first row that does not hold.
-fn first_wrong<R: Threads + Sync>(
+fn first_wrong<R: Threads + Wait + Sync>(
     rt: &R,
     alloc: Global,
     rows: &[Shown],

@@ -3,6 +3,7 @@
 use crate::judged::{Asked, checks_so, encoding};
 use memory_runs::{EDGE, FOUR_CYCLE, Gives, Judge, Ran, TRIANGLE};
 use std::alloc::{AllocError, Global};
+use std::sync::Wait;
 use std::test::Fail;
 use std::thread::Threads;
 use test_support::models::{NO_TRIANGLE, NO_TRIANGLE_WITHOUT_HINTS};
@@ -29,13 +30,13 @@ impl Judge for Whole {
 }
 
 /// Whether the runs of a row end so.
-fn holds<R: Threads + Sync>(rt: &R, alloc: Global, row: &Whole) -> Result<bool, AllocError> {
+fn holds<R: Threads + Wait + Sync>(rt: &R, alloc: Global, row: &Whole) -> Result<bool, AllocError> {
     let (status, encoded) = encoding(rt, alloc, &Asked(row.line, row.pattern, row.target))?;
     Ok(status == 0 && checks_so(rt, alloc, &encoded, row.log, row)?)
 }
 
 /// The place, from 0, of the first row that does not hold.
-fn first_wrong<R: Threads + Sync>(
+fn first_wrong<R: Threads + Wait + Sync>(
     rt: &R,
     alloc: Global,
     rows: &[Whole],
@@ -130,7 +131,7 @@ fn each_log_is_accepted_over_the_encoding_or_refused(rt: HostRuntime) -> Result<
 }
 
 /// Whether a front of a log over the encoding ends early at this line.
-fn ends_early<R: Threads + Sync>(
+fn ends_early<R: Threads + Wait + Sync>(
     rt: &R,
     alloc: Global,
     encoded: &[u8],
@@ -143,7 +144,7 @@ fn ends_early<R: Threads + Sync>(
 }
 
 /// How many bytes the first front of a log has that does not end early, at the line after its last whole one.
-fn first_front_that_ends<R: Threads + Sync>(
+fn first_front_that_ends<R: Threads + Wait + Sync>(
     rt: &R,
     alloc: Global,
     encoded: &[u8],
@@ -162,7 +163,7 @@ fn first_front_that_ends<R: Threads + Sync>(
 }
 
 /// Whether each front of a log over the encoding of a triangle in a cycle of four ends early.
-fn is_whole_at_last<R: Threads + Sync>(
+fn is_whole_at_last<R: Threads + Wait + Sync>(
     rt: &R,
     alloc: Global,
     log: &[u8],

@@ -1,6 +1,6 @@
 //! The program `subgraph`, over the system's files and streams.
 //!
-//! It makes the real objects, lets `subgraph_cli::run` do all the rest, and ends with its status. Nothing stands above
+//! It makes the real objects, lets `whole_program::run` do all the rest, and ends with its status. Nothing stands above
 //! it. Files and streams of the system tell nothing of their contents: what a run says of the bytes that were read is
 //! the contract of `run`, and that the system's calls read and write them is trusted.
 #![tactic(auto)]
@@ -12,11 +12,12 @@ use std::alloc::{AllocError, Global};
 use std::io::ErrorKind;
 use std::process::ExitCode;
 use std::rt::Env;
+use std::sync::Wait;
 use std::thread::Threads;
 use std::{env, fs};
-use subgraph_cli::run;
 use subgraph_cli::stop::Stop;
 use subgraph_cli::telling::tell_stop;
+use whole_program::run;
 
 /// The program's words, its name first among them. There are none where one of them is no UTF-8, since no such word is
 /// of the grammar.
@@ -31,7 +32,7 @@ fn words_of<R: Env + AllocGlobal>(rt: &R) -> Result<Vec<String>, AllocError> {
 }
 
 /// The status of the run, which starts its threads by the first handle.
-fn status_of<R: Threads + Sync>(threads: &R, rt: &HostRuntime) -> Result<u8, AllocError> {
+fn status_of<R: Threads + Wait + Sync>(threads: &R, rt: &HostRuntime) -> Result<u8, AllocError> {
     let alloc: Global = rt.alloc();
     let words = words_of(rt)?;
     let mut files = RealFiles::new(alloc, rt)?;

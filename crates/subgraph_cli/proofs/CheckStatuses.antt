@@ -22,7 +22,7 @@ use Rattle.subgraph_cli.specs.Stops.{SparesOutput, IsOfFiles, HasCause}
 use Rattle.subgraph_cli.specs.Solving.{IsOrStops}
 use Rattle.subgraph_cli.specs.Checking.{HoldsModel, HoldsNoModel, HoldsLog, HoldsNoLog, Holds, IsFirstOfCheck, IsAccepted, IsRefusedLog, CheckSays, TellsChecked, CheckStatus, check_status, verdict_of_claim, claim_text, ModelSays, JudgedSays, VerdictSays, ClaimHolds, TellsVerdict, ToldSays}
 use Rattle.subgraph_cli.specs.declared.stop.Role.{Role}
-use Rattle.subgraph_cli.specs.declared.stop.Role.TheVariants.{Pattern, Target, Mapping, Encoding, Log}
+use Rattle.subgraph_cli.specs.declared.stop.Role.TheVariants.{Pattern, Target, Mapping, Encoding, Log, JobList, JobPattern, JobTarget}
 use Rattle.subgraph_cli.specs.declared.stop.TextFault.{TextFault}
 use Rattle.subgraph_cli.specs.declared.stop.TextFault.TheVariants.{TooLong, Opb}
 use Rattle.subgraph_cli.specs.declared.stop.Stop.{Stop}
@@ -63,20 +63,20 @@ log_not_refused content text fault a b =
     let e = ap length (same_bytes content text b.bytes a.there b.there) in
     omega (arith, e, a.short, b.long)
 
-held_not_refused : (encoding log : Option (List ℕ)) (m : OpbModel) (text : List ℕ) (role : Role) (fault : TextFault)
+pub held_not_refused : (encoding log : Option (List ℕ)) (m : OpbModel) (text : List ℕ) (role : Role) (fault : TextFault)
     → Holds encoding log m text → IsFirstOfCheck encoding log role fault → ⊥
 held_not_refused encoding log m text Encoding fault h r = model_not_refused encoding m fault h.model_is r
 held_not_refused encoding log m text Log fault h r = log_not_refused log text fault h.log_is r.log_is
 held_not_refused encoding log m text _ fault h r = r
 
 -- The verdict over what the files hold is the one over any model and log that they hold.
-same_verdict : (encoding log : Option (List ℕ)) (m n : OpbModel) (a b : List ℕ) → Holds encoding log m a → Holds encoding log n b
+pub same_verdict : (encoding log : Option (List ℕ)) (m n : OpbModel) (a b : List ℕ) → Holds encoding log m a → Holds encoding log n b
     → verdict_of m.variables m.constraints a ≡ verdict_of n.variables n.constraints b
 same_verdict encoding log m n a b x y =
     ap (λ (k : OpbModel). verdict_of k.variables k.constraints a) (one_model encoding m n x.model_is y.model_is)
     ∙ ap (λ (t : List ℕ). verdict_of n.variables n.constraints t) (one_log log a b x.log_is y.log_is)
 
-claim_not_refused : (claim : Claim) (line : ℕ) (cause : Cause) → verdict_of_claim claim ≡ verdict.Refused line cause → ⊥
+pub claim_not_refused : (claim : Claim) (line : ℕ) (cause : Cause) → verdict_of_claim claim ≡ verdict.Refused line cause → ⊥
 claim_not_refused Unsatisfiable line cause e = cc
 claim_not_refused Satisfiable line cause e = cc
 claim_not_refused Undecided line cause e = cc
@@ -174,6 +174,9 @@ model_stops OutputFault e l out of_files says = absurd of_files
 model_stops NoMemory e l out of_files says = tt
 model_stops (Refused Encoding fault) e l out of_files says = says.1
 model_stops (Refused Log fault) e l out of_files says = let x : Log ≡ Encoding = says.0 in cc
+model_stops (Refused JobList fault) e l out of_files says = let x : JobList ≡ Encoding = says.0 in cc
+model_stops (Refused (JobPattern n) fault) e l out of_files says = let x : JobPattern n ≡ Encoding = says.0 in cc
+model_stops (Refused (JobTarget n) fault) e l out of_files says = let x : JobTarget n ≡ Encoding = says.0 in cc
 model_stops (Refused Pattern fault) e l out of_files says = let x : Pattern ≡ Encoding = says.0 in cc
 model_stops (Refused Target fault) e l out of_files says = let x : Target ≡ Encoding = says.0 in cc
 model_stops (Refused Mapping fault) e l out of_files says = let x : Mapping ≡ Encoding = says.0 in cc
@@ -184,6 +187,9 @@ log_stops FilesFault m e l out of_files says held = tt
 log_stops OutputFault m e l out of_files says held = absurd of_files
 log_stops NoMemory m e l out of_files says held = tt
 log_stops (Refused Log fault) m e l out of_files says held = record { model = m; model_is = held; log_is = says.1 }
+log_stops (Refused JobList fault) m e l out of_files says held = let x : JobList ≡ Log = says.0 in cc
+log_stops (Refused (JobPattern n) fault) m e l out of_files says held = let x : JobPattern n ≡ Log = says.0 in cc
+log_stops (Refused (JobTarget n) fault) m e l out of_files says held = let x : JobTarget n ≡ Log = says.0 in cc
 log_stops (Refused Encoding fault) m e l out of_files says held = let x : Encoding ≡ Log = says.0 in cc
 log_stops (Refused Pattern fault) m e l out of_files says held = let x : Pattern ≡ Log = says.0 in cc
 log_stops (Refused Target fault) m e l out of_files says held = let x : Target ≡ Log = says.0 in cc

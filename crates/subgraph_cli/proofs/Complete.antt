@@ -4,7 +4,7 @@ use Rattle.std.specs.Prelude.{◌≡◌, ℕ, ◌⊎◌, List, Option, Some, ref
 use Rattle.std.proofs.Common.{inl, inr, subst, sym, arith}
 use Rattle.search_theory.specs.Account.{Account}
 use Rattle.command_line.specs.declared.commands.Command.{Command}
-use Rattle.command_line.specs.declared.commands.Command.TheVariants.{Solve, Verify, Encode, Check, Demo}
+use Rattle.command_line.specs.declared.commands.Command.TheVariants.{Solve, Verify, Encode, Check, Trim, Demo}
 use Rattle.subgraph_cli.specs.Lines.{stop_text}
 use Rattle.subgraph_cli.specs.Disk.{Disk, IsUntouched}
 use Rattle.subgraph_cli.specs.Streams.{Stream, IsAsBefore, Tells}
@@ -59,6 +59,10 @@ complete (Check w) o says none = λ told. record {
   accepted = λ m text claim holds is. or_no_memory 0 o.status none ((says told).leads.accepted m text claim holds is);
   refused_log = λ m text line cause holds is. or_no_memory 7 o.status none ((says told).leads.refused_log m text line cause holds is);
 }
+complete (Trim w) o says none = λ told. record {
+  accepted = λ m text claim holds is. or_no_memory 0 o.status none ((says told).leads.accepted m text claim holds is);
+  refused_log = λ m text line cause holds is. or_no_memory 7 o.status none ((says told).leads.refused_log m text line cause holds is);
+}
 complete (Demo w) o says none = record {
   answered = shown o.status none says.answered;
   decided = λ most more. or_due 0 o.status none (says.enough most more) says.answered;
@@ -82,6 +86,7 @@ no_three (Solve w) is = omega (arith, is)
 no_three (Verify w) is = omega (arith, is)
 no_three (Encode w) is = omega (arith, is)
 no_three (Check w) is = omega (arith, is)
+no_three (Trim w) is = omega (arith, is)
 no_three (Demo w) is = omega (arith, is)
 
 -- Each command may end for want of memory.
@@ -90,6 +95,7 @@ memory_status (Solve w) = inr (inr (inr (inr (inr refl))))
 memory_status (Verify w) = inr (inr (inr (inl refl)))
 memory_status (Encode w) = inr (inr (inr refl))
 memory_status (Check w) = inr (inr (inr (inl refl)))
+memory_status (Trim w) = inr (inr (inr (inl refl)))
 memory_status (Demo w) = inr (inr (inr refl))
 
 -- What want of memory says before anything was done.
@@ -134,6 +140,18 @@ memory_says (Check w) accounts d out err kept untouched = λ told. record {
   refused_log = λ e. absurd (omega arith);
   refused = λ e. absurd (omega arith);
   fault = λ e. absurd (omega arith);
+  leads = record {
+    accepted = λ m text claim holds is. inr (inr refl);
+    refused_log = λ m text line cause holds is. inr (inr refl);
+    refused = λ role fault is. inr (inr refl);
+  };
+}
+memory_says (Trim w) accounts d out err kept untouched = λ told. record {
+  kept = λ e. absurd (omega arith);
+  refused_log = λ e. absurd (omega arith);
+  refused = λ e. absurd (omega arith);
+  fault = λ e. absurd (omega arith);
+  no_memory = λ e. untouched;
   leads = record {
     accepted = λ m text claim holds is. inr (inr refl);
     refused_log = λ m text line cause holds is. inr (inr refl);

@@ -1,3 +1,4 @@
+pub mod Cutting
 pub mod OneProblem
 pub mod Proofs
 pub mod Told
@@ -5,6 +6,8 @@ pub mod SolveStatuses
 pub mod VerifyStatuses
 pub mod EncodeStatuses
 pub mod CheckStatuses
+pub mod TrimStatuses
+pub mod TrimLeaving
 pub mod DemoStatuses
 pub mod Ends
 pub mod Passing

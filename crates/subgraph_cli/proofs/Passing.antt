@@ -11,7 +11,7 @@ use Rattle.subgraph_cli.specs.Streams.{Stream, IsSameSink}
 use Rattle.subgraph_cli.specs.Questions.{HoldsGraph, AskSays, RoleSays, IsFaultOfTwo}
 use Rattle.subgraph_cli.specs.Stops.{HasCause, IsOfFiles}
 use Rattle.subgraph_cli.specs.Verifying.{IsFaultOfThree, VerifySays, KeepsWhenBad}
-use Rattle.subgraph_cli.specs.declared.stop.Role.TheVariants.{Pattern, Target, Mapping, Encoding, Log}
+use Rattle.subgraph_cli.specs.declared.stop.Role.TheVariants.{Pattern, Target, Mapping, Encoding, Log, JobList, JobPattern, JobTarget}
 use Rattle.subgraph_cli.specs.declared.stop.Stop.{Stop}
 use Rattle.subgraph_cli.specs.declared.stop.Stop.TheVariants.{Refused, FilesFault, OutputFault, NoMemory}
 use Rattle.subgraph_cli.specs.declared.verify.Tested.{Tested}
@@ -47,6 +47,9 @@ asking_stops (Refused Target fault) w p t m out of_files says = says
 asking_stops (Refused Mapping fault) w p t m out of_files says = absurd says
 asking_stops (Refused Encoding fault) w p t m out of_files says = absurd says
 asking_stops (Refused Log fault) w p t m out of_files says = absurd says
+asking_stops (Refused JobList fault) w p t m out of_files says = absurd says
+asking_stops (Refused (JobPattern n) fault) w p t m out of_files says = absurd says
+asking_stops (Refused (JobTarget n) fault) w p t m out of_files says = absurd says
 
 pub asking_cause : (s : Stop) (w : VerifyWords) (d : Disk) → HasCause s (IsFaultOfTwo w.pattern w.target w.format) d → HasCause s (IsFaultOfThree w) d
 asking_cause FilesFault w d cause = record { rose = cause.rose; of_one = inl cause.of_one }
@@ -64,6 +67,9 @@ pattern_refused (Refused Target fault) p t kind induced says = let e : Target �
 pattern_refused (Refused Mapping fault) p t kind induced says = let e : Mapping ≡ Pattern = says.0 in cc
 pattern_refused (Refused Encoding fault) p t kind induced says = let e : Encoding ≡ Pattern = says.0 in cc
 pattern_refused (Refused Log fault) p t kind induced says = let e : Log ≡ Pattern = says.0 in cc
+pattern_refused (Refused JobList fault) p t kind induced says = let e : JobList ≡ Pattern = says.0 in cc
+pattern_refused (Refused (JobPattern n) fault) p t kind induced says = let e : JobPattern n ≡ Pattern = says.0 in cc
+pattern_refused (Refused (JobTarget n) fault) p t kind induced says = let e : JobTarget n ≡ Pattern = says.0 in cc
 
 -- What stops where the target is loaded, and the pattern was.
 pub target_refused : (s : Stop) (p t : Option (List ℕ)) (kind : LadKind) (induced : Bool) (g : Graph) → HoldsGraph p kind 1024 g → RoleSays (Err s) Target t kind 8192 → AskSays (Err s) p t kind induced
@@ -75,6 +81,9 @@ target_refused (Refused Pattern fault) p t kind induced g holds says = let e : P
 target_refused (Refused Mapping fault) p t kind induced g holds says = let e : Mapping ≡ Target = says.0 in cc
 target_refused (Refused Encoding fault) p t kind induced g holds says = let e : Encoding ≡ Target = says.0 in cc
 target_refused (Refused Log fault) p t kind induced g holds says = let e : Log ≡ Target = says.0 in cc
+target_refused (Refused JobList fault) p t kind induced g holds says = let e : JobList ≡ Target = says.0 in cc
+target_refused (Refused (JobPattern n) fault) p t kind induced g holds says = let e : JobPattern n ≡ Target = says.0 in cc
+target_refused (Refused (JobTarget n) fault) p t kind induced g holds says = let e : JobTarget n ≡ Target = says.0 in cc
 
 -- A cause of reading one of the two is one of both.
 pub pattern_cause : (s : Stop) (pattern target : List ℕ) (kind : LadKind) (d : Disk) → HasCause s (IsReadingOf pattern) d → HasCause s (IsFaultOfTwo pattern target kind) d

@@ -9,8 +9,9 @@ use Rattle.command_line.specs.declared.commands.SolveWords.{SolveWords}
 use Rattle.command_line.specs.declared.commands.VerifyWords.{VerifyWords}
 use Rattle.command_line.specs.declared.commands.EncodeWords.{EncodeWords}
 use Rattle.command_line.specs.declared.commands.CheckWords.{CheckWords}
+use Rattle.command_line.specs.declared.commands.TrimWords.{TrimWords}
 use Rattle.command_line.specs.declared.commands.DemoWords.{DemoWords}
-use Rattle.command_line.specs.declared.commands.Command.TheVariants.{Solve, Verify, Encode, Check, Demo}
+use Rattle.command_line.specs.declared.commands.Command.TheVariants.{Solve, Verify, Encode, Check, Trim, Demo}
 use Rattle.subgraph_cli.specs.Lines.{stop_status}
 use Rattle.subgraph_cli.specs.Disk.{Disk}
 use Rattle.subgraph_cli.specs.Streams.{Stream}
@@ -22,6 +23,9 @@ use Rattle.subgraph_cli.specs.Solving.{SolveSays, solve_status}
 use Rattle.subgraph_cli.specs.Verifying.{VerifySays, KeepsWhenBad, IsFaultOfThree, TellsTested, verify_status}
 use Rattle.subgraph_cli.specs.Encoded.{EncodeSays, encode_status}
 use Rattle.subgraph_cli.specs.Checking.{CheckSays, KeepsWhenRefused, IsFaultOfCheck, TellsChecked, check_status}
+use Rattle.subgraph_cli.specs.Trimming.{IsFaultOfTrim, TrimSays, KeepsWhenShort, TellsTrimming, trim_status}
+use Rattle.subgraph_cli.specs.declared.trim.Trimming.{Trimming}
+use Rattle.subgraph_cli.specs.declared.trim.Trimming.TheVariants as trimming
 use Rattle.subgraph_cli.specs.Demonstrating.{DemoSays, demo_status, shown_status}
 use Rattle.subgraph_cli.specs.Running.{IsFaultOf, IsStatusOf, IsEndOf, Ran}
 use Rattle.subgraph_cli.specs.declared.stop.Stop.{Stop}
@@ -39,6 +43,7 @@ use Rattle.subgraph_cli.proofs.SolveStatuses.{solve_status_says}
 use Rattle.subgraph_cli.proofs.VerifyStatuses.{verify_status_says}
 use Rattle.subgraph_cli.proofs.EncodeStatuses.{encode_status_says}
 use Rattle.subgraph_cli.proofs.CheckStatuses.{check_status_says}
+use Rattle.subgraph_cli.proofs.TrimStatuses.{trim_status_says}
 use Rattle.subgraph_cli.proofs.DemoStatuses.{demo_status_says}
 
 -- After an answer neither the files nor the output have failed.
@@ -173,6 +178,37 @@ check_ran r w accounts d out err status says cause spares kept files output line
     (ran (Check w) (outcome (check_status r) accounts d out err)
     (λ told. check_status_says r (d.content w.encoding) (d.content w.log) accounts d out err (says told) spares line)
     (check_ends r w accounts d out err cause spares kept files output line))
+
+-- ---- trim
+
+trim_stops : (w : TrimWords) (s : Stop) → IsStatusOf (Trim w) (stop_status s)
+trim_stops w (Refused role fault) = inr (inl refl)
+trim_stops w FilesFault = inr (inr (inl refl))
+trim_stops w OutputFault = inr (inr (inl refl))
+trim_stops w NoMemory = inr (inr (inr (inl refl)))
+
+trim_ends : (r : Result Trimming Stop) (w : TrimWords) (accounts : List Account) (d : Disk) (out err : Stream)
+    → IfErr r (λ (s : Stop). HasCause s (IsFaultOfTrim w) d) → IfErr r (λ (s : Stop). SparesOutput s out) → KeepsWhenShort r out
+    → (IsErrOf r FilesFault ⊎ (d.faults_after ≡ d.faults_before)) → (IsErrOf r OutputFault ⊎ (out.faults_after ≡ out.faults_before))
+    → TellsTrimming r err → IsEndOf (Trim w) (outcome (trim_status r) accounts d out err)
+trim_ends (Ok (trimming.Shortened k m)) w accounts d out err cause spares kept files output line =
+    answer_ends (Trim w) 0 accounts d out err (omega arith) (inl refl) line (answer_quiet (trimming.Shortened k m) 0 accounts d out err files output)
+trim_ends (Ok (trimming.NotAccepted k why)) w accounts d out err cause spares kept files output line =
+    bad_ends (Trim w) accounts d out err (inr (inr (inr (inr refl)))) kept (k, why, line) (answer_quiet (trimming.NotAccepted k why) 7 accounts d out err files output)
+trim_ends (Err s) w accounts d out err cause spares kept files output line =
+    stop_ends (Trim w) (Err s) s accounts d out err refl (trim_stops w s) cause spares files output line
+
+-- A run of `trim`.
+pub trim_ran : (r : Result Trimming Stop) (w : TrimWords) (accounts : List Account) (d : Disk) (out err : Stream) (status : ℕ)
+    → (IsTrue d.tells → TrimSays r w (d.content w.encoding) (d.content w.log) d out)
+    → IfErr r (λ (s : Stop). HasCause s (IsFaultOfTrim w) d) → IfErr r (λ (s : Stop). SparesOutput s out) → KeepsWhenShort r out
+    → (IsErrOf r FilesFault ⊎ (d.faults_after ≡ d.faults_before)) → (IsErrOf r OutputFault ⊎ (out.faults_after ≡ out.faults_before))
+    → TellsTrimming r err → status ≡ trim_status r → Ran (Trim w) (outcome status accounts d out err)
+trim_ran r w accounts d out err status says cause spares kept files output line is =
+    subst (λ (n : ℕ). Ran (Trim w) (outcome n accounts d out err)) (sym is)
+    (ran (Trim w) (outcome (trim_status r) accounts d out err)
+    (λ told. trim_status_says r w (d.content w.encoding) (d.content w.log) accounts d out err (says told) spares line)
+    (trim_ends r w accounts d out err cause spares kept files output line))
 
 -- ---- demo
 

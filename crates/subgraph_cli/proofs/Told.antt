@@ -17,7 +17,7 @@ use Rattle.subgraph_cli.specs.Solving.{IsAnswer, IsWritten, SolveSays}
 use Rattle.subgraph_cli.specs.Verifying.{HoldsMapping, MappingSays, IsFaultOfThree, IsGood, IsBad, VerifySays}
 use Rattle.subgraph_cli.specs.declared.deciding.Answer.{Answer}
 use Rattle.subgraph_cli.specs.declared.deciding.Answer.TheVariants as answer
-use Rattle.subgraph_cli.specs.declared.stop.Role.TheVariants.{Pattern, Target, Mapping, Encoding, Log}
+use Rattle.subgraph_cli.specs.declared.stop.Role.TheVariants.{Pattern, Target, Mapping, Encoding, Log, JobList, JobPattern, JobTarget}
 use Rattle.subgraph_cli.specs.declared.stop.Stop.{Stop}
 use Rattle.subgraph_cli.specs.declared.stop.Stop.TheVariants.{Refused, FilesFault, OutputFault, NoMemory}
 use Rattle.subgraph_cli.specs.declared.solve.Decision.{Decision}
@@ -175,6 +175,9 @@ mapping_stops (Refused Pattern fault) q w p t m out of_files says asks = let e :
 mapping_stops (Refused Target fault) q w p t m out of_files says asks = let e : Target ≡ Mapping = says.0 in cc
 mapping_stops (Refused Encoding fault) q w p t m out of_files says asks = let e : Encoding ≡ Mapping = says.0 in cc
 mapping_stops (Refused Log fault) q w p t m out of_files says asks = let e : Log ≡ Mapping = says.0 in cc
+mapping_stops (Refused JobList fault) q w p t m out of_files says asks = let e : JobList ≡ Mapping = says.0 in cc
+mapping_stops (Refused (JobPattern n) fault) q w p t m out of_files says asks = let e : JobPattern n ≡ Mapping = says.0 in cc
+mapping_stops (Refused (JobTarget n) fault) q w p t m out of_files says asks = let e : JobTarget n ≡ Mapping = says.0 in cc
 
 -- A cause of reading the mapping is one of a verify, where the graphs' files ask a problem.
 pub mapping_cause : (s : Stop) (w : VerifyWords) (d : Disk) → HasCause s (IsReadingOf w.mapping) d

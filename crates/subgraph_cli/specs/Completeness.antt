@@ -10,7 +10,7 @@ use Rattle.log_theory.specs.declared.step.Verdict.TheVariants as verdict
 use Rattle.log_theory.specs.declared.step.Cause.{Cause}
 use Rattle.outer_io.specs.Faults.{Rose}
 use Rattle.command_line.specs.declared.commands.Command.{Command}
-use Rattle.command_line.specs.declared.commands.Command.TheVariants.{Solve, Verify, Encode, Check, Demo}
+use Rattle.command_line.specs.declared.commands.Command.TheVariants.{Solve, Verify, Encode, Check, Trim, Demo}
 use Rattle.command_line.specs.declared.commands.SolveWords.{SolveWords}
 use Rattle.command_line.specs.declared.commands.VerifyWords.{VerifyWords}
 use Rattle.command_line.specs.declared.commands.EncodeWords.{EncodeWords}
@@ -64,6 +64,15 @@ pub record IsChecked (status : ℕ) (encoding log : Option (List ℕ)) : Type 0 
       → verdict_of m.variables m.constraints text ≡ verdict.Refused line cause
       → IsOrNoMemory 7 status
 
+-- A trim whose files hold a model and a log trims the log where it is accepted.
+pub record IsTrimmedWhole (status : ℕ) (encoding log : Option (List ℕ)) : Type 0 where
+  pub accepted : (m : OpbModel) (text : List ℕ) (claim : Claim) → Holds encoding log m text
+      → verdict_of m.variables m.constraints text ≡ verdict_of_claim claim → IsOrNoMemory 0 status
+  pub refused_log : (m : OpbModel) (text : List ℕ) (line : ℕ) (cause : Cause)
+      → Holds encoding log m text
+      → verdict_of m.variables m.constraints text ≡ verdict.Refused line cause
+      → IsOrNoMemory 7 status
+
 -- A demo tells of both problems whether they are decided, and a budget that is enough decides them.
 pub record IsShown (status : ℕ) (w : DemoWords) : Type 0 where
   pub answered : (status ≡ 0) ⊎ IsOrNoMemory 2 status
@@ -81,4 +90,6 @@ IsComplete (Encode w) o = IsTrue o.disk.tells
     → IsEncodedWhole o.status w (o.disk.content w.pattern) (o.disk.content w.target)
 IsComplete (Check w) o =
     IsTrue o.disk.tells → IsChecked o.status (o.disk.content w.encoding) (o.disk.content w.log)
+IsComplete (Trim w) o =
+    IsTrue o.disk.tells → IsTrimmedWhole o.status (o.disk.content w.encoding) (o.disk.content w.log)
 IsComplete (Demo w) o = IsShown o.status w

@@ -10,6 +10,7 @@ pub mod Deciding
 pub mod Verifying
 pub mod Encoded
 pub mod Checking
+pub mod Trimming
 pub mod Demonstrating
 pub mod Completeness
 pub mod Running

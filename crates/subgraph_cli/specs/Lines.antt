@@ -8,10 +8,12 @@ use Rattle.log_theory.specs.declared.opb.OpbCause.{OpbCause}
 use Rattle.log_theory.specs.declared.opb.OpbCause.TheVariants as opb
 use Rattle.log_theory.specs.declared.step.Cause.{Cause}
 use Rattle.log_theory.specs.declared.step.Cause.TheVariants as log
+use Rattle.job_list.specs.declared.fault.ListCause.{ListCause}
+use Rattle.job_list.specs.declared.fault.ListCause.TheVariants as jobs
 use Rattle.subgraph_cli.specs.declared.stop.Role.{Role}
-use Rattle.subgraph_cli.specs.declared.stop.Role.TheVariants.{Pattern, Target, Mapping, Encoding, Log}
+use Rattle.subgraph_cli.specs.declared.stop.Role.TheVariants.{Pattern, Target, Mapping, Encoding, Log, JobList, JobPattern, JobTarget}
 use Rattle.subgraph_cli.specs.declared.stop.TextFault.{TextFault}
-use Rattle.subgraph_cli.specs.declared.stop.TextFault.TheVariants.{TooLong, Word, Line, Opb}
+use Rattle.subgraph_cli.specs.declared.stop.TextFault.TheVariants.{TooLong, Word, Line, Opb, Listed}
 use Rattle.subgraph_cli.specs.declared.stop.Stop.{Stop}
 use Rattle.subgraph_cli.specs.declared.stop.Stop.TheVariants.{Refused, FilesFault, OutputFault, NoMemory}
 
@@ -45,6 +47,10 @@ output_fault_text = line_of (codes "output: fault")
 abbrev pub no_memory_text : List ℕ
 no_memory_text = line_of (codes "memory: refused")
 
+-- What a file of a job is called, by the job's number and the file's part in it.
+abbrev pub job_text : ℕ → List ℕ → List ℕ
+job_text job part = codes "job " ++ decimal job ++ part
+
 -- What a file is called after its role.
 abbrev pub role_text : Role → List ℕ
 role_text Pattern = codes "pattern"
@@ -52,6 +58,9 @@ role_text Target = codes "target"
 role_text Mapping = codes "mapping"
 role_text Encoding = codes "encoding"
 role_text Log = codes "log"
+role_text JobList = codes "list"
+role_text (JobPattern job) = job_text job (codes " pattern")
+role_text (JobTarget job) = job_text job (codes " target")
 
 -- What a cause is called.
 abbrev pub cause_text : LadCause → List ℕ
@@ -73,6 +82,11 @@ opb_cause_text opb.Wide = codes "Wide"
 opb_cause_text opb.Form = codes "Form"
 opb_cause_text opb.Count = codes "Count"
 
+-- What a cause of a line of a list of jobs is called.
+abbrev pub list_cause_text : ListCause → List ℕ
+list_cause_text jobs.Form = codes "Form"
+list_cause_text jobs.TooMany = codes "TooMany"
+
 -- What a cause of a log's line is called.
 abbrev pub log_cause_text : Cause → List ℕ
 log_cause_text log.EndsEarly = codes "EndsEarly"
@@ -93,15 +107,19 @@ abbrev pub log_text : ℕ → Cause → List ℕ
 log_text line cause =
     codes "log: line " ++ decimal line ++ codes ": " ++ log_cause_text cause ++ 10 ∷ []
 
+-- Why a text is refused.
+abbrev pub fault_text : TextFault → List ℕ
+fault_text TooLong = codes ": too long" ++ 10 ∷ []
+fault_text (Word w cause) = codes ": word " ++ decimal w ++ codes ": " ++ cause_text cause ++ 10 ∷ []
+fault_text (Line n) = codes ": line " ++ decimal n ++ codes ": Form" ++ 10 ∷ []
+fault_text (Opb n cause) =
+    codes ": line " ++ decimal n ++ codes ": " ++ opb_cause_text cause ++ 10 ∷ []
+fault_text (Listed n cause) =
+    codes ": line " ++ decimal n ++ codes ": " ++ list_cause_text cause ++ 10 ∷ []
+
 -- The line that tells of a refused text.
 abbrev pub refusal_text : Role → TextFault → List ℕ
-refusal_text role TooLong = role_text role ++ codes ": too long" ++ 10 ∷ []
-refusal_text role (Word w cause) =
-    role_text role ++ codes ": word " ++ decimal w ++ codes ": " ++ cause_text cause ++ 10 ∷ []
-refusal_text role (Line n) =
-    role_text role ++ codes ": line " ++ decimal n ++ codes ": Form" ++ 10 ∷ []
-refusal_text role (Opb n cause) =
-    role_text role ++ codes ": line " ++ decimal n ++ codes ": " ++ opb_cause_text cause ++ 10 ∷ []
+refusal_text role fault = role_text role ++ fault_text fault
 
 -- The line on the error stream for each way to stop.
 abbrev pub stop_text : Stop → List ℕ

@@ -3,7 +3,7 @@
 use Rattle.std.specs.Prelude.{◌≡◌, ℕ, ◌⊎◌, Bool, true, false, IsTrue, List, Option, Some, None}
 use Rattle.log_theory.specs.declared.step.Cause.{Cause}
 use Rattle.command_line.specs.declared.commands.Command.{Command}
-use Rattle.command_line.specs.declared.commands.Command.TheVariants.{Solve, Verify, Encode, Check, Demo}
+use Rattle.command_line.specs.declared.commands.Command.TheVariants.{Solve, Verify, Encode, Check, Trim, Demo}
 use Rattle.subgraph_cli.specs.Lines.{no_embedding_text, log_text}
 use Rattle.subgraph_cli.specs.Disk.{Disk}
 use Rattle.subgraph_cli.specs.Streams.{Stream, IsAsBefore, Tells}
@@ -15,6 +15,7 @@ use Rattle.subgraph_cli.specs.Solving.{SolveStatus}
 use Rattle.subgraph_cli.specs.Verifying.{VerifyStatus, IsFaultOfThree}
 use Rattle.subgraph_cli.specs.Encoded.{EncodeStatus}
 use Rattle.subgraph_cli.specs.Checking.{CheckStatus, IsFaultOfCheck}
+use Rattle.subgraph_cli.specs.Trimming.{TrimStatus, IsFaultOfTrim}
 use Rattle.subgraph_cli.specs.Demonstrating.{DemoStatus}
 use Rattle.subgraph_cli.specs.Completeness.{HasNoFault, IsComplete}
 
@@ -24,6 +25,7 @@ IsFaultOf (Solve w) d = IsFaultOfSolve w d
 IsFaultOf (Verify w) d = IsFaultOfThree w d
 IsFaultOf (Encode w) d = IsFaultOfTwo w.pattern w.target w.format d
 IsFaultOf (Check w) d = IsFaultOfCheck w d
+IsFaultOf (Trim w) d = IsFaultOfTrim w d
 IsFaultOf (Demo w) d = ⊥
 
 -- The file is one that the command writes; without a command there is none.
@@ -33,6 +35,7 @@ IsWritten (Some (Solve w)) file = IsOfProof w.prove file
 IsWritten (Some (Verify w)) file = ⊥
 IsWritten (Some (Encode w)) file = ⊥
 IsWritten (Some (Check w)) file = ⊥
+IsWritten (Some (Trim w)) file = file ≡ w.out
 IsWritten (Some (Demo w)) file = ⊥
 
 -- Whether the command writes its answer part by part, so that want of memory can come within it.
@@ -41,6 +44,7 @@ writes_in_parts (Solve w) = false
 writes_in_parts (Verify w) = false
 writes_in_parts (Encode w) = true
 writes_in_parts (Check w) = false
+writes_in_parts (Trim w) = false
 writes_in_parts (Demo w) = false
 
 -- What the status says of the command: of the contents of its files, where they tell these.
@@ -54,6 +58,8 @@ StatusSays (Encode w) o =
     IsTrue o.disk.tells → EncodeStatus o w (o.disk.content w.pattern) (o.disk.content w.target)
 StatusSays (Check w) o =
     IsTrue o.disk.tells → CheckStatus o (o.disk.content w.encoding) (o.disk.content w.log)
+StatusSays (Trim w) o =
+    IsTrue o.disk.tells → TrimStatus o w (o.disk.content w.encoding) (o.disk.content w.log)
 StatusSays (Demo w) o = DemoStatus o w
 
 -- The statuses of a command.
@@ -62,12 +68,14 @@ IsStatusOf (Solve w) s = (s ≡ 0) ⊎ ((s ≡ 1) ⊎ ((s ≡ 2) ⊎ ((s ≡ 4) 
 IsStatusOf (Verify w) s = (s ≡ 0) ⊎ ((s ≡ 4) ⊎ ((s ≡ 5) ⊎ ((s ≡ 6) ⊎ (s ≡ 7))))
 IsStatusOf (Encode w) s = (s ≡ 0) ⊎ ((s ≡ 4) ⊎ ((s ≡ 5) ⊎ (s ≡ 6)))
 IsStatusOf (Check w) s = (s ≡ 0) ⊎ ((s ≡ 4) ⊎ ((s ≡ 5) ⊎ ((s ≡ 6) ⊎ (s ≡ 7))))
+IsStatusOf (Trim w) s = (s ≡ 0) ⊎ ((s ≡ 4) ⊎ ((s ≡ 5) ⊎ ((s ≡ 6) ⊎ (s ≡ 7))))
 IsStatusOf (Demo w) s = (s ≡ 0) ⊎ ((s ≡ 2) ⊎ ((s ≡ 5) ⊎ (s ≡ 6)))
 
 -- The line that the error stream is given at status 7: the mapping is no embedding, or the log is refused, at a line and for a cause.
 abbrev pub TellsBad : Command → Stream → Type 0
 TellsBad (Verify w) err = Tells err no_embedding_text
 TellsBad (Check w) err = (line : ℕ) × (cause : Cause) × Tells err (log_text line cause)
+TellsBad (Trim w) err = (line : ℕ) × (cause : Cause) × Tells err (log_text line cause)
 TellsBad (Solve w) err = ⊥
 TellsBad (Encode w) err = ⊥
 TellsBad (Demo w) err = ⊥

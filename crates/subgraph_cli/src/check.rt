@@ -20,7 +20,7 @@ use proof_checker::{Checked as CheckedFile, check_file};
 use std::alloc::Global;
 
 /// How many bytes an encoding and a log have at most.
-const PROOF_LIMIT: u64 = 1_099_511_627_776;
+pub(crate) const PROOF_LIMIT: u64 = 1_099_511_627_776;
 
 /// What the last line of an accepted log claims.
 #[derive(Clone, Copy, PartialEq, Eq, Debug)]
@@ -43,14 +43,18 @@ pub enum Checked {
 }
 
 /// A text of a role is refused.
-fn refused(role: Role, fault: TextFault) -> Stop
+pub(crate) fn refused(role: Role, fault: TextFault) -> Stop
     ensures { result ≡ Stop.Refused role fault }
 {
     Stop::Refused { role, fault }
 }
 
 /// The model in a file.
-fn load_model<F: Files>(alloc: Global, files: &mut F, name: &FileName) -> Result<Model, Stop>
+pub(crate) fn load_model<F: Files>(
+    alloc: Global,
+    files: &mut F,
+    name: &FileName,
+) -> Result<Model, Stop>
     ensures says { IsTrue (F.tells files.old) → ModelSays result (F.content files.old name.now) }
     ensures loading { IfErr result IsOfFiles }
     ensures cause { IfErr result (λ stop. HasCause stop (IsReadingOf name.now)

@@ -1,4 +1,4 @@
-//! The whole program, over any files and sinks.
+//! The program for one problem, over any files and sinks.
 
 ghost use Rattle.std.specs.Prelude.{◌≡◌, [], List, None, Some, map, string_bytes};
 ghost use Rattle.search_theory.specs.Account.{Account as TheAccount};
@@ -16,27 +16,30 @@ use crate::encode::encode;
 use crate::solve::solve;
 use crate::stop::Stop;
 use crate::telling::{
-    end_check, end_demo, end_encode, end_solve, end_verify, tell_no_command, tell_stop,
+    end_check, end_demo, end_encode, end_solve, end_trim, end_verify, tell_no_command, tell_stop,
 };
+use crate::trim::trim;
 use crate::verify::verify;
 use command_line::{
-    CheckWords, Command, DemoWords, EncodeWords, Refusal, SolveWords, VerifyWords, command_of,
+    CheckWords, Command, DemoWords, EncodeWords, Refusal, SolveWords, TrimWords, VerifyWords,
+    command_of,
 };
 use fail_account::account::Account;
 use graph_theory::lad_text::text_laws;
 use graph_theory::mapping_text::mapping_laws;
+use log_theory::answer_laws;
 use outer_io::files::Files;
 use outer_io::sink::Sink;
 use std::alloc::Global;
 use std::thread::Threads;
 
-/// The program: reads the words, the program's name first among them, does what they say, and answers the status to
-/// end with. Where a search ends undecided, the accounts of its workers are left in `spent`, in their order. Where a proof is asked for,
-/// its two files are written before the answer of `solve`.
+/// The program but for batches, whose words are no command here: reads the words, the program's name first among them, does what they
+/// say, and answers the status to end with. Where a search ends undecided, the accounts of its workers are left in `spent`, in their order. Where a proof is asked for,
+/// its two files are written before the answer of `solve`. The trimmed log is written before the answer of `trim`.
 ///
 /// | status | what it means |
 /// |---|---|
-/// | 0 | `solve` wrote `yes` and an embedding; `verify` wrote `embedding`; `encode` wrote the encoding; `check` wrote what the log claims; `demo` wrote that both problems are decided, and that the log of the second is accepted |
+/// | 0 | `solve` wrote `yes` and an embedding; `verify` wrote `embedding`; `encode` wrote the encoding; `check` wrote what the log claims; `trim` wrote how much is kept; `demo` wrote that both problems are decided, and that the log of the second is accepted |
 /// | 1 | `solve` wrote `none`: no embedding exists |
 /// | 2 | `solve` wrote `unknown`: each worker spent its budget; `demo` wrote `unknown` of one of its problems or both |
 /// | 3 | the words are no command |
@@ -44,7 +47,7 @@ use std::thread::Threads;
 /// | 5 | a call on the files or the output failed |
 /// | 6 | memory was refused |
 /// | 7 | the mapping is no embedding; the log is not accepted |
-pub fn run<R: Threads + Sync, F: Files, O: Sink, E: Sink>(
+pub fn run_single<R: Threads + Sync, F: Files, O: Sink, E: Sink>(
     rt: &R,
     alloc: Global,
     words: &[String],
@@ -108,6 +111,7 @@ fn run_command<R: Threads + Sync, F: Files, O: Sink, E: Sink>(
         Command::Verify(asked) => run_verify(alloc, asked, files, out, err),
         Command::Encode(asked) => run_encode(alloc, asked, files, out, err),
         Command::Check(asked) => run_check(alloc, asked, files, out, err),
+        Command::Trim(asked) => run_trim(alloc, asked, files, out, err),
         Command::Demo(asked) => run_demo(rt, alloc, asked, out, err, spent),
     }
 }
@@ -203,6 +207,29 @@ fn run_check<F: Files, O: Sink, E: Sink>(
 {
     let ended = check(alloc, asked, files, out);
     end_check(ended, err)
+}
+
+/// Trims, and tells where that stopped.
+fn run_trim<F: Files, O: Sink, E: Sink>(
+    alloc: Global,
+    asked: &TrimWords,
+    files: &mut F,
+    out: &mut O,
+    err: &mut E,
+) -> u8
+    ensures ran { (accounts : List TheAccount)
+        → Ran (TheCommand.Trim asked.now) (outcome result accounts
+        (disk F.tells F.content F.faults F.fault_at files.old files.new)
+        (stream O.spot O.contents O.faults out.old out.new)
+        (stream E.spot E.contents E.faults err.old err.new)) }
+    ensures files { KeepsAllBut F.tells F.content F.faults (λ file. file ≡ asked.now.out)
+        files.old files.new }
+    ensures output { IsSameSink O.spot O.rest O.faults out.old out.new }
+    ensures error { IsSameSink E.spot E.rest E.faults err.old err.new }
+{
+    answer_laws();
+    let ended = trim(alloc, asked, files, out);
+    end_trim(ended, err)
 }
 
 /// Decides the two problems of a seed, and tells where that stopped. It looks at no file.

@@ -2,6 +2,7 @@
 
 use graph_files::GraphFault;
 use graph_theory::lad_text::LadCause;
+use job_list::ListCause;
 use opb_text::OpbCause;
 
 /// What a file is to the command.
@@ -17,6 +18,12 @@ pub enum Role {
     Encoding,
     /// The log to be checked.
     Log,
+    /// The list of the jobs of a batch.
+    JobList,
+    /// The pattern graph of the job of this number, from 1.
+    JobPattern(u32),
+    /// The target graph of the job of this number, from 1.
+    JobTarget(u32),
 }
 
 /// Why a text is refused.
@@ -30,6 +37,8 @@ pub enum TextFault {
     Line { line: u64 },
     /// The first faulty line of an encoding's text, from 1, and its cause.
     Opb { line: u64, cause: OpbCause },
+    /// The first faulty line of a list of jobs, from 1, and its cause.
+    Listed { line: u64, cause: ListCause },
 }
 
 /// Why a command stopped.

@@ -3,12 +3,13 @@
 ghost use Rattle.std.specs.Prelude.{◌≡◌};
 ghost use Rattle.outer_io.specs.KnownText.{Wrote};
 ghost use Rattle.outer_io.specs.Sinks.{HasBlame};
-ghost use Rattle.subgraph_cli.specs.Lines.{role_text, cause_text, opb_cause_text, log_cause_text, log_text, refusal_text, stop_text, stop_status, no_command_text};
+ghost use Rattle.subgraph_cli.specs.Lines.{job_text, role_text, cause_text, opb_cause_text, list_cause_text, log_cause_text, log_text, fault_text, refusal_text, stop_text, stop_status, no_command_text};
 ghost use Rattle.subgraph_cli.specs.Solving.{solve_status};
 ghost use Rattle.subgraph_cli.specs.Verifying.{verify_status, TellsTested};
 ghost use Rattle.subgraph_cli.specs.Encoded.{encode_status};
 ghost use Rattle.subgraph_cli.specs.Demonstrating.{demo_status, shown_status};
 ghost use Rattle.subgraph_cli.specs.Checking.{check_status, TellsChecked};
+ghost use Rattle.subgraph_cli.specs.Trimming.{trim_status, TellsTrimming};
 ghost use Rattle.subgraph_cli.specs.Stops.{TellsStop};
 ghost use Rattle.subgraph_cli.specs.Streams.{stream, IsSameSink, Tells};
 
@@ -16,25 +17,24 @@ use crate::check::Checked;
 use crate::demo::Shown;
 use crate::solve::Decision;
 use crate::stop::{Role, Stop, TextFault};
+use crate::trim::Trimming;
 use crate::verify::Tested;
 use graph_theory::lad_text::LadCause;
 use itoa::Buffer;
+use job_list::ListCause;
 use log_theory::Cause;
 use opb_text::OpbCause;
 use outer_io::fault::Failed;
 use outer_io::put::put_all;
 use outer_io::sink::Sink;
 
-/// What a file is called after its role.
-fn role_name(role: Role) -> &'static [u8]
-    ensures { result.now ≡ role_text role }
+/// What a cause of a list's line is called.
+fn list_cause_name(cause: ListCause) -> &'static [u8]
+    ensures { result.now ≡ list_cause_text cause }
 {
-    match role {
-        Role::Pattern => b"pattern",
-        Role::Target => b"target",
-        Role::Mapping => b"mapping",
-        Role::Encoding => b"encoding",
-        Role::Log => b"log",
+    match cause {
+        ListCause::Form => b"Form",
+        ListCause::TooMany => b"TooMany",
     }
 }
 
@@ -102,35 +102,76 @@ fn put_log<E: Sink>(line: u64, cause: Cause, err: &mut E) -> Result<(), Failed>
     )
 }
 
+/// Puts what the file of a job is called.
+fn put_job<E: Sink>(job: u32, part: &[u8], err: &mut E) -> Result<(), Failed>
+    ensures text { Wrote (E.spot err.old).steady (E.contents err.old) (E.contents err.new) result
+        (job_text job part.now) }
+    ensures cause { HasBlame E.spot E.rest E.faults E.blamed err.old err.new result }
+{
+    let mut digits = Buffer::new();
+    put_all(&[b"job ", digits.format(job).as_bytes(), part], err)
+}
+
+/// Puts what a file is called after its role.
+fn put_role<E: Sink>(role: Role, err: &mut E) -> Result<(), Failed>
+    ensures text { Wrote (E.spot err.old).steady (E.contents err.old) (E.contents err.new) result
+        (role_text role) }
+    ensures cause { HasBlame E.spot E.rest E.faults E.blamed err.old err.new result }
+{
+    match role {
+        Role::Pattern => err.put(b"pattern"),
+        Role::Target => err.put(b"target"),
+        Role::Mapping => err.put(b"mapping"),
+        Role::Encoding => err.put(b"encoding"),
+        Role::Log => err.put(b"log"),
+        Role::JobList => err.put(b"list"),
+        Role::JobPattern(job) => put_job(job, b" pattern", err),
+        Role::JobTarget(job) => put_job(job, b" target", err),
+    }
+}
+
+/// Puts why a text is refused, behind what the file is called.
+fn put_fault<E: Sink>(fault: TextFault, err: &mut E) -> Result<(), Failed>
+    ensures text { Wrote (E.spot err.old).steady (E.contents err.old) (E.contents err.new) result
+        (fault_text fault) }
+    ensures cause { HasBlame E.spot E.rest E.faults E.blamed err.old err.new result }
+{
+    let mut digits = Buffer::new();
+    match fault {
+        TextFault::TooLong => put_all(&[b": too long", b"\n"], err),
+        TextFault::Word { word, cause } => {
+            let number = digits.format(word).as_bytes();
+            put_all(&[b": word ", number, b": ", cause_name(cause), b"\n"], err)
+        }
+        TextFault::Line { line } => {
+            let number = digits.format(line).as_bytes();
+            put_all(&[b": line ", number, b": Form", b"\n"], err)
+        }
+        TextFault::Opb { line, cause } => {
+            let number = digits.format(line).as_bytes();
+            put_all(
+                &[b": line ", number, b": ", opb_cause_name(cause), b"\n"],
+                err,
+            )
+        }
+        TextFault::Listed { line, cause } => {
+            let number = digits.format(line).as_bytes();
+            put_all(
+                &[b": line ", number, b": ", list_cause_name(cause), b"\n"],
+                err,
+            )
+        }
+    }
+}
+
 /// Puts the line of a refused text.
 fn put_refusal<E: Sink>(role: Role, fault: TextFault, err: &mut E) -> Result<(), Failed>
     ensures text { Wrote (E.spot err.old).steady (E.contents err.old) (E.contents err.new) result
         (refusal_text role fault) }
     ensures cause { HasBlame E.spot E.rest E.faults E.blamed err.old err.new result }
 {
-    let who = role_name(role);
-    let mut digits = Buffer::new();
-    match fault {
-        TextFault::TooLong => put_all(&[who, b": too long", b"\n"], err),
-        TextFault::Word { word, cause } => {
-            let number = digits.format(word).as_bytes();
-            put_all(
-                &[who, b": word ", number, b": ", cause_name(cause), b"\n"],
-                err,
-            )
-        }
-        TextFault::Line { line } => {
-            let number = digits.format(line).as_bytes();
-            put_all(&[who, b": line ", number, b": Form", b"\n"], err)
-        }
-        TextFault::Opb { line, cause } => {
-            let number = digits.format(line).as_bytes();
-            put_all(
-                &[who, b": line ", number, b": ", opb_cause_name(cause), b"\n"],
-                err,
-            )
-        }
-    }
+    put_role(role, err)?;
+    put_fault(fault, err)
 }
 
 /// Puts the line of a way to stop.
@@ -251,6 +292,22 @@ pub fn end_check<E: Sink>(ended: Result<Checked, Stop>, err: &mut E) -> u8
     match ended {
         Ok(Checked::Accepted { .. }) => 0,
         Ok(Checked::NotAccepted { line, cause }) => {
+            let _ = put_log(line, cause, err);
+            7
+        }
+        Err(stop) => tell_stop(stop, err),
+    }
+}
+
+/// The status of a trim; where the log is not accepted, and where it stopped, the error stream is told.
+pub fn end_trim<E: Sink>(ended: Result<Trimming, Stop>, err: &mut E) -> u8
+    ensures status { result ≡ trim_status ended }
+    ensures line { TellsTrimming ended (stream E.spot E.contents E.faults err.old err.new) }
+    ensures sink { IsSameSink E.spot E.rest E.faults err.old err.new }
+{
+    match ended {
+        Ok(Trimming::Shortened { .. }) => 0,
+        Ok(Trimming::NotAccepted { line, cause }) => {
             let _ = put_log(line, cause, err);
             7
         }

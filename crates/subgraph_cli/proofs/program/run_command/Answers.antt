@@ -12,5 +12,8 @@ returns-in-Encode-clause-ran g c = rw c.in-Encode.is (c.run_encode.ensures.ran c
 pub returns-in-Check-clause-ran : goal.returns-in-Check-clause-ran
 returns-in-Check-clause-ran g c = rw c.in-Check.is (c.run_check.ensures.ran c.args.spent.now.items)
 
+pub returns-in-Trim-clause-ran : goal.returns-in-Trim-clause-ran
+returns-in-Trim-clause-ran g c = rw c.in-Trim.is (c.run_trim.ensures.ran c.args.spent.now.items)
+
 pub returns-in-Demo-clause-ran : goal.returns-in-Demo-clause-ran
 returns-in-Demo-clause-ran g c = rw c.in-Demo.is (c.run_demo.ensures.ran _ refl)
