@@ -25,7 +25,8 @@ from .errors import (
 from .graph import Graph, as_graph
 from .matcher import DiGraphMatcher, GraphMatcher
 from .program import Progress
-from .questions import Proof, check, encode, find, verify
+from .questions import Proof, check, encode, find, trim, verify
+from .batch import Unknown, batch
 from .draw import draw
 from .reading import read_graph
 from .version import VERSION as __version__
@@ -46,11 +47,14 @@ __all__ = [
     "SubgraphError",
     "TextRefused",
     "Undecided",
+    "Unknown",
     "as_graph",
+    "batch",
     "check",
     "draw",
     "encode",
     "find",
     "read_graph",
+    "trim",
     "verify",
 ]

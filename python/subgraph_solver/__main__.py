@@ -8,7 +8,7 @@ from typing import Any, List, Optional
 
 from .draw import draw
 from .errors import SubgraphError, Undecided
-from .questions import Proof, check, encode, find, verify
+from .questions import Proof, check, encode, find, trim, verify
 from .reading import read_graph
 
 #: The status if the words or the files are at fault, before the program is asked.
@@ -33,6 +33,10 @@ def _words() -> argparse.ArgumentParser:
     of_check = commands.add_parser("check", help="judge a proof log over an encoding")
     of_check.add_argument("encoding")
     of_check.add_argument("log")
+    of_trim = commands.add_parser("trim", help="write a log without the steps on which nothing rests")
+    of_trim.add_argument("encoding")
+    of_trim.add_argument("log")
+    of_trim.add_argument("out", help="the file to write")
     return words
 
 
@@ -105,6 +109,10 @@ def _find(asked: argparse.Namespace, how: dict, pattern: Any, target: Any) -> in
 def _answer(asked: argparse.Namespace) -> int:
     if asked.command == "check":
         print(f"accepted {check(asked.encoding, asked.log)}")
+        return 0
+    if asked.command == "trim":
+        kept, made = trim(asked.encoding, asked.log, asked.out)
+        print(f"kept {kept} of {made}")
         return 0
     pattern = read_graph(asked.pattern, asked.kind, asked.directed)
     target = read_graph(asked.target, asked.kind, asked.directed)

@@ -54,7 +54,7 @@ class Undecided(SubgraphError):
 class NotACommand(SubgraphError, ValueError):
     """The program refuses the command line (status 3).
 
-    A number is out of its range, or this build of the program does not know an option.
+    A number is out of its range, or this build of the program does not know an option or a command.
 
     Attributes
     ----------
@@ -63,19 +63,21 @@ class NotACommand(SubgraphError, ValueError):
     """
 
     def __init__(self, line: str, words: Sequence[str]) -> None:
-        newer = [it for it in ("--threads", "--prove") if it in words]
+        newer = [it for it in ("batch", "trim") if it in words[:1]] + [it for it in ("--threads", "--prove") if it in words]
         hint = f" (this build of the program may not know {' or '.join(newer)})" if newer else ""
         super().__init__(f"{line}: {' '.join(words)}{hint}", 3, line)
         self.words = list(words)
 
 
 class TextRefused(SubgraphError, ValueError):
-    """A graph, mapping, encoding or log is not of its form, or too large (status 4).
+    """A graph, mapping, encoding, log or list is not of its form, or too large (status 4).
 
     Attributes
     ----------
     who : str
-        ``pattern``, ``target``, ``mapping``, ``encoding`` or ``log``.
+        ``pattern``, ``target``, ``mapping``, ``encoding``, ``log`` or ``list``.
+    job : int or None
+        The number of the question in a batch, from 1, if it is a graph of a batch.
     place : tuple of (str, int), or None
         ``("word", number)`` or ``("line", number)`` of the first fault, from 1; ``None`` if the text is too long.
     cause : str
@@ -84,7 +86,9 @@ class TextRefused(SubgraphError, ValueError):
 
     def __init__(self, line: str) -> None:
         super().__init__(line, 4, line)
-        self.who, _, rest = line.partition(": ")
+        named = re.fullmatch(r"job (\d+) (.*)", line)
+        self.job: Optional[int] = int(named[1]) if named else None
+        self.who, _, rest = (named[2] if named else line).partition(": ")
         found = re.fullmatch(r"(word|line) (\d+): (\w+)", rest)
         self.place: Optional[Tuple[str, int]] = (found[1], int(found[2])) if found else None
         self.cause = found[3] if found else rest
@@ -105,7 +109,7 @@ class OutOfMemory(SubgraphError, MemoryError):
 
 
 class LogRefused(SubgraphError):
-    """``check`` refuses the log, at its first faulty line (status 7).
+    """``check`` or ``trim`` refuses the log, at its first faulty line (status 7).
 
     Attributes
     ----------

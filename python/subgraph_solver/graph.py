@@ -153,32 +153,41 @@ def lad_text(
 
 
 def label_numbers(pattern: Graph, target: Graph) -> Optional[Dict[Hashable, int]]:
-    """A number for each label of two graphs, or ``None`` if neither has labels.
-
-    If all labels are numbers from 0 to 4,294,967,295, each stands for itself. So a file shows an atomic number as it is. Other
-    labels are counted from 0 as they come.
-    """
-    return _numbers(pattern.labels, target.labels, "labels")
+    """A number for each label of two graphs, or ``None`` if neither has labels; `label_numbering` says which."""
+    has_labels, _ = labelled_alike(pattern, target)
+    return label_numbering(it.labels or () for it in (pattern, target)) if has_labels else None
 
 
 def edge_label_numbers(pattern: Graph, target: Graph) -> Optional[Dict[Hashable, int]]:
     """As `label_numbers`, for the labels of edges."""
-    labels = [None if it.edge_labels is None else list(it.edge_labels.values()) for it in (pattern, target)]
-    return _numbers(labels[0], labels[1], "labels of edges")
+    _, has_labels = labelled_alike(pattern, target)
+    return label_numbering((it.edge_labels or {}).values() for it in (pattern, target)) if has_labels else None
 
 
-def _numbers(
-    of_pattern: Optional[List[Hashable]], of_target: Optional[List[Hashable]], what: str
-) -> Optional[Dict[Hashable, int]]:
-    if of_pattern is None and of_target is None:
-        return None
-    if of_pattern is None or of_target is None:
-        bare = "pattern" if of_pattern is None else "target"
-        raise ValueError(f"the {bare} has no {what}, and the other graph has some")
-    labels = dict.fromkeys([*of_pattern, *of_target])
-    if all(type(it) is int and 0 <= it < 1 << 32 for it in labels):
-        return {it: it for it in labels}
-    return {label: number for number, label in enumerate(labels)}
+def labelled_alike(pattern: Graph, target: Graph) -> Tuple[bool, bool]:
+    """Do the vertices of both graphs have labels, and do their edges? Refuses two graphs of which one alone has some."""
+    labelled = []
+    for what, pair in (
+        ("labels", (pattern.labels, target.labels)),
+        ("labels of edges", (pattern.edge_labels, target.edge_labels)),
+    ):
+        bare = [it for it, labels in zip(("pattern", "target"), pair) if labels is None]
+        if len(bare) == 1:
+            raise ValueError(f"the {bare[0]} has no {what}, and the other graph has some")
+        labelled.append(not bare)
+    return labelled[0], labelled[1]
+
+
+def label_numbering(labels: Iterable[Iterable[Hashable]]) -> Dict[Hashable, int]:
+    """A number for each label of several graphs.
+
+    If all labels are numbers from 0 to 4,294,967,295, each stands for itself. So a file shows an atomic number as it is. Other
+    labels are counted from 0 as they come.
+    """
+    found = dict.fromkeys(it for of_one in labels for it in of_one)
+    if all(type(it) is int and 0 <= it < 1 << 32 for it in found):
+        return {it: it for it in found}
+    return {label: number for number, label in enumerate(found)}
 
 
 def read_lad(text: str, labelled: bool = False, directed: bool = False, edges_labelled: bool = False) -> Graph:

@@ -81,6 +81,7 @@ def run(
     out: Optional[IO[bytes]] = None,
     watcher: Optional[Watcher] = None,
     every: float = 0.5,
+    cwd: Optional[str] = None,
 ) -> Tuple[int, str, str]:
     """Runs the program. Answers its exit status, its output and its message.
 
@@ -96,6 +97,8 @@ def run(
     watcher : callable, optional
         Called every `every` seconds.
     every : float
+    cwd : str, optional
+        The folder that the program runs in. A relative path of the program is one from there.
     """
     whole: List[str] = [program, *words]
     with subprocess.Popen(
@@ -103,6 +106,7 @@ def run(
         stdin=subprocess.DEVNULL,
         stdout=subprocess.PIPE if out is None else out,
         stderr=subprocess.PIPE,
+        cwd=cwd,
     ) as process:
         try:
             while True:

@@ -2,6 +2,7 @@
 from __future__ import annotations
 
 import os
+import re
 import shutil
 import tempfile
 from contextlib import contextmanager
@@ -53,9 +54,7 @@ class _Files:
         self.folder = folder
         self.pattern = pattern
         self.target = target
-        if pattern.directed != target.directed:
-            kinds = [f"the {it} is {'' if graph.directed else 'un'}directed" for it, graph in self._graphs()]
-            raise ValueError(f"{kinds[0]}, and {kinds[1]}: give both directions, or neither")
+        same_directions(pattern, target)
         numbers, edge_numbers = label_numbers(pattern, target), edge_label_numbers(pattern, target)
         self.format = lad_format(pattern.directed, numbers is not None, edge_numbers is not None)
         paths = []
@@ -70,6 +69,14 @@ class _Files:
 
     def _graphs(self) -> Tuple[Tuple[str, Graph], ...]:
         return ("pattern", self.pattern), ("target", self.target)
+
+
+def same_directions(pattern: Graph, target: Graph) -> None:
+    """Refuses two graphs of which one has directions."""
+    if pattern.directed != target.directed:
+        both = ("pattern", pattern), ("target", target)
+        kinds = [f"the {it} is {'' if graph.directed else 'un'}directed" for it, graph in both]
+        raise ValueError(f"{kinds[0]}, and {kinds[1]}: give both directions, or neither")
 
 
 @contextmanager
@@ -375,4 +382,36 @@ def check(encoding: StrPath, log: StrPath, program: Optional[StrPath] = None) ->
     head, _, verdict = out.strip().partition(" ")
     if status == 0 and head == "accepted":
         return verdict
+    raise error_of(status, line, words)
+
+
+def trim(encoding: StrPath, log: StrPath, path: StrPath, program: Optional[StrPath] = None) -> Tuple[int, int]:
+    """Writes a log without the steps on which nothing rests.
+
+    The trimmed log has hints, deletes each step behind the one that uses it last, and shows the same as the whole one.
+    Checking it takes less memory. It need not be shorter. A log that `check` refuses is refused here too.
+
+    Parameters
+    ----------
+    encoding, log : paths
+        As `check` has them.
+    path : path
+        The file that gets the trimmed log. It is neither of the two. It is not touched if the log is refused.
+    program : path, optional
+
+    Returns
+    -------
+    kept, made : int
+        How many steps the trimmed log makes, and how many the whole one.
+
+    Raises
+    ------
+    LogRefused
+        The log has a faulty line.
+    """
+    words = ["trim", *(os.fspath(it) for it in (encoding, log, path))]
+    status, out, line = run(find_program(program), words)
+    found = re.fullmatch(r"kept (\d+) of (\d+)\n", out)
+    if status == 0 and found:
+        return int(found[1]), int(found[2])
     raise error_of(status, line, words)
