@@ -18,16 +18,15 @@ static auto same_kind(const Labelled &small, const Labelled &large) {
     return boost::make_property_map_equivalent(get(boost::edge_name, small), get(boost::edge_name, large));
 }
 
-template <class Edges> static int answer(const Asked &asked, const Graph &pattern, const Graph &target) {
-    std::vector<size_t> map;
-    bool found = false;
+template <class Edges> static Images answer(const Asked &asked, const Graph &pattern, const Graph &target) {
+    Images found;
     if (pattern.size() <= target.size()) {
         Edges small(pattern.size()), large(target.size());
         each_edge(pattern, [&](size_t v, size_t u, uint32_t kind) { join(small, v, u, kind); });
         each_edge(target, [&](size_t v, size_t u, uint32_t kind) { join(large, v, u, kind); });
         auto take = [&](auto forward, auto) {
-            for (size_t p = 0; p < pattern.size(); p++) map.push_back(get(forward, p));
-            found = true;
+            found.emplace();
+            for (size_t p = 0; p < pattern.size(); p++) found->push_back(get(forward, p));
             return false;
         };
         auto fit = [&](size_t p, size_t t) { return fits(pattern, target, asked.induced, p, t); };
@@ -37,13 +36,14 @@ template <class Edges> static int answer(const Asked &asked, const Graph &patter
         if (asked.induced) boost::vf2_subgraph_iso(small, large, take, ids, target_ids, order, same, fit);
         else boost::vf2_subgraph_mono(small, large, take, ids, target_ids, order, same, fit);
     }
-    return told(found, map.size(), [&](size_t p) { return map[p]; });
+    return found;
 }
 
 int main(int count, char **words) {
     Asked asked(count, words);
-    Graph pattern = Graph::read(asked.files[0], asked.format), target = Graph::read(asked.files[1], asked.format);
-    if (asked.format.edge_labels) return answer<Labelled>(asked, pattern, target);
-    if (asked.format.directed) return answer<Directed>(asked, pattern, target);
-    return answer<Plain>(asked, pattern, target);
+    return answer_all(asked, [&](const Graph &pattern, const Graph &target) {
+        if (asked.format.edge_labels) return answer<Labelled>(asked, pattern, target);
+        if (asked.format.directed) return answer<Directed>(asked, pattern, target);
+        return answer<Plain>(asked, pattern, target);
+    });
 }

@@ -6,6 +6,7 @@
 #include <cstring>
 #include <fstream>
 #include <iostream>
+#include <optional>
 #include <string>
 #include <utility>
 #include <vector>
@@ -84,6 +85,7 @@ inline bool fits(const Graph &pattern, const Graph &target, bool induced, size_t
 
 struct Asked {
     std::vector<const char *> files;
+    const char *list = nullptr;
     bool induced = false;
     Format format;
     uint64_t seed = 0, budget = UINT64_MAX;
@@ -92,13 +94,14 @@ struct Asked {
         for (int i = 1; i < count; i++) {
             std::string word = words[i];
             if (word == "--induced") induced = true;
+            else if (word == "--list" && i + 1 < count) list = words[++i];
             else if (word == "--format" && i + 1 < count) format = Format::named(words[++i]);
             else if (word == "--seed" && i + 1 < count) seed = std::strtoull(words[++i], nullptr, 10);
             else if (word == "--budget" && i + 1 < count) budget = std::strtoull(words[++i], nullptr, 10);
             else files.push_back(words[i]);
         }
-        if (files.size() != 2) {
-            std::cerr << "PATTERN TARGET [--induced] [--format F]\n";
+        if (files.size() != (list ? 0 : 2)) {
+            std::cerr << "PATTERN TARGET [--induced] [--format F], or --list LIST [--format F]\n";
             std::exit(3);
         }
     }
@@ -115,4 +118,25 @@ template <class Image> int told(bool found, size_t size, Image image) {
     std::cout << (found ? "yes\n" : "none\n");
     for (size_t p = 0; found && p < size; p++) std::cout << p << " -> " << image(p) << "\n";
     return found ? 0 : 1;
+}
+
+// The images of the pattern's vertices, or none.
+using Images = std::optional<std::vector<size_t>>;
+
+// Answers the one question of the words; or with a list each of its lines, a pattern and a target, as `subgraph batch` does. `search` gets both
+// graphs.
+template <class Search> int answer_all(const Asked &asked, Search search) {
+    if (!asked.list) {
+        Images found = search(Graph::read(asked.files[0], asked.format), Graph::read(asked.files[1], asked.format));
+        return told(found.has_value(), found ? found->size() : 0, [&](size_t p) { return (*found)[p]; });
+    }
+    std::ifstream list(asked.list);
+    std::string pattern, target;
+    for (size_t job = 1; list >> pattern >> target; job++) {
+        Images found = search(Graph::read(pattern.c_str(), asked.format), Graph::read(target.c_str(), asked.format));
+        std::cout << job << (found ? ": yes" : ": none");
+        for (size_t image : found.value_or(std::vector<size_t>())) std::cout << " " << image;
+        std::cout << "\n";
+    }
+    return 0;
 }

@@ -17,10 +17,8 @@ static void colours(const Graph &from, igraph_vector_int_t *colour) {
     each_edge(from, [&](size_t, size_t, uint32_t kind) { igraph_vector_int_push_back(colour, kind); });
 }
 
-int main(int count, char **words) {
-    Asked asked(count, words);
-    if (asked.induced) not_taken();
-    Graph pattern = Graph::read(asked.files[0], asked.format), target = Graph::read(asked.files[1], asked.format);
+static Images search(const Graph &pattern, const Graph &target, bool coloured) {
+    if (pattern.size() > target.size()) return {};
     igraph_t small, large;
     build(pattern, &small);
     build(target, &large);
@@ -30,9 +28,17 @@ int main(int count, char **words) {
     igraph_vector_int_init(&map, 0);
     igraph_bool_t found = 0;
     Both both{&pattern, &target};
-    bool coloured = asked.format.edge_labels;
-    if (pattern.size() <= target.size())
-        igraph_subisomorphic_vf2(&large, &small, nullptr, nullptr, coloured ? &large_colours : nullptr, coloured ? &small_colours : nullptr,
-                                 &found, nullptr, &map, may_go, nullptr, &both);
-    return told(found, pattern.size(), [&](size_t p) { return VECTOR(map)[p]; });
+    igraph_subisomorphic_vf2(&large, &small, nullptr, nullptr, coloured ? &large_colours : nullptr, coloured ? &small_colours : nullptr, &found,
+                             nullptr, &map, may_go, nullptr, &both);
+    Images images;
+    if (found) images.emplace(VECTOR(map), VECTOR(map) + pattern.size());
+    for (auto it : {&small_colours, &large_colours, &map}) igraph_vector_int_destroy(it);
+    for (auto it : {&small, &large}) igraph_destroy(it);
+    return images;
+}
+
+int main(int count, char **words) {
+    Asked asked(count, words);
+    if (asked.induced) not_taken();
+    return answer_all(asked, [&](const Graph &pattern, const Graph &target) { return search(pattern, target, asked.format.edge_labels); });
 }

@@ -2,8 +2,9 @@
 """Substructure match of RDKit (Debian's python3-rdkit) behind the words of the other peers: molecules in `labelledlad`, not induced.
 
     rdkit_match.py PATTERN TARGET --format labelledlad
+    rdkit_match.py --list LIST --format labelledlad
 
-The molecules are built from the text: atoms by their number, bonds by their kind, without charges or hydrogen. Prints the answer and the map,
+With a list each of its lines, a pattern and a target, gets a line `J: yes` or `J: none`, as of `subgraph batch` without images. The molecules are built from the text: atoms by their number, bonds by their kind, without charges or hydrogen. Prints the answer and the map,
 and on standard error the seconds of the call alone, which are what a user of that library pays; anything else is `not taken`.
 """
 import sys
@@ -32,8 +33,25 @@ def build(chem, path):
     return molecule
 
 
+def answer_list(path):
+    """A line for each question of a list, and the seconds of all calls."""
+    from rdkit import Chem
+
+    seconds = 0.0
+    with open(path, encoding="ascii") as file:
+        for number, line in enumerate(file, 1):
+            pattern, target = (build(Chem, it) for it in line.split())
+            begun = time.process_time()
+            found = target.HasSubstructMatch(pattern)
+            seconds += time.process_time() - begun
+            print(f"{number}: {'yes' if found else 'none'}")
+    print(f"seconds {seconds:.6f}", file=sys.stderr)
+
+
 def main():
     words = sys.argv[1:]
+    if words[:1] == ["--list"]:
+        return answer_list(words[1])
     files = [it for it in words[:2] if not it.startswith("-")]
     molecules = []
     if len(files) == 2 and "labelledlad" in words and "--induced" not in words:

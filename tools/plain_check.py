@@ -369,9 +369,9 @@ class Log:
         return None
 
 
-def judge(encoding: Tuple[int, List[Constraint]], text: bytes) -> str:
-    """What the log shows of the encoding."""
-    log = Log(*encoding)
+def judge(encoding: Tuple[int, List[Constraint]], text: bytes, log: Optional[Log] = None) -> str:
+    """What the log shows of the encoding. With a `Log` its steps are taken by that one."""
+    log = log or Log(*encoding)
     pieces = text.split(b"\n")
     shown: Optional[str] = None
     for number, piece in enumerate(pieces, 1):
