@@ -8,7 +8,7 @@
 #                                     other, what is made from other files, and that no page or sentence is too long
 #   make hostile TEXTS=10000          the program on hostile texts, each held against a plain reading; with each allocation refused; and
 #                                     over files and streams that fail
-#   make docs                         makes the manual page, the picture of the crates and the lists of statements anew
+#   make docs                         makes the manual page, the pictures of crates and workers and the lists of statements anew
 #   make house MOST=20                lists what is longer than it should be and what stands twice, the longest first
 
 PREFIX ?= /usr/local
@@ -54,6 +54,7 @@ test: build
 	$(PYTHON) tools/man.py --check
 	$(PYTHON) tools/man.py --run $(PROGRAM)
 	$(PYTHON) docs/crates.py --check
+	$(PYTHON) docs/two_workers.py --check
 	$(PYTHON) tools/claims.py --check
 	$(PYTHON) tools/pages.py --check
 
@@ -66,6 +67,7 @@ hostile: build
 docs:
 	$(PYTHON) tools/man.py
 	$(PYTHON) docs/crates.py
+	$(PYTHON) docs/two_workers.py
 	$(PYTHON) tools/claims.py
 
 house:

@@ -54,7 +54,8 @@ def answer(command: str, program: str, folder: str) -> Tuple[Optional[str], str]
         return None, "it is no command of this repository"
     for at, word in enumerate(split):
         inside = os.path.join(folder, word)
-        if os.path.exists(inside) or (at > 0 and split[at - 1] in WRITTEN):
+        is_out = split[1] == "trim" and at == len(split) - 1
+        if os.path.exists(inside) or is_out or (at > 0 and split[at - 1] in WRITTEN):
             split[at] = inside
     environment = {**os.environ, "PYTHONPATH": str(TOP / "python"), "SUBGRAPH_PROGRAM": program}
     done = subprocess.run(split, cwd=TOP, env=environment, capture_output=True, text=True, timeout=120)

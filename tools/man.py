@@ -22,16 +22,20 @@ PAGE = TOP / "docs" / "subgraph.1"
 
 SYNOPSIS = """\
 subgraph solve [OPTION]... PATTERN TARGET
+subgraph batch [--format F] [--threads N] [--seed N] [--budget N] [--book N] LIST
 subgraph verify [--format F] [--induced] PATTERN TARGET MAPPING
 subgraph encode [--format F] [--induced] PATTERN TARGET
 subgraph check ENCODING LOG
+subgraph trim ENCODING LOG OUT
 subgraph demo [--threads N] [--budget N] SEED
 """
 DESCRIPTION = """\
 An embedding maps each vertex of PATTERN to a vertex of TARGET of its own, and keeps labels and edges. `solve` finds one, or
-tells that none exists, or that its budget is spent. `verify` tests the mapping of a file. `encode` writes the question as
-pseudo-Boolean constraints, whose solutions are the embeddings. `check` judges a proof log over such constraints. `demo` makes
-two problems from SEED and decides them: a planted pattern, and a cycle that does not embed.
+tells that none exists, or that its budget is spent. `batch` does so for each line of LIST: the names of a pattern and a target,
+and perhaps `induced`, with one blank between. It writes a line for each. `verify` tests the mapping of a file. `encode` writes the question as
+pseudo-Boolean constraints, whose solutions are the embeddings. `check` judges a proof log over such constraints. `trim` writes
+to OUT the steps of a log that its end rests on, each deleted behind its last use. OUT is neither of the other files by name.
+`demo` makes two problems from SEED and decides them: a planted pattern, and a cycle that does not embed.
 Options stand after the command's word, each at most once. After `--` every word is a name.
 """
 OPTIONS: List[Tuple[str, str]] = [
@@ -40,8 +44,8 @@ OPTIONS: List[Tuple[str, str]] = [
     ("--format directedlad", "As `lad`, but a listed neighbour is an edge in one direction."),
     ("--format labelledlad", "Directed, with labels of vertices, and after each neighbour the label of the edge to it."),
     ("--induced", "Images of vertices without an edge have no edge either."),
-    ("--threads N", "From 1, the default, to 64 searches share the work. What the answer says does not depend on N."),
-    ("--budget N", "At most N failed guesses of each thread, from 1 to 9,223,372,036,854,775,807, the default."),
+    ("--threads N", "From 1, the default, to 64 searches share the work. In `batch` each question has one search, and N go on at a time. What is decided does not depend on N."),
+    ("--budget N", "At most N failed guesses of each thread, in `batch` of each question, from 1 to 9,223,372,036,854,775,807, the default."),
     (
         "--book N",
         "The threads share N rows of what they have refuted, from 0 to 4,194,304; the default is 65,536. Once the book is full nothing more is "
@@ -67,12 +71,20 @@ $ subgraph solve --budget 3 triangle.lad four-cycle.lad
 unknown
 $ subgraph solve --threads 4 --book 1048576 triangle.lad four-cycle.lad
 none
+$ printf 'triangle.lad triangle.lad induced\\ntriangle.lad four-cycle.lad\\n' > list
+$ subgraph batch --threads 2 list
+1: yes 1 2 0
+2: none
 $ subgraph solve triangle.lad triangle.lad > answer
 $ subgraph verify triangle.lad triangle.lad answer
 embedding
 $ subgraph solve triangle.lad four-cycle.lad --prove question.opb --log proof.log
 none
 $ subgraph check question.opb proof.log
+accepted unsatisfiable
+$ subgraph trim question.opb proof.log trimmed.log
+kept 9 of 9
+$ subgraph check question.opb trimmed.log
 accepted unsatisfiable
 """
 
@@ -124,8 +136,9 @@ def page(text: str, version: str) -> str:
     for option, meaning in OPTIONS:
         lines += [".TP", roff(f"`{option}`"), roff(meaning)]
     lines += [".SH EXIT STATUS"]
-    for status, answer, meaning, *_ in rows_of(text, "status"):
-        lines += [".TP", f"\\fB{status}\\fR", roff(f"{answer}: {meaning}" if answer else meaning)]
+    for status, who, answer, meaning in rows_of(text, "status"):
+        of = "" if who == "each" else f" of {who}"
+        lines += [".TP", f"\\fB{status}\\fR{roff(of)}", roff(f"{answer}: {meaning}" if answer else meaning)]
     lines += [
         ".PP",
         roff("`check` ends with 0 for `accepted undecided` too: read the line, not the status alone."),
@@ -134,7 +147,7 @@ def page(text: str, version: str) -> str:
         *(roff(it) for it in SESSION.splitlines()),
         ".fi",
         ".SH LIMITS",
-        "A pattern of 1,024 vertices, a target of 8,192; 67,108,864 bytes a graph or mapping, 2^40 an encoding or log; 4,095 bytes a name.",
+        "A pattern of 1,024 vertices, a target of 8,192; 67,108,864 bytes a graph or mapping, 1,048,576 a list, 2^40 an encoding or log; 1,000 lines a list; 4,095 bytes a name.",
         ".SH SEE ALSO",
         "docs/FORMATS.md of the repository for the formats, docs/CLAIMS.md for what is proved of the answers.",
     ]

@@ -35,6 +35,7 @@ STEPS: Dict[str, Tuple[Path, List[str]]] = {
     "tests of the plain checker": (TOP, ["tools/test_plain_check.py"]),
     "manual page": (TOP, ["tools/man.py", "--check"]),
     "picture of the crates": (TOP, ["docs/crates.py", "--check"]),
+    "picture of two workers": (TOP, ["docs/two_workers.py", "--check"]),
     "lists of claims": (TOP, ["tools/claims.py", "--check"]),
 }
 children: Set[subprocess.Popen] = set()
