@@ -164,6 +164,10 @@ static WITH_HINTS: [Family; 4] = [
             b"embedding proof 1\nm 2\np 0.1 1 2 * 3 * 2 d 3 d ;\nq\n",
             b"embedding proof 1\nm 2\np 0.1 1 2 + 2 d ;\nn 7 0.1\nd 0.1\nu 0.2 x1 ; #7 ;\nd #7\n\
                 p 0.3 0.2 ;\nd 0.2\ny x1\n",
+            b"embedding proof 1\nm 2\np 0.1 1 0 * ;\nq\n",
+            b"embedding proof 1\nm 2\np 0.1 1 + ;\nq\n",
+            b"embedding proof 1\nm 2\nu 0.1 x1 x1 ; 1 ;\nq\n",
+            b"embedding proof 1\nm 2\np 0.1 1 9223372036854775807 * 9223372036854775807 * ;\nq\n",
         ],
     },
     Family {
