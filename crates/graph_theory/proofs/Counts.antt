@@ -1,6 +1,6 @@
 -- Counting the numbers below a bound that pass a test.
 
-use Rattle.std.proofs.Common.{◌≡◌, ℕ, zero, suc, ◌+◌, ◌<◌, ◌≤◌, ◌==◌, Bool, true, false, ◌&&◌, not, if◌then◌else◌, refl, ap, ◌∙◌, subst, arith}
+use Rattle.std.proofs.Common.{◌≡◌, ℕ, zero, suc, ◌+◌, ◌<◌, ◌≤◌, ◌==◌, nat_lt, Bool, true, false, ◌&&◌, not, if◌then◌else◌, refl, ap, ◌∙◌, subst, zero-add, arith}
 use Rattle.std.proofs.lemmas.Grind.{common_steps}
 use Rattle.graph_theory.specs.Neighbours.{count}
 
@@ -62,6 +62,36 @@ kept g i j passes other = by_place (i == j) refl
     by_place : (b : Bool) → (i == j) ≡ b → without g j i ≡ true
     by_place true is = absurd (other (grind (arith, common_steps)))
     by_place false is = grind (arith, common_steps)
+
+-- where one passes the count is above 0
+pub count_some : (f : ℕ → Bool) (j n : ℕ) → j < n → f j ≡ true → nat_lt 0 (count f n) ≡ true
+count_some f j n j_in here =
+    let one = count-without f j n j_in here in
+    grind (arith, common_steps)
+
+-- where two pass it is above 1
+pub count_two : (f : ℕ → Bool) (i j n : ℕ) → i < n → j < n → (i ≡ j → ⊥) → f i ≡ true → f j ≡ true → nat_lt 1 (count f n) ≡ true
+count_two f i j n i_in j_in other first second =
+    let one = count-without f j n j_in second in
+    let more = count-without (without f j) i n i_in (kept f i j first other) in
+    grind (arith, common_steps)
+
+-- one that passes, and its place
+pub record Passes (f : ℕ → Bool) (n : ℕ) : Type 0 where
+  pub at : ℕ
+  pub at_in : at < n
+  pub passes : f at ≡ true
+
+-- where the count is above 0 one passes
+pub some_passes : (f : ℕ → Bool) (n : ℕ) → nat_lt 0 (count f n) ≡ true → Passes f n
+some_passes f zero h = absurd (cc h)
+some_passes f (suc n) h = by_last (some_passes f n) (f n) refl
+  where
+    by_last : (nat_lt 0 (count f n) ≡ true → Passes f n) → (b : Bool) → f n ≡ b → Passes f (suc n)
+    by_last below true is = record { at = n; at_in = omega arith; passes = is }
+    by_last below false is =
+        let w = below (subst (λ (k : ℕ). nat_lt 0 k ≡ true) (count-fail f n is ∙ zero-add (count f n)) h) in
+        record { at = w.at; at_in = omega (arith, w.at_in); passes = w.passes }
 
 -- where each number that passes has another that passes, and two have two, there are at least as many of these
 pub count-injects : (f g : ℕ → Bool) (h : ℕ → ℕ) (n k : ℕ)

@@ -5,6 +5,8 @@ pub mod ListedVertices
 pub mod Counts
 pub mod FallingLists
 pub mod NeighbourCounts
+pub mod BlockProofs
+pub mod Orders
 pub mod PlainTests
 pub mod Listing
 pub mod Walk
@@ -17,3 +19,4 @@ pub mod OneAnswer
 pub mod MappingWords
 pub mod PlainGraphs
 pub mod ReversedGraphs
+pub mod AskedMutual

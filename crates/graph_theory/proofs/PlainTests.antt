@@ -3,17 +3,18 @@
 use Rattle.std.proofs.Common.{◌≡◌, ℕ, Bool, true, false, not, IsTrue, ◌<◌, List, [], ◌∷◌, ◌++◌, length, slice_index, refl, sym, subst, append_assoc, length-append, arith}
 use Rattle.graph_theory.specs.Path.{Extends, Dead}
 use Rattle.graph_theory.specs.Graph.{size}
-use Rattle.graph_theory.specs.Embedding.{Problem, Embeds}
+use Rattle.graph_theory.specs.Embedding.{Problem, InOrder, Embeds}
 use Rattle.graph_theory.specs.PlainSteps.{AreImages, RowsAreKept, Completes}
 
--- images that are right one by one and row by row embed
-pub embeds-from_rows : (q : Problem) (m : List ℕ) → length m ≡ size q.pattern → AreImages q m → RowsAreKept q m → Embeds q m
-embeds-from_rows q m size_is images kept = record {
+-- images that are right one by one and row by row, and in order, embed
+pub embeds-from_rows : (q : Problem) (m : List ℕ) → length m ≡ size q.pattern → AreImages q m → RowsAreKept q m → InOrder q.less m → Embeds q m
+embeds-from_rows q m size_is images kept order = record {
   size_is = size_is;
   values = λ p p_in. (images.each p p_in).value;
   distinct = λ p r p_in r_in same. ((kept.rows p p_in).each r r_in).distinct same;
   labels = λ p p_in. (images.each p p_in).label_is;
   edges = λ p r p_in r_in. ((kept.rows p p_in).each r r_in).edge_is;
+  order = order;
 }
 
 -- an embedding's images are right

@@ -1,11 +1,13 @@
 -- Graphs with their edges turned round.
 
-use Rattle.std.proofs.Common.{◌≡◌, ℕ, ◌<◌, ◌==◌, Bool, true, false, ◌&&◌, not, List, [], ◌∷◌, ◌++◌, map, Option, is_some, slice_index, if◌then◌else◌, zero, suc, refl, sym, ap, ◌∙◌, arith}
+use Rattle.std.proofs.Common.{◌≡◌, ℕ, ◌<◌, ◌==◌, nat_lt, Bool, true, false, ◌&&◌, ◌||◌, not, List, [], ◌∷◌, ◌++◌, map, Option, is_some, slice_index, if◌then◌else◌, zero, suc, refl, sym, ap, ◌∙◌, arith}
 use Rattle.std.proofs.lemmas.List.{map-append}
 use Rattle.graph_theory.specs.Graph.{Graph, size, edge, row_edge, entry_edge, tabulate}
-use Rattle.graph_theory.specs.Embedding.{Problem, Embeds, Matches}
-use Rattle.graph_theory.specs.Neighbours.{members, is_neighbour, is_in_neighbour, degree, falling}
-use Rattle.graph_theory.specs.Reversed.{reversed, IsMutual, EdgesAreBack, EmbedsReversed, DeadReversed, turned, turned_problem, DegreesAreBack, MutualDegrees, MutualSequences, MutualShared, PlainIsMutual, ReversedLaws}
+use Rattle.graph_theory.specs.Embedding.{Problem, near_both, differ_in, differ, Embeds, Matches}
+use Rattle.graph_theory.specs.Neighbours.{members, is_near, is_neighbour, is_in_neighbour, degree, falling}
+use Rattle.graph_theory.specs.declared.embedding.Maps.{Maps}
+use Rattle.graph_theory.specs.declared.embedding.Maps.TheVariants.{Injective, Local, Any}
+use Rattle.graph_theory.specs.Reversed.{reversed, IsMutual, EdgesAreBack, EmbedsReversed, DeadReversed, reversed_problem, turned, turned_problem, DegreesAreBack, MutualDegrees, MutualSequences, MutualShared, PlainIsMutual, ReversedLaws}
 use Rattle.graph_theory.specs.declared.direction.Direction.{Direction}
 use Rattle.graph_theory.specs.declared.direction.Direction.TheVariants.{Out, In}
 use Rattle.graph_theory.proofs.Tables.{slice_get-tabulate}
@@ -17,14 +19,41 @@ edge-reversed g a b a_in b_in =
     ap (λ (row : Option (List (Option ℕ))). row_edge row b) (slice_get-tabulate (size g) (λ (c : ℕ). tabulate (size g) (λ (d : ℕ). edge g d c)) a a_in)
     ∙ ap entry_edge (slice_get-tabulate (size g) (λ (d : ℕ). edge g d a) b b_in)
 
+-- what is near stays so, and with it the images that differ
+or_swapped : (a b : Bool) → (a || b) ≡ (b || a)
+or_swapped true true = refl
+or_swapped true false = refl
+or_swapped false true = refl
+or_swapped false false = refl
+
+pub near-reversed : (g : Graph) (a b : ℕ) → a < size g → b < size g → is_near (reversed g) a b ≡ is_near g a b
+near-reversed g a b a_in b_in =
+    ap (λ (o : Option ℕ). not (a == b) && (is_some o || is_some (edge (reversed g) b a))) (edge-reversed g a b a_in b_in)
+    ∙ ap (λ (o : Option ℕ). not (a == b) && (is_some (edge g b a) || is_some o)) (edge-reversed g b a b_in a_in)
+    ∙ ap (λ (t : Bool). not (a == b) && t) (or_swapped (is_some (edge g b a)) (is_some (edge g a b)))
+
+near_both-reversed : (g : Graph) (p r c : ℕ) → p < size g → r < size g → c < size g → near_both (reversed g) p r c ≡ near_both g p r c
+near_both-reversed g p r c p_in r_in c_in =
+    rw (near-reversed g c p c_in p_in) (ap (λ (t : Bool). is_near g c p && t) (near-reversed g c r c_in r_in))
+
+differ_in-reversed : (maps : Maps) (g : Graph) (p r : ℕ) → p < size g → r < size g → differ_in maps (reversed g) p r ≡ differ_in maps g p r
+differ_in-reversed Injective g p r p_in r_in = refl
+differ_in-reversed Local g p r p_in r_in =
+    ap (nat_lt 0) (count-same (near_both (reversed g) p r) (near_both g p r) (size g) (λ c c_in. near_both-reversed g p r c p_in r_in c_in))
+differ_in-reversed Any g p r p_in r_in = refl
+
+pub differ-reversed : (q : Problem) (p r : ℕ) → p < size q.pattern → r < size q.pattern → differ (reversed_problem q) p r ≡ differ q p r
+differ-reversed q p r p_in r_in = differ_in-reversed q.maps q.pattern p r p_in r_in
+
 -- what embeds embeds the reversed pattern into the reversed target
 pub embeds_reversed : EmbedsReversed
 embeds_reversed q m e = record {
   size_is = e.size_is;
   values = e.values;
-  distinct = e.distinct;
+  distinct = λ p r p_in r_in two. e.distinct p r p_in r_in (sym (differ-reversed q p r p_in r_in) ∙ two);
   labels = e.labels;
   edges = λ p r p_in r_in. matched p r p_in r_in;
+  order = e.order;
 }
   where
     matched : (p r : ℕ) → p < size q.pattern → r < size q.pattern

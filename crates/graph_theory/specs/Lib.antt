@@ -4,6 +4,7 @@ pub mod LadFault
 pub mod Progress
 pub mod Graph
 pub mod Embedding
+pub mod Asked
 pub mod Path
 pub mod Mapping
 pub mod PlainSteps
@@ -12,3 +13,4 @@ pub mod NeighbourLaws
 pub mod GraphText
 pub mod Plain
 pub mod Reversed
+pub mod Blocks

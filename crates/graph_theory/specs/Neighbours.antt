@@ -1,7 +1,7 @@
 -- Neighbours of a vertex: how many there are, how many two vertices share, and the degrees of a vertex's neighbours.
 -- (These counts bound what an embedding can do: Zampelli, Deville, Solnon 2010; McCreesh, Prosser 2015.)
 
-use Rattle.std.specs.Prelude.{◌≡◌, ℕ, ◌+◌, ◌<◌, ◌==◌, nat_lt, Bool, true, false, ◌&&◌, not, is_some, if◌then◌else◌, List, [], ◌∷◌, ◌++◌, length, map, zero, suc, slice_index}
+use Rattle.std.specs.Prelude.{◌≡◌, ℕ, ◌+◌, ◌<◌, ◌==◌, nat_lt, Bool, true, false, ◌&&◌, ◌||◌, not, is_some, if◌then◌else◌, List, [], ◌∷◌, ◌++◌, length, map, zero, suc, slice_index}
 use Rattle.graph_theory.specs.Graph.{Graph, size, edge}
 
 -- How many of the numbers below n pass the test.
@@ -29,6 +29,10 @@ is_in_neighbour g a b = not (a == b) && is_some (edge g b a)
 -- The number of in-neighbours.
 abbrev pub in_degree : Graph → ℕ → ℕ
 in_degree g a = count (is_in_neighbour g a) (size g)
+
+-- Vertex b is near a where it is another vertex and an edge stands between the two, in either direction.
+abbrev pub is_near : Graph → ℕ → ℕ → Bool
+is_near g a b = not (a == b) && (is_some (edge g a b) || is_some (edge g b a))
 
 -- The number of vertices that are neighbours of both.
 abbrev pub common : Graph → ℕ → ℕ → ℕ

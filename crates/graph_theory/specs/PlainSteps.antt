@@ -1,9 +1,15 @@
 -- Steps of the plain tests of a mapping and of a path; a reader may pass over them.
 
-use Rattle.std.specs.Prelude.{◌≡◌, ℕ, ◌<◌, List, ◌++◌, slice_index}
+use Rattle.std.specs.Prelude.{◌≡◌, ℕ, ◌<◌, true, List, [], ◌++◌, Option, Some, None, slice_index}
+use Rattle.std.specs.Global.{Vec}
 use Rattle.graph_theory.specs.Graph.{size, label, edge}
-use Rattle.graph_theory.specs.Embedding.{Problem, Matches, Embeds}
+use Rattle.graph_theory.specs.Embedding.{Problem, differ, Matches, Embeds}
 use Rattle.graph_theory.specs.Path.{Extends}
+
+-- The pairs of a list that may be missing.
+abbrev pub pairs_of : Option (Vec (ℕ × ℕ)) → List (ℕ × ℕ)
+pairs_of None = []
+pairs_of (Some v) = v.items
 
 -- Vertex p may go to t: t is a target vertex, and has its label.
 pub record IsImage (q : Problem) (p t : ℕ) : Type 0 where
@@ -14,9 +20,9 @@ pub record IsImage (q : Problem) (p t : ℕ) : Type 0 where
 pub record AreImages (q : Problem) (m : List ℕ) : Type 0 where
   pub each : (p : ℕ) → p < size q.pattern → IsImage q p (slice_index m p)
 
--- The images of p and r are two where these are, and keep the edges from p to r.
+-- The images of p and r are two where these are and the maps ask for it, and keep the edges from p to r.
 pub record PairIsKept (q : Problem) (m : List ℕ) (p r : ℕ) : Type 0 where
-  pub distinct : slice_index m p ≡ slice_index m r → p ≡ r
+  pub distinct : differ q p r ≡ true → slice_index m p ≡ slice_index m r → p ≡ r
   pub edge_is : Matches q.induced (edge q.pattern p r) (edge q.target (slice_index m p)
       (slice_index m r))
 

@@ -23,6 +23,8 @@ reversed_problem q = record {
   target = reversed q.target;
   induced =
       q.induced;
+  maps = q.maps;
+  less = q.less;
 }
 
 -- The rows of a graph, or those of its reversed graph.
@@ -41,6 +43,8 @@ turned_problem direction q = record {
   target = turned
       direction q.target;
   induced = q.induced;
+  maps = q.maps;
+  less = q.less;
 }
 
 -- Where an edge stands one way, one stands the other way too. (Their labels may be two.)

@@ -1,40 +1,104 @@
 //! The plain tests of a mapping and of a path: over all pairs of vertices, and over all mappings. For small inputs.
 
-ghost use Rattle.std.specs.Prelude.{◌≡◌, ◌<◌, ◌≤◌, ◌↔◌, ◌++◌, [], IsTrue, IfOk, OnOk, OnErr, true, false, length, slice_index};
+ghost use Rattle.std.specs.Prelude.{◌≡◌, ◌<◌, ◌≤◌, ◌↔◌, ◌++◌, ◌&&◌, ◌||◌, [], IsTrue, IfOk, OnOk, OnErr, true, false, not, is_some, nat_lt, length, slice_index};
 ghost use Rattle.graph_theory.specs.Graph.{size, edge};
-ghost use Rattle.graph_theory.specs.Embedding.{Embeds, Matches};
+ghost use Rattle.graph_theory.specs.Neighbours.{count, is_near};
+ghost use Rattle.graph_theory.specs.Embedding.{injective_problem, near_both, differ, InOrder, Embeds, Matches};
 ghost use Rattle.graph_theory.specs.Path.{Extends, Dead};
 ghost use Rattle.graph_theory.specs.PlainSteps.{IsImage, AreImages, PairIsKept, RowIsKept, RowsAreKept, Completes};
 
+use crate::embedding::Maps;
 use crate::listed_graph::ListedGraph;
 use std::alloc::{AllocError, Global};
 use std::marker::Model;
 
-/// A pattern, a target, and whether the copy is to be an induced one.
+/// A pattern, a target, whether the copy is to be an induced one, which images have to differ, and which are to be in order.
 #[derive(Drop)]
 pub struct ListedProblem {
     pattern: ListedGraph,
     target: ListedGraph,
     induced: bool,
+    maps: Maps,
+    less: Option<Vec<(u32, u32)>>,
 }
 
 impl Model for ListedProblem {
     ghost use Rattle.graph_theory.specs.Embedding.{Problem};
+    ghost use Rattle.graph_theory.specs.PlainSteps.{pairs_of};
 
     ghost Value = { Problem };
 
-    ghost view = { λ q. record { pattern = q.pattern; target = q.target; induced = q.induced } };
+    ghost view = { λ q. record {
+      pattern = q.pattern;
+      target = q.target;
+      induced = q.induced;
+      maps = q.maps;
+      less = pairs_of q.less;
+    } };
 }
 
 impl ListedProblem {
-    /// The problem of these graphs.
+    /// The problem of injective maps between these graphs.
     pub fn new(pattern: ListedGraph, target: ListedGraph, induced: bool) -> ListedProblem
-        ensures { result ≡ record { pattern = pattern; target = target; induced = induced } }
+        ensures { result ≡ injective_problem pattern target induced }
     {
         ListedProblem {
             pattern,
             target,
             induced,
+            maps: Maps::Injective,
+            less: None,
+        }
+    }
+
+    /// The problem of maps of this kind between these graphs. The copy need not be an induced one.
+    pub fn mapped(pattern: ListedGraph, target: ListedGraph, maps: Maps) -> ListedProblem
+        ensures { result ≡ record {
+          pattern = pattern;
+          target = target;
+          induced = false;
+          maps = maps;
+          less = [];
+        } }
+    {
+        ListedProblem {
+            pattern,
+            target,
+            induced: false,
+            maps,
+            less: None,
+        }
+    }
+
+    /// The same problem, with these pairs of pattern vertices to be in order in place of those that it had.
+    pub fn with_less(self, less: Vec<(u32, u32)>) -> ListedProblem
+        ensures { result ≡ record {
+          pattern = self.pattern;
+          target = self.target;
+          induced = self.induced;
+          maps = self.maps;
+          less = less.items;
+        } }
+    {
+        ListedProblem {
+            pattern: self.pattern,
+            target: self.target,
+            induced: self.induced,
+            maps: self.maps,
+            less: Some(less),
+        }
+    }
+
+    /// Whether the images of `p` and another vertex `r` have to differ. By local maps it looks at each vertex that both may be near.
+    fn differ(&self, p: usize, r: usize) -> bool
+        requires p_in { p < size self.now.pattern }
+        requires r_in { r < size self.now.pattern }
+        ensures { result ≡ differ self.now p r }
+    {
+        match self.maps {
+            Maps::Injective => true,
+            Maps::Local => is_one_near_both(&self.pattern, p, r),
+            Maps::Any => false,
         }
     }
 
@@ -59,7 +123,7 @@ impl ListedProblem {
         true
     }
 
-    /// Whether the images of `p` and `r` are apart where these are, and keep the edge from `p` to `r`.
+    /// Whether the images of `p` and `r` are apart where these are and have to differ, and keep the edge from `p` to `r`.
     fn pair_is_kept(&self, map: &[u32], p: usize, r: usize) -> bool
         requires size_is { length map.now ≡ size self.now.pattern }
         requires images { AreImages self.now map.now }
@@ -69,7 +133,7 @@ impl ListedProblem {
     {
         let t = map[p] as usize;
         let u = map[r] as usize;
-        (p == r || t != u)
+        (p == r || t != u || !self.differ(p, r))
             && matches(
                 self.induced,
                 self.pattern.edge(p, r),
@@ -106,6 +170,16 @@ impl ListedProblem {
         true
     }
 
+    /// Whether the images of each pair that is to be in order are so.
+    fn is_in_order(&self, map: &[u32]) -> bool
+        ensures { IsTrue result ↔ InOrder self.now.less map.now }
+    {
+        match &self.less {
+            Some(less) => all_rise(map, less),
+            None => true,
+        }
+    }
+
     /// Whether the list of images is an embedding. It looks at each pair of pattern vertices.
     pub fn is_embedding(&self, map: &[u32]) -> bool
         ensures { IsTrue result ↔ Embeds self.now map.now }
@@ -116,7 +190,7 @@ impl ListedProblem {
         if !self.are_images(map) {
             return false;
         }
-        self.rows_are_kept(map)
+        self.is_in_order(map) && self.rows_are_kept(map)
     }
 
     /// Whether some embedding begins with these images and has each pair of the path. It tries all that may follow.
@@ -148,6 +222,61 @@ impl ListedProblem {
         let mut map = Vec::new(alloc);
         let found = self.completes(path, &mut map)?;
         Ok(!found)
+    }
+}
+
+/// Whether an edge stands between `a` and another vertex `b`.
+fn is_near(g: &ListedGraph, a: usize, b: usize) -> bool
+    requires a_in { a < size g.now }
+    requires b_in { b < size g.now }
+    ensures { result ≡ is_near g.now a b }
+{
+    a != b && (g.edge(a, b).is_some() || g.edge(b, a).is_some())
+}
+
+/// Whether both vertices are near this one.
+fn are_near(g: &ListedGraph, p: usize, r: usize, c: usize) -> bool
+    requires p_in { p < size g.now }
+    requires r_in { r < size g.now }
+    requires c_in { c < size g.now }
+    ensures { result ≡ near_both g.now p r c }
+{
+    is_near(g, c, p) && is_near(g, c, r)
+}
+
+/// Whether both vertices are near some vertex.
+fn is_one_near_both(g: &ListedGraph, p: usize, r: usize) -> bool
+    requires p_in { p < size g.now }
+    requires r_in { r < size g.now }
+    ensures { result ≡ nat_lt 0 (count (near_both g.now p r) (size g.now)) }
+{
+    for c in 0..g.size() {
+        if are_near(g, p, r, c) {
+            return true;
+        }
+    }
+    false
+}
+
+/// Whether the images of each of these pairs are in order.
+fn all_rise(map: &[u32], less: &[(u32, u32)]) -> bool
+    ensures { IsTrue result ↔ InOrder less.now map.now }
+{
+    match less {
+        [] => true,
+        [(a, b), rest @ ..] => rises(map, *a as usize, *b as usize) && all_rise(map, rest),
+    }
+}
+
+/// Whether the image of `a` is below that of `b`, where both have one.
+fn rises(map: &[u32], a: usize, b: usize) -> bool
+    ensures { IsTrue result
+        ↔ (a < length map.now → b < length map.now
+        → slice_index map.now a < slice_index map.now b) }
+{
+    match (map.get(a), map.get(b)) {
+        (Some(t), Some(u)) => t < u,
+        _ => true,
     }
 }
 
