@@ -1,6 +1,6 @@
 -- What domains claim of the embeddings. D p t says whether t is in the domain of p.
 
-use Rattle.std.specs.Prelude.{◌≡◌, ℕ, ◌<◌, Bool, true, List, [], ◌∷◌, slice_index}
+use Rattle.std.specs.Prelude.{◌≡◌, ℕ, ◌<◌, Bool, true, List, [], ◌∷◌, Some, slice_get, slice_index}
 use Rattle.graph_theory.specs.Graph.{size}
 use Rattle.graph_theory.specs.Embedding.{Problem, Embeds}
 use Rattle.graph_theory.specs.Path.{Extends}
@@ -46,3 +46,13 @@ pub record Quiet (q : Problem) (D : ℕ → ℕ → Bool) : Type 0 where
   pub some : (p : ℕ) → p < size q.pattern → (t : ℕ) × (D p t ≡ true)
   pub first : First q D
   pub settled : (p t : ℕ) → p < size q.pattern → Single D p t → Settled q D p t
+
+-- Each value of b has a lesser one in the domain of a, and each value of a a greater one in the domain of b.
+pub record Rising (D : ℕ → ℕ → Bool) (a b : ℕ) : Type 0 where
+  pub lesser : (t : ℕ) → D b t ≡ true → (s : ℕ) × (D a s ≡ true) × (s < t)
+  pub greater : (s : ℕ) → D a s ≡ true → (t : ℕ) × (D b t ≡ true) × (s < t)
+
+-- The domains are so for each pair whose images are to be in order.
+pub record Ordered (q : Problem) (D : ℕ → ℕ → Bool) : Type 0 where
+  pub rising : (k : ℕ) (x : ℕ × ℕ) → slice_get q.less k ≡ Some x → x.0 < size q.pattern
+      → x.1 < size q.pattern → Rising D x.0 x.1

@@ -2,19 +2,22 @@
 
 use Rattle.std.specs.Prelude.{ℕ, ◌≤◌}
 use Rattle.graph_theory.specs.Embedding.{Problem, Allowed, Compatible}
-use Rattle.graph_theory.specs.Neighbours.{degree, common, sequence, IsKeptBy}
-use Rattle.graph_theory.specs.Reversed.{reversed}
+use Rattle.graph_theory.specs.Neighbours.{common, sequence, IsKeptBy}
+use Rattle.graph_theory.specs.Asked.{asked_degree, room, asked_sequence, asked_shared}
+use Rattle.graph_theory.specs.Reversed.{reversed, reversed_problem}
 
--- The value t is in the first domain of p: it has p's label, its loop is allowed, and in neither direction its degree or its neighbours' degrees are too small.
+-- The value t is in the first domain of p: it has p's label, its loop is allowed, and in neither direction it has too little room, or neighbours of
+-- too small degrees.
 pub record IsFirstValue (q : Problem) (p t : ℕ) : Type 0 where
   pub alone : Allowed q p t
-  pub in_degree : degree (reversed q.pattern) p ≤ degree (reversed q.target) t
-  pub degree : degree q.pattern p ≤ degree q.target t
-  pub in_sequence : IsKeptBy (sequence (reversed q.pattern) p) (sequence (reversed q.target) t)
-  pub sequence : IsKeptBy (sequence q.pattern p) (sequence q.target t)
+  pub in_degree : asked_degree (reversed_problem q) p ≤ room (reversed_problem q) t
+  pub degree : asked_degree q p ≤ room q t
+  pub in_sequence : IsKeptBy (asked_sequence (reversed_problem q) p) (sequence
+      (reversed q.target) t)
+  pub sequence : IsKeptBy (asked_sequence q p) (sequence q.target t)
 
--- Vertex p at t and another vertex r at u go together, and in each direction t and u share as many neighbours as p and r.
+-- Vertex p at t and another vertex r at u go together, and in each direction t and u share as many neighbours as is asked of p and r.
 pub record AreConsistent (q : Problem) (p t r u : ℕ) : Type 0 where
   pub pair : Compatible q p t r u
-  pub shared : common q.pattern p r ≤ common q.target t u
-  pub in_shared : common (reversed q.pattern) p r ≤ common (reversed q.target) t u
+  pub shared : asked_shared q p r ≤ common q.target t u
+  pub in_shared : asked_shared (reversed_problem q) p r ≤ common (reversed q.target) t u

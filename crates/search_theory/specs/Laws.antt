@@ -6,15 +6,15 @@ use Rattle.graph_theory.specs.Graph.{size}
 use Rattle.graph_theory.specs.Embedding.{Problem, Embeds}
 use Rattle.graph_theory.specs.Path.{NotOn, Dead}
 use Rattle.search_theory.specs.Fits.{Fits}
-use Rattle.search_theory.specs.Claims.{Stands, Single, Pins, Quiet}
+use Rattle.search_theory.specs.Claims.{Stands, Single, Pins, Quiet, Ordered}
 use Rattle.search_theory.specs.Bounds.{most, luby, cutoff, earlier, fails_to, enough, BelowEnough}
 use Rattle.search_theory.specs.Account.{Account, AllDead, NotAmong, HasRefuted, Reached, Lawful}
 use Rattle.search_theory.specs.Remaining.{Bounded}
 
--- Where each of quiet domains has one value, these are an embedding.
+-- Where each of quiet domains in order has one value, these are an embedding.
 abbrev pub SinglesEmbed : Type 0
-SinglesEmbed = (q : Problem) (D : ℕ → ℕ → Bool) (m : List ℕ) → Quiet q D → length m ≡ size q.pattern
-    → ((p : ℕ) → p < size q.pattern → Single D p (slice_index m p)) → Embeds q m
+SinglesEmbed = (q : Problem) (D : ℕ → ℕ → Bool) (m : List ℕ) → Quiet q D → Ordered q D
+    → length m ≡ size q.pattern → ((p : ℕ) → p < size q.pattern → Single D p (slice_index m p)) → Embeds q m
 
 -- Where each value of a vertex's domain is refuted, the path is dead.
 abbrev pub AllRefutedIsDead : Type 0
@@ -22,10 +22,10 @@ AllRefutedIsDead = (q : Problem) (D : ℕ → ℕ → Bool) (path : List (ℕ ×
     → Stands q path D → p < size q.pattern
     → AllDead q path p us → ((t : ℕ) → D p t ≡ true → NotAmong us t → ⊥) → Dead q path
 
--- A value of a quiet domain fits the path that the domains are pinned to.
+-- A value of a quiet domain fits the path that the domains are pinned to, where they are in order.
 abbrev pub DomainValuesFit : Type 0
 DomainValuesFit = (q : Problem) (D : ℕ → ℕ → Bool) (path : List (ℕ × ℕ)) (p t : ℕ) → Quiet q D
-    → Pins q path D
+    → Ordered q D → Pins q path D
     → NotOn path p → p < size q.pattern → D p t ≡ true → Fits q path p t
 
 -- What holds of the domains of every problem.
