@@ -1,10 +1,12 @@
 -- The tests of single vertices and of pairs say what their words say, and on plain graphs speak of neighbours.
 
-use Rattle.std.proofs.Common.{◌≡◌, ℕ, ◌==◌, Bool, true, false, ◌&&◌, ◌||◌, not, is_some, Option, Some, None, refl, ap, ◌∙◌}
+use Rattle.std.proofs.Common.{◌≡◌, ℕ, ◌==◌, Bool, true, false, ◌&&◌, ◌||◌, not, is_some, Option, Some, None, refl, subst, ap, ◌∙◌}
 use Rattle.std.proofs.lemmas.Bool.{eqb-true, eqb-false, eq-eqb, ne_eqb, and_parts, and_from, or_parts, not-true, not_from_false}
 use Rattle.graph_theory.specs.Graph.{label, edge}
-use Rattle.graph_theory.specs.Embedding.{Problem, KeepsEdge, Matches, Allowed, Compatible}
-use Rattle.encoding_theory.specs.Pairs.{is_kept, is_match, is_allowed, is_compatible, is_linked, keeps_loop, TestLaws, PlainLaws}
+use Rattle.graph_theory.specs.Embedding.{Problem, is_injective, differ_in, differ, KeepsEdge, Matches, Allowed, Compatible}
+use Rattle.graph_theory.specs.declared.embedding.Maps.{Maps}
+use Rattle.graph_theory.specs.declared.embedding.Maps.TheVariants.{Injective, Local, Any}
+use Rattle.encoding_theory.specs.Pairs.{is_kept, is_match, is_allowed, is_open, is_compatible, is_linked, keeps_loop, TestLaws, PlainLaws}
 use Rattle.graph_theory.specs.Plain.{IsPlain}
 
 kept_from : (e f : Option ℕ) → is_kept e f ≡ true → KeepsEdge e f
@@ -36,31 +38,61 @@ allowed_to q p t h =
     and_from (label q.target t == label q.pattern p) (is_match q.induced (edge q.pattern p p) (edge q.target t t))
     (eq-eqb (label q.target t) (label q.pattern p) h.label_is) (match_to q.induced (edge q.pattern p p) (edge q.target t t) h.loop_is)
 
--- two pairs that pass the test go together
-pub compatible_from : (q : Problem) (p t r u : ℕ) → is_compatible q p t r u ≡ true → Compatible q p t r u
-compatible_from q p t r u h =
+-- two places that are apart are open
+pub open_apart : (q : Problem) (t u : ℕ) → (t ≡ u → ⊥) → is_open q t u ≡ true
+open_apart q t u apart = rw (ne_eqb t u apart) (never (is_injective q.maps))
+  where
+    never : (a : Bool) → not (a && false) ≡ true
+    never true = refl
+    never false = refl
+
+-- where the maps are injective open places are apart
+pub apart_open : (q : Problem) (t u : ℕ) → is_injective q.maps ≡ true → is_open q t u ≡ true → t ≡ u → ⊥
+apart_open q t u is h = eqb-false t u (not-true (t == u) (subst (λ (a : Bool). not (a && (t == u)) ≡ true) is h))
+
+-- where they are not, all are open
+pub open_all : (q : Problem) (t u : ℕ) → is_injective q.maps ≡ false → is_open q t u ≡ true
+open_all q t u is = ap (λ (a : Bool). not (a && (t == u))) is
+
+-- two pairs that pass the test go together, where their places are two or need not be
+pub compatible_from : (q : Problem) (p t r u : ℕ) → is_compatible q p t r u ≡ true → (differ q p r ≡ true → t ≡ u → ⊥) → Compatible q p t r u
+compatible_from q p t r u h apart =
     let out : Bool = is_match q.induced (edge q.pattern p r) (edge q.target t u) in
     let back : Bool = is_match q.induced (edge q.pattern r p) (edge q.target u t) in
-    let x = and_parts (not (t == u)) (out && back) h in
+    let x = and_parts (is_open q t u) (out && back) h in
     let y = and_parts out back x.1 in
     record {
-      apart = eqb-false t u (not-true (t == u) x.0);
+      apart = apart;
       out = match_from q.induced (edge q.pattern p r) (edge q.target t u) y.0;
       back = match_from q.induced (edge q.pattern r p) (edge q.target u t) y.1;
     }
 
+-- where the maps are injective those that pass it do
+pub compatible_injective : (q : Problem) (p t r u : ℕ) → is_injective q.maps ≡ true → is_compatible q p t r u ≡ true → Compatible q p t r u
+compatible_injective q p t r u is h =
+    let out : Bool = is_match q.induced (edge q.pattern p r) (edge q.target t u) in
+    let back : Bool = is_match q.induced (edge q.pattern r p) (edge q.target u t) in
+    let x = and_parts (is_open q t u) (out && back) h in
+    compatible_from q p t r u h (λ _. apart_open q t u is x.0)
+
 -- and two that go together pass it
+open_to : (k : Maps) (q : Problem) (p t r u : ℕ) → q.maps ≡ k → (differ_in k q.pattern p r ≡ true → t ≡ u → ⊥) → is_open q t u ≡ true
+open_to Injective q p t r u is apart = open_apart q t u (apart refl)
+open_to Local q p t r u is apart = open_all q t u (ap is_injective is)
+open_to Any q p t r u is apart = open_all q t u (ap is_injective is)
+
 pub compatible_to : (q : Problem) (p t r u : ℕ) → Compatible q p t r u → is_compatible q p t r u ≡ true
 compatible_to q p t r u h =
     let out : Bool = is_match q.induced (edge q.pattern p r) (edge q.target t u) in
     let back : Bool = is_match q.induced (edge q.pattern r p) (edge q.target u t) in
-    and_from (not (t == u)) (out && back) (not_from_false (t == u) (ne_eqb t u h.apart))
+    and_from (is_open q t u) (out && back) (open_to q.maps q p t r u refl h.apart)
     (and_from out back (match_to q.induced (edge q.pattern p r) (edge q.target t u) h.out) (match_to q.induced (edge q.pattern r p) (edge q.target u t) h.back))
 
 pub test_laws : TestLaws
 test_laws = record {
   allowed = λ q p t. (allowed_from q p t, allowed_to q p t);
-  compatible = λ q p t r u. (compatible_from q p t r u, compatible_to q p t r u);
+  passes = compatible_to;
+  compatible = compatible_from;
 }
 
 -- ---- plain graphs
@@ -112,7 +144,7 @@ plain_laws q h k = record {
   edge_kept = λ p r t u n.
       let s = and_parts (not (p == r)) (is_some (edge q.pattern p r)) n in
       let e = some_edge (edge q.pattern p r) s.1 (h.zeros p r) in
-      ap (λ (x : Bool). not (t == u) && x)
+      ap (λ (x : Bool). is_open q t u && x)
       (both_match q.induced (edge q.pattern p r) (edge q.pattern r p) (edge q.target t u) (edge q.target u t) (h.both p r) (k.both t u)
       ∙ ap (λ (d : Option ℕ). is_match q.induced d (edge q.target t u) && is_match q.induced d (edge q.target t u)) e
       ∙ plain_match q.induced (edge q.target t u) (k.zeros t u));
@@ -121,7 +153,7 @@ plain_laws q h k = record {
       let s = and_parts (not (p == r)) (not (is_linked q.pattern p r)) i.1 in
       let o = or_parts (is_some (edge q.pattern p r)) (is_some (edge q.pattern r p)) (not-true (is_linked q.pattern p r) s.1) in
       let e = no_edge (edge q.pattern p r) o.0 in
-      ap (λ (x : Bool). not (t == u) && x)
+      ap (λ (x : Bool). is_open q t u && x)
       (both_match q.induced (edge q.pattern p r) (edge q.pattern r p) (edge q.target t u) (edge q.target u t) (h.both p r) (k.both t u)
       ∙ ap (λ (b : Bool). is_match b (edge q.pattern p r) (edge q.target t u) && is_match b (edge q.pattern p r) (edge q.target t u)) i.0
       ∙ ap (λ (d : Option ℕ). is_match true d (edge q.target t u) && is_match true d (edge q.target t u)) e

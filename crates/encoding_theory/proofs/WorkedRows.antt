@@ -3,10 +3,12 @@
 use Rattle.std.proofs.Common.{◌≡◌, ℕ, Bool, true, false, List, [], ◌∷◌, length, slice_get, Some, None, ℤ, pos, negsuc, refl}
 use Rattle.graph_theory.specs.Lad.{Vertex}
 use Rattle.graph_theory.specs.Graph.{Graph, graph_of}
-use Rattle.graph_theory.specs.Embedding.{Problem}
+use Rattle.graph_theory.specs.Embedding.{Problem, injective_problem}
+use Rattle.graph_theory.specs.declared.embedding.Maps.{Maps}
+use Rattle.graph_theory.specs.declared.embedding.Maps.TheVariants.{Injective, Local, Any}
 use Rattle.proof_theory.specs.Forms.{Form, put, sorted}
 use Rattle.encoding_theory.specs.Variables.{variables, indicator}
-use Rattle.encoding_theory.specs.Encoding.{encoding}
+use Rattle.encoding_theory.specs.Encoding.{target_group, less_group, encoding}
 use Rattle.encoding_theory.specs.Places.{edge_place}
 
 -- a vertex without label that lists these neighbours
@@ -16,7 +18,11 @@ to (a ∷ []) = record { label = 0; listed = (a, 0) ∷ [] }
 to (a ∷ b ∷ _) = record { label = 0; listed = (a, 0) ∷ (b, 0) ∷ [] }
 
 abbrev problem : List Vertex → List Vertex → Bool → Problem
-problem ps ts induced = record { pattern = graph_of ps; target = graph_of ts; induced = induced }
+problem ps ts induced = injective_problem (graph_of ps) (graph_of ts) induced
+
+-- the problem of maps of another kind
+abbrev mapped : List Vertex → List Vertex → Maps → Problem
+mapped ps ts maps = record { pattern = graph_of ps; target = graph_of ts; induced = false; maps = maps; less = [] }
 
 abbrev form : List (ℕ × ℤ) → ℤ → Form
 form ts b = record { terms = ts; bound = b }
@@ -129,7 +135,7 @@ triangle_place = refl
 abbrev arrow : Graph
 arrow = record { labels = 0 ∷ 0 ∷ []; rows = (None ∷ Some 0 ∷ []) ∷ (None ∷ None ∷ []) ∷ [] }
 
-arrow_into_arrow : encoding (record { pattern = arrow; target = arrow; induced = false }) ≡
+arrow_into_arrow : encoding (injective_problem arrow arrow false) ≡
     form ((1, pos 1) ∷ (2, pos 1) ∷ []) (pos 1)
     ∷ form ((1, negsuc 0) ∷ (2, negsuc 0) ∷ []) (negsuc 0)
     ∷ form ((3, pos 1) ∷ (4, pos 1) ∷ []) (pos 1)
@@ -143,3 +149,39 @@ arrow_into_arrow : encoding (record { pattern = arrow; target = arrow; induced =
     ∷ []
 unfolding sorted put
 arrow_into_arrow = refl
+
+-- by any maps an edge may go to a loop: two variables, six forms, of which the last two are these
+edge_into_loop : encoding (mapped edge (to (0 ∷ []) ∷ []) Any) ≡
+    form ((1, pos 1) ∷ []) (pos 1)
+    ∷ form ((1, negsuc 0) ∷ []) (negsuc 0)
+    ∷ form ((2, pos 1) ∷ []) (pos 1)
+    ∷ form ((2, negsuc 0) ∷ []) (negsuc 0)
+    ∷ form ((1, negsuc 0) ∷ (2, pos 1) ∷ []) (pos 0)
+    ∷ form ((1, pos 1) ∷ (2, negsuc 0) ∷ []) (pos 0)
+    ∷ []
+unfolding sorted put
+edge_into_loop = refl
+
+-- of a path of three vertices into one edge local maps have the block of its two ends alone
+path_into_edge : target_group (mapped (to (1 ∷ []) ∷ to (0 ∷ 2 ∷ []) ∷ to (1 ∷ []) ∷ []) edge Local) ≡
+    form ((1, negsuc 0) ∷ (5, negsuc 0) ∷ []) (negsuc 0)
+    ∷ form ((2, negsuc 0) ∷ (6, negsuc 0) ∷ []) (negsuc 0)
+    ∷ []
+unfolding sorted put
+path_into_edge = refl
+
+-- one edge into one edge, with the first vertex below the second: the last four of fourteen forms
+abbrev edge_in_order : Problem
+edge_in_order = record { pattern = graph_of edge; target = graph_of edge; induced = false; maps = Injective; less = (0, 1) ∷ [] }
+
+edge_in_order_forms : length (encoding edge_in_order) ≡ 14
+edge_in_order_forms = refl
+
+edge_in_order_group : less_group edge_in_order ≡
+    form ((1, negsuc 0) ∷ (4, pos 1) ∷ []) (pos 0)
+    ∷ form ((2, negsuc 0) ∷ []) (pos 0)
+    ∷ form ((3, negsuc 0) ∷ []) (pos 0)
+    ∷ form ((1, pos 1) ∷ (4, negsuc 0) ∷ []) (pos 0)
+    ∷ []
+unfolding sorted put
+edge_in_order_group = refl
