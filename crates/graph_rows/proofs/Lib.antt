@@ -9,3 +9,4 @@ pub mod MappingPut
 pub mod Reversing
 pub mod Looping
 pub mod Pairing
+pub mod NearBoth

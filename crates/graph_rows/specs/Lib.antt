@@ -1,3 +1,6 @@
 pub mod Held
 pub mod Fitting
 pub mod Labels
+pub mod Near
+pub mod Orders
+pub mod Sameness

@@ -1,21 +1,27 @@
-//! Problems: a pattern, a target and the kind of copy, with the two tests by which a problem is a binary constraint
-//! problem, and the test of a whole map. (C. McCreesh, P. Prosser, J. Trimble, "The Glasgow Subgraph Solver", 2020.)
+//! Problems: a pattern, a target, the kind of copy and of map, and an order of images, with the two tests by which a problem is a
+//! binary constraint problem, and the test of a whole map. (C. McCreesh, P. Prosser, J. Trimble, "The Glasgow Subgraph Solver", 2020.)
 
-ghost use Rattle.std.specs.Prelude.{◌≡◌, ◌<◌, ◌≤◌, ◌↔◌, ℕ, IsTrue, length, slice_index};
+ghost use Rattle.std.specs.Prelude.{◌≡◌, ◌<◌, ◌≤◌, ◌↔◌, ℕ, true, false, IsTrue, [], length, slice_index};
 ghost use Rattle.graph_theory.specs.Graph.{size};
-ghost use Rattle.graph_theory.specs.Embedding.{Embeds, Allowed, Compatible, Matches};
+ghost use Rattle.graph_theory.specs.Embedding.{injective_problem, is_injective, differ, InOrder, Embeds, Allowed, Compatible, Matches};
 ghost use Rattle.graph_theory.specs.Reversed.{AreMutual};
 ghost use Rattle.graph_rows.specs.Fitting.{Fits, FitsFirst};
+ghost use Rattle.graph_rows.specs.Orders.{IsOrder};
+ghost use Rattle.graph_rows.specs.Sameness.{AskTheSame};
 
 use crate::graph::Graph;
-use graph_theory::embedding::embeds_by_pairs;
+use crate::near::is_one_near_both;
+use graph_theory::embedding::{Maps, embeds_by_pairs};
 use std::marker::Model;
 
-/// A pattern of at most 1,024 vertices, a target of at most 8,192, and whether the copy is to be an induced one.
+/// A pattern of at most 1,024 vertices, a target of at most 8,192, whether the copy is to be an induced one, which images have to differ
+/// (any two in the induced kind), and at most 64 pairs of pattern vertices of which the first is to have the lesser image.
 pub struct Problem {
     pattern: Graph,
     target: Graph,
     induced: bool,
+    maps: Maps,
+    less: Option<Vec<(u16, u16)>>,
 }
 
 impl Drop for Problem {
@@ -25,33 +31,95 @@ impl Drop for Problem {
             pattern: _,
             target: _,
             induced: _,
+            maps: _,
+            less: _,
         } = self;
     }
 }
 
 impl Model for Problem {
-    ghost use Rattle.std.specs.Prelude.{◌≤◌};
+    ghost use Rattle.std.specs.Prelude.{◌≤◌, ◌≡◌, true};
     ghost use Rattle.graph_theory.specs.Graph.{size as size_of};
-    ghost use Rattle.graph_theory.specs.Embedding.{Problem as TheProblem};
+    ghost use Rattle.graph_theory.specs.Embedding.{Problem as TheProblem, is_injective};
+    ghost use Rattle.graph_theory.specs.PlainSteps.{pairs_of};
+    ghost use Rattle.graph_rows.specs.Orders.{IsOrder};
 
     ghost Value = { TheProblem };
 
-    ghost view = { λ q. record { pattern = q.pattern; target = q.target; induced = q.induced } };
+    ghost view = { λ q. record {
+      pattern = q.pattern;
+      target = q.target;
+      induced = q.induced;
+      maps = q.maps;
+      less = pairs_of q.less;
+    } };
 
-    ghost invariant = { λ q. (size_of q.pattern ≤ 1024) × (size_of q.target ≤ 8192) };
+    ghost invariant = { λ q. (size_of q.pattern ≤ 1024) × (size_of q.target ≤ 8192)
+        × (q.induced ≡ true → is_injective q.maps ≡ true)
+        × IsOrder (size_of q.pattern) (pairs_of q.less) };
 }
 
 impl Problem {
-    /// The problem of these graphs. It takes no memory.
+    /// The problem of injective maps between these graphs. It takes no memory.
     pub fn new(pattern: Graph, target: Graph, induced: bool) -> Problem
         requires pattern { size pattern ≤ 1024 }
         requires target { size target ≤ 8192 }
-        ensures { result ≡ record { pattern = pattern; target = target; induced = induced } }
+        ensures { result ≡ injective_problem pattern target induced }
     {
         Problem {
             pattern,
             target,
             induced,
+            maps: Maps::Injective,
+            less: None,
+        }
+    }
+
+    /// The problem of maps of this kind between these graphs, whose copies need not be induced ones. It takes no memory.
+    pub fn mapped(pattern: Graph, target: Graph, maps: Maps) -> Problem
+        requires pattern { size pattern ≤ 1024 }
+        requires target { size target ≤ 8192 }
+        ensures { result ≡ record {
+          pattern = pattern;
+          target = target;
+          induced = false;
+          maps = maps;
+          less = [];
+        } }
+    {
+        Problem {
+            pattern,
+            target,
+            induced: false,
+            maps,
+            less: None,
+        }
+    }
+
+    /// The same problem, with these pairs of pattern vertices to be in order in place of those that it had.
+    pub fn with_less(self, pairs: Vec<(u16, u16)>) -> Problem
+        requires { IsOrder (size self.pattern) pairs.items }
+        ensures { result ≡ record {
+          pattern = self.pattern;
+          target = self.target;
+          induced = self.induced;
+          maps = self.maps;
+          less = pairs.items;
+        } }
+    {
+        let Problem {
+            pattern,
+            target,
+            induced,
+            maps,
+            less: _,
+        } = self;
+        Problem {
+            pattern,
+            target,
+            induced,
+            maps,
+            less: Some(pairs),
         }
     }
 
@@ -78,6 +146,39 @@ impl Problem {
         self.induced
     }
 
+    /// Which images have to differ.
+    pub fn maps(&self) -> Maps
+        ensures maps { result ≡ self.now.maps }
+        ensures injective { self.now.induced ≡ true → is_injective result ≡ true }
+    {
+        self.maps
+    }
+
+    /// The pairs of pattern vertices of which the first is to have the lesser image.
+    pub fn less(&self) -> &[(u16, u16)]
+        ensures pairs { result.now ≡ self.now.less }
+        ensures order { IsOrder (size self.now.pattern) result.now }
+    {
+        match &self.less {
+            Some(pairs) => pairs,
+            None => &[],
+        }
+    }
+
+    /// Whether the images of `p` and another vertex `r` have to differ. Cost: where the maps are local, that of the search for a vertex
+    /// that is near both.
+    pub fn differ(&self, p: u16, r: u16) -> bool
+        requires p_in { p < size self.now.pattern }
+        requires r_in { r < size self.now.pattern }
+        ensures { result ≡ differ self.now p r }
+    {
+        match self.maps {
+            Maps::Injective => true,
+            Maps::Local => is_one_near_both(&self.pattern, p, r),
+            Maps::Any => false,
+        }
+    }
+
     /// Whether edges are known to stand both ways in both graphs. Cost: four steps.
     pub fn is_mutual(&self) -> bool
         ensures { IsTrue result → AreMutual self.now }
@@ -99,7 +200,7 @@ impl Problem {
             )
     }
 
-    /// Whether `p` at `t` and another vertex `r` at `u` go together. Cost: four words.
+    /// Whether `p` at `t` and another vertex `r` at `u` go together. Cost: four words; where `t` is `u`, that of `differ` too.
     pub fn compatible(&self, p: u16, t: u16, r: u16, u: u16) -> bool
         requires p_in { p < size self.now.pattern }
         requires t_in { t < size self.now.target }
@@ -107,7 +208,7 @@ impl Problem {
         requires u_in { u < size self.now.target }
         ensures { IsTrue result ↔ Compatible self.now p t r u }
     {
-        t != u
+        self.may_be_at(p, t, r, u)
             && matches(
                 self.induced,
                 self.pattern.edge(p, r),
@@ -120,6 +221,25 @@ impl Problem {
             )
     }
 
+    /// Whether the places are two, or may be one.
+    fn may_be_at(&self, p: u16, t: u16, r: u16, u: u16) -> bool
+        requires p_in { p < size self.now.pattern }
+        requires r_in { r < size self.now.pattern }
+        ensures { IsTrue result ↔ (differ self.now p r ≡ true → t ≡ u → ⊥) }
+    {
+        t != u || !self.differ(p, r)
+    }
+
+    /// Whether the images of each pair that is to be in order are so. Cost: one step for each pair.
+    fn is_in_order(&self, map: &[u32]) -> bool
+        ensures { IsTrue result ↔ InOrder self.now.less map.now }
+    {
+        match &self.less {
+            Some(pairs) => all_rise(map, pairs),
+            None => true,
+        }
+    }
+
     /// Whether the list of images is an embedding; its length is part of that. It takes no memory, looks at each two
     /// pattern vertices once, and stops at the first that do not go together.
     pub fn is_embedding(&self, map: &[u32]) -> bool
@@ -127,6 +247,9 @@ impl Problem {
     {
         embeds_by_pairs();
         if map.len() != usize::from(self.pattern.size()) {
+            return false;
+        }
+        if !self.is_in_order(map) {
             return false;
         }
         for p in 0..self.pattern.size() {
@@ -137,13 +260,22 @@ impl Problem {
         true
     }
 
-    /// Whether the other problem has the same graphs and kind. Cost: the words of the rows.
+    /// Whether the other problem has the same graphs, and asks the same of a map. Cost: the words of the rows.
     pub fn same(&self, other: &Problem) -> bool
         ensures { IsTrue result ↔ (self.now ≡ other.now) }
     {
-        self.induced == other.induced
+        self.asks_the_same(other)
             && self.pattern.same(&other.pattern)
             && self.target.same(&other.target)
+    }
+
+    /// Whether the other problem is of the same kind, with the same pairs to be in order.
+    fn asks_the_same(&self, other: &Problem) -> bool
+        ensures { IsTrue result ↔ AskTheSame self.now other.now }
+    {
+        self.induced == other.induced
+            && self.maps == other.maps
+            && same_pairs(self.less(), other.less())
     }
 
     /// Whether the image of `p` is a target vertex that is allowed and goes together with the images before it.
@@ -177,6 +309,39 @@ impl Problem {
             }
         }
         true
+    }
+}
+
+/// Whether the two lists of pairs are one.
+fn same_pairs(pairs: &[(u16, u16)], others: &[(u16, u16)]) -> bool
+    ensures { IsTrue result ↔ (pairs.now ≡ others.now) }
+{
+    match (pairs, others) {
+        ([], []) => true,
+        ([(a, b), rest @ ..], [(c, d), more @ ..]) => a == c && b == d && same_pairs(rest, more),
+        _ => false,
+    }
+}
+
+/// Whether the images of each of these pairs are in order.
+fn all_rise(map: &[u32], pairs: &[(u16, u16)]) -> bool
+    ensures { IsTrue result ↔ InOrder pairs.now map.now }
+{
+    match pairs {
+        [] => true,
+        [(a, b), rest @ ..] => rises(map, usize::from(*a), usize::from(*b)) && all_rise(map, rest),
+    }
+}
+
+/// Whether the image of `a` is below that of `b`, where both have one.
+fn rises(map: &[u32], a: usize, b: usize) -> bool
+    ensures { IsTrue result
+        ↔ (a < length map.now → b < length map.now
+        → slice_index map.now a < slice_index map.now b) }
+{
+    match (map.get(a), map.get(b)) {
+        (Some(t), Some(u)) => t < u,
+        _ => true,
     }
 }
 

@@ -22,6 +22,6 @@ returns c =
     let n_is : c.size-p-end.result ≡ size c.args.self.now.pattern = c.size-p-end.ensures.size ∙ ap (λ (q : Problem). size q.pattern) c.self.view_is in
     let all : c.loop-p.p ≡ c.size-p-end.result = omega (arith, c.loop-p.auto.p-end, c.loop-p-test.false) in
     let long = c.if-map-from.false ∙ c.from.ensures ∙ c.size.ensures.size ∙ ap (λ (q : Problem). size q.pattern) c.self.view_is in (
-      λ _. (c.embeds_by_pairs.ensures c.args.self.now c.args.map.now).1 (fits_pairwise c.args.self.now c.args.map.now long (subst (λ (n : ℕ). (k : ℕ) → k < n → Fits c.args.self.now c.args.map.now k) (all ∙ n_is) c.loop-p.invariant)),
+      λ _. (c.embeds_by_pairs.ensures c.args.self.now c.args.map.now).1 (fits_pairwise c.args.self.now c.args.map.now long (c.if-not-is_in_order.ensures.0 refl) (subst (λ (n : ℕ). (k : ℕ) → k < n → Fits c.args.self.now c.args.map.now k) (all ∙ n_is) c.loop-p.invariant)),
       λ _. refl,
     )
