@@ -4,6 +4,7 @@ use Rattle.std.proofs.Common.{◌≡◌, ℕ, ◌+◌, ◌≤◌, Bool, true, fa
 use Rattle.std.proofs.lemmas.Grind.{common_steps}
 use Rattle.std.proofs.lemmas.Bool.{cases_eq}
 use Rattle.graph_theory.specs.Neighbours.{common}
+use Rattle.graph_theory.specs.Asked.{asked_shared}
 use Rattle.graph_theory.proofs.NeighbourCounts.{shared_are_kept}
 use Rattle.bit_rows.specs.BitRows.{has}
 use Rattle.common_neighbour.specs.Sharing.{TooFewAreDead}
@@ -35,10 +36,10 @@ pub left_next : (row old : List ℕ) (f : ℕ → Bool) (i : ℕ) → ((v : ℕ)
     → (v : ℕ) → has row v ≡ (nat_lt v (i + 1) && f v)
 left_next row old f i before is here v = rw is (fails_next (has old v) f i v (before v) here)
 
--- an embedding sends two vertices to no two that share fewer neighbours
+-- an embedding sends two vertices to no two that share fewer neighbours than is asked of them
 pub too_few_lie_in_none : TooFewAreDead
 too_few_lie_in_none q p r t u p_in r_in fewer m e x =
     let kept = shared_are_kept q m p r e p_in r_in in
-    let there : common q.pattern p r ≤ common q.target t u =
-    subst (λ (v : ℕ). common q.pattern p r ≤ common q.target t v) x.2.1 (subst (λ (v : ℕ). common q.pattern p r ≤ common q.target v (slice_index m r)) x.1 kept) in
+    let there : asked_shared q p r ≤ common q.target t u =
+    subst (λ (v : ℕ). asked_shared q p r ≤ common q.target t v) x.2.1 (subst (λ (v : ℕ). asked_shared q p r ≤ common q.target v (slice_index m r)) x.1 kept) in
     absurd (omega arith)

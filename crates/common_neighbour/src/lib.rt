@@ -1,7 +1,7 @@
 //! Common neighbours: how many vertices are neighbours of both of two vertices.
 //!
-//! An embedding sends the common neighbours of two pattern vertices to common neighbours of their images, one to one, so
-//! a pair of images with fewer of them lies in no embedding (C. McCreesh, P. Prosser, "A parallel, backjumping subgraph
+//! An embedding by an injective map sends the common neighbours of two pattern vertices to common neighbours of their images, one to one, so
+//! a pair of images with fewer of them lies in none (C. McCreesh, P. Prosser, "A parallel, backjumping subgraph
 //! isomorphism algorithm using supplemental graphs", 2015). It does so in each direction of the edges, and each has counts of its
 //! own, which are those of the graph turned so; where edges stand both ways one of them is enough. Nothing is kept beside the graph, and the layers above keep
 //! what they need of the counts. One count is made by the bits of two rows of neighbours; those of a vertex with all
@@ -95,7 +95,7 @@ impl<'a> Counts<'a> {
     }
 }
 
-/// A pair of values that share fewer neighbours than their vertices lies in no embedding.
+/// A pair of values that share fewer neighbours than is asked of their vertices lies in no embedding.
 pub fn too_few_are_dead()
     ensures { TooFewAreDead }
 {}

@@ -3,10 +3,10 @@
 use Rattle.std.specs.Prelude.{ℕ, ◌<◌, [], ◌∷◌}
 use Rattle.graph_theory.specs.Graph.{size}
 use Rattle.graph_theory.specs.Embedding.{Problem}
-use Rattle.graph_theory.specs.Neighbours.{degree}
+use Rattle.graph_theory.specs.Asked.{asked_degree, room}
 use Rattle.graph_theory.specs.Path.{Dead}
 
--- Where t has fewer neighbours than p, no embedding sends p to t.
+-- Where t has no room for the neighbours of p, no embedding sends p to t.
 abbrev pub LesserDegreesAreDead : Type 0
 LesserDegreesAreDead = (q : Problem) (p t : ℕ) → p < size q.pattern
-    → degree q.target t < degree q.pattern p → Dead q ((p, t) ∷ [])
+    → room q t < asked_degree q p → Dead q ((p, t) ∷ [])

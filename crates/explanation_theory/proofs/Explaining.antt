@@ -3,13 +3,13 @@ use Rattle.std.proofs.Common.{◌≡◌, ℕ, ◌+◌, ◌<◌, ◌≤◌, ◌==
 use Rattle.std.proofs.lemmas.Bool.{cases_eq, eqb-true, eq-eqb, ne_eqb, or_cases}
 use Rattle.graph_theory.specs.Graph.{size}
 use Rattle.graph_theory.specs.Embedding.{Problem}
+use Rattle.graph_theory.specs.Blocks.{in_block}
 use Rattle.proof_theory.specs.Forms.{Form, Holds, Rises}
 use Rattle.proof_theory.specs.Slack.{Setting, conflict, after, refutes}
 use Rattle.proof_theory.proofs.Sorting.{Rises-sorted}
 use Rattle.log_theory.specs.Lookups.{is_among, are_distinct}
 use Rattle.encoding_theory.specs.Variables.{variable}
-use Rattle.encoding_theory.specs.Encoding.{every, terms_where, at_least, at_most, at_most_target, pair_form}
-use Rattle.encoding_theory.specs.Pairs.{is_compatible}
+use Rattle.encoding_theory.specs.Encoding.{every, terms_where, at_least, at_most, at_most_in, leads_form}
 use Rattle.forcing_theory.specs.Units.{Follows, Implies}
 use Rattle.forcing_theory.specs.Chains.{run, Within, Domains, AreOut, Explains, EndsAt}
 use Rattle.forcing_theory.proofs.Uniting.{unit}
@@ -17,7 +17,7 @@ use Rattle.forcing_theory.proofs.Chaining.{after_keeps, run_keeps}
 use Rattle.explanation_theory.specs.Reasons.{pairs_clause, at_leasts, vertices_of, set_form, over_form, TakesFirst, TakesBeside, HasAtMost, AreDecided, IsPair, IsNoPair, HaveOnly, HaveBeside, OnlyOf, LeftRefused, reason_for, no_vertex, AreTrue, value_clauses}
 use Rattle.explanation_theory.specs.Laws.{ChangeLaws, EndLaws}
 use Rattle.explanation_theory.proofs.Giving.{Leads, Gives, one_gives, then_gives, leads_on, leads_to_end, no_solution, explains_each, explains_one}
-use Rattle.explanation_theory.proofs.Forcing.{not_both, pair_takes, at_least_forces, at_least_fails, at_most_forces, others_false, out_within, clause_forces, clause_fails, AreSet, set_within, decided_lead}
+use Rattle.explanation_theory.proofs.Forcing.{not_both, leads_takes, at_least_forces, at_least_fails, at_most_forces, others_false, out_within, clause_forces, clause_fails, AreSet, set_within, decided_lead}
 use Rattle.explanation_theory.proofs.SetCounting.{sum_rises, enough_values, none_outside}
 use Rattle.explanation_theory.proofs.OverCounting.{over_takes}
 
@@ -58,48 +58,48 @@ module _ (q : Problem) where
       (decided_lead q s d (IsPair r u) pairs (decided u there gone) out)
       (λ are. one_gives (run s (at_leasts q (vertices_of pairs))) (pairs_clause q pairs) (variable q r u) false (clause_forces q (run s (at_leasts q (vertices_of pairs))) r u pairs are)))
 
-  edge : (base : Setting) (d e : Domains) (p r u : ℕ) → ((w : ℕ) → w < size q.target → is_compatible q r u p w ≡ true → d p w ≡ false) → OnlyOf d e r → LeftRefused d e r (λ v. v == u)
-      → Explains (variable q) (size q.target) base d e (reason_for (pair_form q r p u ∷ []) r (λ v. v == p))
-  edge base d e p r u none only left =
-      explains_one (variable q) (size q.target) base d e (pair_form q r p u ∷ []) r (λ v. v == p) only
+  edge : (base : Setting) (d e : Domains) (p r u : ℕ) (test : ℕ → Bool) → ((w : ℕ) → w < size q.target → test w ≡ true → d p w ≡ false) → OnlyOf d e r → LeftRefused d e r (λ v. v == u)
+      → Explains (variable q) (size q.target) base d e (reason_for (leads_form q r u p test ∷ []) r (λ v. v == p))
+  edge base d e p r u test none only left =
+      explains_one (variable q) (size q.target) base d e (leads_form q r u p test ∷ []) r (λ v. v == p) only
       (λ s above out v v_in there gone.
-      subst (λ (t : ℕ). Gives s (pair_form q r p u ∷ []) (variable q r t) false) (sym (eqb-true v u (left v there gone)))
-      (one_gives s (pair_form q r p u) (variable q r u) false (pair_takes q s p r u (λ w w_in fits. out p (eq-eqb p p refl) w w_in (none w w_in fits)))))
+      subst (λ (t : ℕ). Gives s (leads_form q r u p test ∷ []) (variable q r t) false) (sym (eqb-true v u (left v there gone)))
+      (one_gives s (leads_form q r u p test) (variable q r u) false (leads_takes q s p r u test (λ w w_in fits. out p (eq-eqb p p refl) w w_in (none w w_in fits)))))
 
   -- Values of the set that are true are among those that it has.
-  true_within : (s : Setting) (d : Domains) (a : ℕ → Bool) (p : ℕ) (vertices values : List ℕ) → HaveOnly q d (p ∷ vertices) values
+  true_within : (s : Setting) (b : Option ℕ) (d : Domains) (a : ℕ → Bool) (p : ℕ) (vertices values : List ℕ) → HaveOnly q b d (p ∷ vertices) values
       → ((r : ℕ) → is_among r (p ∷ vertices) ≡ true → AreOut (variable q) (size q.target) s d r) → Follows s a
       → (r u : ℕ) → is_among r (p ∷ vertices) ≡ true → u < size q.target → a (variable q r u) ≡ true → is_among u values ≡ true
-  true_within s d a p vertices values only out follows r u among u_in is = by (d r u) refl
+  true_within s b d a p vertices values only out follows r u among u_in is = by (d r u) refl
     where
-      by : (b : Bool) → d r u ≡ b → is_among u values ≡ true
+      by : (t : Bool) → d r u ≡ t → is_among u values ≡ true
       by true there = only.within r u among u_in there
       by false gone = absurd (not_both (a (variable q r u)) is (follows.same (variable q r u) false (out r among u u_in gone)))
 
-  set_sorted : (p : ℕ) (vertices values : List ℕ) → Rises 0 (set_form q p vertices values).terms
-  set_sorted p vertices values = sum_rises (at_least q p) (at_leasts q vertices ++ map (at_most_target q) values) (Rises-sorted (terms_where (pos 1) every (variable q p) (size q.target)))
+  set_sorted : (b : Option ℕ) (p : ℕ) (vertices values : List ℕ) → Rises 0 (set_form q b p vertices values).terms
+  set_sorted b p vertices values = sum_rises (at_least q p) (at_leasts q vertices ++ map (at_most_in q b) values) (Rises-sorted (terms_where (pos 1) every (variable q p) (size q.target)))
 
-  set_takes : (s : Setting) (d : Domains) (p : ℕ) (vertices values : List ℕ) → HaveOnly q d (p ∷ vertices) values → length values ≤ length (p ∷ vertices)
-      → ((r : ℕ) → is_among r (p ∷ vertices) ≡ true → AreOut (variable q) (size q.target) s d r) → (r u : ℕ) → r < size q.pattern → is_among r (p ∷ vertices) ≡ false → is_among u values ≡ true
-      → (conflict s (set_form q p vertices values) ≡ true) ⊎ (after s (set_form q p vertices values) (variable q r u) ≡ Some false)
-  set_takes s d p vertices values only few out r u r_in outside among = unit s (set_form q p vertices values) (variable q r u) false (record {
-    rises = set_sorted p vertices values;
+  set_takes : (s : Setting) (b : Option ℕ) (d : Domains) (p : ℕ) (vertices values : List ℕ) → HaveOnly q b d (p ∷ vertices) values → length values ≤ length (p ∷ vertices)
+      → ((r : ℕ) → is_among r (p ∷ vertices) ≡ true → AreOut (variable q) (size q.target) s d r) → (r u : ℕ) → r < size q.pattern → in_block q b r ≡ true → is_among r (p ∷ vertices) ≡ false → is_among u values ≡ true
+      → (conflict s (set_form q b p vertices values) ≡ true) ⊎ (after s (set_form q b p vertices values) (variable q r u) ≡ Some false)
+  set_takes s b d p vertices values only few out r u r_in member outside among = unit s (set_form q b p vertices values) (variable q r u) false (record {
+    rises = set_sorted b p vertices values;
     there = λ a follows holds. by a follows holds (a (variable q r u)) refl;
   })
     where
-      by : (a : ℕ → Bool) → Follows s a → Holds (set_form q p vertices values) a → (b : Bool) → a (variable q r u) ≡ b → a (variable q r u) ≡ false
+      by : (a : ℕ → Bool) → Follows s a → Holds (set_form q b p vertices values) a → (t : Bool) → a (variable q r u) ≡ t → a (variable q r u) ≡ false
       by a follows holds true is =
-          absurd (none_outside q a p vertices values only.distinct only.vertices_in (true_within s d a p vertices values only out follows) holds few r u r_in outside among is)
+          absurd (none_outside q b a p vertices values only.members only.distinct only.vertices_in (true_within s b d a p vertices values only out follows) holds few r u r_in member outside among is)
       by a follows holds false is = is
 
-  counted : (base : Setting) (d e : Domains) (p : ℕ) (vertices values : List ℕ) → HaveOnly q d (p ∷ vertices) values → length values ≤ length (p ∷ vertices)
-      → ((r u : ℕ) → is_among r (p ∷ vertices) ≡ true → e r u ≡ d r u) → ((r u : ℕ) → d r u ≡ true → e r u ≡ false → (r < size q.pattern) × (is_among u values ≡ true))
-      → Explains (variable q) (size q.target) base d e (record { forms = set_form q p vertices values ∷ []; takes = λ r. not (is_among r (p ∷ vertices)); needs = λ r. is_among r (p ∷ vertices) })
-  counted base d e p vertices values only few stays left =
-      explains_each (variable q) (size q.target) base d e (record { forms = set_form q p vertices values ∷ []; takes = λ r. not (is_among r (p ∷ vertices)); needs = λ r. is_among r (p ∷ vertices) })
+  counted : (base : Setting) (d e : Domains) (b : Option ℕ) (p : ℕ) (vertices values : List ℕ) → HaveOnly q b d (p ∷ vertices) values → length values ≤ length (p ∷ vertices)
+      → ((r u : ℕ) → is_among r (p ∷ vertices) ≡ true → e r u ≡ d r u) → ((r u : ℕ) → d r u ≡ true → e r u ≡ false → (r < size q.pattern) × (in_block q b r ≡ true) × (is_among u values ≡ true))
+      → Explains (variable q) (size q.target) base d e (record { forms = set_form q b p vertices values ∷ []; takes = λ r. not (is_among r (p ∷ vertices)); needs = λ r. is_among r (p ∷ vertices) })
+  counted base d e b p vertices values only few stays left =
+      explains_each (variable q) (size q.target) base d e (record { forms = set_form q b p vertices values ∷ []; takes = λ r. not (is_among r (p ∷ vertices)); needs = λ r. is_among r (p ∷ vertices) })
       (λ r u inside. stays r u (is_in (is_among r (p ∷ vertices)) inside))
       (λ s above out r u outside u_in there gone. let l = left r u there gone in
-      one_gives s (set_form q p vertices values) (variable q r u) false (set_takes s d p vertices values only few out r u l.0 (is_out (is_among r (p ∷ vertices)) outside) l.1))
+      one_gives s (set_form q b p vertices values) (variable q r u) false (set_takes s b d p vertices values only few out r u l.0 l.1 (is_out (is_among r (p ∷ vertices)) outside) l.2))
     where
       is_in : (b : Bool) → not b ≡ false → b ≡ true
       is_in true h = refl
@@ -128,11 +128,11 @@ module _ (q : Problem) where
       leads_to_end s (at_leasts q (vertices_of pairs)) (pairs_clause q pairs ∷ []) (λ t. AreSet q t IsNoPair pairs) (decided_lead q s d IsNoPair pairs decided out)
       (λ are. conflict_refutes (run s (at_leasts q (vertices_of pairs))) (pairs_clause q pairs) (clause_fails q (run s (at_leasts q (vertices_of pairs))) pairs are))
 
-  short : (base : Setting) (d : Domains) (p : ℕ) (vertices values : List ℕ) → HaveOnly q d (p ∷ vertices) values → length values < length (p ∷ vertices)
-      → EndsAt (variable q) (size q.target) base d (λ r. is_among r (p ∷ vertices)) (set_form q p vertices values ∷ [])
-  short base d p vertices values only fewer s above out =
-      conflict_refutes s (set_form q p vertices values) (no_solution s (set_form q p vertices values) (set_sorted p vertices values)
-      (λ a follows holds. let enough = enough_values q a p vertices values only.distinct only.vertices_in (true_within s d a p vertices values only out follows) holds in omega (arith, enough, fewer)))
+  short : (base : Setting) (d : Domains) (b : Option ℕ) (p : ℕ) (vertices values : List ℕ) → HaveOnly q b d (p ∷ vertices) values → length values < length (p ∷ vertices)
+      → EndsAt (variable q) (size q.target) base d (λ r. is_among r (p ∷ vertices)) (set_form q b p vertices values ∷ [])
+  short base d b p vertices values only fewer s above out =
+      conflict_refutes s (set_form q b p vertices values) (no_solution s (set_form q b p vertices values) (set_sorted b p vertices values)
+      (λ a follows holds. let enough = enough_values q b a p vertices values only.members only.distinct only.vertices_in (true_within s b d a p vertices values only out follows) holds in omega (arith, enough, fewer)))
 
   true_within_setting : (s t : Setting) (path : List (ℕ × ℕ)) → Within s t → AreTrue q s path → AreTrue q t path
   true_within_setting s t [] above h = tt

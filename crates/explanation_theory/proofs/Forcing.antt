@@ -12,8 +12,7 @@ use Rattle.proof_theory.proofs.Sorting.{value-sorted, Rises-sorted}
 use Rattle.proof_theory.proofs.Refutation.{true_count, value-clause}
 use Rattle.log_theory.specs.Lookups.{is_among}
 use Rattle.encoding_theory.specs.Variables.{variable}
-use Rattle.encoding_theory.specs.Encoding.{every, terms_where, at_least, at_most, pair_form}
-use Rattle.encoding_theory.specs.Pairs.{is_compatible}
+use Rattle.encoding_theory.specs.Encoding.{every, terms_where, at_least, at_most, leads_form}
 use Rattle.encoding_theory.proofs.FormMeanings.{some_true, one_true, follows as some_follows}
 use Rattle.encoding_theory.proofs.Counting.{Passes, some_passes, count_one}
 use Rattle.forcing_theory.specs.Units.{Follows, Implies}
@@ -65,19 +64,19 @@ at_most_forces q s p t u t_in u_in other is = unit s (at_most q p) (variable q p
 
 -- ---- edges
 
--- Where each place of p that is compatible with r at u is false, the form of the pair takes u from r.
-pub pair_takes : (q : Problem) (s : Setting) (p r u : ℕ) → ((w : ℕ) → w < size q.target → is_compatible q r u p w ≡ true → s (variable q p w) ≡ Some false)
-    → (conflict s (pair_form q r p u) ≡ true) ⊎ (after s (pair_form q r p u) (variable q r u) ≡ Some false)
-pair_takes q s p r u none = unit s (pair_form q r p u) (variable q r u) false (record {
-  rises = Rises-sorted ((variable q r u, negsuc 0) ∷ terms_where (pos 1) (is_compatible q r u p) (variable q p) (size q.target));
+-- Where each place of p that passes the test is false, the form that r at u leads p to one of them takes u from r.
+pub leads_takes : (q : Problem) (s : Setting) (p r u : ℕ) (test : ℕ → Bool) → ((w : ℕ) → w < size q.target → test w ≡ true → s (variable q p w) ≡ Some false)
+    → (conflict s (leads_form q r u p test) ≡ true) ⊎ (after s (leads_form q r u p test) (variable q r u) ≡ Some false)
+leads_takes q s p r u test none = unit s (leads_form q r u p test) (variable q r u) false (record {
+  rises = Rises-sorted ((variable q r u, negsuc 0) ∷ terms_where (pos 1) test (variable q p) (size q.target));
   there = λ a follows holds. by a follows holds (a (variable q r u)) refl;
 })
   where
-    by : (a : ℕ → Bool) → Follows s a → Holds (pair_form q r p u) a → (b : Bool) → a (variable q r u) ≡ b → a (variable q r u) ≡ false
+    by : (a : ℕ → Bool) → Follows s a → Holds (leads_form q r u p test) a → (b : Bool) → a (variable q r u) ≡ b → a (variable q r u) ≡ false
     by a follows holds true is =
-        let w = some_passes (λ i. is_compatible q r u p i && a (variable q p i)) (size q.target)
-        (some_follows a (variable q r u) (is_compatible q r u p) (variable q p) (size q.target) holds is) in
-        let parts = and_parts (is_compatible q r u p w.number) (a (variable q p w.number)) w.passes in
+        let w = some_passes (λ i. test i && a (variable q p i)) (size q.target)
+        (some_follows a (variable q r u) test (variable q p) (size q.target) holds is) in
+        let parts = and_parts (test w.number) (a (variable q p w.number)) w.passes in
         absurd (not_both (a (variable q p w.number)) parts.1 (follows.same (variable q p w.number) false (none w.number w.below parts.0)))
     by a follows holds false is = is
 

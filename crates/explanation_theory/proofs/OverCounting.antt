@@ -1,5 +1,5 @@
 -- Counting values beside one pair: what a sum of the constraints of a neighbourhood and of values says of an assignment.
-use Rattle.std.proofs.Common.{◌≡◌, ℕ, ◌+◌, ◌<◌, ◌≤◌, Bool, true, false, ◌&&◌, cond, List, [], ◌∷◌, ◌++◌, length, map, pos, negsuc, ◌+ℤ◌, refl, ap, arith, Some, ◌⊎◌}
+use Rattle.std.proofs.Common.{◌≡◌, ℕ, ◌+◌, ◌<◌, ◌≤◌, Bool, true, false, ◌&&◌, cond, List, [], ◌∷◌, ◌++◌, length, map, pos, negsuc, ◌+ℤ◌, refl, ap, arith, Some, None, ◌⊎◌}
 use Rattle.std.proofs.lemmas.Int.{ints}
 use Rattle.std.proofs.lemmas.Bool.{and_parts}
 use Rattle.graph_theory.specs.Graph.{size}
@@ -35,9 +35,9 @@ pair_value q a p t r is =
     omega (arith, ints)
 
 all_value : (q : Problem) (a : ℕ → Bool) (p t : ℕ) (vertices values : List ℕ) → a (variable q p t) ≡ true
-    → total_value a (beside_forms q p t vertices ++ map (at_most_target q) values) +ℤ pos (sum_over (column q a) values) +ℤ pos (length vertices) ≡ pos (sum_over (beside q a p t) vertices)
+    → total_value a (beside_forms q p t vertices ++ map (at_most_target q) values) +ℤ pos (sum_over (column q None a) values) +ℤ pos (length vertices) ≡ pos (sum_over (beside q a p t) vertices)
 unfolding total_value
-all_value q a p t [] values is = let h = columns_value q a values in omega (arith, ints)
+all_value q a p t [] values is = let h = columns_value q None a values in omega (arith, ints)
 all_value q a p t (r ∷ rs) values is =
     let h = all_value q a p t rs values is in
     let e = pair_value q a p t r is in
@@ -45,12 +45,12 @@ all_value q a p t (r ∷ rs) values is =
 
 all_bound : (q : Problem) (p t : ℕ) (vertices values : List ℕ) → total_bound (beside_forms q p t vertices ++ map (at_most_target q) values) +ℤ pos (length values) ≡ pos 0
 unfolding total_bound
-all_bound q p t [] values = columns_bound q values
+all_bound q p t [] values = columns_bound q None values
 all_bound q p t (r ∷ rs) values = let h = all_bound q p t rs values in omega (arith, ints)
 
 -- The vertices and what others have of the values are no more than what the vertices have beside p at t, with as many more as there are values.
 over_says : (q : Problem) (a : ℕ → Bool) (p t r : ℕ) (vertices values : List ℕ) → a (variable q p t) ≡ true → Holds (over_form q p t r vertices values) a
-    → length (r ∷ vertices) + sum_over (column q a) values ≤ sum_over (beside q a p t) (r ∷ vertices) + length values
+    → length (r ∷ vertices) + sum_over (column q None a) values ≤ sum_over (beside q a p t) (r ∷ vertices) + length values
 over_says q a p t r vertices values is holds =
     let reached = holds.reached in
     let v = sum_value a (pair_form q p r t) (beside_forms q p t vertices ++ map (at_most_target q) values) in
@@ -77,14 +77,14 @@ enough_beside q s d a p t r vertices values has out follows is holds =
     (λ v among. covered_count (λ u. is_compatible q p t v u && a (variable q v u)) (size q.target) values
     (λ u u_in here. let parts = and_parts (is_compatible q p t v u) (a (variable q v u)) here in left v u among u_in parts.0 parts.1 (d v u) refl)) in
     let swapped = sum_swap (λ v u. one_if (is_compatible q p t v u && a (variable q v u))) (r ∷ vertices) values in
-    let fit = sum_le (inside q a p t (r ∷ vertices)) (column q a) values (λ u among. in_column u) in
+    let fit = sum_le (inside q a p t (r ∷ vertices)) (column q None a) values (λ u among. in_column u) in
     omega (arith, says, each, swapped, fit)
   where
     left : (v u : ℕ) → is_among v (r ∷ vertices) ≡ true → u < size q.target → is_compatible q p t v u ≡ true → a (variable q v u) ≡ true → (b : Bool) → d v u ≡ b → is_among u values ≡ true
     left v u among u_in fits here true there = has.within v u among u_in fits there
     left v u among u_in fits here false gone = absurd (not_both (a (variable q v u)) here (follows.same (variable q v u) false (out v among u u_in gone)))
 
-    in_column : (u : ℕ) → inside q a p t (r ∷ vertices) u ≤ column q a u
+    in_column : (u : ℕ) → inside q a p t (r ∷ vertices) u ≤ column q None a u
     in_column u =
         let all = distinct_sum (λ v. is_compatible q p t v u && a (variable q v u)) (size q.pattern) (r ∷ vertices) has.distinct has.vertices_in in
         let fewer = count-less (λ v. is_compatible q p t v u && a (variable q v u)) (λ v. every v && a (variable q v u)) (size q.pattern)

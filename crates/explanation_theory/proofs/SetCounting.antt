@@ -1,16 +1,17 @@
 -- Counting values together: what a sum of the constraints of vertices and of values says of an assignment.
-use Rattle.std.proofs.Common.{◌≡◌, ℕ, zero, suc, ◌+◌, ◌<◌, ◌≤◌, ◌==◌, Bool, true, false, not, ◌&&◌, ◌||◌, if◌then◌else◌, List, [], ◌∷◌, ◌++◌, length, map, ℤ, pos, negsuc, ◌+ℤ◌, ◌≤ℤ◌, refl, sym, ap, subst, ◌∙◌, arith, inl, inr, ◌⊎◌}
+use Rattle.std.proofs.Common.{◌≡◌, ℕ, zero, suc, ◌+◌, ◌<◌, ◌≤◌, ◌==◌, Bool, true, false, not, ◌&&◌, ◌||◌, if◌then◌else◌, List, [], ◌∷◌, ◌++◌, length, map, Option, ℤ, pos, negsuc, ◌+ℤ◌, ◌≤ℤ◌, refl, sym, ap, subst, ◌∙◌, arith, inl, inr, ◌⊎◌}
 use Rattle.std.proofs.lemmas.Int.{ints}
 use Rattle.std.proofs.lemmas.Bool.{cases_eq, or_cases, cases_lt, eqb-true, eq-eqb, ne_eqb}
 use Rattle.graph_theory.specs.Graph.{size}
 use Rattle.graph_theory.specs.Embedding.{Problem}
+use Rattle.graph_theory.specs.Blocks.{in_block}
 use Rattle.graph_theory.specs.Neighbours.{count}
 use Rattle.proof_theory.specs.Forms.{Form, Holds, Rises, value}
 use Rattle.proof_theory.specs.Rules.{sum_of}
 use Rattle.proof_theory.proofs.Sorting.{value-sorted, value-append, Rises-sorted}
 use Rattle.log_theory.specs.Lookups.{is_among, are_distinct}
 use Rattle.encoding_theory.specs.Variables.{variable}
-use Rattle.encoding_theory.specs.Encoding.{every, terms_where, at_least, at_most_target}
+use Rattle.encoding_theory.specs.Encoding.{every, terms_where, at_least, at_most_in}
 use Rattle.encoding_theory.proofs.FormMeanings.{value_up, value_down}
 use Rattle.forcing_theory.specs.Sums.{sum_from}
 use Rattle.explanation_theory.specs.Reasons.{at_leasts, set_form}
@@ -195,12 +196,12 @@ covered_count g n (w ∷ ws) covered = by (cases_lt w n) (g w) refl (covered_cou
 
 -- ---- what the sum says
 
--- How many values of p are true, and how many vertices have u.
+-- How many values of p are true, and how many vertices of a block have u.
 abbrev pub row : Problem → (ℕ → Bool) → ℕ → ℕ
 row q a p = count (λ i. every i && a (variable q p i)) (size q.target)
 
-abbrev pub column : Problem → (ℕ → Bool) → ℕ → ℕ
-column q a u = count (λ p. every p && a (variable q p u)) (size q.pattern)
+abbrev pub column : Problem → Option ℕ → (ℕ → Bool) → ℕ → ℕ
+column q b a u = count (λ p. in_block q b p && a (variable q p u)) (size q.pattern)
 
 unfoldable pub total_value : (ℕ → Bool) → List Form → ℤ
 total_value a [] = pos 0
@@ -230,92 +231,99 @@ sum_rises f (g ∷ gs) rises = sum_rises (sum_of f g) gs (Rises-sorted (f.terms 
 row_value : (q : Problem) (a : ℕ → Bool) (p : ℕ) → value a (at_least q p).terms ≡ pos (row q a p)
 row_value q a p = value-sorted a (terms_where (pos 1) every (variable q p) (size q.target)) ∙ value_up a every (variable q p) (size q.target)
 
-column_value : (q : Problem) (a : ℕ → Bool) (u : ℕ) → value a (at_most_target q u).terms +ℤ pos (column q a u) ≡ pos 0
-column_value q a u =
-    let e = value-sorted a (terms_where (negsuc 0) every (λ p. variable q p u) (size q.pattern)) in
-    let v = value_down a every (λ p. variable q p u) (size q.pattern) in
+column_value : (q : Problem) (b : Option ℕ) (a : ℕ → Bool) (u : ℕ) → value a (at_most_in q b u).terms +ℤ pos (column q b a u) ≡ pos 0
+column_value q b a u =
+    let e = value-sorted a (terms_where (negsuc 0) (in_block q b) (λ p. variable q p u) (size q.pattern)) in
+    let v = value_down a (in_block q b) (λ p. variable q p u) (size q.pattern) in
     omega (arith, ints)
 
-pub columns_value : (q : Problem) (a : ℕ → Bool) (values : List ℕ) → total_value a (map (at_most_target q) values) +ℤ pos (sum_over (column q a) values) ≡ pos 0
+pub columns_value : (q : Problem) (b : Option ℕ) (a : ℕ → Bool) (values : List ℕ) → total_value a (map (at_most_in q b) values) +ℤ pos (sum_over (column q b a) values) ≡ pos 0
 unfolding total_value
-columns_value q a [] = omega (arith, ints)
-columns_value q a (u ∷ us) =
-    let h = columns_value q a us in
-    let e = column_value q a u in
+columns_value q b a [] = omega (arith, ints)
+columns_value q b a (u ∷ us) =
+    let h = columns_value q b a us in
+    let e = column_value q b a u in
     omega (arith, ints)
 
-pub columns_bound : (q : Problem) (values : List ℕ) → total_bound (map (at_most_target q) values) +ℤ pos (length values) ≡ pos 0
+pub columns_bound : (q : Problem) (b : Option ℕ) (values : List ℕ) → total_bound (map (at_most_in q b) values) +ℤ pos (length values) ≡ pos 0
 unfolding total_bound
-columns_bound q [] = omega (arith, ints)
-columns_bound q (u ∷ us) = let h = columns_bound q us in omega (arith, ints)
+columns_bound q b [] = omega (arith, ints)
+columns_bound q b (u ∷ us) = let h = columns_bound q b us in omega (arith, ints)
 
-all_value : (q : Problem) (a : ℕ → Bool) (vertices values : List ℕ) → total_value a (at_leasts q vertices ++ map (at_most_target q) values) +ℤ pos (sum_over (column q a) values) ≡ pos (sum_over (row q a) vertices)
+all_value : (q : Problem) (b : Option ℕ) (a : ℕ → Bool) (vertices values : List ℕ)
+    → total_value a (at_leasts q vertices ++ map (at_most_in q b) values) +ℤ pos (sum_over (column q b a) values) ≡ pos (sum_over (row q a) vertices)
 unfolding total_value
-all_value q a [] values = columns_value q a values
-all_value q a (p ∷ ps) values =
-    let h = all_value q a ps values in
+all_value q b a [] values = columns_value q b a values
+all_value q b a (p ∷ ps) values =
+    let h = all_value q b a ps values in
     let e = row_value q a p in
     omega (arith, ints)
 
-all_bound : (q : Problem) (vertices values : List ℕ) → total_bound (at_leasts q vertices ++ map (at_most_target q) values) +ℤ pos (length values) ≡ pos (length vertices)
+all_bound : (q : Problem) (b : Option ℕ) (vertices values : List ℕ) → total_bound (at_leasts q vertices ++ map (at_most_in q b) values) +ℤ pos (length values) ≡ pos (length vertices)
 unfolding total_bound
-all_bound q [] values = columns_bound q values
-all_bound q (p ∷ ps) values = let h = all_bound q ps values in omega (arith, ints)
+all_bound q b [] values = columns_bound q b values
+all_bound q b (p ∷ ps) values = let h = all_bound q b ps values in omega (arith, ints)
 
 -- The vertices and the values that others have are no more than the values that the vertices have, with as many more as there are values.
-set_says : (q : Problem) (a : ℕ → Bool) (p : ℕ) (vertices values : List ℕ) → Holds (set_form q p vertices values) a
-    → length (p ∷ vertices) + sum_over (column q a) values ≤ sum_over (row q a) (p ∷ vertices) + length values
-set_says q a p vertices values holds =
+set_says : (q : Problem) (b : Option ℕ) (a : ℕ → Bool) (p : ℕ) (vertices values : List ℕ) → Holds (set_form q b p vertices values) a
+    → length (p ∷ vertices) + sum_over (column q b a) values ≤ sum_over (row q a) (p ∷ vertices) + length values
+set_says q b a p vertices values holds =
     let reached = holds.reached in
-    let v = sum_value a (at_least q p) (at_leasts q vertices ++ map (at_most_target q) values) in
-    let b = sum_bound (at_least q p) (at_leasts q vertices ++ map (at_most_target q) values) in
+    let v = sum_value a (at_least q p) (at_leasts q vertices ++ map (at_most_in q b) values) in
+    let k = sum_bound (at_least q p) (at_leasts q vertices ++ map (at_most_in q b) values) in
     let r = row_value q a p in
-    let av = all_value q a vertices values in
-    let ab = all_bound q vertices values in
+    let av = all_value q b a vertices values in
+    let ab = all_bound q b vertices values in
     omega (arith, ints)
 
 -- ---- sets
 
-module _ (q : Problem) (a : ℕ → Bool) (p : ℕ) (vertices values : List ℕ) (distinct : are_distinct (p ∷ vertices) ≡ true) (vertices_in : (r : ℕ) → is_among r (p ∷ vertices) ≡ true → r < size q.pattern)
+module _ (q : Problem) (b : Option ℕ) (a : ℕ → Bool) (p : ℕ) (vertices values : List ℕ) (members : (r : ℕ) → is_among r (p ∷ vertices) ≡ true → in_block q b r ≡ true) (distinct : are_distinct (p ∷ vertices) ≡ true) (vertices_in : (r : ℕ) → is_among r (p ∷ vertices) ≡ true → r < size q.pattern)
     (within : (r u : ℕ) → is_among r (p ∷ vertices) ≡ true → u < size q.target → a (variable q r u) ≡ true → is_among u values ≡ true) where
   -- How many of the set have u.
   inside : ℕ → ℕ
-  inside u = sum_over (λ r. one_if (every r && a (variable q r u))) (p ∷ vertices)
+  inside u = sum_over (λ r. one_if (in_block q b r && a (variable q r u))) (p ∷ vertices)
 
   rows_inside : sum_over (row q a) (p ∷ vertices) ≤ sum_over inside values
   unfolding inside
   rows_inside =
-      let each = sum_le (row q a) (λ r. sum_over (λ u. one_if (every r && a (variable q r u))) values) (p ∷ vertices)
-      (λ r among. covered_count (λ i. every i && a (variable q r i)) (size q.target) values (λ u u_in is. within r u among u_in is)) in
-      let swapped = sum_swap (λ r u. one_if (every r && a (variable q r u))) (p ∷ vertices) values in
+      let each = sum_le (row q a) (λ r. sum_over (λ u. one_if (in_block q b r && a (variable q r u))) values) (p ∷ vertices)
+      (λ r among. subst (λ (m : Bool). row q a r ≤ sum_over (λ u. one_if (m && a (variable q r u))) values) (sym (members r among))
+      (covered_count (λ i. every i && a (variable q r i)) (size q.target) values (λ u u_in is. within r u among u_in is))) in
+      let swapped = sum_swap (λ r u. one_if (in_block q b r && a (variable q r u))) (p ∷ vertices) values in
       omega (arith, each, swapped)
 
-  inside_column : (u : ℕ) → inside u ≤ column q a u
+  inside_column : (u : ℕ) → inside u ≤ column q b a u
   unfolding inside
-  inside_column u = distinct_sum (λ r. every r && a (variable q r u)) (size q.pattern) (p ∷ vertices) distinct vertices_in
+  inside_column u = distinct_sum (λ r. in_block q b r && a (variable q r u)) (size q.pattern) (p ∷ vertices) distinct vertices_in
 
   -- So there are at least as many values.
-  pub enough_values : Holds (set_form q p vertices values) a → length (p ∷ vertices) ≤ length values
+  pub enough_values : Holds (set_form q b p vertices values) a → length (p ∷ vertices) ≤ length values
   enough_values holds =
-      let says = set_says q a p vertices values holds in
+      let says = set_says q b a p vertices values holds in
       let rows = rows_inside in
-      let fit = sum_le inside (column q a) values (λ u among. inside_column u) in
+      let fit = sum_le inside (column q b a) values (λ u among. inside_column u) in
       omega (arith, says, rows, fit)
 
-  -- Where there are no more, no other vertex has one of them.
-  pub none_outside : Holds (set_form q p vertices values) a → length values ≤ length (p ∷ vertices) → (r u : ℕ) → r < size q.pattern → is_among r (p ∷ vertices) ≡ false → is_among u values ≡ true
+  -- Where there are no more, no other vertex of the block has one of them.
+  pub none_outside : Holds (set_form q b p vertices values) a → length values ≤ length (p ∷ vertices) → (r u : ℕ) → r < size q.pattern → in_block q b r ≡ true
+      → is_among r (p ∷ vertices) ≡ false → is_among u values ≡ true
       → a (variable q r u) ≡ true → ⊥
   unfolding inside
-  none_outside holds few r u r_in outside among is =
-      let says = set_says q a p vertices values holds in
+  none_outside holds few r u r_in member outside among is =
+      let says = set_says q b a p vertices values holds in
       let rows = rows_inside in
-      let one_more : inside u + 1 ≤ column q a u =
-      (let all = distinct_sum (λ v. every v && a (variable q v u)) (size q.pattern) (r ∷ p ∷ vertices) (and_of (is_among r (p ∷ vertices)) (are_distinct (p ∷ vertices)) outside distinct) (λ v here. in_all v (or_cases (r == v) (is_among v (p ∷ vertices)) here)) in
-      let one : one_if (every r && a (variable q r u)) ≡ 1 = ap one_if is in
+      let one_more : inside u + 1 ≤ column q b a u =
+      (let all = distinct_sum (λ v. in_block q b v && a (variable q v u)) (size q.pattern) (r ∷ p ∷ vertices) (and_of (is_among r (p ∷ vertices)) (are_distinct (p ∷ vertices)) outside distinct) (λ v here. in_all v (or_cases (r == v) (is_among v (p ∷ vertices)) here)) in
+      let one : one_if (in_block q b r && a (variable q r u)) ≡ 1 = ap one_if (and_both_true (in_block q b r) (a (variable q r u)) member is) in
       omega (arith, all, one)) in
-      let fit = sum_lt inside (column q a) values u (λ w here. inside_column w) among one_more in
+      let fit = sum_lt inside (column q b a) values u (λ w here. inside_column w) among one_more in
       omega (arith, says, rows, fit, few)
     where
+      and_both_true : (b c : Bool) → b ≡ true → c ≡ true → (b && c) ≡ true
+      and_both_true true c e f = f
+      and_both_true false c e f = absurd cc
+
       and_of : (b c : Bool) → b ≡ false → c ≡ true → (not b && c) ≡ true
       and_of true c e f = absurd cc
       and_of false c e f = f

@@ -1,8 +1,9 @@
 -- Why values leave domains, in forms of the encoding of a problem: what each cause needs, and which forms explain it.
 
-use Rattle.std.specs.Prelude.{◌≡◌, ℕ, ◌<◌, ◌==◌, ◌⊎◌, Bool, true, false, not, List, [], ◌∷◌, ◌++◌, map, Some}
+use Rattle.std.specs.Prelude.{◌≡◌, ℕ, ◌<◌, ◌==◌, ◌⊎◌, Bool, true, false, not, List, [], ◌∷◌, ◌++◌, map, Option, Some}
 use Rattle.graph_theory.specs.Graph.{size}
 use Rattle.graph_theory.specs.Embedding.{Problem, Compatible}
+use Rattle.graph_theory.specs.Blocks.{in_block}
 use Rattle.search_theory.specs.Consistency.{IsFirstValue, AreConsistent}
 use Rattle.proof_theory.specs.declared.literal.Literal.{Literal}
 use Rattle.proof_theory.specs.Forms.{Form}
@@ -10,7 +11,7 @@ use Rattle.proof_theory.specs.Slack.{Setting, conflict, after, refutes, clause_f
 use Rattle.log_theory.specs.Lookups.{is_among, are_distinct}
 use Rattle.encoding_theory.specs.Variables.{variable}
 use Rattle.encoding_theory.specs.Pairs.{is_compatible}
-use Rattle.encoding_theory.specs.Encoding.{at_least, at_most, at_most_target, pair_form}
+use Rattle.encoding_theory.specs.Encoding.{at_least, at_most, at_most_in, at_most_target, pair_form}
 use Rattle.forcing_theory.specs.Sums.{sum_from}
 use Rattle.forcing_theory.specs.Chains.{Domains, Reason, Explains, EndsAt}
 
@@ -32,10 +33,11 @@ at_leasts q vertices = map (at_least q) vertices
 abbrev pub vertices_of : List (ℕ × ℕ) → List ℕ
 vertices_of pairs = map (λ x. x.0) pairs
 
--- That vertices go somewhere and that values are taken once, all added up: those vertices need as many of these values as they are.
-abbrev pub set_form : Problem → ℕ → List ℕ → List ℕ → Form
-set_form q p vertices values = sum_from (at_least q p) (at_leasts q vertices
-    ++ map (at_most_target q) values)
+-- That vertices go somewhere and that values are taken once in a block, all added up: those vertices, where they are of the block, need as many
+-- of these values as they are.
+abbrev pub set_form : Problem → Option ℕ → ℕ → List ℕ → List ℕ → Form
+set_form q b p vertices values = sum_from (at_least q p) (at_leasts q vertices
+    ++ map (at_most_in q b) values)
 
 -- That beside p at t these vertices go to places that are compatible with it.
 abbrev pub beside_forms : Problem → ℕ → ℕ → List ℕ → List Form
@@ -97,9 +99,11 @@ IsPair r u x = (x.0 ≡ r) × (x.1 ≡ u)
 abbrev pub IsNoPair : ℕ × ℕ → Type 0
 IsNoPair x = ⊥
 
--- Vertices of the pattern, none twice, that have no values but these of the target.
-pub record HaveOnly (q : Problem) (d : Domains) (vertices values : List ℕ) : Type 0 where
+-- Vertices of a block, none twice, that have no values but these of the target.
+pub record HaveOnly (q : Problem) (b : Option ℕ) (d : Domains) (vertices values : List
+    ℕ) : Type 0 where
   pub distinct : are_distinct vertices ≡ true
+  pub members : (p : ℕ) → is_among p vertices ≡ true → in_block q b p ≡ true
   pub vertices_in : (p : ℕ) → is_among p vertices ≡ true → p < size q.pattern
   pub values_in : (u : ℕ) → is_among u values ≡ true → u < size q.target
   pub within : (p u : ℕ) → is_among p vertices ≡ true → u < size q.target → d p u ≡ true

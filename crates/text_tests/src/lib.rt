@@ -14,6 +14,8 @@ mod log_tests;
 #[cfg(test)]
 mod mapping_tests;
 #[cfg(test)]
+mod maps_tests;
+#[cfg(test)]
 mod plain_encoding;
 #[cfg(test)]
 mod plain_items;
