@@ -4,10 +4,11 @@ use Rattle.std.proofs.lemmas.Int.{ints}
 use Rattle.std.proofs.lemmas.List.{map-append}
 use Rattle.std.proofs.lemmas.Bool.{cases_lt, cases_eq, eqb-true, eq-eqb, ne_eqb, ltb-true, ltb-false, and_parts, and_from, not-true, not_from_false}
 use Rattle.graph_theory.specs.Graph.{size, edge}
-use Rattle.graph_theory.specs.Embedding.{Problem, Compatible}
+use Rattle.graph_theory.specs.Embedding.{Problem, is_injective, Compatible}
 use Rattle.graph_theory.specs.Neighbours.{count, common}
+use Rattle.graph_theory.specs.Asked.{asked_shared}
 use Rattle.graph_theory.specs.Reversed.{reversed, reversed_problem, AreMutual}
-use Rattle.graph_theory.proofs.ReversedGraphs.{edge-reversed}
+use Rattle.graph_theory.proofs.ReversedGraphs.{edge-reversed, differ-reversed}
 use Rattle.search_theory.specs.Consistency.{AreConsistent}
 use Rattle.search_theory.proofs.Pairs.{mutual_consistent}
 use Rattle.proof_theory.specs.declared.literal.Literal.{Literal}
@@ -24,7 +25,7 @@ use Rattle.log_theory.specs.Lookups.{Lookup, is_among, are_distinct, variables_o
 use Rattle.encoding_theory.specs.Variables.{variable, collect, when}
 use Rattle.encoding_theory.specs.Pairs.{is_compatible}
 use Rattle.encoding_theory.specs.Encoding.{terms_where, at_least, at_most}
-use Rattle.encoding_theory.proofs.PairTests.{compatible_from, compatible_to}
+use Rattle.encoding_theory.proofs.PairTests.{compatible_injective, compatible_to}
 use Rattle.encoding_theory.proofs.FormMeanings.{value_up}
 use Rattle.forcing_theory.specs.Units.{Follows}
 use Rattle.forcing_theory.specs.Chains.{run, Within}
@@ -43,7 +44,7 @@ use Rattle.pair_line_theory.proofs.Forcing.{forces_out}
 -- Both directions of an edge pair go together in the reversed problem exactly where they do so here.
 turned_pair : (q : Problem) (p t r u : ℕ) → p < size q.pattern → t < size q.target → r < size q.pattern → u < size q.target → Compatible (reversed_problem q) p t r u → Compatible q p t r u
 turned_pair q p t r u p_in t_in r_in u_in c = record {
-  apart = c.apart;
+  apart = λ two. c.apart (differ-reversed q p r p_in r_in ∙ two);
   out = rw (← edge-reversed q.pattern r p r_in p_in, ← edge-reversed q.target u t u_in t_in) c.back;
   back = rw (← edge-reversed q.pattern p r p_in r_in, ← edge-reversed q.target t u t_in u_in) c.out;
 }
@@ -52,11 +53,11 @@ mutual_serves : (q : Problem) (line : Form) (p t r : ℕ) → IsPlace q p t r �
 mutual_serves q line p t r place ways takes s here u u_in refused =
     takes s here u u_in (λ (k : Shares q p t r u). refused (mutual_consistent q p t r u ways place.first place.place place.second u_in k.pair k.shared))
 
-out_serves : (q : Problem) (line : Form) (p t r : ℕ) → IsPlace q p t r → common (reversed q.pattern) p r ≡ 0 → ForcesShared q line p t r → ForcesBeside q line p t r
+out_serves : (q : Problem) (line : Form) (p t r : ℕ) → IsPlace q p t r → asked_shared (reversed_problem q) p r ≡ 0 → ForcesShared q line p t r → ForcesBeside q line p t r
 out_serves q line p t r place none takes s here u u_in refused =
     takes s here u u_in (λ (k : Shares q p t r u). refused (record { pair = k.pair; shared = k.shared; in_shared = omega (arith, none) }))
 
-back_serves : (q : Problem) (line : Form) (p t r : ℕ) → IsPlace q p t r → common q.pattern p r ≡ 0 → ForcesShared (reversed_problem q) line p t r → ForcesBeside q line p t r
+back_serves : (q : Problem) (line : Form) (p t r : ℕ) → IsPlace q p t r → asked_shared q p r ≡ 0 → ForcesShared (reversed_problem q) line p t r → ForcesBeside q line p t r
 back_serves q line p t r place none takes s here u u_in refused =
     takes s here u u_in (λ (k : Shares (reversed_problem q) p t r u).
     refused (record { pair = turned_pair q p t r u place.first place.place place.second u_in k.pair; shared = omega (arith, none); in_shared = k.shared }))
@@ -70,28 +71,28 @@ not_less m n le = by (nat_lt m n) refl
     by true e = absurd (let l = ltb-true m n e in omega (arith, l, le))
     by false e = refl
 
-consistent_from : (q : Problem) (p t r u : ℕ) → is_consistent q p t r u ≡ true → AreConsistent q p t r u
-consistent_from q p t r u h =
-    let out : Bool = not (nat_lt (common q.target t u) (common q.pattern p r)) in
-    let back : Bool = not (nat_lt (common (reversed q.target) t u) (common (reversed q.pattern) p r)) in
+consistent_from : (q : Problem) (p t r u : ℕ) → is_injective q.maps ≡ true → is_consistent q p t r u ≡ true → AreConsistent q p t r u
+consistent_from q p t r u inj h =
+    let out : Bool = not (nat_lt (common q.target t u) (asked_shared q p r)) in
+    let back : Bool = not (nat_lt (common (reversed q.target) t u) (asked_shared (reversed_problem q) p r)) in
     let x = and_parts (is_compatible q p t r u) (out && back) h in
     let y = and_parts out back x.1 in
     record {
-      pair = compatible_from q p t r u x.0;
-      shared = ltb-false (common q.target t u) (common q.pattern p r) (not-true (nat_lt (common q.target t u) (common q.pattern p r)) y.0);
-      in_shared = ltb-false (common (reversed q.target) t u) (common (reversed q.pattern) p r) (not-true (nat_lt (common (reversed q.target) t u) (common (reversed q.pattern) p r)) y.1);
+      pair = compatible_injective q p t r u inj x.0;
+      shared = ltb-false (common q.target t u) (asked_shared q p r) (not-true (nat_lt (common q.target t u) (asked_shared q p r)) y.0);
+      in_shared = ltb-false (common (reversed q.target) t u) (asked_shared (reversed_problem q) p r) (not-true (nat_lt (common (reversed q.target) t u) (asked_shared (reversed_problem q) p r)) y.1);
     }
 
 -- What is not consistent fails in one direction or the other.
 fails_one_way : (q : Problem) (p t r u : ℕ) → is_consistent q p t r u ≡ false → (Shares q p t r u → ⊥) ⊎ (Shares (reversed_problem q) p t r u → ⊥)
-fails_one_way q p t r u h = by (cases_lt (common (reversed q.target) t u) (common (reversed q.pattern) p r))
+fails_one_way q p t r u h = by (cases_lt (common (reversed q.target) t u) (asked_shared (reversed_problem q) p r))
   where
-    by : (common (reversed q.target) t u < common (reversed q.pattern) p r) ⊎ (common (reversed q.pattern) p r ≤ common (reversed q.target) t u)
+    by : (common (reversed q.target) t u < asked_shared (reversed_problem q) p r) ⊎ (asked_shared (reversed_problem q) p r ≤ common (reversed q.target) t u)
         → (Shares q p t r u → ⊥) ⊎ (Shares (reversed_problem q) p t r u → ⊥)
     by (inl few) = inr (λ (k : Shares (reversed_problem q) p t r u). let e = k.shared in omega (arith, e, few))
     by (inr enough) = inl (λ (k : Shares q p t r u). clash (and_from (is_compatible q p t r u) _ (compatible_to q p t r u k.pair)
-        (and_from (not (nat_lt (common q.target t u) (common q.pattern p r))) (not (nat_lt (common (reversed q.target) t u) (common (reversed q.pattern) p r)))
-        (not_less (common q.target t u) (common q.pattern p r) k.shared) (not_less (common (reversed q.target) t u) (common (reversed q.pattern) p r) enough))))
+        (and_from (not (nat_lt (common q.target t u) (asked_shared q p r))) (not (nat_lt (common (reversed q.target) t u) (asked_shared (reversed_problem q) p r)))
+        (not_less (common q.target t u) (asked_shared q p r) k.shared) (not_less (common (reversed q.target) t u) (asked_shared (reversed_problem q) p r) enough))))
       where
         clash : is_consistent q p t r u ≡ true → ⊥
         clash e = let bad : true ≡ false = sym e ∙ h in cc
@@ -321,12 +322,12 @@ both_never q a p t r u u_in refused here holds is =
     let reached = holds.reached in
     omega (arith, ints)
 
-both_serves : (q : Problem) (p t r : ℕ) → IsPlace q p t r → ForcesBeside q (consistent_form q p t r) p t r
-both_serves q p t r place s here u u_in refused = forces_out s (consistent_form q p t r) (variable q r u) (Rises-sorted _)
+both_serves : (q : Problem) (p t r : ℕ) → IsPlace q p t r → is_injective q.maps ≡ true → ForcesBeside q (consistent_form q p t r) p t r
+both_serves q p t r place inj s here u u_in refused = forces_out s (consistent_form q p t r) (variable q r u) (Rises-sorted _)
     (λ a follows holds is. both_never q a p t r u u_in (by (is_consistent q p t r u) refl) (follows.same (variable q p t) true here) holds is)
   where
     by : (b : Bool) → is_consistent q p t r u ≡ b → is_consistent q p t r u ≡ false
-    by true e = absurd (refused (consistent_from q p t r u e))
+    by true e = absurd (refused (consistent_from q p t r u inj e))
     by false e = e
 
 pub row_serves : (q : Problem) → RowServes q

@@ -1,5 +1,6 @@
 pub mod Totals
 pub mod Values
+pub mod AskedShares
 pub mod Around
 pub mod Forcing
 pub mod Dividing

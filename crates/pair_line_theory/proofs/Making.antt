@@ -1,10 +1,14 @@
 -- The operations of the lines make their forms, and no sum on the way is too wide.
-use Rattle.std.proofs.Common.{◌≡◌, ℕ, zero, suc, ◌+◌, ◌*◌, ◌^◌, ◌≤◌, ◌<◌, ◌==◌, Bool, true, false, ◌||◌, is_some, not, cond, List, [], ◌∷◌, ◌++◌, map, ℤ, pos, negsuc, unsigned_abs, refl, sym, ap, ◌∙◌, arith, Option, Some, Result, Ok, Err}
+use Rattle.std.proofs.Common.{◌≡◌, ℕ, zero, suc, ◌+◌, ◌*◌, ◌^◌, ◌≤◌, ◌<◌, ◌==◌, Bool, true, false, ◌||◌, is_some, not, cond, List, [], ◌∷◌, ◌++◌, map, ℤ, pos, negsuc, unsigned_abs, refl, sym, ap, ◌∙◌, arith, Option, Some, None, Result, Ok, Err}
 use Rattle.std.proofs.lemmas.Int.{unsigned_abs-mul}
 use Rattle.std.proofs.lemmas.Bool.{ne_eqb, eqb-false, not-true, and_parts, and_from, not_from_false}
 use native.Mathlib.Nat.{suc-mul, mul-le-mul_right}
 use Rattle.graph_theory.specs.Graph.{size as size_of, edge}
-use Rattle.graph_theory.specs.Embedding.{Problem}
+use Rattle.graph_theory.specs.Embedding.{Problem, is_injective}
+use Rattle.graph_theory.specs.Graph.{Graph}
+use Rattle.graph_theory.specs.Blocks.{in_block, has_block_in, has_block}
+use Rattle.graph_theory.specs.declared.embedding.Maps.{Maps}
+use Rattle.graph_theory.specs.declared.embedding.Maps.TheVariants.{Injective, Local, Any}
 use Rattle.graph_theory.specs.Neighbours.{count, is_neighbour, common}
 use Rattle.proof_theory.specs.Forms.{Form, size, form_of}
 use Rattle.proof_theory.specs.Rules.{sum_of, times_of, divide_of}
@@ -21,15 +25,16 @@ use Rattle.log_theory.specs.Steps.{◌>>=◌, unless, or_fault}
 use Rattle.log_theory.specs.Lookups.{Lookup, narrow, on_top, operate, evaluate, only_one, makes}
 use Rattle.encoding_theory.specs.Variables.{variable, when}
 use Rattle.encoding_theory.specs.Pairs.{is_compatible, is_linked, is_edge_pair}
-use Rattle.encoding_theory.specs.Encoding.{every, terms_where, at_least, at_most, at_most_target, pair_form}
-use Rattle.encoding_theory.specs.Places.{at_least_place, at_most_place, at_most_target_place, edge_place, non_edge_place}
+use Rattle.encoding_theory.specs.Encoding.{every, terms_where, at_least, at_most, at_most_in, at_most_target, pair_form}
+use Rattle.encoding_theory.specs.Places.{at_least_place, at_most_place, at_most_place_in, edge_place, non_edge_place}
 use Rattle.encoding_theory.proofs.PlaceProofs.{place_laws}
 use Rattle.forcing_theory.specs.Sums.{IsSmall}
 use Rattle.forcing_theory.proofs.Summing.{size_append, small_sum, narrow_small}
 use Rattle.pair_line_theory.specs.Operations.{sum_where, adds_where, FindsEncoding}
-use Rattle.pair_line_theory.specs.Rows.{at_least_line, at_most_line, target_line, edge_line, is_shared, lets, beside_form, beside_ops, alone_ops, there, spread_form, spread_ops, not_both_form, two_ops, around_form, around_ops, weight, joined_form, joined_ops, apart_form, apart_ops, is_consistent, consistent_places, consistent_clause, consistent_form}
+use Rattle.pair_line_theory.specs.Rows.{at_least_line, at_most_line, block_line, target_line, edge_line, is_shared, lets, beside_form, beside_ops, near_form, near_ops, alone_ops, there, spread_form, spread_ops, not_both_form, two_ops, around_form, around_ops, weight, joined_form, joined_ops, apart_form, apart_ops, is_consistent, consistent_places, consistent_clause, consistent_form}
 use Rattle.pair_line_theory.specs.Laws.{InLimits, IsPlace, AreTwoShared, FindsSpread, RowMakes, RowSizes, RowLaws}
 use Rattle.pair_line_theory.proofs.Totals.{one_if}
+use Rattle.pair_line_theory.proofs.AskedShares.{asked_laws}
 use Rattle.pair_line_theory.proofs.Spreading.{few_form, backs_form, spread_exact, one_alone}
 use Rattle.pair_line_theory.proofs.BothWays.{row_serves, clause_terms, clause_bound, clause_made}
 use Rattle.pair_line_theory.proofs.Pairing.{not_both_made, few_two, two_exact}
@@ -157,6 +162,12 @@ joined_base q p t r = times_of (weight q t) (sum_of (times_of 2 (at_most q r)) (
 abbrev apart_base : Problem → ℕ → ℕ → Form
 apart_base q t r = times_of (weight q t) (sum_of (at_most q r) (at_most_target q t))
 
+-- Injective maps have the block of all vertices.
+whole_block : (k : Maps) (g : Graph) → is_injective k ≡ true → has_block_in k g None ≡ true
+whole_block Injective g inj = refl
+whole_block Local g inj = absurd cc
+whole_block Any g inj = absurd cc
+
 -- The two loops of a spread.
 abbrev others_ops : Problem → ℕ → ℕ → ℕ → List Op
 others_ops q p r w = adds_where (λ v. not (is_shared q.pattern p r v)) (λ v. Axiom (there q w v)) (size_of q.pattern)
@@ -177,11 +188,20 @@ module _ (q : Problem) (plain : InLimits q) where
       let few = plain.targets_few in
       small_form _ (negsuc 0) 8192 (omega arith) (omega (arith, s, few))
 
-  small_target : (w : ℕ) → IsSmall 1024 (at_most_target q w)
-  small_target w =
-      let s = size_terms (negsuc 0) every (λ v. variable q v w) (size_of q.pattern) (omega arith) in
+  small_block : (b : Option ℕ) (w : ℕ) → IsSmall 1024 (at_most_in q b w)
+  small_block b w =
+      let s = size_terms (negsuc 0) (in_block q b) (λ v. variable q v w) (size_of q.pattern) (omega arith) in
       let few = plain.vertices_few in
       small_form _ (negsuc 0) 1024 (omega arith) (omega (arith, s, few))
+
+  small_target : (w : ℕ) → IsSmall 1024 (at_most_target q w)
+  small_target w = small_block None w
+
+  small_beside : (p t r : ℕ) → IsSmall 16385 (beside_form q p t r)
+  small_beside p t r = small_sum 8193 8192 (pair_form q p r t) (at_most q r) (small_pair p r t) (small_at_most r)
+
+  small_near : (b : Option ℕ) (p t r : ℕ) → IsSmall 17409 (near_form q b p t r)
+  small_near b p t r = small_sum 16385 1024 (beside_form q p t r) (at_most_in q b t) (small_beside p t r) (small_block b t)
 
   small_spread : (p r w : ℕ) → IsSmall 9216 (spread_form q p r w)
   small_spread p r w =
@@ -243,7 +263,8 @@ module _ (q : Problem) (plain : InLimits q) where
 
   row_sizes : RowSizes q
   row_sizes = record {
-    beside = λ p t r. small_more 16385 (2 ^ 40) _ (small_sum 8193 8192 (pair_form q p r t) (at_most q r) (small_pair p r t) (small_at_most r)) (omega arith);
+    beside = λ p t r. small_more 16385 (2 ^ 40) _ (small_beside p t r) (omega arith);
+    near = λ b p t r. small_more 17409 (2 ^ 40) _ (small_near b p t r) (omega arith);
     joined = λ p t r. small_around p t r _ (small_more (24577 * weight q t) (2 ^ 28) _ (small_joined_base p t r) (joined_room t));
     apart = λ p t r. small_around p t r _ (small_more (9216 * weight q t) (2 ^ 28) _ (small_apart_base t r) (apart_room t));
     both = λ p t r. small_more 16385 (2 ^ 40) _ (small_both p t r) (omega arith);
@@ -257,8 +278,11 @@ module _ (q : Problem) (plain : InLimits q) where
     find_least : (r : ℕ) → r < size_of q.pattern → look (at_least_line q r) ≡ Some (at_least q r)
     find_least r r_in = finds.line (at_least_place q r) (at_least q r) ((place_laws q).at_least r r_in)
 
-    find_target : (w : ℕ) → w < size_of q.target → look (target_line q w) ≡ Some (at_most_target q w)
-    find_target w w_in = finds.line (at_most_target_place q w) (at_most_target q w) ((place_laws q).at_most_target w w_in)
+    find_block : (b : Option ℕ) (w : ℕ) → has_block q b ≡ true → w < size_of q.target → look (block_line q b w) ≡ Some (at_most_in q b w)
+    find_block b w has w_in = finds.line (at_most_place_in q b w) (at_most_in q b w) ((place_laws q).at_most_in b w has w_in)
+
+    find_target : (w : ℕ) → is_injective q.maps ≡ true → w < size_of q.target → look (target_line q w) ≡ Some (at_most_target q w)
+    find_target w inj w_in = find_block None w (whole_block q.maps q.pattern inj) w_in
 
     find_edge : (p r t : ℕ) → p < size_of q.pattern → r < size_of q.pattern → t < size_of q.target → is_edge_pair q p r ≡ true → look (edge_line q p r t) ≡ Some (pair_form q p r t)
     find_edge p r t p_in r_in t_in is = finds.line (edge_place q p r t) (pair_form q p r t) ((place_laws q).edge p r t p_in r_in t_in is)
@@ -289,8 +313,17 @@ module _ (q : Problem) (plain : InLimits q) where
         ∙ step look (pair_form q p r t ∷ []) (at_most q r ∷ pair_form q p r t ∷ []) (Push (at_most_line q r)) (Add ∷ []) (pushed look (pair_form q p r t ∷ []) (at_most_line q r) (at_most q r) (find_most r place.second))
         ∙ step look (at_most q r ∷ pair_form q p r t ∷ []) (beside_form q p t r ∷ []) Add [] (added look [] (pair_form q p r t) (at_most q r) 16385 (small_sum 8193 8192 (pair_form q p r t) (at_most q r) (small_pair p r t) (small_at_most r)) (omega arith)))
 
-    alone_made : (name : Name) (p t r : ℕ) → IsPlace q p t r → makes look (P name (alone_ops q t)) ≡ Ok (at_most_target q t)
-    alone_made name p t r place = line_made look name (alone_ops q t) (at_most_target q t) (step look [] (at_most_target q t ∷ []) (Push (target_line q t)) [] (pushed look [] (target_line q t) (at_most_target q t) (find_target t place.place)))
+    near_made : (b : Option ℕ) (name : Name) (own : Ref) (p t r : ℕ) → IsPlace q p t r → has_block q b ≡ true → look own ≡ Some (pair_form q p r t)
+        → makes look (P name (near_ops q b own t r)) ≡ Ok (near_form q b p t r)
+    near_made b name own p t r place has found = line_made look name (near_ops q b own t r) (near_form q b p t r)
+        (step look [] (pair_form q p r t ∷ []) (Push own) (Push (at_most_line q r) ∷ Add ∷ Push (block_line q b t) ∷ Add ∷ []) (pushed look [] own (pair_form q p r t) found)
+        ∙ step look (pair_form q p r t ∷ []) (at_most q r ∷ pair_form q p r t ∷ []) (Push (at_most_line q r)) (Add ∷ Push (block_line q b t) ∷ Add ∷ []) (pushed look (pair_form q p r t ∷ []) (at_most_line q r) (at_most q r) (find_most r place.second))
+        ∙ step look (at_most q r ∷ pair_form q p r t ∷ []) (beside_form q p t r ∷ []) Add (Push (block_line q b t) ∷ Add ∷ []) (added look [] (pair_form q p r t) (at_most q r) 16385 (small_beside p t r) (omega arith))
+        ∙ step look (beside_form q p t r ∷ []) (at_most_in q b t ∷ beside_form q p t r ∷ []) (Push (block_line q b t)) (Add ∷ []) (pushed look (beside_form q p t r ∷ []) (block_line q b t) (at_most_in q b t) (find_block b t has place.place))
+        ∙ step look (at_most_in q b t ∷ beside_form q p t r ∷ []) (near_form q b p t r ∷ []) Add [] (added look [] (beside_form q p t r) (at_most_in q b t) 17409 (small_near b p t r) (omega arith)))
+
+    alone_made : (b : Option ℕ) (name : Name) (p t r : ℕ) → IsPlace q p t r → has_block q b ≡ true → makes look (P name (alone_ops q b t)) ≡ Ok (at_most_in q b t)
+    alone_made b name p t r place has = line_made look name (alone_ops q b t) (at_most_in q b t) (step look [] (at_most_in q b t ∷ []) (Push (block_line q b t)) [] (pushed look [] (block_line q b t) (at_most_in q b t) (find_block b t has place.place)))
 
     joined_made : (name : Name) (own : Ref) (spread : ℕ → Ref) (p t r : ℕ) → IsPlace q p t r → look own ≡ Some (pair_form q p r t) → FindsSpread q look spread p t r
         → makes look (P name (joined_ops q own spread p t r)) ≡ Ok (joined_form q p t r)
@@ -303,19 +336,19 @@ module _ (q : Problem) (plain : InLimits q) where
         ∙ step look (sum_of (times_of 2 (at_most q r)) (pair_form q p r t) ∷ []) ((joined_base q p t r) ∷ []) (Times (weight q t)) [] (multiplied look [] (weight q t) (sum_of (times_of 2 (at_most q r)) (pair_form q p r t)) (24577 * weight q t) (omega arith) (small_joined_base p t r) (let room = joined_room t in omega (arith, room))))
         (around_made spread p t r (joined_base q p t r) place spreads (small_more (24577 * weight q t) (2 ^ 28) (joined_base q p t r) (small_joined_base p t r) (joined_room t))))
 
-    apart_made : (name : Name) (spread : ℕ → Ref) (p t r : ℕ) → IsPlace q p t r → FindsSpread q look spread p t r → makes look (P name (apart_ops q spread p t r)) ≡ Ok (apart_form q p t r)
-    apart_made name spread p t r place spreads = line_made look name (apart_ops q spread p t r) (apart_form q p t r)
+    apart_made : (name : Name) (spread : ℕ → Ref) (p t r : ℕ) → IsPlace q p t r → is_injective q.maps ≡ true → FindsSpread q look spread p t r → makes look (P name (apart_ops q spread p t r)) ≡ Ok (apart_form q p t r)
+    apart_made name spread p t r place inj spreads = line_made look name (apart_ops q spread p t r) (apart_form q p t r)
         (runs_on look [] ((apart_base q t r) ∷ []) (apart_form q p t r ∷ []) (Push (at_most_line q r) ∷ Push (target_line q t) ∷ Add ∷ Times (weight q t) ∷ []) (around_ops q spread p t r)
         (step look [] ((at_most q r) ∷ []) (Push (at_most_line q r)) (Push (target_line q t) ∷ Add ∷ Times (weight q t) ∷ []) (pushed look [] (at_most_line q r) (at_most q r) (find_most r place.second))
-        ∙ step look ((at_most q r) ∷ []) ((at_most_target q t) ∷ (at_most q r) ∷ []) (Push (target_line q t)) (Add ∷ Times (weight q t) ∷ []) (pushed look ((at_most q r) ∷ []) (target_line q t) (at_most_target q t) (find_target t place.place))
+        ∙ step look ((at_most q r) ∷ []) ((at_most_target q t) ∷ (at_most q r) ∷ []) (Push (target_line q t)) (Add ∷ Times (weight q t) ∷ []) (pushed look ((at_most q r) ∷ []) (target_line q t) (at_most_target q t) (find_target t inj place.place))
         ∙ step look ((at_most_target q t) ∷ (at_most q r) ∷ []) (sum_of (at_most q r) (at_most_target q t) ∷ []) Add (Times (weight q t) ∷ []) (added look [] (at_most q r) (at_most_target q t) 9216 (small_sum 8192 1024 (at_most q r) (at_most_target q t) (small_at_most r) (small_target t)) (omega arith))
         ∙ step look (sum_of (at_most q r) (at_most_target q t) ∷ []) ((apart_base q t r) ∷ []) (Times (weight q t)) [] (multiplied look [] (weight q t) (sum_of (at_most q r) (at_most_target q t)) (9216 * weight q t) (omega arith) (small_apart_base t r) (let room = apart_room t in omega (arith, room))))
         (around_made spread p t r (apart_base q t r) place spreads (small_more (9216 * weight q t) (2 ^ 28) (apart_base q t r) (small_apart_base t r) (apart_room t))))
 
-    spread_made : (name : Name) (p w r less : ℕ) → IsPlace q p w r → common q.pattern p r ≡ less + 1 → 0 < less → makes look (P name (spread_ops q p r w less)) ≡ Ok (spread_form q p r w)
-    spread_made name p w r less place shares some = line_made look name (spread_ops q p r w less) (spread_form q p r w)
+    spread_made : (name : Name) (p w r less : ℕ) → IsPlace q p w r → is_injective q.maps ≡ true → common q.pattern p r ≡ less + 1 → 0 < less → makes look (P name (spread_ops q p r w less)) ≡ Ok (spread_form q p r w)
+    spread_made name p w r less place inj shares some = line_made look name (spread_ops q p r w less) (spread_form q p r w)
         (runs_on look [] (few_form q p r w ∷ []) (spread_form q p r w ∷ []) (Push (target_line q w) ∷ (others_ops q p r w)) ((Times less ∷ (backs_ops q p r w)) ++ Divide (less + 1) ∷ [])
-        (step look [] (at_most_target q w ∷ []) (Push (target_line q w)) (others_ops q p r w) (pushed look [] (target_line q w) (at_most_target q w) (find_target w place.place))
+        (step look [] (at_most_target q w ∷ []) (Push (target_line q w)) (others_ops q p r w) (pushed look [] (target_line q w) (at_most_target q w) (find_target w inj place.place))
         ∙ runs_where look (λ v. not (is_shared q.pattern p r v)) (λ v. Axiom (there q w v)) (λ v. axiom_form (there q w v)) (at_most_target q w) 1024 1 (size_of q.pattern) (small_target w) (λ v. small_there w v) (let few = plain.vertices_few in omega (arith, few)) (λ v stack v_in out. refl))
         (runs_on look (few_form q p r w ∷ []) (backs_form q p r w less ∷ []) (spread_form q p r w ∷ []) (Times less ∷ (backs_ops q p r w)) (Divide (less + 1) ∷ [])
         (step look (few_form q p r w ∷ []) (times_of less (few_form q p r w) ∷ []) (Times less) (backs_ops q p r w) (multiplied look [] less (few_form q p r w) (2048 * less) some small_times_few (let room = less_few in omega (arith, room)))
@@ -353,11 +386,12 @@ module _ (q : Problem) (plain : InLimits q) where
     row_makes : RowMakes q look
     row_makes = record {
       beside = beside_made;
+      near = near_made;
       alone = alone_made;
       joined = joined_made;
       apart = apart_made;
       spread = spread_made;
-      not_both = λ name m n w order n_in w_in. not_both_made q m n w order w_in n_in look name (find_target w w_in);
+      not_both = λ name m n w inj order n_in w_in. not_both_made q m n w order w_in n_in look name (find_target w inj w_in);
       two = two_made;
       clause = λ name out back first second p t r place found takes again takes_too. clause_made q p t r place look name out back first second found takes again takes_too (find_least r place.second);
       both = both_made;
@@ -367,4 +401,4 @@ module _ (q : Problem) (plain : InLimits q) where
     }
 
   pub row_laws : RowLaws q
-  row_laws = record { forces = row_forces q; edges = edge_forces q; serves = row_serves q; makes = row_makes; sizes = row_sizes }
+  row_laws = record { asked = asked_laws q; forces = row_forces q; edges = edge_forces q; serves = row_serves q; makes = row_makes; sizes = row_sizes }

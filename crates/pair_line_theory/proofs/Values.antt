@@ -1,11 +1,12 @@
 -- What the forms of the encoding, and sums and multiples of forms, are worth under an assignment.
-use Rattle.std.proofs.Common.{◌≡◌, ℕ, zero, suc, ◌+◌, ◌*◌, ◌<◌, Bool, true, false, ◌&&◌, cond, List, [], ◌∷◌, ◌++◌, map, ℤ, pos, negsuc, ◌+ℤ◌, ◌*ℤ◌, refl, sym, ap, ◌∙◌, arith, inl, inr, ◌⊎◌}
+use Rattle.std.proofs.Common.{◌≡◌, ℕ, zero, suc, ◌+◌, ◌*◌, ◌<◌, Bool, true, false, ◌&&◌, cond, List, [], ◌∷◌, ◌++◌, map, Option, None, ℤ, pos, negsuc, ◌+ℤ◌, ◌*ℤ◌, refl, sym, ap, ◌∙◌, arith, inl, inr, ◌⊎◌}
 use Rattle.std.proofs.lemmas.Int.{ints}
 use Rattle.std.proofs.lemmas.Bool.{cases_order}
 use native.Mathlib.Nat.{suc-mul, mul-le-mul_right}
 use Rattle.std.proofs.Math.IntN.{pos-*ℤ-pos}
 use Rattle.graph_theory.specs.Graph.{size}
 use Rattle.graph_theory.specs.Embedding.{Problem}
+use Rattle.graph_theory.specs.Blocks.{in_block}
 use Rattle.graph_theory.specs.Neighbours.{count}
 use Rattle.proof_theory.specs.Forms.{Form, Rises, value}
 use Rattle.proof_theory.specs.Rules.{sum_of, times_of}
@@ -14,7 +15,7 @@ use Rattle.proof_theory.proofs.Sorting.{value-sorted, value-append, Rises-sorted
 use Rattle.proof_theory.proofs.Rules.{times_sum}
 use Rattle.encoding_theory.specs.Variables.{variable}
 use Rattle.encoding_theory.specs.Pairs.{is_compatible}
-use Rattle.encoding_theory.specs.Encoding.{every, terms_where, at_most, at_most_target, pair_form}
+use Rattle.encoding_theory.specs.Encoding.{every, terms_where, at_most, at_most_in, at_most_target, pair_form}
 use Rattle.encoding_theory.proofs.FormMeanings.{value_up, value_down}
 use Rattle.pair_line_theory.specs.Operations.{sum_where}
 use Rattle.pair_line_theory.specs.Rows.{there}
@@ -108,13 +109,16 @@ worth_at_most q a r = record {
       omega (arith, ints);
 }
 
-pub worth_target : (q : Problem) (a : ℕ → Bool) (w : ℕ) → IsWorth a (at_most_target q w) (held_at q a w) 0
-worth_target q a w = record {
+pub worth_block : (q : Problem) (b : Option ℕ) (a : ℕ → Bool) (w : ℕ) → IsWorth a (at_most_in q b w) (held_where q a (in_block q b) w) 0
+worth_block q b a w = record {
   worth =
-      let e = value-sorted a (terms_where (negsuc 0) every (λ p. variable q p w) (size q.pattern)) in
-      let v = value_down a every (λ p. variable q p w) (size q.pattern) in
+      let e = value-sorted a (terms_where (negsuc 0) (in_block q b) (λ p. variable q p w) (size q.pattern)) in
+      let v = value_down a (in_block q b) (λ p. variable q p w) (size q.pattern) in
       omega (arith, ints);
 }
+
+pub worth_target : (q : Problem) (a : ℕ → Bool) (w : ℕ) → IsWorth a (at_most_target q w) (held_at q a w) 0
+worth_target q a w = worth_block q None a w
 
 pub one_less : (b : Bool) → cond b (negsuc 0) (pos 0) +ℤ pos (one_if b) ≡ pos 0
 one_less true = omega (arith, ints)

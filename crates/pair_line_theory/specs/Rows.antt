@@ -3,11 +3,12 @@
 -- that they lead from it is the lines of the reversed problem, whose encoding is the same.
 -- (Counting shared neighbours in cutting planes follows Gocht, McCreesh, Nordström, "Subgraph isomorphism meets cutting planes", 2020.)
 
-use Rattle.std.specs.Prelude.{ℕ, ◌+◌, nat_lt, Bool, false, true, not, ◌&&◌, ◌||◌, List, [], ◌∷◌, ◌++◌, pos, negsuc}
+use Rattle.std.specs.Prelude.{ℕ, ◌+◌, nat_lt, Bool, false, true, not, ◌&&◌, ◌||◌, List, [], ◌∷◌, ◌++◌, Option, None, pos, negsuc}
 use Rattle.graph_theory.specs.Graph.{Graph, size}
-use Rattle.graph_theory.specs.Embedding.{Problem}
+use Rattle.graph_theory.specs.Embedding.{Problem, is_injective, differ}
 use Rattle.graph_theory.specs.Neighbours.{count, is_neighbour, degree, common}
-use Rattle.graph_theory.specs.Reversed.{reversed}
+use Rattle.graph_theory.specs.Asked.{asked_shared}
+use Rattle.graph_theory.specs.Reversed.{reversed, reversed_problem}
 use Rattle.proof_theory.specs.declared.literal.Literal.{Literal}
 use Rattle.proof_theory.specs.Forms.{Form, form_of}
 use Rattle.proof_theory.specs.Rules.{sum_of, times_of}
@@ -18,8 +19,8 @@ use Rattle.log_theory.specs.declared.step.Op.{Op}
 use Rattle.log_theory.specs.declared.step.Op.TheVariants.{Push, Axiom, Add, Times, Divide}
 use Rattle.encoding_theory.specs.Variables.{variable, collect, when}
 use Rattle.encoding_theory.specs.Pairs.{is_compatible, is_edge_pair, is_non_edge_pair}
-use Rattle.encoding_theory.specs.Encoding.{terms_where, at_most, at_most_target, pair_form}
-use Rattle.encoding_theory.specs.Places.{at_least_place, at_most_place, at_most_target_place, edge_place, non_edge_place}
+use Rattle.encoding_theory.specs.Encoding.{terms_where, at_most, at_most_in, at_most_target, pair_form}
+use Rattle.encoding_theory.specs.Places.{at_least_place, at_most_place, at_most_place_in, edge_place, non_edge_place}
 use Rattle.explanation_theory.specs.Reasons.{not_there}
 use Rattle.pair_line_theory.specs.Operations.{sum_where, adds_where}
 
@@ -31,8 +32,12 @@ at_least_line q r = Line (at_least_place q r + 1)
 abbrev pub at_most_line : Problem → ℕ → Ref
 at_most_line q r = Line (at_most_place q r + 1)
 
+-- The line of a block at t, and of all vertices.
+abbrev pub block_line : Problem → Option ℕ → ℕ → Ref
+block_line q b t = Line (at_most_place_in q b t + 1)
+
 abbrev pub target_line : Problem → ℕ → Ref
-target_line q t = Line (at_most_target_place q t + 1)
+target_line q t = block_line q None t
 
 abbrev pub edge_line : Problem → ℕ → ℕ → ℕ → Ref
 edge_line q p r t = Line (edge_place q p r t + 1)
@@ -54,9 +59,21 @@ beside_form q p t r = sum_of (pair_form q p r t) (at_most q r)
 abbrev pub beside_ops : Problem → Ref → ℕ → List Op
 beside_ops q own r = Push own ∷ Push (at_most_line q r) ∷ Add ∷ []
 
--- Others: nothing but t itself is refused, and the target's line at t does so.
-abbrev pub alone_ops : Problem → ℕ → List Op
-alone_ops q t = Push (target_line q t) ∷ []
+-- The places of the two are apart, and their own line does not say so.
+abbrev pub needs_block : Problem → ℕ → ℕ → Bool
+needs_block q p r = not (is_injective q.maps) && differ q p r
+
+-- Then the line of a block that has both says so, added to it.
+abbrev pub near_form : Problem → Option ℕ → ℕ → ℕ → ℕ → Form
+near_form q b p t r = sum_of (beside_form q p t r) (at_most_in q b t)
+
+abbrev pub near_ops : Problem → Option ℕ → Ref → ℕ → ℕ → List Op
+near_ops q b own t r = Push own ∷ Push (at_most_line q r) ∷ Add ∷ Push (block_line q b t)
+    ∷ Add ∷ []
+
+-- Others in one block: nothing but t itself is refused, and the block's line at t does so.
+abbrev pub alone_ops : Problem → Option ℕ → ℕ → List Op
+alone_ops q b t = Push (block_line q b t) ∷ []
 
 -- ---- shared neighbours that are asked for, at one place
 
@@ -147,8 +164,8 @@ apart_ops q spread p t r = (Push (at_most_line q r) ∷ Push (target_line q t) �
 abbrev pub is_consistent : Problem → ℕ → ℕ → ℕ → ℕ → Bool
 is_consistent q p t r u =
     is_compatible q p t r u
-    && (not (nat_lt (common q.target t u) (common q.pattern p r))
-    && not (nat_lt (common (reversed q.target) t u) (common (reversed q.pattern) p r)))
+    && (not (nat_lt (common q.target t u) (asked_shared q p r))
+    && not (nat_lt (common (reversed q.target) t u) (asked_shared (reversed_problem q) p r)))
 
 -- That p is not at t, or r at one of the values that are consistent with this, as literals.
 abbrev pub consistent_places : Problem → ℕ → ℕ → ℕ → List Literal
