@@ -3,6 +3,7 @@ use Rattle.std.proofs.Common.{◌≡◌, ℕ, zero, suc, ◌+◌, ◌^◌, ◌<�
 use Rattle.std.proofs.lemmas.Bool.{eq-eqb}
 use Rattle.graph_theory.specs.Graph.{size}
 use Rattle.graph_theory.specs.Embedding.{Problem}
+use Rattle.graph_theory.specs.Blocks.{in_block}
 use Rattle.proof_theory.specs.Forms.{Form, Holds, Rises, size as size_of_terms}
 use Rattle.proof_theory.specs.Slack.{Setting, conflict, after, refutes, negations}
 use Rattle.proof_theory.proofs.Sorting.{Rises-sorted}
@@ -16,7 +17,7 @@ use Rattle.log_theory.specs.Steps.{◌>>=◌, unless, or_fault}
 use Rattle.log_theory.specs.Lookups.{Lookup, find_all, makes}
 use Rattle.encoding_theory.specs.Variables.{variable, when}
 use Rattle.encoding_theory.specs.Pairs.{is_compatible}
-use Rattle.encoding_theory.specs.Encoding.{every, terms_where, at_most_target, refusal, pair_form}
+use Rattle.encoding_theory.specs.Encoding.{terms_where, at_most_in, refusal, pair_form}
 use Rattle.encoding_theory.proofs.FormMeanings.{refused_false}
 use Rattle.forcing_theory.specs.Sums.{IsSmall, AreSmall}
 use Rattle.forcing_theory.specs.Chains.{run}
@@ -59,19 +60,19 @@ pair_small q p r u few = record {
       omega (arith, l, f, few);
 }
 
-target_small : (q : Problem) (u : ℕ) → size q.pattern ≤ 1024 → IsSmall (2 ^ 14) (at_most_target q u)
-target_small q u few = record {
+block_small : (q : Problem) (b : Option ℕ) (u : ℕ) → size q.pattern ≤ 1024 → IsSmall (2 ^ 14) (at_most_in q b u)
+block_small q b u few = record {
   bound_fits = omega arith;
   sum_fits =
-      let l = size-sorted (terms_where (negsuc 0) every (λ p. variable q p u) (size q.pattern)) in
-      let f = terms_few (negsuc 0) every (λ p. variable q p u) (size q.pattern) (omega arith) in
+      let l = size-sorted (terms_where (negsuc 0) (in_block q b) (λ p. variable q p u) (size q.pattern)) in
+      let f = terms_few (negsuc 0) (in_block q b) (λ p. variable q p u) (size q.pattern) (omega arith) in
       omega (arith, l, f, few);
 }
 
-pub crowd_small : (q : Problem) (p u : ℕ) (vertices values : List ℕ) → size q.pattern ≤ 1024 → size q.target ≤ 8192 → AreSmall (2 ^ 14) (crowd_forms q p u vertices values)
-crowd_small q p u [] [] few many = tt
-crowd_small q p u [] (w ∷ ws) few many = (target_small q w few, crowd_small q p u [] ws few many)
-crowd_small q p u (r ∷ rs) values few many = (pair_small q p r u many, crowd_small q p u rs values few many)
+pub crowd_small : (q : Problem) (b : Option ℕ) (p u : ℕ) (vertices values : List ℕ) → size q.pattern ≤ 1024 → size q.target ≤ 8192 → AreSmall (2 ^ 14) (crowd_forms q b p u vertices values)
+crowd_small q b p u [] [] few many = tt
+crowd_small q b p u [] (w ∷ ws) few many = (block_small q b w few, crowd_small q b p u [] ws few many)
+crowd_small q b p u (r ∷ rs) values few many = (pair_small q p r u many, crowd_small q b p u rs values few many)
 
 -- ---- a sum over all references
 
@@ -133,7 +134,7 @@ pairs_lead q s (x ∷ xs) = by (pairs_lead q (after s (refusal q x.0 x.1)) xs) (
 
 -- ---- the clause
 
-module _ (q : Problem) (p u : ℕ) (vertices values : List ℕ) (refused : List (ℕ × ℕ)) (crowd : IsCrowded q p u vertices values refused) where
+module _ (q : Problem) (b : Option ℕ) (p u : ℕ) (vertices values : List ℕ) (refused : List (ℕ × ℕ)) (crowd : IsCrowded q b p u vertices values refused) where
   -- The setting in which p is at u.
   there : Setting
   there = negations (not_there q (p, u) ∷ [])
@@ -142,30 +143,30 @@ module _ (q : Problem) (p u : ℕ) (vertices values : List ℕ) (refused : List 
   unfolding there
   set_there = ap (λ (b : Bool). let o : Option Bool = cond b (Some true) None in o) (eq-eqb (variable q p u) (variable q p u) refl)
 
-  refuted : refutes there (refused_pairs q refused ++ summed (crowd_forms q p u vertices values) ∷ []) ≡ true
+  refuted : refutes there (refused_pairs q refused ++ summed (crowd_forms q b p u vertices values) ∷ []) ≡ true
   refuted =
-      leads_to_end there (refused_pairs q refused) (summed (crowd_forms q p u vertices values) ∷ []) (λ t. (r w : ℕ) → IsOneOf r w refused → t (variable q r w) ≡ Some false)
+      leads_to_end there (refused_pairs q refused) (summed (crowd_forms q b p u vertices values) ∷ []) (λ t. (r w : ℕ) → IsOneOf r w refused → t (variable q r w) ≡ Some false)
       (pairs_lead q there refused)
-      (λ gone. conflict_refutes (run there (refused_pairs q refused)) (summed (crowd_forms q p u vertices values))
-      (no_solution (run there (refused_pairs q refused)) (summed (crowd_forms q p u vertices values)) (crowd_rises vertices)
-      (λ a follows holds. no_room q a p u vertices values refused crowd
+      (λ gone. conflict_refutes (run there (refused_pairs q refused)) (summed (crowd_forms q b p u vertices values))
+      (no_solution (run there (refused_pairs q refused)) (summed (crowd_forms q b p u vertices values)) (crowd_rises vertices)
+      (λ a follows holds. no_room q b a p u vertices values refused crowd
       (λ r w one. follows.same (variable q r w) false (gone r w one))
       (follows.same (variable q p u) true (run_keeps there (refused_pairs q refused) (variable q p u) true set_there)) holds)))
     where
-      crowd_rises : (rs : List ℕ) → Rises 0 (summed (crowd_forms q p u rs values)).terms
+      crowd_rises : (rs : List ℕ) → Rises 0 (summed (crowd_forms q b p u rs values)).terms
       crowd_rises (r ∷ rs) =
-          sum_rises (pair_form q p r u) (crowd_forms q p u rs values) (Rises-sorted ((variable q p u, negsuc 0) ∷ terms_where (pos 1) (is_compatible q p u r) (variable q r) (size q.target)))
+          sum_rises (pair_form q p r u) (crowd_forms q b p u rs values) (Rises-sorted ((variable q p u, negsuc 0) ∷ terms_where (pos 1) (is_compatible q p u r) (variable q r) (size q.target)))
       crowd_rises [] = by values
         where
-          by : (ws : List ℕ) → Rises 0 (summed (map (at_most_target q) ws)).terms
+          by : (ws : List ℕ) → Rises 0 (summed (map (at_most_in q b) ws)).terms
           by [] = tt
-          by (w ∷ ws) = sum_rises (at_most_target q w) (map (at_most_target q) ws) (Rises-sorted (terms_where (negsuc 0) every (λ v. variable q v w) (size q.pattern)))
+          by (w ∷ ws) = sum_rises (at_most_in q b w) (map (at_most_in q b) ws) (Rises-sorted (terms_where (negsuc 0) (in_block q b) (λ v. variable q v w) (size q.pattern)))
 
-  pub value_refuted : refutes (negations (not_there q (p, u) ∷ [])) (refused_pairs q refused ++ summed (crowd_forms q p u vertices values) ∷ []) ≡ true
+  pub value_refuted : refutes (negations (not_there q (p, u) ∷ [])) (refused_pairs q refused ++ summed (crowd_forms q b p u vertices values) ∷ []) ≡ true
   unfolding there
   value_refuted = refuted
 
-  pub clause_made : (look : Lookup) (name : Name) (refs : List Ref) → find_all look refs ≡ Ok (refused_pairs q refused ++ summed (crowd_forms q p u vertices values) ∷ [])
+  pub clause_made : (look : Lookup) (name : Name) (refs : List Ref) → find_all look refs ≡ Ok (refused_pairs q refused ++ summed (crowd_forms q b p u vertices values) ∷ [])
       → makes look (U name (not_there q (p, u) ∷ []) refs) ≡ Ok (refusal q p u)
   clause_made look name refs found =
       ap (λ (x : Result (List Form) Cause). x >>= λ fs. unless (refutes (negations (not_there q (p, u) ∷ [])) fs) NoConflict >>= λ _. Ok (refusal q p u)) found
@@ -173,10 +174,10 @@ module _ (q : Problem) (p u : ℕ) (vertices values : List ℕ) (refused : List 
 
 pub value_laws : (q : Problem) → ValueLaws q
 value_laws q = record {
-  sum = λ look name refs p u vertices values few many short some found. sum_made look name refs (crowd_forms q p u vertices values) short (nonempty q p u values vertices some) (crowd_small q p u vertices values few many) found;
-  clause = λ look name refs p u vertices values refused crowd found. clause_made q p u vertices values refused crowd look name refs found;
+  sum = λ look name refs b p u vertices values few many short some found. sum_made look name refs (crowd_forms q b p u vertices values) short (nonempty q b p u values vertices some) (crowd_small q b p u vertices values few many) found;
+  clause = λ look name refs b p u vertices values refused crowd found. clause_made q b p u vertices values refused crowd look name refs found;
 }
   where
-    nonempty : (q : Problem) (p u : ℕ) (values vertices : List ℕ) → 0 < length vertices → 0 < length (crowd_forms q p u vertices values)
-    nonempty q p u values [] some = absurd (omega (arith, some))
-    nonempty q p u values (r ∷ rs) some = omega arith
+    nonempty : (q : Problem) (b : Option ℕ) (p u : ℕ) (values vertices : List ℕ) → 0 < length vertices → 0 < length (crowd_forms q b p u vertices values)
+    nonempty q b p u values [] some = absurd (omega (arith, some))
+    nonempty q b p u values (r ∷ rs) some = omega arith

@@ -1,14 +1,19 @@
 -- Neighbours of high degree: how many there are, and when they are a crowd.
-use Rattle.std.proofs.Common.{◌≡◌, ℕ, zero, suc, ◌+◌, ◌<◌, ◌≤◌, ◌==◌, nat_lt, Bool, true, false, ◌&&◌, ◌||◌, not, is_some, if◌then◌else◌, List, [], ◌∷◌, ◌++◌, length, map, slice_index, refl, sym, ap, ◌∙◌, arith, Option, Some, None, inl, inr, ◌⊎◌}
+use Rattle.std.proofs.Common.{◌≡◌, ℕ, zero, suc, ◌+◌, ◌<◌, ◌≤◌, ◌==◌, nat_lt, Bool, true, false, ◌&&◌, ◌||◌, not, is_some, if◌then◌else◌, List, [], ◌∷◌, ◌++◌, length, map, slice_index, refl, sym, ap, ◌∙◌, arith, Option, Some, None, subst, inl, inr, ◌⊎◌}
 use Rattle.std.proofs.lemmas.Bool.{and_parts, and_from, cases_lt, le-ltb, lt-ltb, ltb-true, eq-eqb, eqb-true, ne_eqb, or_cases}
 use Rattle.graph_theory.specs.Graph.{Graph, size, edge}
-use Rattle.graph_theory.specs.Embedding.{Problem}
-use Rattle.graph_theory.specs.Neighbours.{count, members, is_neighbour, degree, sequence, fails_at}
+use Rattle.graph_theory.specs.Embedding.{Problem, is_injective}
+use Rattle.graph_theory.specs.Neighbours.{count, members, is_near, is_neighbour, degree, sequence, fails_at}
+use Rattle.graph_theory.specs.Asked.{asked_degree_in, room_in, asked_sequence_in}
+use Rattle.graph_theory.specs.Blocks.{in_block, has_near, has_block_in, has_block}
+use Rattle.graph_theory.specs.declared.embedding.Maps.{Maps}
+use Rattle.graph_theory.specs.declared.embedding.Maps.TheVariants.{Injective, Local, Any}
 use Rattle.graph_theory.proofs.FallingLists.{at_least, falling_falls, at_least-falling, at_least-members, place_above, many_above, IsFalling}
-use Rattle.graph_theory.proofs.Counts.{count-same}
+use Rattle.graph_theory.proofs.Counts.{count-same, count-less}
+use Rattle.graph_theory.proofs.NeighbourCounts.{count_looped, nothing_kept}
 use Rattle.log_theory.specs.Lookups.{is_among, are_distinct}
-use Rattle.encoding_theory.specs.Pairs.{is_kept, is_match, is_compatible}
-use Rattle.domain_line_theory.specs.Crowds.{IsOneOf, IsCrowded, is_high, high_neighbours, high_count, HasAllLower}
+use Rattle.encoding_theory.specs.Pairs.{is_kept, is_match, is_open, is_compatible}
+use Rattle.domain_line_theory.specs.Crowds.{IsOneOf, IsCrowded, is_high, high_neighbours, high_count, is_place, is_high_place, high_places, place_count, crowd_block_in, crowd_block, HasAllLower}
 use Rattle.domain_line_theory.specs.Laws.{DegreeLaws}
 
 -- ---- members of a test
@@ -108,13 +113,44 @@ sequence_counts g a d = at_least-falling d (map (degree g) (members (is_neighbou
 sequence_falls : (g : Graph) (a : ℕ) → IsFalling (sequence g a)
 sequence_falls g a = falling_falls (map (degree g) (members (is_neighbour g a) (size g)))
 
+and_true : (b : Bool) → (b && true) ≡ b
+and_true true = refl
+and_true false = refl
+
 -- All neighbours have a degree of 0 or more.
 all_high : (g : Graph) (a : ℕ) → high_count g a 0 ≡ degree g a
 all_high g a = count-same (is_high g a 0) (is_neighbour g a) (size g) (λ b b_in. ap (λ (x : Bool). is_neighbour g a b && not x) (le-ltb (degree g b) 0 (omega arith)) ∙ and_true (is_neighbour g a b))
-  where
-    and_true : (b : Bool) → (b && true) ≡ b
-    and_true true = refl
-    and_true false = refl
+
+-- ---- places by the kind of the maps
+
+-- By injective maps they are the neighbours.
+place_injective : (q : Problem) (u w : ℕ) → is_injective q.maps ≡ true → is_place q u w ≡ is_neighbour q.target u w
+place_injective q u w is = ap (λ (i : Bool). not (i && (u == w)) && is_some (edge q.target u w)) is
+
+places_injective : (q : Problem) (u d : ℕ) → is_injective q.maps ≡ true → place_count q u d ≡ high_count q.target u d
+places_injective q u d is =
+    count-same (is_high_place q u d) (is_high q.target u d) (size q.target)
+    (λ w _. ap (λ (x : Bool). x && not (nat_lt (degree q.target w) d)) (place_injective q u w is))
+
+-- By others they are the ends of its edges.
+places_open : (q : Problem) (u : ℕ) → is_injective q.maps ≡ false → u < size q.target
+    → place_count q u 0 ≡ (if is_some (edge q.target u u) then 1 else 0) + degree q.target u
+places_open q u is u_in =
+    count-same (is_high_place q u 0) (λ w. is_some (edge q.target u w)) (size q.target)
+    (λ w _. ap (λ (i : Bool). (not (i && (u == w)) && is_some (edge q.target u w)) && not (nat_lt (degree q.target w) 0)) is
+    ∙ ap (λ (x : Bool). is_some (edge q.target u w) && not x) (le-ltb (degree q.target w) 0 (omega arith)) ∙ and_true (is_some (edge q.target u w)))
+    ∙ count_looped q.target u u_in
+
+place_room : (k : Maps) (q : Problem) (u : ℕ) → q.maps ≡ k → u < size q.target → place_count q u 0 ≡ room_in k q.target u
+place_room Injective q u is u_in = places_injective q u 0 (ap is_injective is) ∙ all_high q.target u
+place_room Local q u is u_in = places_open q u (ap is_injective is) u_in
+place_room Any q u is u_in = places_open q u (ap is_injective is) u_in
+
+-- As many neighbours as need room have a degree of 0 or more.
+asked_high : (k : Maps) (g : Graph) (p : ℕ) → asked_degree_in k g p ≤ high_count g p 0
+asked_high Injective g p = let a = all_high g p in omega (arith, a)
+asked_high Local g p = let a = all_high g p in omega (arith, a)
+asked_high Any g p = omega arith
 
 more_here : (xs ys : List ℕ) (i : ℕ) → IsFalling xs → IsFalling ys → fails_at xs ys i ≡ true → at_least (slice_index xs i) ys < at_least (slice_index xs i) xs
 more_here xs ys i x_falls y_falls fails = by (nat_lt i (length xs)) refl fails (cases_lt (at_least (slice_index xs i) ys) (i + 1))
@@ -144,43 +180,83 @@ match_stands : (b : Bool) (e f : Option ℕ) → is_match b e f ≡ true → is_
 match_stands false e f h is = kept_stands e f h is
 match_stands true e f h is = kept_stands e f (and_parts (is_kept e f) (is_kept f e) h).0 is
 
--- A neighbour goes to a neighbour.
-pub near_compatible : (q : Problem) (p u r w : ℕ) → is_neighbour q.pattern p r ≡ true → is_compatible q p u r w ≡ true → is_neighbour q.target u w ≡ true
-near_compatible q p u r w near compatible =
+-- A neighbour goes to a place.
+pub place_compatible : (q : Problem) (p u r w : ℕ) → is_neighbour q.pattern p r ≡ true → is_compatible q p u r w ≡ true → is_place q u w ≡ true
+place_compatible q p u r w near compatible =
     let s = and_parts (not (p == r)) (is_some (edge q.pattern p r)) near in
-    let c = and_parts (not (u == w)) (is_match q.induced (edge q.pattern p r) (edge q.target u w) && is_match q.induced (edge q.pattern r p) (edge q.target w u)) compatible in
+    let c = and_parts (is_open q u w) (is_match q.induced (edge q.pattern p r) (edge q.target u w) && is_match q.induced (edge q.pattern r p) (edge q.target w u)) compatible in
     let m = and_parts (is_match q.induced (edge q.pattern p r) (edge q.target u w)) (is_match q.induced (edge q.pattern r p) (edge q.target w u)) c.1 in
-    and_from (not (u == w)) (is_some (edge q.target u w)) c.0 (match_stands q.induced (edge q.pattern p r) (edge q.target u w) m.0 s.1)
+    and_from (is_open q u w) (is_some (edge q.target u w)) c.0 (match_stands q.induced (edge q.pattern p r) (edge q.target u w) m.0 s.1)
 
-pub crowded : (q : Problem) (p u d : ℕ) (refused : List (ℕ × ℕ)) → high_count q.target u d < high_count q.pattern p d → HasAllLower q p u d refused
-    → IsCrowded q p u (high_neighbours q.pattern p d) (high_neighbours q.target u d) refused
+-- A neighbour is near.
+near_of : (g : Graph) (a b : ℕ) → is_neighbour g a b ≡ true → is_near g a b ≡ true
+near_of g a b h =
+    let s = and_parts (not (a == b)) (is_some (edge g a b)) h in
+    and_from (not (a == b)) (is_some (edge g a b) || is_some (edge g b a)) s.0 (ap (λ (x : Bool). x || is_some (edge g b a)) s.1)
+
+-- The neighbours of p are in the block that they are counted in.
+members_of : (k : Maps) (q : Problem) (p r : ℕ) → is_neighbour q.pattern p r ≡ true → in_block q (crowd_block_in k p) r ≡ true
+members_of Injective q p r near = refl
+members_of Local q p r near = near_of q.pattern p r near
+members_of Any q p r near = refl
+
+pub crowded : (q : Problem) (p u d : ℕ) (refused : List (ℕ × ℕ)) → place_count q u d < high_count q.pattern p d → HasAllLower q p u d refused
+    → IsCrowded q (crowd_block q p) p u (high_neighbours q.pattern p d) (high_places q u d) refused
 crowded q p u d refused fewer lower = record {
   distinct = members_distinct (is_high q.pattern p d) (size q.pattern);
+  members = λ r among.
+      members_of q.maps q p r
+      (and_parts (is_neighbour q.pattern p r) (not (nat_lt (degree q.pattern r) d)) (member_passes (is_high q.pattern p d) (size q.pattern) r among).1).0;
   vertices_in = λ r among. (member_passes (is_high q.pattern p d) (size q.pattern) r among).0;
   covered = λ r w among w_in compatible.
       let m = member_passes (is_high q.pattern p d) (size q.pattern) r among in
-      let near = near_compatible q p u r w (and_parts (is_neighbour q.pattern p r) (not (nat_lt (degree q.pattern r) d)) m.1).0 compatible in
+      let near = place_compatible q p u r w (and_parts (is_neighbour q.pattern p r) (not (nat_lt (degree q.pattern r) d)) m.1).0 compatible in
       by r w w_in m near (cases_lt (degree q.target w) d);
   fewer =
       let a = members_count (is_high q.pattern p d) (size q.pattern) in
-      let b = members_count (is_high q.target u d) (size q.target) in
+      let b = members_count (is_high_place q u d) (size q.target) in
       omega (arith, a, b, fewer);
 }
   where
-    by : (r w : ℕ) → w < size q.target → (r < size q.pattern) × (is_high q.pattern p d r ≡ true) → is_neighbour q.target u w ≡ true → (degree q.target w < d) ⊎ (d ≤ degree q.target w)
-        → (is_among w (high_neighbours q.target u d) ≡ true) ⊎ IsOneOf r w refused
+    by : (r w : ℕ) → w < size q.target → (r < size q.pattern) × (is_high q.pattern p d r ≡ true) → is_place q u w ≡ true → (degree q.target w < d) ⊎ (d ≤ degree q.target w)
+        → (is_among w (high_places q u d) ≡ true) ⊎ IsOneOf r w refused
     by r w w_in m near (inl low) = inr (lower r w m.0 m.1 w_in near low)
     by r w w_in m near (inr high) =
-        inl (passing_listed (is_high q.target u d) (size q.target) w w_in (and_from (is_neighbour q.target u w) (not (nat_lt (degree q.target w) d)) near (ap not (le-ltb (degree q.target w) d high))))
+        inl (passing_listed (is_high_place q u d) (size q.target) w w_in (and_from (is_place q u w) (not (nat_lt (degree q.target w) d)) near (ap not (le-ltb (degree q.target w) d high))))
+
+-- Where more of them than one are counted there is the block.
+has_two : (g : Graph) (p d : ℕ) → p < size g → 1 < high_count g p d → has_near g p ≡ true
+has_two g p d p_in two =
+    let more = count-less (is_high g p d) (is_near g p) (size g)
+    (λ v _ h. near_of g p v (and_parts (is_neighbour g p v) (not (nat_lt (degree g v) d)) h).0) in
+    and_from (nat_lt p (size g)) (nat_lt 1 (count (is_near g p) (size g))) (lt-ltb p (size g) p_in) (lt-ltb 1 (count (is_near g p) (size g)) (omega (arith, more, two)))
+
+block_there : (k : Maps) (g : Graph) (p d : ℕ) → p < size g → 0 < asked_degree_in k g p → 1 < high_count g p d → has_block_in k g (crowd_block_in k p) ≡ true
+block_there Injective g p d p_in asked two = refl
+block_there Local g p d p_in asked two = has_two g p d p_in two
+block_there Any g p d p_in asked two = absurd (omega (arith, asked))
+
+-- ---- sequences
+
+none_fails : (ts : List ℕ) (i : ℕ) → fails_at [] ts i ≡ true → ⊥
+none_fails ts i h = let kept = nothing_kept ts i in let bad : true ≡ false = sym h ∙ kept in cc
+
+sequence_fails : (k : Maps) (q : Problem) (p u i : ℕ) → q.maps ≡ k → fails_at (asked_sequence_in k q.pattern p) (sequence q.target u) i ≡ true
+    → place_count q u (slice_index (asked_sequence_in k q.pattern p) i) < high_count q.pattern p (slice_index (asked_sequence_in k q.pattern p) i)
+sequence_fails Injective q p u i is fails =
+    let a = sequence_counts q.target u (slice_index (sequence q.pattern p) i) in
+    let b = sequence_counts q.pattern p (slice_index (sequence q.pattern p) i) in
+    let c = places_injective q u (slice_index (sequence q.pattern p) i) (ap is_injective is) in
+    let h = more_here (sequence q.pattern p) (sequence q.target u) i (sequence_falls q.pattern p) (sequence_falls q.target u) fails in
+    omega (arith, a, b, c, h)
+sequence_fails Local q p u i is fails = absurd (none_fails (sequence q.target u) i fails)
+sequence_fails Any q p u i is fails = absurd (none_fails (sequence q.target u) i fails)
 
 pub degree_laws : (q : Problem) → DegreeLaws q
 degree_laws q = record {
-  degrees = λ p u less. let a = all_high q.target u in let b = all_high q.pattern p in omega (arith, a, b, less);
-  sequences = λ p u i fails.
-      let a = sequence_counts q.target u (slice_index (sequence q.pattern p) i) in
-      let b = sequence_counts q.pattern p (slice_index (sequence q.pattern p) i) in
-      let h = more_here (sequence q.pattern p) (sequence q.target u) i (sequence_falls q.pattern p) (sequence_falls q.target u) fails in
-      omega (arith, a, b, h);
+  degrees = λ p u u_in less. let a = place_room q.maps q u refl u_in in let b = asked_high q.maps q.pattern p in omega (arith, a, b, less);
+  sequences = λ p u i fails. sequence_fails q.maps q p u i refl fails;
   crowd = crowded q;
+  block = λ p u d p_in asked some fewer. block_there q.maps q.pattern p d p_in asked (omega (arith, some, fewer));
   none_lower = λ p u r w r_in high w_in near less. absurd (omega (arith, less));
 }

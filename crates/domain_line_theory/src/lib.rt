@@ -1,7 +1,7 @@
 //! Lines for single values that a vertex cannot have, and for its first domain.
 //!
-//! With a vertex at a value of lesser degree its neighbours are more than the value's: the sum of their constraints with those of the
-//! value's neighbours is then in conflict, so that the clause against the value follows from one line. The degrees of neighbours, compared
+//! With a vertex at a value of lesser degree its neighbours are more than the places for them, which are the value's neighbours, and the value
+//! itself where it has a loop and maps need not be injective: the sum of their constraints with those of the places is then in conflict, so that the clause against the value follows from one line. The degrees of neighbours, compared
 //! place by place, show the same of the neighbours of high degree, where the pairs of these with neighbours of lesser degree have their
 //! clauses already. One line, the sum of such clauses, stands for a first domain. Nothing here needs a division: at the value the plain sum
 //! has no slack left. (Degrees and neighbours' degrees: S. Zampelli, Y. Deville, C. Solnon, 2010; in cutting planes: S. Gocht,
