@@ -1,17 +1,18 @@
 -- Sums of small forms are small, and no list of different vertices is longer than the pattern.
-use Rattle.std.proofs.Common.{◌≡◌, ℕ, zero, suc, ◌+◌, ◌*◌, ◌^◌, ◌<◌, ◌≤◌, true, List, [], ◌∷◌, ◌++◌, length, length-append, map, ℤ, pos, negsuc, unsigned_abs, refl, ap, arith}
+use Rattle.std.proofs.Common.{◌≡◌, ℕ, zero, suc, ◌+◌, ◌*◌, ◌^◌, ◌<◌, ◌≤◌, Bool, true, false, List, [], ◌∷◌, ◌++◌, length, length-append, map, Option, None, ℤ, pos, negsuc, unsigned_abs, refl, ap, arith}
 use Rattle.std.proofs.lemmas.Int.{ints}
 use native.Mathlib.Nat.{suc-mul}
 use Rattle.graph_theory.specs.Graph.{size}
 use Rattle.graph_theory.specs.Embedding.{Problem}
+use Rattle.graph_theory.specs.Blocks.{in_block}
 use Rattle.graph_theory.specs.Neighbours.{count}
 use Rattle.proof_theory.specs.Forms.{Form, form_of, size as size_of_terms}
 use Rattle.proof_theory.specs.Rules.{sum_of}
 use Rattle.proof_theory.specs.Slack.{literal_term, negated_count}
 use Rattle.pb_terms.proofs.Ruled.{size-sorted}
 use Rattle.log_theory.specs.Lookups.{is_among, are_distinct}
-use Rattle.encoding_theory.specs.Variables.{variable}
-use Rattle.encoding_theory.specs.Encoding.{every, terms_where, at_least, at_most_target, refusal}
+use Rattle.encoding_theory.specs.Variables.{variable, when}
+use Rattle.encoding_theory.specs.Encoding.{every, terms_where, at_least, at_most_in, refusal}
 use Rattle.forcing_theory.specs.Sums.{sum_from, IsSmall, AreSmall}
 use Rattle.forcing_theory.specs.Chains.{Domains}
 use Rattle.forcing_theory.proofs.Summing.{size_append, small_sum}
@@ -64,44 +65,49 @@ small_behind n (f ∷ fs) gs a b = (a.0, small_behind n fs gs a.1 b)
 
 -- ---- the encoding's own
 
-terms_few : (c : ℤ) (number : ℕ → ℕ) (n : ℕ) → unsigned_abs c ≤ 1 → size_of_terms (terms_where c every number n) ≤ n
-terms_few c number zero small = omega arith
-terms_few c number (suc n) small =
-    let h = terms_few c number n small in
-    let e = size_append (terms_where c every number n) ((number n, c) ∷ []) in
-    omega (arith, h, e, small)
+one_few : (b : Bool) (v : ℕ) (c : ℤ) → unsigned_abs c ≤ 1 → size_of_terms (when b ((v, c) ∷ [])) ≤ 1
+one_few true v c small = omega (arith, small)
+one_few false v c small = omega arith
 
-small_form : (c b : ℤ) (number : ℕ → ℕ) (n : ℕ) → n ≤ 8192 → unsigned_abs c ≤ 1 → unsigned_abs b ≤ 1 → IsSmall 8192 (form_of (terms_where c every number n) b)
-small_form c b number n few small low =
-    let s = terms_few c number n small in
-    let t = size-sorted (terms_where c every number n) in
+terms_few : (c : ℤ) (test : ℕ → Bool) (number : ℕ → ℕ) (n : ℕ) → unsigned_abs c ≤ 1 → size_of_terms (terms_where c test number n) ≤ n
+terms_few c test number zero small = omega arith
+terms_few c test number (suc n) small =
+    let h = terms_few c test number n small in
+    let e = size_append (terms_where c test number n) (when (test n) ((number n, c) ∷ [])) in
+    let o = one_few (test n) (number n) c small in
+    omega (arith, h, e, o)
+
+small_form : (c b : ℤ) (test : ℕ → Bool) (number : ℕ → ℕ) (n : ℕ) → n ≤ 8192 → unsigned_abs c ≤ 1 → unsigned_abs b ≤ 1 → IsSmall 8192 (form_of (terms_where c test number n) b)
+small_form c b test number n few small low =
+    let s = terms_few c test number n small in
+    let t = size-sorted (terms_where c test number n) in
     record { bound_fits = omega (arith, low); sum_fits = omega (arith, s, t, few) }
 
 small_least : (q : Problem) (p : ℕ) → InLimits q → IsSmall 8192 (at_least q p)
-small_least q p few = small_form (pos 1) (pos 1) (variable q p) (size q.target) few.targets_few (omega arith) (omega arith)
+small_least q p few = small_form (pos 1) (pos 1) every (variable q p) (size q.target) few.targets_few (omega arith) (omega arith)
 
 small_leasts : (q : Problem) (vertices : List ℕ) → InLimits q → AreSmall 8192 (at_leasts q vertices)
 small_leasts q [] few = tt
 small_leasts q (p ∷ ps) few = (small_least q p few, small_leasts q ps few)
 
-small_mosts : (q : Problem) (values : List ℕ) → InLimits q → AreSmall 8192 (map (at_most_target q) values)
-small_mosts q [] few = tt
-small_mosts q (t ∷ ts) few =
-    (let l = few.vertices_few in small_form (negsuc 0) (negsuc 0) (λ p. variable q p t) (size q.pattern) (omega (arith, l)) (omega arith) (omega arith), small_mosts q ts few)
+small_mosts : (q : Problem) (b : Option ℕ) (values : List ℕ) → InLimits q → AreSmall 8192 (map (at_most_in q b) values)
+small_mosts q b [] few = tt
+small_mosts q b (t ∷ ts) few =
+    (let l = few.vertices_few in small_form (negsuc 0) (negsuc 0) (in_block q b) (λ p. variable q p t) (size q.pattern) (omega (arith, l)) (omega arith) (omega arith), small_mosts q b ts few)
 
 -- ---- lines
 
 -- Of different vertices beside another one, and of fewer values.
-crowd : (q : Problem) (p u : ℕ) (vertices values : List ℕ) → InLimits q → are_distinct vertices ≡ true → ((r : ℕ) → is_among r vertices ≡ true → r < size q.pattern) → length values < length vertices
-    → IsSmall (2 ^ 40) (summed (crowd_forms q p u vertices values))
-crowd q p u vertices values few distinct within fewer =
+crowd : (q : Problem) (b : Option ℕ) (p u : ℕ) (vertices values : List ℕ) → InLimits q → are_distinct vertices ≡ true → ((r : ℕ) → is_among r vertices ≡ true → r < size q.pattern) → length values < length vertices
+    → IsSmall (2 ^ 40) (summed (crowd_forms q b p u vertices values))
+crowd q b p u vertices values few distinct within fewer =
     let l = distinct_few (size q.pattern) vertices distinct within in
-    let e = length-append (beside_forms q p u vertices) (map (at_most_target q) values) in
-    let a = long_of (at_most_target q) values in
-    let b : length (beside_forms q p u vertices) ≡ length vertices = long_of _ vertices in
+    let e = length-append (beside_forms q p u vertices) (map (at_most_in q b) values) in
+    let a = long_of (at_most_in q b) values in
+    let k : length (beside_forms q p u vertices) ≡ length vertices = long_of _ vertices in
     let s = few.vertices_few in
-    more (length (crowd_forms q p u vertices values) * 2 ^ 14) (2 ^ 40) _ (omega (arith, l, e, a, b, s, fewer))
-    (small_summed (2 ^ 14) (crowd_forms q p u vertices values) (crowd_small q p u vertices values few.vertices_few few.targets_few))
+    more (length (crowd_forms q b p u vertices values) * 2 ^ 14) (2 ^ 40) _ (omega (arith, l, e, a, k, s, fewer))
+    (small_summed (2 ^ 14) (crowd_forms q b p u vertices values) (crowd_small q b p u vertices values few.vertices_few few.targets_few))
 
 first : (q : Problem) (p : ℕ) (values : List ℕ) → InLimits q → length values ≤ size q.target → IsSmall (2 ^ 40) (summed (refused_values q p values))
 first q p values few short =
@@ -109,15 +115,15 @@ first q p values few short =
     let s = few.targets_few in
     more (length (refused_values q p values) * 2 ^ 14) (2 ^ 40) _ (omega (arith, e, s, short)) (small_summed (2 ^ 14) (refused_values q p values) (refusals_small q p values))
 
-set : (q : Problem) (d : Domains) (p : ℕ) (vertices values : List ℕ) → InLimits q → HaveOnly q d (p ∷ vertices) values → length values ≤ length (p ∷ vertices) → IsSmall (2 ^ 40) (set_form q p vertices values)
-set q d p vertices values few only short =
+set : (q : Problem) (d : Domains) (b : Option ℕ) (p : ℕ) (vertices values : List ℕ) → InLimits q → HaveOnly q b d (p ∷ vertices) values → length values ≤ length (p ∷ vertices) → IsSmall (2 ^ 40) (set_form q b p vertices values)
+set q d b p vertices values few only short =
     let l = distinct_few (size q.pattern) (p ∷ vertices) only.distinct only.vertices_in in
-    let e = length-append (at_leasts q vertices) (map (at_most_target q) values) in
-    let a = long_of (at_most_target q) values in
-    let b = long_of (at_least q) vertices in
+    let e = length-append (at_leasts q vertices) (map (at_most_in q b) values) in
+    let a = long_of (at_most_in q b) values in
+    let k = long_of (at_least q) vertices in
     let s = few.vertices_few in
-    more (8192 + length (at_leasts q vertices ++ map (at_most_target q) values) * 8192) (2 ^ 40) _ (omega (arith, l, e, a, b, s, short))
-    (small_from 8192 8192 (at_least q p) (at_leasts q vertices ++ map (at_most_target q) values) (small_least q p few) (small_behind 8192 (at_leasts q vertices) (map (at_most_target q) values) (small_leasts q vertices few) (small_mosts q values few)))
+    more (8192 + length (at_leasts q vertices ++ map (at_most_in q b) values) * 8192) (2 ^ 40) _ (omega (arith, l, e, a, k, s, short))
+    (small_from 8192 8192 (at_least q p) (at_leasts q vertices ++ map (at_most_in q b) values) (small_least q p few) (small_behind 8192 (at_leasts q vertices) (map (at_most_in q b) values) (small_leasts q vertices few) (small_mosts q b values few)))
 
 path_terms : (q : Problem) (pairs : List (ℕ × ℕ)) → size_of_terms (map literal_term (map (not_there q) pairs)) ≡ length pairs
 path_terms q [] = refl
@@ -139,13 +145,13 @@ pub coefficient_laws : (q : Problem) → InLimits q → CoefficientLaws q
 coefficient_laws q few = record {
   rows = (making.row_laws q few).sizes;
   units = record {
-    crowd = λ p u vertices values refused is. crowd q p u vertices values few is.distinct is.vertices_in is.fewer;
+    crowd = λ b p u vertices values refused is. crowd q b p u vertices values few is.distinct is.vertices_in is.fewer;
     clause = λ p u. let small = refusals_small q p (u ∷ []) in more (2 ^ 14) (2 ^ 40) _ (omega arith) small.0;
     first = λ p values short. first q p values few short;
   };
   paths = record {
-    set = λ d p vertices values only short. set q d p vertices values few only short;
-    over = λ d p t r vertices values has fewer. crowd q p t (r ∷ vertices) values few has.distinct has.vertices_in fewer;
+    set = λ d b p vertices values only short. set q d b p vertices values few only short;
+    over = λ d p t r vertices values has fewer. crowd q None p t (r ∷ vertices) values few has.distinct has.vertices_in fewer;
     path = λ pairs short. path q pairs few short;
   };
 }
