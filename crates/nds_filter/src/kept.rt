@@ -11,7 +11,7 @@ ghost use Rattle.nds_filter.specs.Kept.{KeptRow, row_at, AreFirsts, RowsStay, Ar
 
 use crate::sequences::{SequenceAnswer, Sequences, compare};
 use bit_rows::{fill_below, next_member, unset_bit, words_for};
-use degree_filter::keep_degrees;
+use degree_filter::keep_large;
 use graph_rows::Problem;
 use graph_theory::direction::Direction;
 use std::alloc::{AllocError, Global};
@@ -43,7 +43,7 @@ impl<'a> Turned<'a> {
     }
 
     /// Keeps of a row of target vertices those with as many neighbours as `p`, at least.
-    fn keep_degrees(&self, p: u16, row: &mut [u64])
+    fn keep_large(&self, p: u16, row: &mut [u64])
         requires p_in { p < size self.now.pattern }
         requires long { length row.old ≡ words_for (size self.now.target) }
         requires within { (t : ℕ) → has row.old t ≡ true → t < size self.now.target }
@@ -52,7 +52,7 @@ impl<'a> Turned<'a> {
         ensures complete { (t : ℕ) → has row.old t ≡ true
             → degree self.now.pattern p ≤ degree self.now.target t → has row.new t ≡ true }
     {
-        keep_degrees(self.problem, self.direction, p, row);
+        keep_large(self.problem, self.direction, p, row);
     }
 }
 
@@ -217,7 +217,7 @@ fn fill_kept(q: &Turned, ps: &Sequences, ts: &Sequences, p: u16, row: &mut [u64]
     ensures { KeptRow q.now p row.new }
 {
     fill_below(row, usize::from(q.target_size()));
-    q.keep_degrees(p, row);
+    q.keep_large(p, row);
     keep_sequences(ps.of(p), ts, row);
 }
 

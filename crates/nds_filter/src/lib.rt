@@ -1,6 +1,6 @@
 //! The filter by neighbours' degrees: a vertex goes to none whose neighbours have lesser degrees, place by place.
 //!
-//! The degrees of a vertex's neighbours in falling order are its sequence. An embedding keeps degrees and sends
+//! The degrees of a vertex's neighbours in falling order are its sequence. An embedding by an injective map keeps degrees and sends
 //! neighbours to neighbours, so the image's sequence goes on as long and is nowhere less (S. Zampelli, Y. Deville,
 //! C. Solnon, "Solving subgraph isomorphism problems with constraint programming", 2010). Sequences are made once for
 //! each graph, and two of them are compared without memory. The layer above takes for each pattern vertex the row of the
