@@ -89,8 +89,9 @@ fn room_at(q: &Problem, direction: Direction, t: u16) -> u32
     }
 }
 
-/// Keeps those with as many neighbours as `p`, at least.
-fn keep_large(q: &Problem, direction: Direction, p: u16, row: &mut [u64])
+/// Keeps of a row of target vertices those with as many neighbours as `p`, at least, in this direction. Cost: one step for each target
+/// vertex.
+pub fn keep_large(q: &Problem, direction: Direction, p: u16, row: &mut [u64])
     requires p_in { p < size q.now.pattern }
     requires long { length row.old ≡ words_for (size q.now.target) }
     requires within { (t : ℕ) → has row.old t ≡ true → t < size q.now.target }
