@@ -90,7 +90,7 @@ may_guess_next q old budget t q_is old_is t_in =
       level = at_zero (t == 0);
       new_vertex = tt;
       untried = above_tried t t (omega arith);
-      fits = record { alone = first_value t t_in; pairs = tt };
+      fits = record { alone = first_value t t_in; pairs = tt; order = tt };
     }))
   where
     at_zero : (b : Bool) → IsAt (if b then None else Some 0) 0

@@ -4,7 +4,7 @@ use Rattle.std.specs.Prelude.{ℕ, ◌==◌, if◌then◌else◌, true, false, [
 use Rattle.graph_theory.specs.Lad.{Vertex}
 use Rattle.graph_theory.specs.Graph.{Graph, graph_of}
 use Rattle.graph_theory.specs.Neighbours.{members}
-use Rattle.graph_theory.specs.Embedding.{Problem}
+use Rattle.graph_theory.specs.Embedding.{Problem, injective_problem}
 use Rattle.search_theory.specs.Account.{Account}
 
 -- A vertex of label 0 with two neighbours.
@@ -21,7 +21,7 @@ four_cycle = graph_of (between 1 3 ∷ between 0 2 ∷ between 1 3 ∷ between 0
 
 -- Whether a copy of the triangle is in the four-cycle.
 abbrev pub triangle_into_four_cycle : Problem
-triangle_into_four_cycle = record { pattern = triangle; target = four_cycle; induced = false }
+triangle_into_four_cycle = injective_problem triangle four_cycle false
 
 -- The account of that problem at its root, after the guesses of the first n values for vertex 0 have failed.
 abbrev pub after_guesses : ℕ → ℕ → Account
