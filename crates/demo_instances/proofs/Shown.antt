@@ -1,9 +1,9 @@
 -- A planted pattern embeds, and a cycle of five has no image in a graph with two sides.
 
-use Rattle.std.proofs.Common.{◌≡◌, ℕ, ◌+◌, ◌%◌, ◌<◌, Bool, true, false, not, ◌||◌, ◌&&◌, nat_lt, get_or, Option, Some, None, is_some, refl, sym, ap, subst, ◌∙◌, arith}
+use Rattle.std.proofs.Common.{◌≡◌, ℕ, ◌+◌, ◌%◌, ◌<◌, Bool, true, false, not, ◌||◌, ◌&&◌, nat_lt, List, get_or, Option, Some, None, is_some, refl, sym, ap, subst, ◌∙◌, arith}
 use Rattle.std.proofs.lemmas.Grind.{common_steps}
 use Rattle.graph_theory.specs.Graph.{size, edge}
-use Rattle.graph_theory.specs.Embedding.{KeepsEdge, Matches}
+use Rattle.graph_theory.specs.Embedding.{InOrder, KeepsEdge, Matches}
 use Rattle.graph_rows.specs.Held.{edge_of_mark}
 use Rattle.demo_instances.specs.SeedProblems.{chosen, next_pair, planted_pair}
 use Rattle.demo_instances.specs.Shapes.{NoFiveCycle, PartEmbeds}
@@ -22,9 +22,10 @@ pub part_embeds : PartEmbeds
 part_embeds m q h = record {
   size_is = h.size_is;
   values = h.values;
-  distinct = h.distinct;
+  distinct = λ p r p_in r_in _. h.distinct p r p_in r_in;
   labels = h.labels;
   edges = λ p r p_in r_in. subst (λ (e : Option ℕ). Matches q.induced (edge q.pattern p r) e) (h.edges p r p_in r_in) (matches_self q.induced (edge q.pattern p r));
+  order = h.order;
 }
 
 -- a kept edge of label 0 is there
@@ -78,6 +79,7 @@ planted_embeds seed q h = part_embeds (chosen seed) q record {
   distinct = λ p r p_in r_in e. chosen-distinct seed p r (small p p_in) (small r r_in) e;
   labels = λ p p_in. h.target.labels _ (chosen-values seed p (small p p_in)) ∙ sym (h.pattern.labels p (small p p_in));
   edges = λ p r p_in r_in. same p r (small p p_in) (small r r_in);
+  order = subst (λ (xs : List (ℕ × ℕ)). InOrder xs (chosen seed)) (sym h.free) tt;
 }
   where
     small : (p : ℕ) → p < size q.pattern → p < 10

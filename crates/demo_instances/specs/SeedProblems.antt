@@ -1,6 +1,6 @@
 -- The two problems of a seed: a pattern that was planted in its target, and a cycle of five with a target of two sides.
 
-use Rattle.std.specs.Prelude.{◌≡◌, ℕ, zero, suc, ◌+◌, ◌-◌, ◌*◌, ◌/◌, ◌%◌, ◌==◌, Bool, true, false, not, ◌&&◌, nat_lt, List, take, is_some, slice_index}
+use Rattle.std.specs.Prelude.{◌≡◌, ℕ, zero, suc, ◌+◌, ◌-◌, ◌*◌, ◌/◌, ◌%◌, ◌==◌, Bool, true, false, not, ◌&&◌, nat_lt, List, [], take, is_some, slice_index}
 use Rattle.std.specs.List.{range_with_len, swap}
 use Rattle.graph_theory.specs.Graph.{Graph, edge}
 use Rattle.graph_theory.specs.Embedding.{Problem}
@@ -37,11 +37,12 @@ sides_pair seed a b = nat_lt a 30 && (not (nat_lt b 30)
 abbrev pub next_pair : ℕ → ℕ → Bool
 next_pair a b = b == (a + 1) % 5
 
--- The planted problem of a seed, which is of the induced kind.
+-- The planted problem of a seed, which is of the induced kind and asks for no order of images.
 pub record IsPlanted (seed : ℕ) (q : Problem) : Type 0 where
   pub target : IsMadeOf 150 (planted_pair seed) q.target
   pub pattern : IsMadeOf 10 (part_pair q.target (chosen seed)) q.pattern
   pub kind : q.induced ≡ true
+  pub free : q.less ≡ []
 
 -- The cycle's problem of a seed, which is not.
 pub record IsCycle (seed : ℕ) (q : Problem) : Type 0 where

@@ -2,7 +2,7 @@
 
 use Rattle.std.specs.Prelude.{◌≡◌, ℕ, ◌+◌, ◌%◌, ◌<◌, Bool, not, ◌||◌, true, is_some, slice_index, List, length}
 use Rattle.graph_theory.specs.Graph.{Graph, size, label, edge}
-use Rattle.graph_theory.specs.Embedding.{Problem, HasNone, Embeds}
+use Rattle.graph_theory.specs.Embedding.{Problem, InOrder, HasNone, Embeds}
 use Rattle.graph_rows.specs.Held.{edge_of_mark}
 
 -- A graph of n vertices with label 0, two of which have an edge where the test holds of them in one of their two orders.
@@ -30,7 +30,7 @@ NoFiveCycle = (side : ℕ → Bool) (q : Problem) → HasFiveCycle q.pattern →
 abbrev pub AreDistinct : ℕ → List ℕ → Type 0
 AreDistinct n m = (p r : ℕ) → p < n → r < n → slice_index m p ≡ slice_index m r → p ≡ r
 
--- The pattern is the part of the target at the vertices of this list.
+-- The pattern is the part of the target at the vertices of this list, which are in order where that is asked for.
 pub record IsPartAt (m : List ℕ) (q : Problem) : Type 0 where
   pub size_is : length m ≡ size q.pattern
   pub values : (p : ℕ) → p < size q.pattern → slice_index m p < size q.target
@@ -38,6 +38,7 @@ pub record IsPartAt (m : List ℕ) (q : Problem) : Type 0 where
   pub labels : (p : ℕ) → p < size q.pattern → label q.target (slice_index m p) ≡ label q.pattern p
   pub edges : (p r : ℕ) → p < size q.pattern → r < size q.pattern
       → edge q.pattern p r ≡ edge q.target (slice_index m p) (slice_index m r)
+  pub order : InOrder q.less m
 
 -- A part of the target embeds in it, in both kinds.
 abbrev pub PartEmbeds : Type 0

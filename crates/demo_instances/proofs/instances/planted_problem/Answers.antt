@@ -26,6 +26,7 @@ returns-clause-planted c =
       target = c.in_ok-target.ensures.made;
       pattern = subst (λ (m : List ℕ). IsMadeOf 10 (part_pair c.in_ok-target.target m) c.in_ok-pattern.pattern) is c.in_ok-pattern.ensures.made;
       kind = refl;
+      free = refl;
     }
 
 pub returns-in_err-pattern-clause-plain : goal.returns-in_err-pattern-clause-plain
