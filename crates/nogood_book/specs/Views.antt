@@ -5,7 +5,7 @@ use Rattle.std.specs.Prelude.{◌≡◌, ℕ, ◌⊎◌, true, false, if◌then�
 use mathlib.Core.Option.{some}
 use lib.ListN.{get_elem?}
 use Rattle.atomic_table.specs.Table.{State}
-use Rattle.graph_theory.specs.Embedding.{Problem}
+use Rattle.graph_theory.specs.Embedding.{Problem, injective_problem}
 use Rattle.nogood_book.specs.declared.row.Row.{Row}
 use Rattle.nogood_book.specs.declared.view.View.{View}
 use Rattle.nogood_book.specs.Rows.{Sound}
@@ -146,14 +146,10 @@ gathers v w = record v {
 
 -- The problem of a seat that is spent.
 abbrev pub no_problem : Problem
-no_problem = record {
-  pattern = record { labels = []; rows = [] };
-  target = record {
-    labels = [];
-    rows = [];
-  };
-  induced = false;
-}
+no_problem = injective_problem (record { labels = []; rows = [] }) (record {
+  labels = [];
+  rows = [];
+}) false
 
 -- What is left of a seat that was taken in.
 abbrev pub nobody : View
