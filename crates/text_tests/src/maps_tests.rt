@@ -94,8 +94,24 @@ static MAPPED: [Mapped; 16] = [
         true,
     ),
     // a cycle of four does not, and folds
-    Mapped(FOUR_CYCLE, TRIANGLE, Maps::Local, &[], &[0, 1, 0, 1], false, true),
-    Mapped(FOUR_CYCLE, TRIANGLE, Maps::Any, &[], &[0, 1, 0, 1], true, false),
+    Mapped(
+        FOUR_CYCLE,
+        TRIANGLE,
+        Maps::Local,
+        &[],
+        &[0, 1, 0, 1],
+        false,
+        true,
+    ),
+    Mapped(
+        FOUR_CYCLE,
+        TRIANGLE,
+        Maps::Any,
+        &[],
+        &[0, 1, 0, 1],
+        true,
+        false,
+    ),
     // a triangle into a loop
     Mapped(TRIANGLE, LOOP, Maps::Any, &[], &[0, 0, 0], true, false),
     Mapped(TRIANGLE, LOOP, Maps::Local, &[], &[0, 0, 0], false, true),
@@ -104,9 +120,25 @@ static MAPPED: [Mapped; 16] = [
     Mapped(EDGE, LOOP, Maps::Injective, &[], &[0, 0], false, true),
     // an edge into itself, one way
     Mapped(EDGE, EDGE, Maps::Injective, &[(0, 1)], &[0, 1], true, false),
-    Mapped(EDGE, EDGE, Maps::Injective, &[(1, 0)], &[0, 1], false, false),
+    Mapped(
+        EDGE,
+        EDGE,
+        Maps::Injective,
+        &[(1, 0)],
+        &[0, 1],
+        false,
+        false,
+    ),
     // both ways at once
-    Mapped(EDGE, EDGE, Maps::Injective, &[(0, 1), (1, 0)], &[0, 1], false, true),
+    Mapped(
+        EDGE,
+        EDGE,
+        Maps::Injective,
+        &[(0, 1), (1, 0)],
+        &[0, 1],
+        false,
+        true,
+    ),
     // images in order are two
     Mapped(EDGE, LOOP, Maps::Any, &[(0, 1)], &[0, 0], false, true),
     // a pair with a vertex that is none asks nothing
