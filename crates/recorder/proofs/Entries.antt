@@ -92,7 +92,7 @@ set_same xs ys k n f is_in same =
 
 change_same : (xs ys : List ℕ) (what : What) (from n : ℕ) (Before : ℕ → Type 0) → LaidBy what Before n → take n xs ≡ take n ys → change_by xs what from ≡ change_by ys what from
 change_same xs ys (One p cause) from n Before laid same = refl
-change_same xs ys (Others k) from n Before laid same = set_same xs ys k n (λ us vs. LeftOthers us vs from) laid.0 same
+change_same xs ys (Others centre k) from n Before laid same = set_same xs ys k n (λ us vs. LeftOthers centre us vs from) laid.0 same
 change_same xs ys (Over p t direction k) from n Before laid same = set_same xs ys k n (λ us vs. LeftOver p t direction us vs from) laid.0 same
 
 pub same_changes : (es : List Entry) (n : ℕ) (xs ys : List ℕ) → Laid es n → take n xs ≡ take n ys → map (change_of xs) es ≡ map (change_of ys) es
@@ -111,7 +111,7 @@ same_changes (e ∷ es) n xs ys laid same =
     later : ((m : ℕ) → Laid es m → take m xs ≡ take m ys → map (change_of xs) es ≡ map (change_of ys) es) → (what : What) → LaidBy what (Laid es) n
         → map (change_of xs) es ≡ map (change_of ys) es
     later rest (One p cause) before = rest n before same
-    later rest (Others k) laid_k = before_set rest k laid_k
+    later rest (Others centre k) laid_k = before_set rest k laid_k
     later rest (Over p t direction k) laid_k = before_set rest k laid_k
 
 -- entries are laid in more numbers
@@ -124,7 +124,7 @@ laid_on (e ∷ es) n m le laid = by (laid_on es n m le) e.what laid
 
     by : (Laid es n → Laid es m) → (what : What) → LaidBy what (Laid es) n → LaidBy what (Laid es) m
     by rest (One p cause) before = rest before
-    by rest (Others k) (is_in, before) = (in_more k is_in, before)
+    by rest (Others centre k) (is_in, before) = (in_more k is_in, before)
     by rest (Over p t direction k) (is_in, before) = (in_more k is_in, before)
 
 -- ---- one change more
@@ -146,7 +146,7 @@ laid_push es numbers e laid = subst (λ (rs : List Entry). Laid rs (length numbe
 
 from_is : (numbers : List ℕ) (what : What) (from : ℕ) → from_of (change_by numbers what from) ≡ from
 from_is numbers (One p cause) from = refl
-from_is numbers (Others k) from = refl
+from_is numbers (Others centre k) from = refl
 from_is numbers (Over p t direction k) from = refl
 
 -- what is left of the numbers where the last entry goes
@@ -167,7 +167,7 @@ shorter : (rs : List Entry) (e : Entry) (numbers : List ℕ) (mark : ℕ) (what 
 shorter rs e numbers mark (One p cause) laid =
     let whole = take_all (length numbers) numbers (omega arith) in
     (subst (λ (xs : List ℕ). Laid rs (length xs)) (sym whole) laid, ap (λ (xs : List ℕ). map (change_of xs) rs) whole)
-shorter rs e numbers mark (Others k) (is_in, laid) = shorter_set rs numbers k is_in laid
+shorter rs e numbers mark (Others centre k) (is_in, laid) = shorter_set rs numbers k is_in laid
 shorter rs e numbers mark (Over p t direction k) (is_in, laid) = shorter_set rs numbers k is_in laid
 
 pub cut_last : (es before : List Entry) (e : Entry) (numbers : List ℕ) (mark : ℕ) → es ≡ before ++ e ∷ [] → ltb e.from mark ≡ false → AreLaid es numbers

@@ -11,7 +11,8 @@ IsGuess (LeftOne p (cause.Guess t) from) = Unit {0}
 IsGuess (LeftOne p (cause.Vertex r t) from) = ⊥
 IsGuess (LeftOne p (cause.Nogood name) from) = ⊥
 IsGuess (LeftOne p (cause.Edge r u direction) from) = ⊥
-IsGuess (LeftOthers vertices values from) = ⊥
+IsGuess (LeftOne p (cause.Order k u side) from) = ⊥
+IsGuess (LeftOthers centre vertices values from) = ⊥
 IsGuess (LeftOver p t direction vertices values from) = ⊥
 
 -- where nothing is told, no guess is new

@@ -90,7 +90,8 @@ refuses_named q s r old (LeftOne v (cause.Guess t) from) p u keeps h = h
 refuses_named q s r old (LeftOne v (cause.Vertex w t) from) p u keeps h = h
 refuses_named q s r old (LeftOne v (cause.Nogood name) from) p u keeps h = (h.0, forbidden_named s r old name v u keeps h.1)
 refuses_named q s r old (LeftOne v (cause.Edge w t direction) from) p u keeps h = h
-refuses_named q s r old (LeftOthers vertices values from) p u keeps h = h
+refuses_named q s r old (LeftOne v (cause.Order k t side) from) p u keeps h = h
+refuses_named q s r old (LeftOthers centre vertices values from) p u keeps h = h
 refuses_named q s r old (LeftOver v t direction vertices values from) p u keeps h = h
 
 leaves_named : (q : Problem) (s r : Option watched.State) (old new : State) (c : Change) → KeepsNames s r → Leaves q s old new c → Leaves q r old new c

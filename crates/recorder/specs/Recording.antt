@@ -14,20 +14,22 @@ use Rattle.recorder.specs.declared.change.What.TheVariants.{One, Others, Over}
 use Rattle.recorder.specs.declared.change.Entry.{Entry}
 
 -- A change of the domains, and how much had left before it: values left the domain of one vertex by a cause; or the values that some
--- vertices have together left the domains of all others; or a value left that of one vertex, whose neighbours in a direction, these vertices, would have too few, these values.
+-- vertices of a block have together left the domains of all others of the block, which is that of a centre or of all vertices; or a value
+-- left that of one vertex, whose neighbours in a direction, these vertices, would have too few, these values.
 pub data Change : Type 0 where
   LeftOne : ℕ → Cause → ℕ → Change
-  LeftOthers : List ℕ → List ℕ → ℕ → Change
+  LeftOthers : Option ℕ → List ℕ → List ℕ → ℕ → Change
   LeftOver : ℕ → ℕ → Direction → List ℕ → List ℕ → ℕ → Change
 
 -- How much had left before it.
 abbrev pub from_of : Change → ℕ
 from_of (LeftOne p cause from) = from
-from_of (LeftOthers vertices values from) = from
+from_of (LeftOthers centre vertices values from) = from
 from_of (LeftOver p t direction vertices values from) = from
 
--- Vertices, and the values that they have together.
+-- Vertices of the block of a centre, or of that of all vertices, and the values that they have together.
 pub record CountedSet : Type 0 where
+  pub centre : Option ℕ
   pub vertices : List ℕ
   pub values : List ℕ
 
@@ -55,9 +57,11 @@ abbrev pub KeepsShort : Option (List Change) → Option CountedSet → CountedSe
 KeepsShort changes short set = (short ≡ Some set) ⊎ (changes ≡ None)
 
 -- So is the set with the values that its vertices have together.
-abbrev pub KeepsUnited : Option (List Change) → Option CountedSet → State → List ℕ → Type 0
-KeepsUnited changes short d set = (changes ≡ None) ⊎ ((row : List ℕ) × ((t : ℕ)
+abbrev pub KeepsUnited : Option (List Change) → Option CountedSet → State → Option ℕ → List ℕ
+    → Type 0
+KeepsUnited changes short d centre set = (changes ≡ None) ⊎ ((row : List ℕ) × ((t : ℕ)
     → has row t ≡ in_one_of d set t) × (short ≡ Some (record {
+      centre = centre;
       vertices = set;
       values = members_of row;
     })))
@@ -99,7 +103,7 @@ pub record Recorded : Type 0 where
 -- The change that an entry is, with its numbers.
 abbrev pub change_by : List ℕ → What → ℕ → Change
 change_by numbers (One p cause) from = LeftOne p cause from
-change_by numbers (Others k) from = LeftOthers (slice_range numbers k.start k.middle)
+change_by numbers (Others centre k) from = LeftOthers centre (slice_range numbers k.start k.middle)
     (slice_range numbers k.middle k.end) from
 change_by numbers (Over p t direction k) from = LeftOver p t direction (slice_range numbers k.start
     k.middle) (slice_range numbers k.middle k.end) from
@@ -115,15 +119,16 @@ abbrev pub when_whole : Bool → List Change → Option (List Change)
 when_whole true cs = Some cs
 when_whole false cs = None
 
-abbrev pub set_at : List ℕ → Option Place → Option CountedSet
+abbrev pub set_at : List ℕ → Option (Option ℕ × Place) → Option CountedSet
 set_at numbers None = None
 set_at numbers (Some k) = Some (record {
-  vertices = slice_range numbers k.start k.middle;
+  centre = k.0;
+  vertices = slice_range numbers k.1.start k.1.middle;
   values =
-      slice_range numbers k.middle k.end;
+      slice_range numbers k.1.middle k.1.end;
 })
 
-abbrev pub recorded : Bool → List Entry → List ℕ → Option Place → Recorded
+abbrev pub recorded : Bool → List Entry → List ℕ → Option (Option ℕ × Place) → Recorded
 recorded whole entries numbers short = record {
   changes = when_whole whole
       (changes_of numbers entries);
@@ -139,7 +144,7 @@ pub record IsIn (k : Place) (n : ℕ) : Type 0 where
 -- The sets of the entries, the last one first, stand among the first n numbers, each behind those before it.
 abbrev pub LaidBy : What → (ℕ → Type 0) → ℕ → Type 0
 LaidBy (One p cause) Before n = Before n
-LaidBy (Others k) Before n = IsIn k n × Before k.start
+LaidBy (Others centre k) Before n = IsIn k n × Before k.start
 LaidBy (Over p t direction k) Before n = IsIn k n × Before k.start
 
 abbrev pub Laid : List Entry → ℕ → Type 0
@@ -175,5 +180,5 @@ EndsBefore (e ∷ es) mark = nat_lt e.from mark ≡ true
 -- How many of so many numbers stand before those of a change that is the last one.
 abbrev pub left_by : What → ℕ → ℕ
 left_by (One p cause) n = n
-left_by (Others k) n = k.start
+left_by (Others centre k) n = k.start
 left_by (Over p t direction k) n = k.start

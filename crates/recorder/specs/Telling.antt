@@ -1,8 +1,10 @@
 -- What is told of the values that leave, and that it is true.
 
-use Rattle.std.specs.Prelude.{◌≡◌, ℕ, ◌<◌, ◌≤◌, true, false, ◌⊎◌, List, [], ◌∷◌, ◌++◌, length, is_some, Option, Some, None}
+use Rattle.std.specs.Prelude.{◌≡◌, ℕ, ◌<◌, ◌≤◌, nat_lt, Bool, true, false, ◌⊎◌, List, [], ◌∷◌, ◌++◌, length, is_some, Option, Some, None, slice_get}
 use Rattle.graph_theory.specs.Graph.{size, edge}
-use Rattle.graph_theory.specs.Embedding.{Problem}
+use Rattle.graph_theory.specs.Embedding.{Problem, is_injective}
+use Rattle.graph_theory.specs.Neighbours.{members, is_near}
+use Rattle.graph_theory.specs.Blocks.{in_block, has_block}
 use Rattle.graph_theory.specs.Reversed.{turned}
 use Rattle.graph_theory.specs.declared.direction.Direction.{Direction}
 use Rattle.search_theory.specs.Consistency.{IsFirstValue, AreConsistent}
@@ -10,11 +12,14 @@ use Rattle.bit_rows.specs.BitRows.{has}
 use Rattle.domain_bits.specs.Removals.{State, in_domain, full, undone}
 use Rattle.all_different.specs.Prefixes.{Short}
 use Rattle.all_different.specs.Pruning.{among}
+use Rattle.all_different.specs.Members.{part}
 use Rattle.nogood_watch.specs.Nogoods as watched
 use Rattle.nogood_watch.specs.Nogoods.{literal}
 use Rattle.nogood_watch.specs.Watching.{forced_at}
 use Rattle.recorder.specs.declared.change.Cause.{Cause}
 use Rattle.recorder.specs.declared.change.Cause.TheVariants as cause
+use Rattle.recorder.specs.declared.change.Side.{Side}
+use Rattle.recorder.specs.declared.change.Side.TheVariants.{Lesser, Greater}
 use Rattle.recorder.specs.declared.change.Failure.{Failure}
 use Rattle.recorder.specs.declared.change.Failure.TheVariants as failure
 use Rattle.recorder.specs.Recording.{Change, LeftOne, LeftOthers, LeftOver, from_of, CountedSet, cut_at}
@@ -84,6 +89,31 @@ pub record IsUnsupported (q : Problem) (d : State) (direction : Direction)
   pub none : (w : ℕ) → in_domain d p w ≡ true
       → is_some (edge (turned direction q.target) w u) ≡ false
 
+-- Of a pair whose images are to be in order, the vertex at this end.
+abbrev pub end_at : Side → ℕ × ℕ → ℕ
+end_at Lesser x = x.0
+end_at Greater x = x.1
+
+-- The vertex at the other end.
+abbrev pub end_beside : Side → ℕ × ℕ → ℕ
+end_beside Lesser x = x.1
+end_beside Greater x = x.0
+
+-- With u at this end the other may have w.
+abbrev pub is_beside : Side → ℕ → ℕ → Bool
+is_beside Lesser u w = nat_lt u w
+is_beside Greater u w = nat_lt w u
+
+-- The vertex r is at this end of pair k, and no value that is left for the other end is on its side of u: so r does not go to u.
+pub record IsOutOfOrder (q : Problem) (d : State) (k : ℕ) (side : Side) (r u : ℕ) : Type 0 where
+  pub pair : ℕ × ℕ
+  pub pair_is : slice_get q.less k ≡ Some pair
+  pub end_is : end_at side pair ≡ r
+  pub vertex_in : r < size q.pattern
+  pub other_in : end_beside side pair < size q.pattern
+  pub value_in : u < size q.target
+  pub none : (w : ℕ) → in_domain d (end_beside side pair) w ≡ true → is_beside side u w ≡ false
+
 -- A nogood of this name has the pair of r and u, and of each other pair the value is all that is left.
 pub record IsForbidden (s : Option watched.State) (d : State) (name r u : ℕ) : Type 0 where
   pub pairs : List (ℕ × ℕ)
@@ -104,17 +134,22 @@ abbrev pub AreDistinct : List ℕ → Type 0
 AreDistinct [] = Unit {0}
 AreDistinct (x ∷ xs) = (among xs x ≡ false) × AreDistinct xs
 
--- These are vertices, none twice, and together they have no other values than these.
-pub record HaveOnly (q : Problem) (d : State) (vertices values : List ℕ) : Type 0 where
+-- The problem has the block of this centre, or of all vertices; these are vertices of it, none twice; and together they have no other
+-- values than these.
+pub record HaveOnly (q : Problem) (centre : Option ℕ) (d : State) (vertices values : List
+    ℕ) : Type 0 where
+  pub block : has_block q centre ≡ true
+  pub members : (p : ℕ) → among vertices p ≡ true → in_block q centre p ≡ true
   pub vertices_in : (p : ℕ) → among vertices p ≡ true → p < size q.pattern
   pub values_in : (t : ℕ) → among values t ≡ true → t < size q.target
   pub distinct : AreDistinct vertices
   pub within : (p t : ℕ) → among vertices p ≡ true → in_domain d p t ≡ true → among values t ≡ true
 
 -- In this direction edges lead from p to these vertices, none of which is twice here; but among the values to which edges lead from t, t itself aside, they have only these, which
--- are fewer. So p does not go to t.
+-- are fewer. So p does not go to t where any two images have to differ.
 pub record IsCrowded (q : Problem) (d : State) (direction : Direction) (p t : ℕ) (vertices
     values : List ℕ) : Type 0 where
+  pub injective : is_injective q.maps ≡ true
   pub vertex_in : p < size q.pattern
   pub value_in : t < size q.target
   pub joins : (r : ℕ) → among vertices r ≡ true → Joins q direction p r
@@ -131,10 +166,11 @@ StandsBy (cause.Guess t) q d r = (r < size q.pattern) × (in_domain d r t ≡ tr
 StandsBy (cause.Vertex p t) q d r = Faces q d p t r
 StandsBy (cause.Nogood name) q d r = r < size q.pattern
 StandsBy (cause.Edge p u direction) q d r = IsUnsupported q d direction p r u
+StandsBy (cause.Order k u side) q d r = IsOutOfOrder q d k side r u
 
 abbrev pub Stands : Change → Problem → State → Type 0
 Stands (LeftOne r why from) q d = StandsBy why q d r
-Stands (LeftOthers vertices values from) q d = HaveOnly q d vertices values
+Stands (LeftOthers centre vertices values from) q d = HaveOnly q centre d vertices values
     × (length values ≤ length vertices)
 Stands (LeftOver p t direction vertices values from) q d = IsCrowded q d direction p t vertices
     values
@@ -146,12 +182,13 @@ RefusesBy (cause.Guess t) q s d r u = u ≡ t → ⊥
 RefusesBy (cause.Vertex p t) q s d r u = AreConsistent q p t r u → ⊥
 RefusesBy (cause.Nogood name) q s d r u = IsForbidden s d name r u
 RefusesBy (cause.Edge p v direction) q s d r u = u ≡ v
+RefusesBy (cause.Order k v side) q s d r u = u ≡ v
 
--- So does a change: of its vertex by its cause, or of all vertices but those of a set the values of these, or of one vertex one value.
+-- So does a change: of its vertex by its cause, or of all vertices of a block but those of a set the values of these, or of one vertex one value.
 abbrev pub Refuses : Change → Problem → Option watched.State → State → ℕ → ℕ → Type 0
 Refuses (LeftOne p why from) q s d r u = (r ≡ p) × RefusesBy why q s d p u
-Refuses (LeftOthers vertices values from) q s d r u = (r < size q.pattern)
-    × (among vertices r ≡ false) × (among values u ≡ true)
+Refuses (LeftOthers centre vertices values from) q s d r u = (r < size q.pattern)
+    × (in_block q centre r ≡ true) × (among vertices r ≡ false) × (among values u ≡ true)
 Refuses (LeftOver p t direction vertices values from) q s d r u = (r ≡ p) × (u ≡ t)
 
 -- What leaves, if anything does, leaves by the change.
@@ -208,11 +245,22 @@ pub record IsDecided (s : Option watched.State) (d : State) (name : ℕ) : Type 
   pub named : IsNamed s name pairs
   pub all : (k : ℕ) → k < length pairs → HasAtMost d (literal pairs k).0 (literal pairs k).1
 
+-- The domains of the vertices near a centre, at their places, or of all.
+abbrev pub block_state : Problem → State → Option ℕ → State
+block_state q d None = d
+block_state q d (Some c) = part d (members (is_near q.pattern c) (size q.pattern))
+
+-- The first n domains of a block have too few values.
+pub record HasShort (q : Problem) (d : State) (n : ℕ) : Type 0 where
+  pub centre : Option ℕ
+  pub block : has_block q centre ≡ true
+  pub short : Short (block_state q d centre) n
+
 -- The set is kept, and its vertices have only its values, which are fewer.
 pub record IsShown (q : Problem) (d : State) (short : Option CountedSet) : Type 0 where
   pub set : CountedSet
   pub set_is : short ≡ Some set
-  pub only : HaveOnly q d set.vertices set.values
+  pub only : HaveOnly q set.centre d set.vertices set.values
   pub fewer : length set.values < length set.vertices
 
 -- What each failure says of the domains.
@@ -220,7 +268,8 @@ abbrev pub Fails : Problem → Option watched.State → State → Option (List C
     → Option CountedSet → Failure → Type 0
 Fails q s d changes short (failure.Empty p) = HasNone q d p
 Fails q s d changes short (failure.Whole name) = IsDecided s d name
-Fails q s d changes short (failure.Short n) = Short d n × ((changes ≡ None) ⊎ IsShown q d short)
+Fails q s d changes short (failure.Short n) = HasShort q d n
+    × ((changes ≡ None) ⊎ IsShown q d short)
 
 -- ---- laws
 

@@ -17,8 +17,8 @@ pub struct Causes {
     entries: Vec<Entry>,
     /// The vertices and values of sets, one set behind the other.
     numbers: Vec<u16>,
-    /// The set that was found short last, if nothing has changed since.
-    short: Option<Place>,
+    /// The set that was found short last, with the centre of its block, if nothing has changed since.
+    short: Option<(Option<u16>, Place)>,
     /// Whether no memory was refused so far.
     whole: bool,
 }
@@ -52,8 +52,8 @@ pub struct KeptChanges<'a> {
     pub entries: &'a [Entry],
     /// The numbers in which their sets stand.
     pub numbers: &'a [u16],
-    /// The set that has fewer values than vertices.
-    pub short: Option<Place>,
+    /// The set that has fewer values than vertices, with the centre of its block.
+    pub short: Option<(Option<u16>, Place)>,
 }
 
 impl Causes {
@@ -139,7 +139,7 @@ impl Recorder for Causes {
         }
     }
 
-    fn counted(&mut self, vertices: &[u16], row: &[u64], from: Mark) {
+    fn counted(&mut self, centre: Option<u16>, vertices: &[u16], row: &[u64], from: Mark) {
         self.short = None;
         if !self.whole {
             return;
@@ -147,7 +147,7 @@ impl Recorder for Causes {
         match put_set(&mut self.numbers, vertices, row) {
             Ok(place) => {
                 let entry = Entry {
-                    what: What::Others(place),
+                    what: What::Others(centre, place),
                     from,
                 };
                 if self.entries.push(entry).is_err() {
@@ -185,13 +185,13 @@ impl Recorder for Causes {
         }
     }
 
-    fn found_short(&mut self, vertices: &[u16], row: &[u64]) {
+    fn found_short(&mut self, centre: Option<u16>, vertices: &[u16], row: &[u64]) {
         self.short = None;
         if !self.whole {
             return;
         }
         match put_set(&mut self.numbers, vertices, row) {
-            Ok(place) => self.short = Some(place),
+            Ok(place) => self.short = Some((centre, place)),
             Err(_) => self.whole = false,
         }
     }

@@ -3,6 +3,15 @@
 use domain_bits::Mark;
 use graph_theory::direction::Direction;
 
+/// An end of a pair of vertices whose images are to be in order.
+#[derive(Clone, Copy)]
+pub enum Side {
+    /// The vertex that is to have the lesser image.
+    Lesser,
+    /// The vertex that is to have the greater one.
+    Greater,
+}
+
 /// Why values left the domain of one vertex.
 #[derive(Clone, Copy)]
 pub enum Cause {
@@ -17,6 +26,9 @@ pub enum Cause {
     /// It is this value, the second: in this direction of the pattern's edge from the vertex, the first, no value left for that has an edge
     /// to it.
     Edge(u16, u16, Direction),
+    /// It is this value, the second: the vertex is at this end of the pair of this number, the first, whose images are to be in order, and
+    /// no value left for the other end is on its side of the value.
+    Order(u16, u16, Side),
 }
 
 /// Where a set of domains that were counted together stands in a list of numbers: its vertices, and its values behind them.
@@ -35,8 +47,8 @@ pub struct Place {
 pub enum What {
     /// Values left the domain of this vertex.
     One(u16, Cause),
-    /// The values of a set left all other domains.
-    Others(Place),
+    /// The values of a set left all other domains of the block of a centre, or of all vertices.
+    Others(Option<u16>, Place),
     /// The domain of this vertex, the first, lost this value: the vertices of the set, to which edges lead from the vertex in this direction, have
     /// none but the set's values among those to which edges lead from this value, and these are too few.
     Over(u16, u16, Direction, Place),
@@ -58,6 +70,6 @@ pub enum Failure {
     Empty(u16),
     /// All pairs of the nogood of this name are decided.
     Whole(u32),
-    /// So many domains, the first by size and number, have fewer values together.
+    /// So many domains of a block, the first of it by size and number, have fewer values together.
     Short(u16),
 }

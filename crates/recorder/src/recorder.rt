@@ -28,10 +28,11 @@ pub trait Recorder: Drop {
     fn took(&mut self, vertex: u16, cause: Cause, from: Mark)
         ensures { Took (changes self.old) (changes self.new) (LeftOne vertex cause from) };
 
-    /// The values that these vertices have together, as the row holds them, left all other domains.
-    fn counted(&mut self, vertices: &[u16], row: &[u64], from: Mark)
+    /// The values that these vertices have together, as the row holds them, left all other domains of the block of the centre, or of all
+    /// vertices.
+    fn counted(&mut self, centre: Option<u16>, vertices: &[u16], row: &[u64], from: Mark)
         requires { length row.now ≤ 1024 }
-        ensures { Took (changes self.old) (changes self.new) (LeftOthers vertices.now
+        ensures { Took (changes self.old) (changes self.new) (LeftOthers centre vertices.now
             (members_of row.now) from) };
 
     /// The value left the domain of the vertex, since to the vertices of the one row edges lead from it in the direction, and they have no other values than
@@ -50,12 +51,13 @@ pub trait Recorder: Drop {
         ensures { Took (changes self.old) (changes self.new) (LeftOver vertex value direction
             (members_of vertices.now) (members_of values.now) from) };
 
-    /// These vertices have fewer values together, as the row holds them, than there are of them.
-    fn found_short(&mut self, vertices: &[u16], row: &[u64])
+    /// These vertices, of the block of the centre or of all vertices, have fewer values together, as the row holds them, than there are of
+    /// them.
+    fn found_short(&mut self, centre: Option<u16>, vertices: &[u16], row: &[u64])
         requires { length row.now ≤ 1024 }
         ensures same { KeepsSame (changes self.old) (changes self.new) }
         ensures kept { KeepsShort (changes self.new) (short self.new)
-            (record { vertices = vertices.now; values = members_of row.now }) };
+            (record { centre = centre; vertices = vertices.now; values = members_of row.now }) };
 
     /// The domains were undone to the mark.
     fn forget_to(&mut self, mark: Mark)
@@ -87,7 +89,7 @@ impl Recorder for Silent {
 
     fn took(&mut self, _vertex: u16, _cause: Cause, _from: Mark) {}
 
-    fn counted(&mut self, _vertices: &[u16], _row: &[u64], _from: Mark) {}
+    fn counted(&mut self, _centre: Option<u16>, _vertices: &[u16], _row: &[u64], _from: Mark) {}
 
     fn crowded(
         &mut self,
@@ -99,7 +101,7 @@ impl Recorder for Silent {
         _from: Mark,
     ) {}
 
-    fn found_short(&mut self, _vertices: &[u16], _row: &[u64]) {}
+    fn found_short(&mut self, _centre: Option<u16>, _vertices: &[u16], _row: &[u64]) {}
 
     fn forget_to(&mut self, _mark: Mark) {}
 

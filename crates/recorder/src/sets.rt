@@ -90,7 +90,7 @@ fn left_before(what: What, numbers: usize) -> usize
 {
     match what {
         What::One(_, _) => numbers,
-        What::Others(place) => place.start,
+        What::Others(_, place) => place.start,
         What::Over(_, _, _, place) => place.start,
     }
 }
