@@ -1,11 +1,12 @@
 -- What bits tell of places is what is asked of them, where labels of edges ask nothing more.
 
-use Rattle.std.proofs.Common.{◌≡◌, ℕ, ◌<◌, ◌==◌, nat_lt, Bool, true, false, ◌&&◌, not, is_some, Option, Some, None, refl, sym, ap, ◌∙◌}
+use Rattle.std.proofs.Common.{◌≡◌, ℕ, ◌<◌, nat_lt, Bool, true, false, ◌&&◌, is_some, List, Option, Some, None, refl, sym, ap, ◌∙◌}
 use Rattle.std.proofs.lemmas.Bool.{or_parts, lt-ltb}
-use Rattle.graph_theory.specs.Graph.{size, edge}
+use Rattle.graph_theory.specs.Graph.{Graph, size, edge}
+use Rattle.bit_rows.specs.BitRows.{has}
 use Rattle.graph_theory.specs.Embedding.{Problem}
 use Rattle.graph_rows.specs.Labels.{HasZeroLabels, agree}
-use Rattle.encoding_theory.specs.Pairs.{is_match, is_linked, is_compatible}
+use Rattle.encoding_theory.specs.Pairs.{is_match, is_open, is_linked, is_compatible}
 use Rattle.pb_encoding.specs.Agreement.{may_go}
 
 -- Edges that do not agree do not match.
@@ -44,7 +45,7 @@ three true true true c d f g h = absurd cc
 -- A place that bits rule out is not right.
 ruled_out : (q : Problem) (p t r u : ℕ) → may_go q p t r u ≡ false → is_compatible q p t r u ≡ false
 ruled_out q p t r u h =
-    three (not (t == u)) (agree q.induced (is_some (edge q.pattern p r)) (is_some (edge q.target t u))) (agree q.induced (is_some (edge q.pattern r p)) (is_some (edge q.target u t)))
+    three (is_open q t u) (agree q.induced (is_some (edge q.pattern p r)) (is_some (edge q.target t u))) (agree q.induced (is_some (edge q.pattern r p)) (is_some (edge q.target u t)))
     (is_match q.induced (edge q.pattern p r) (edge q.target t u)) (is_match q.induced (edge q.pattern r p) (edge q.target u t))
     (unmatched q.induced (edge q.pattern p r) (edge q.target t u)) (unmatched q.induced (edge q.pattern r p) (edge q.target u t)) h
 
@@ -55,8 +56,8 @@ left_out q p t r u there is u_in out = ruled_out q p t r u (sym (is ∙ ap (λ (
 both : (q : Problem) (p t r u : ℕ) → is_match q.induced (edge q.pattern p r) (edge q.target t u) ≡ agree q.induced (is_some (edge q.pattern p r)) (is_some (edge q.target t u))
     → is_match q.induced (edge q.pattern r p) (edge q.target u t) ≡ agree q.induced (is_some (edge q.pattern r p)) (is_some (edge q.target u t)) → is_compatible q p t r u ≡ may_go q p t r u
 both q p t r u out back =
-    ap (λ (b : Bool). not (t == u) && (b && is_match q.induced (edge q.pattern r p) (edge q.target u t))) out
-    ∙ ap (λ (b : Bool). not (t == u) && (agree q.induced (is_some (edge q.pattern p r)) (is_some (edge q.target t u)) && b)) back
+    ap (λ (b : Bool). is_open q t u && (b && is_match q.induced (edge q.pattern r p) (edge q.target u t))) out
+    ∙ ap (λ (b : Bool). is_open q t u && (agree q.induced (is_some (edge q.pattern p r)) (is_some (edge q.target t u)) && b)) back
 
 -- Others are, where no edge joins the two pattern vertices,
 pub told_free : (q : Problem) (p t r u : ℕ) → is_linked q.pattern p r ≡ false → is_compatible q p t r u ≡ may_go q p t r u
@@ -74,3 +75,21 @@ told_zeros q p t r u p_in r_in t_in u_in pattern target =
 -- Then the members of the row are the places that are right.
 pub left_in : (q : Problem) (p t r u : ℕ) (there : Bool) → there ≡ (nat_lt u (size q.target) && may_go q p t r u) → u < size q.target → is_compatible q p t r u ≡ may_go q p t r u → there ≡ is_compatible q p t r u
 left_in q p t r u there is u_in told = is ∙ ap (λ (b : Bool). b && may_go q p t r u) (lt-ltb u (size q.target) u_in) ∙ sym told
+
+-- ---- the row of right places, bit by bit
+
+turn_round : (a b c d : Bool) → (((a && b) && c) && d) ≡ (a && (d && (b && c)))
+turn_round false b c d = refl
+turn_round true false c false = refl
+turn_round true false c true = refl
+turn_round true true false false = refl
+turn_round true true false true = refl
+turn_round true true true false = refl
+turn_round true true true true = refl
+
+pub right_bits : (q : Problem) (p t r u n : ℕ) (g h : Graph) (induced a b : Bool) (all first second last out back : List ℕ) → g ≡ q.pattern → h ≡ q.target → induced ≡ q.induced → a ≡ is_some (edge g p r) → b ≡ is_some (edge g r p)
+    → n ≡ size h → has all u ≡ nat_lt u n → has out u ≡ is_some (edge h t u) → has back u ≡ is_some (edge h u t) → has first u ≡ (has all u && agree induced a (has out u))
+    → has second u ≡ (has first u && agree induced b (has back u)) → has last u ≡ (has second u && is_open q t u) → has last u ≡ (nat_lt u (size q.target) && may_go q p t r u)
+right_bits q p t r u n g h induced a b all first second last out back g_is h_is i_is a_is b_is n_is all_is out_is back_is first_is second_is last_is =
+    rw (last_is, second_is, first_is, all_is, out_is, back_is, a_is, b_is, i_is, n_is, g_is, h_is)
+    (turn_round (nat_lt u (size q.target)) (agree q.induced (is_some (edge q.pattern p r)) (is_some (edge q.target t u))) (agree q.induced (is_some (edge q.pattern r p)) (is_some (edge q.target u t))) (is_open q t u))

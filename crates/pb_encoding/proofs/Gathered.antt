@@ -1,12 +1,10 @@
 -- A text that is gathered in a buffer and put in pieces.
-use Rattle.std.proofs.Common.{◌≡◌, ℕ, ◌+◌, ◌<◌, Bool, List, [], ◌∷◌, ◌++◌, length, take, drop, get_or, Option, Result, Ok, Err, OnOk, refl, sym, ap, subst, ◌∙◌, append_assoc}
-use Rattle.std.specs.List.{flat_map}
+use Rattle.std.proofs.Common.{◌≡◌, ℕ, Bool, List, [], ◌++◌, Option, refl, sym, ap, subst, ◌∙◌, append_assoc}
 use Rattle.std.specs.Io.KnownBytes.{append_known}
 use Rattle.std.proofs.lemmas.List.{append-nil}
-use Rattle.outer_io.specs.KnownText.{StopsIn, Wrote}
+use Rattle.outer_io.specs.KnownText.{StopsIn}
 use Rattle.outer_io.proofs.KnownTexts.{append_known-append_known, append_known-nil, StopsIn-none, StopsIn-first, StopsIn-then}
-use Rattle.opb_text.proofs.Putting.{texts-more, texts-parts, Wrote-then}
-use Rattle.pb_encoding.specs.Gathering.{IsGathered, PutsFront}
+use Rattle.pb_encoding.specs.Gathering.{IsGathered}
 
 -- Nothing was put, and the buffer holds all.
 pub gathered-none : (old : Option (List ℕ)) (text : List ℕ) → IsGathered old old text text

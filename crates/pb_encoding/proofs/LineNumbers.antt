@@ -1,27 +1,45 @@
 -- The numbers of lines, from what is kept of an encoding.
 
-use Rattle.std.proofs.Common.{◌≡◌, ℕ, zero, suc, ◌+◌, ◌-◌, ◌*◌, ◌≤◌, ◌<◌, Bool, true, false, List, length, get_or, slice_get, Option, Some, None, is_some, IfSome, IfNone, refl, sym, subst, ap, ◌∙◌, arith}
+use Rattle.std.proofs.Common.{◌≡◌, ℕ, suc, ◌+◌, ◌-◌, ◌*◌, ◌^◌, ◌≤◌, ◌<◌, Bool, true, false, List, length, get_or, slice_get, Some, None, refl, sym, subst, ap, ◌∙◌, arith}
 use Rattle.std.specs.Prelude.{Contains}
-use Rattle.std.proofs.Math.Nat.{mul-le-mul_right, suc-mul}
+use Rattle.std.proofs.Math.Nat.{mul-le-mul, mul-le-mul_right, suc-mul}
 use Rattle.std.proofs.lemmas.Nat.{div-mul-add, mod-mul-add}
 use Rattle.std.proofs.lemmas.Bool.{false_from_ne_true}
 use Rattle.std.proofs.lemmas.Option.{slice_get_within, get_or_from_slice_get}
 use Rattle.graph_theory.specs.Graph.{size}
 use Rattle.graph_theory.specs.Embedding.{Problem}
+use Rattle.graph_theory.specs.Blocks.{has_near, has_block_in, has_block}
+use Rattle.graph_theory.specs.declared.embedding.Maps.{Maps}
+use Rattle.graph_theory.specs.declared.embedding.Maps.TheVariants.{Injective, Local, Any}
+use Rattle.graph_theory.proofs.BlockProofs.{near_in}
+use Rattle.graph_rows.specs.Orders.{IsOrder}
 use Rattle.graph_theory.specs.Neighbours.{count, members}
 use Rattle.proof_theory.specs.Forms.{Form}
 use Rattle.encoding_theory.specs.Pairs.{is_edge_pair, is_non_edge_pair}
-use Rattle.encoding_theory.specs.Encoding.{is_refused, refusal, encoding}
-use Rattle.encoding_theory.specs.Places.{at_least_place, at_most_place, at_most_target_place, refused_start, refused_place, edge_start, edge_place, non_edge_start, non_edge_place}
-use Rattle.encoding_theory.proofs.PlaceProofs.{place_laws}
-use Rattle.pb_encoding.specs.Numbers.{by_number, refused_numbers, edge_numbers, non_edge_numbers, IsKept}
+use Rattle.encoding_theory.specs.Encoding.{is_refused, encoding}
+use Rattle.encoding_theory.specs.Places.{at_least_place, at_most_place, at_most_place_in, refused_start, refused_place, edge_start, edge_place, non_edge_start, non_edge_place, less_start, less_from_place, less_to_place}
+use Rattle.pb_encoding.specs.Numbers.{by_number, refused_numbers, edge_numbers, non_edge_numbers, centres_in, centres, IsKept}
 use Rattle.pb_encoding.proofs.Members.{StandsAt, members_get, members_at, members_rise}
-use Rattle.pb_encoding.proofs.Counts.{counted_places}
+use Rattle.pb_encoding.proofs.Counts.{starts, all_forms, counted_places, less_places, inside_of}
 use Rattle.pb_encoding.proofs.Bounds.{Few, few}
 
 -- the form of a line is the one at its place
 pub form_at : (q : Problem) (place line : ℕ) (f : Form) → line ≡ place + 1 → slice_get (encoding q) place ≡ Some f → slice_get (encoding q) (line - 1) ≡ Some f
 form_at q place line f is h = let e : line - 1 ≡ place = omega arith in ap (slice_get (encoding q)) e ∙ h
+
+-- Within the limits there are few lines.
+pub encoding_few : (q : Problem) → size q.pattern ≤ 1024 → size q.target ≤ 8192 → IsOrder (size q.pattern) q.less → length (encoding q) < 2 ^ 36
+encoding_few q ps ts order =
+    let a = all_forms q (inside_of q order) in
+    let s = (starts q).less in
+    let b = few q ps ts in
+    let blocks = b.block_forms in
+    let r = b.refused in
+    let e = b.edge_forms in
+    let n = b.non_edge_forms in
+    let wide : 2 * size q.target ≤ 16384 = omega (arith, ts) in
+    let m : length q.less * (2 * size q.target) ≤ 64 * 16384 = mul-le-mul order.few wide in
+    omega (arith, a, s, blocks, r, e, n, m, ps)
 
 -- ---- pairs by number
 
@@ -60,8 +78,60 @@ at_least_line q p = let e = (counted_places q).at_least p in omega arith
 pub at_most_line : (q : Problem) (p : ℕ) → 2 * p + 2 ≡ at_most_place q p + 1
 at_most_line q p = let e = (counted_places q).at_least p in omega arith
 
-pub at_most_target_line : (q : Problem) (vertices t : ℕ) → vertices ≡ size q.pattern → 2 * vertices + t + 1 ≡ at_most_target_place q t + 1
-at_most_target_line q vertices t is = let e = (counted_places q).at_most_target t in omega arith
+-- of the block of all vertices
+pub whole_line : (q : Problem) (start targets t : ℕ) → start ≡ 2 * size q.pattern → start + (0 * targets + t) + 1 ≡ at_most_place_in q None t + 1
+whole_line q start targets t is = let e = (counted_places q).at_most_in None t in omega (arith, e, is)
+
+-- of the block around a centre: it stands among the centres, at the count of those before it
+centre_listed : (k : Maps) (q : Problem) (c : ℕ) → has_block_in k q.pattern (Some c) ≡ true
+    → slice_get (centres_in k q.pattern) (count (has_near q.pattern) c) ≡ Some c
+centre_listed Injective q c there = absurd cc
+centre_listed Local q c there = members_at (has_near q.pattern) (size q.pattern) c (near_in q.pattern c there) there
+centre_listed Any q c there = absurd cc
+
+pub centre_contained : (q : Problem) (ns : List ℕ) (c number : ℕ) → ns ≡ centres q → has_block q (Some c) ≡ true → number ≡ c → Contains ns number
+centre_contained q ns c number is there made =
+    contained ns (count (has_near q.pattern) c) number (ap (λ (xs : List ℕ). slice_get xs (count (has_near q.pattern) c)) is ∙ centre_listed q.maps q c there ∙ ap Some (sym made))
+
+centres_rise_in : (k : Maps) (q : Problem) (i j : ℕ) → i ≤ j → j < length (centres_in k q.pattern) → get_or (centres_in k q.pattern) i 0 ≤ get_or (centres_in k q.pattern) j 0
+centres_rise_in Injective q i j le inside = absurd (omega (arith, inside))
+centres_rise_in Local q i j le inside = members_rise (has_near q.pattern) (size q.pattern) i j le inside
+centres_rise_in Any q i j le inside = absurd (omega (arith, inside))
+
+pub centres_rise : (q : Problem) (ns : List ℕ) → ns ≡ centres q → (i j : ℕ) → i ≤ j → j < length ns → get_or ns i 0 ≤ get_or ns j 0
+centres_rise q ns is i j le inside =
+    subst (λ (xs : List ℕ). get_or xs i 0 ≤ get_or xs j 0) (sym is) (centres_rise_in q.maps q i j le (subst (λ (xs : List ℕ). j < length xs) is inside))
+
+centre_counted : (k : Maps) (q : Problem) (c place : ℕ) → has_block_in k q.pattern (Some c) ≡ true → slice_get (centres_in k q.pattern) place ≡ Some c
+    → place ≡ count (has_near q.pattern) c
+centre_counted Injective q c place there h = absurd cc
+centre_counted Local q c place there h = (members_get (has_near q.pattern) (size q.pattern) place c h).place
+centre_counted Any q c place there h = absurd cc
+
+pub near_line : (q : Problem) (ns : List ℕ) (start targets t c k number : ℕ) → start ≡ 2 * size q.pattern → targets ≡ size q.target → ns ≡ centres q
+    → has_block q (Some c) ≡ true → number ≡ c → slice_get ns k ≡ Some number → start + (k * targets + t) + 1 ≡ at_most_place_in q (Some c) t + 1
+near_line q ns start targets t c k number begins wide is there made h =
+    let place : k ≡ count (has_near q.pattern) c =
+    centre_counted q.maps q c k there (ap (λ (xs : List ℕ). slice_get xs k) (sym is) ∙ h ∙ ap Some made) in
+    let e = (counted_places q).at_most_in (Some c) t in
+    let n = (counted_places q).block c in
+    let m : k * targets ≡ count (has_near q.pattern) c * size q.target = ap (λ (x : ℕ). x * targets) place ∙ ap (λ (w : ℕ). count (has_near q.pattern) c * w) wide in
+    omega (arith, e, n, m, begins)
+
+-- of a pair that is to be in order, where all are of pattern vertices
+pub from_line : (q : Problem) (start targets t k : ℕ) (x : ℕ × ℕ) → IsOrder (size q.pattern) q.less → k ≤ length q.less → start ≡ less_start q → targets ≡ size q.target
+    → start + k * (2 * targets) + t + 1 ≡ less_from_place q k x t + 1
+from_line q start targets t k x order k_in begins wide =
+    let e = (less_places q (inside_of q order)).from k x t k_in in
+    let m : k * (2 * targets) ≡ k * (2 * size q.target) = ap (λ (w : ℕ). k * (2 * w)) wide in
+    omega (arith, e, m, begins)
+
+pub to_line : (q : Problem) (start targets t k : ℕ) (x : ℕ × ℕ) → IsOrder (size q.pattern) q.less → k ≤ length q.less → start ≡ less_start q → targets ≡ size q.target
+    → start + (k * (2 * targets) + targets) + t + 1 ≡ less_to_place q k x t + 1
+to_line q start targets t k x order k_in begins wide =
+    let e = (less_places q (inside_of q order)).to k x t k_in in
+    let m : k * (2 * targets) ≡ k * (2 * size q.target) = ap (λ (w : ℕ). k * (2 * w)) wide in
+    omega (arith, e, m, begins, wide)
 
 -- the place of a number among the refused ones gives the line of its pair
 pub refused_line : (q : Problem) (ns : List ℕ) (targets p t k number : ℕ) → targets ≡ size q.target → ns ≡ refused_numbers q → t < size q.target
@@ -120,10 +190,15 @@ non_edge_line q ns vertices targets p r t k number width wide is r_in made h =
 
 -- ---- what is kept, of an encoding that is seen as its problem
 
-pub kept : (q seen : Problem) (vertices targets : ℕ) (refused edges non_edges : List ℕ) → q ≡ seen
-    → IsKept q vertices targets refused edges non_edges → IsKept seen vertices targets refused edges non_edges
-kept q seen vertices targets refused edges non_edges is h = subst (λ (p : Problem). IsKept p vertices targets refused edges non_edges) is h
+-- the pairs that are to be in order, as a call gives them
+pub order_seen : (q seen : Problem) (pairs : List (ℕ × ℕ)) → q ≡ seen → pairs ≡ q.less → IsOrder (size q.pattern) pairs → IsOrder (size seen.pattern) seen.less
+order_seen q seen pairs is are order =
+    subst (λ (p : Problem). IsOrder (size p.pattern) p.less) is (subst (λ (xs : List (ℕ × ℕ)). IsOrder (size q.pattern) xs) are order)
 
-pub kept_few : (q : Problem) (vertices targets : ℕ) (refused edges non_edges : List ℕ) → IsKept q vertices targets refused edges non_edges → Few q
-kept_few q vertices targets refused edges non_edges k =
+pub kept : (q seen : Problem) (vertices targets : ℕ) (refused edges non_edges around : List ℕ) → q ≡ seen
+    → IsKept q vertices targets refused edges non_edges around → IsKept seen vertices targets refused edges non_edges around
+kept q seen vertices targets refused edges non_edges around is h = subst (λ (p : Problem). IsKept p vertices targets refused edges non_edges around) is h
+
+pub kept_few : (q : Problem) (vertices targets : ℕ) (refused edges non_edges around : List ℕ) → IsKept q vertices targets refused edges non_edges around → Few q
+kept_few q vertices targets refused edges non_edges around k =
     few q (subst (λ (n : ℕ). n ≤ 1024) k.vertices_are k.vertices_few) (subst (λ (n : ℕ). n ≤ 8192) k.targets_are k.targets_few)

@@ -1,6 +1,6 @@
 -- What a binary search in a rising list tells.
 
-use Rattle.std.proofs.Common.{◌≡◌, ℕ, ◌≤◌, ◌<◌, List, length, get_or, slice_get, Option, Some, None, Result, Ok, Err, MatchResult, IfNone, refl, sym, ◌∙◌, arith, inl, inr, ◌⊎◌}
+use Rattle.std.proofs.Common.{◌≡◌, ℕ, ◌≤◌, ◌<◌, List, length, get_or, slice_get, Option, Some, Result, Ok, Err, MatchResult, IfNone, arith, inl, inr, ◌⊎◌}
 use Rattle.std.specs.Result.{result_ok}
 use Rattle.std.proofs.lemmas.Bool.{cases_lt}
 use Rattle.std.proofs.lemmas.Option.{slice_get_within, get_or_from_slice_get}

@@ -1,14 +1,12 @@
 -- The terms of a line: how large their coefficients are together, and that their order does not matter to the form.
 
-use Rattle.std.proofs.Common.{◌≡◌, ℕ, zero, suc, ◌+◌, ◌≤◌, ◌^◌, Bool, true, false, not, cond, ◌==◌, List, [], ◌∷◌, ◌++◌, ℤ, pos, negsuc, ◌+ℤ◌, unsigned_abs, refl, sym, ap, ◌∙◌, arith}
+use Rattle.std.proofs.Common.{◌≡◌, ℕ, zero, suc, ◌+◌, ◌≤◌, ◌^◌, Bool, true, false, not, List, [], ◌∷◌, ◌++◌, ℤ, pos, unsigned_abs, ap, arith}
 use Rattle.std.proofs.lemmas.Int.{ints}
 use Rattle.std.proofs.lemmas.List.{append-nil}
-use Rattle.graph_theory.specs.Graph.{size as size_of}
-use Rattle.graph_theory.specs.Embedding.{Problem}
-use Rattle.proof_theory.specs.Forms.{Form, coefficient, form_of, size, sorted, total}
+use Rattle.proof_theory.specs.Forms.{Form, form_of, size, sorted, total}
 use Rattle.proof_theory.proofs.Sorting.{Rises-sorted, coefficient-append, coefficient-sorted, same_terms}
-use Rattle.encoding_theory.specs.Variables.{variable, collect, when}
-use Rattle.encoding_theory.specs.Encoding.{terms_where, every}
+use Rattle.encoding_theory.specs.Variables.{when}
+use Rattle.encoding_theory.specs.Encoding.{terms_where}
 
 total-append : (f : ℕ × ℤ → ℕ) (ts us : List (ℕ × ℤ)) → total f (ts ++ us) ≡ total f ts + total f us
 total-append f [] us = let e : total f us ≡ 0 + total f us = omega arith in e
@@ -59,3 +57,10 @@ form-placed false own ts b =
     let d = coefficient-sorted (own ∷ ts) v in
     let a = coefficient-append ts (own ∷ []) v in
     omega (arith, ints)))
+
+-- a term in front, with others there where a test is passed
+pub few-led : (own : ℕ × ℤ) (test : ℕ → Bool) (number : ℕ → ℕ) (n : ℕ) (ts : List (ℕ × ℤ)) → ts ≡ own ∷ terms_where (pos 1) test number n
+    → unsigned_abs own.1 ≤ 1 → n ≤ 8192 → size ts ≤ 2 ^ 14
+few-led own test number n ts is small few =
+    let s : size (terms_where (pos 1) test number n) ≤ n = size-terms (pos 1) test number n (omega arith) in
+    rw is (omega arith)

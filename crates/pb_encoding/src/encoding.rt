@@ -1,23 +1,27 @@
 //! The encoding of a problem: how many lines it has, and the number of each. (Gocht, McCreesh, Nordström, "Subgraph
 //! isomorphism meets cutting planes", 2020.)
 
-ghost use Rattle.std.specs.Prelude.{◌≡◌, ◌<◌, ◌≤◌, ◌+◌, ◌-◌, ◌*◌, ◌^◌, true, length, slice_get, is_some, IfOk, IfSome, Some};
+ghost use Rattle.std.specs.Prelude.{◌≡◌, ℕ, ◌<◌, ◌≤◌, ◌+◌, ◌-◌, ◌*◌, ◌^◌, true, length, slice_get, is_some, IfOk, IfSome, Some};
 ghost use Rattle.graph_theory.specs.Graph.{size};
 ghost use Rattle.encoding_theory.specs.Variables.{variables as variables_of};
 ghost use Rattle.encoding_theory.specs.Pairs.{is_edge_pair, is_non_edge_pair};
-ghost use Rattle.encoding_theory.specs.Encoding.{encoding as encoding_of, at_least as at_least_form, at_most as at_most_form, at_most_target as at_most_target_form, is_refused, refusal, pair_form};
-ghost use Rattle.encoding_theory.specs.Places.{at_least_place, at_most_place, at_most_target_place, refused_start, refused_place, edge_start, edge_place, non_edge_start, non_edge_place};
+ghost use Rattle.encoding_theory.specs.Encoding.{encoding as encoding_of, at_least as at_least_form, at_most as at_most_form, at_most_in as at_most_in_form, is_refused, refusal, pair_form, less_from as less_from_form, less_to as less_to_form};
+ghost use Rattle.encoding_theory.specs.Places.{at_least_place, at_most_place, at_most_place_in, refused_start, refused_place, edge_start, edge_place, non_edge_start, non_edge_place, less_start, less_from_place, less_to_place};
+ghost use Rattle.graph_theory.specs.Blocks.{has_block};
+ghost use Rattle.pb_encoding.specs.Numbers.{block_count};
 
-use crate::line::line_at;
-use crate::numbers::{edge_numbers, non_edge_numbers, place_in, place_of, refused_numbers};
+use crate::line::{block_count_of, line_at};
+use crate::numbers::{
+    centres, edge_numbers, non_edge_numbers, place_in, place_of, refused_numbers,
+};
 use crate::terms::{Room, constraint_of};
 use graph_rows::Problem;
 use pb_terms::Constraint;
 use std::alloc::{AllocError, Global};
 use std::marker::Model;
 
-/// The encoding of a problem, which it is seen as. It keeps the problem's sizes and the numbers of the pairs that have
-/// lines of their own, and makes each line from these and the problem's graphs when it is asked for.
+/// The encoding of a problem, which it is seen as. It keeps the problem's sizes, the numbers of the pairs that have lines of their own, and
+/// the centres of blocks, and makes each line from these and the problem's graphs when it is asked for.
 pub struct Encoding<'a> {
     problem: &'a Problem,
     vertices: u32,
@@ -25,6 +29,7 @@ pub struct Encoding<'a> {
     refused: Vec<u32>,
     edges: Vec<u32>,
     non_edges: Vec<u32>,
+    centres: Vec<u32>,
 }
 
 impl Drop for Encoding<'_> {
@@ -37,6 +42,7 @@ impl Drop for Encoding<'_> {
             refused: _,
             edges: _,
             non_edges: _,
+            centres: _,
         } = self;
     }
 }
@@ -50,7 +56,7 @@ impl<'a> Model for Encoding<'a> {
     ghost view = { λ e. e.problem.now };
 
     ghost invariant = { λ e. IsKept e.problem.now e.vertices e.targets e.refused.items
-        e.edges.items e.non_edges.items };
+        e.edges.items e.non_edges.items e.centres.items };
 }
 
 /// The number of a line: so many lines before its group, so many pairs before its own with a line for each target
@@ -74,9 +80,19 @@ fn lines_of(pairs: &[u32], targets: u32) -> u64
     pairs.len() as u64 * u64::from(targets)
 }
 
+/// How many lines so many pairs have that are to be in order, two for each target vertex.
+fn order_lines(pairs: u64, targets: u32) -> u64
+    requires pairs { pairs ≤ 64 }
+    requires targets { targets ≤ 8192 }
+    ensures lines { result ≡ pairs * (2 * targets) }
+    ensures few { result ≤ 2 ^ 20 }
+{
+    pairs * (2 * u64::from(targets))
+}
+
 impl<'a> Encoding<'a> {
     /// The encoding of a problem. Cost: one test for each pair of a pattern vertex and a target vertex, and two for each
-    /// pair of pattern vertices.
+    /// pair of pattern vertices, or three where the maps are local.
     pub fn new(alloc: Global, q: &'a Problem) -> Result<Encoding<'a>, AllocError>
         ensures { IfOk result (λ e. e ≡ q.now) }
     {
@@ -85,6 +101,7 @@ impl<'a> Encoding<'a> {
         let refused = refused_numbers(alloc, q)?;
         let edges = edge_numbers(alloc, q)?;
         let non_edges = non_edge_numbers(alloc, q)?;
+        let centres = centres(alloc, q)?;
         Ok(Encoding {
             problem: q,
             vertices,
@@ -92,6 +109,7 @@ impl<'a> Encoding<'a> {
             refused,
             edges,
             non_edges,
+            centres,
         })
     }
 
@@ -113,7 +131,8 @@ impl<'a> Encoding<'a> {
     pub fn len(&self) -> u64
         ensures { result ≡ length (encoding_of self.now) }
     {
-        self.non_edge_start() + lines_of(&self.non_edges, self.targets)
+        let pairs = self.problem.less();
+        self.less_start() + order_lines(pairs.len() as u64, self.targets)
     }
 
     /// The number of the line by which `p` goes somewhere. Cost: constant.
@@ -136,14 +155,52 @@ impl<'a> Encoding<'a> {
         2 * u64::from(p) + 2
     }
 
-    /// The number of the line by which one vertex at most goes to `t`. Cost: constant.
-    pub fn at_most_target(&self, t: u16) -> u64
-        requires { t < size self.now.target }
-        ensures line { result ≡ at_most_target_place self.now t + 1 }
+    /// The number of the line by which one vertex at most of a block goes to `t`: of the block of all vertices, or of that of a centre. Cost:
+    /// constant, or logarithmic.
+    pub fn at_most_in(&self, block: Option<u16>, t: u16) -> u64
+        requires t_in { t < size self.now.target }
+        requires exists { has_block self.now block ≡ true }
+        ensures line { result ≡ at_most_place_in self.now block t + 1 }
         ensures form { slice_get (encoding_of self.now) (result - 1)
-            ≡ Some (at_most_target_form self.now t) }
+            ≡ Some (at_most_in_form self.now block t) }
     {
-        2 * u64::from(self.vertices) + u64::from(t) + 1
+        match block {
+            None => line_number(self.block_start(), 0, self.targets, t),
+            Some(centre) => {
+                let before = place_in(&self.centres, u32::from(centre));
+                line_number(self.block_start(), before, self.targets, t)
+            }
+        }
+    }
+
+    /// The number of the line by which the second vertex of pair `k` of those that are to be in order, counted from 1, goes past `t` where
+    /// the first goes there. Cost: constant.
+    pub fn less_from(&self, k: u16, t: u16) -> u64
+        requires first { 1 ≤ k }
+        requires last { k ≤ length self.now.less }
+        requires t_in { t < size self.now.target }
+        ensures line { (x : ℕ × ℕ) → slice_get self.now.less (k - 1) ≡ Some x
+            → result ≡ less_from_place self.now (k - 1) x t + 1 }
+        ensures form { (x : ℕ × ℕ) → slice_get self.now.less (k - 1) ≡ Some x
+            → slice_get (encoding_of self.now) (result - 1) ≡ Some (less_from_form self.now x t) }
+    {
+        let _less = self.problem.less();
+        self.less_start() + order_lines(u64::from(k - 1), self.targets) + u64::from(t) + 1
+    }
+
+    /// The number of the line by which the first vertex of pair `k` goes below `t` where the second goes there. Cost: constant.
+    pub fn less_to(&self, k: u16, t: u16) -> u64
+        requires first { 1 ≤ k }
+        requires last { k ≤ length self.now.less }
+        requires t_in { t < size self.now.target }
+        ensures line { (x : ℕ × ℕ) → slice_get self.now.less (k - 1) ≡ Some x
+            → result ≡ less_to_place self.now (k - 1) x t + 1 }
+        ensures form { (x : ℕ × ℕ) → slice_get self.now.less (k - 1) ≡ Some x
+            → slice_get (encoding_of self.now) (result - 1) ≡ Some (less_to_form self.now x t) }
+    {
+        let _less = self.problem.less();
+        let before = order_lines(u64::from(k - 1), self.targets) + u64::from(self.targets);
+        self.less_start() + before + u64::from(t) + 1
     }
 
     /// The number of the line by which `p` does not go to `t`, or none where the pair is allowed by itself. Cost:
@@ -222,23 +279,40 @@ impl<'a> Encoding<'a> {
             &self.refused,
             &self.edges,
             &self.non_edges,
+            &self.centres,
             i - 1,
         );
         constraint_of(alloc, self.problem, line, room)
     }
 
+    /// How many lines stand before those of blocks.
+    fn block_start(&self) -> u64
+        ensures start { result ≡ 2 * size self.now.pattern }
+        ensures few { result ≤ 2 ^ 11 }
+    {
+        2 * u64::from(self.vertices)
+    }
+
+    /// How many lines blocks have.
+    fn block_lines(&self) -> u64
+        ensures lines { result ≡ block_count self.now * size self.now.target }
+        ensures few { result ≤ 2 ^ 23 }
+    {
+        block_count_of(self.problem, &self.centres) * u64::from(self.targets)
+    }
+
     /// How many lines stand before the refusals.
     fn refused_start(&self) -> u64
         ensures start { result ≡ refused_start self.now }
-        ensures few { result ≤ 2 ^ 14 }
+        ensures few { result ≤ 2 ^ 24 }
     {
-        2 * u64::from(self.vertices) + u64::from(self.targets)
+        self.block_start() + self.block_lines()
     }
 
     /// How many lines stand before those of the pairs with an edge.
     fn edge_start(&self) -> u64
         ensures start { result ≡ edge_start self.now }
-        ensures few { result ≤ 2 ^ 24 }
+        ensures few { result ≤ 2 ^ 25 }
     {
         let refused = self.refused.as_slice();
         self.refused_start() + refused.len() as u64
@@ -250,5 +324,13 @@ impl<'a> Encoding<'a> {
         ensures few { result ≤ 2 ^ 34 }
     {
         self.edge_start() + lines_of(&self.edges, self.targets)
+    }
+
+    /// How many lines stand before those of the pairs that are to be in order.
+    fn less_start(&self) -> u64
+        ensures start { result ≡ less_start self.now }
+        ensures few { result ≤ 2 ^ 35 }
+    {
+        self.non_edge_start() + lines_of(&self.non_edges, self.targets)
     }
 }

@@ -5,11 +5,12 @@ ghost use Rattle.std.specs.Prelude.{◌≡◌, ◌<◌, ◌&&◌, ℕ, nat_lt, f
 ghost use Rattle.graph_theory.specs.Graph.{size};
 ghost use Rattle.bit_rows.specs.BitRows.{has, words_for};
 ghost use Rattle.graph_rows.specs.Labels.{HasZeroLabels, agree};
-ghost use Rattle.encoding_theory.specs.Pairs.{is_compatible, is_linked};
+ghost use Rattle.encoding_theory.specs.Pairs.{is_open, is_compatible, is_linked};
 ghost use Rattle.pb_encoding.specs.Agreement.{may_go};
 
 use bit_rows::{and_into, and_not_into, fill_below, unset_bit};
 use graph_rows::Problem;
+use graph_theory::embedding::Maps;
 
 /// Keeps of a row of places those whose edge, which `near` tells, agrees with whether the pattern edge stands. Cost: one step for four words.
 fn keep_agreeing(row: &mut [u64], induced: bool, stands: bool, near: &[u64])
@@ -21,6 +22,19 @@ fn keep_agreeing(row: &mut [u64], induced: bool, stands: bool, near: &[u64])
         and_into(row, near);
     } else if induced {
         and_not_into(row, near);
+    }
+}
+
+/// Keeps of a row of places those that are open where another vertex is at `t`. Cost: one word.
+fn keep_open(q: &Problem, t: u16, row: &mut [u64])
+    requires t_in { t < size q.now.target }
+    requires long { length row.old ≡ words_for (size q.now.target) }
+    ensures { (u : ℕ) → has row.new u ≡ (has row.old u && is_open q.now t u) }
+{
+    match q.maps() {
+        Maps::Injective => unset_bit(row, usize::from(t)),
+        Maps::Local => {}
+        Maps::Any => {}
     }
 }
 
@@ -38,7 +52,7 @@ pub(crate) fn fill_right(q: &Problem, p: u16, t: u16, r: u16, row: &mut [u64])
     fill_below(row, usize::from(target.size()));
     keep_agreeing(row, induced, pattern.has_edge(p, r), target.row(t));
     keep_agreeing(row, induced, pattern.has_edge(r, p), target.in_row(t));
-    unset_bit(row, usize::from(t));
+    keep_open(q, t, row);
 }
 
 /// Whether one of the graphs keeps labels of edges. Cost: two steps.

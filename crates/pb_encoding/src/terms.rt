@@ -7,13 +7,15 @@ ghost use Rattle.proof_theory.specs.Forms.{form_of, size as size_of_terms};
 ghost use Rattle.encoding_theory.specs.Variables.{variable as variable_of, when};
 ghost use Rattle.encoding_theory.specs.Pairs.{is_compatible as is_compatible_pair};
 ghost use Rattle.encoding_theory.specs.Encoding.{every, terms_where, pair_form};
-ghost use Rattle.pb_encoding.specs.Lines.{form_on, LineIsIn};
+ghost use Rattle.graph_theory.specs.Blocks.{in_block};
+ghost use Rattle.pb_encoding.specs.Lines.{form_on, IsCentreIn, LineIsIn, is_beyond as is_beyond_place};
 
 use crate::line::Line;
 use crate::pair_tests::is_compatible;
 use crate::right_row::{asks_labels, fill_right};
 use bit_rows::{next_member, words_for};
 use graph_rows::Problem;
+use graph_rows::near::is_near;
 use pb_terms::{Constraint, PbFault};
 use std::alloc::{AllocError, Global};
 
@@ -87,17 +89,71 @@ fn vertex_terms(
     Ok(())
 }
 
-/// All variables of a target vertex, with coefficient -1.
-fn target_terms(out: &mut Vec<Term>, q: &Problem, t: u16) -> Result<(), AllocError>
-    requires { t < size q.now.target }
+/// Whether `p` is in the block of all vertices, or in that of this centre.
+fn is_member(q: &Problem, block: Option<u16>, p: u16) -> bool
+    requires centre { IsCentreIn q.now block }
+    requires p_in { p < size q.now.pattern }
+    ensures { result ≡ in_block q.now block p }
+{
+    match block {
+        None => true,
+        Some(centre) => is_near(q.pattern(), centre, p),
+    }
+}
+
+/// The variables of a block's vertices at a target vertex, with coefficient -1.
+fn block_terms(
+    out: &mut Vec<Term>,
+    q: &Problem,
+    block: Option<u16>,
+    t: u16,
+) -> Result<(), AllocError>
+    requires t_in { t < size q.now.target }
+    requires centre { IsCentreIn q.now block }
     ensures few { OnOk result (size_of_terms out.new.items ≤ 2 ^ 14) }
     ensures terms { OnOk result
         (out.new.items
-        ≡ terms_where (negsuc 0) every (λ p. variable_of q.now p t) (size q.now.pattern)) }
+        ≡ terms_where (negsuc 0) (in_block q.now block) (λ p. variable_of q.now p t)
+        (size q.now.pattern)) }
 {
     begin_terms(out, usize::from(q.pattern().size()))?;
     for p in 0..q.pattern().size() {
-        out.push((variable(q, p, t), -1))?;
+        let inside = is_member(q, block, p);
+        push_where(out, inside, (variable(q, p, t), -1))?;
+    }
+    Ok(())
+}
+
+/// Whether `u` is past `t`, or below it.
+fn is_beyond(above: bool, t: u16, u: u16) -> bool
+    ensures { result ≡ is_beyond_place above t u }
+{
+    if above { t < u } else { u < t }
+}
+
+/// The terms by which `r` goes past `t`, or below it, where `p` goes there.
+fn order_terms(
+    out: &mut Vec<Term>,
+    q: &Problem,
+    p: u16,
+    r: u16,
+    t: u16,
+    above: bool,
+) -> Result<(), AllocError>
+    requires p_in { p < size q.now.pattern }
+    requires r_in { r < size q.now.pattern }
+    requires t_in { t < size q.now.target }
+    ensures few { OnOk result (size_of_terms out.new.items ≤ 2 ^ 14) }
+    ensures terms { OnOk result
+        (out.new.items ≡ (variable_of q.now p t, negsuc 0)
+        ∷ terms_where (pos 1) (is_beyond_place above t) (variable_of q.now r)
+        (size q.now.target)) }
+{
+    begin_terms(out, usize::from(q.target().size()) + 1)?;
+    out.push((variable(q, p, t), -1))?;
+    for u in 0..q.target().size() {
+        let passes = is_beyond(above, t, u);
+        push_where(out, passes, (variable(q, r, u), 1))?;
     }
     Ok(())
 }
@@ -264,13 +320,21 @@ pub(crate) fn constraint_of(
     match line {
         Line::AtLeast(p) => vertex_constraint(alloc, q, p, 1, &mut room.terms),
         Line::AtMost(p) => vertex_constraint(alloc, q, p, -1, &mut room.terms),
-        Line::AtMostTarget(t) => {
-            target_terms(&mut room.terms, q, t)?;
+        Line::AtMostIn(block, t) => {
+            block_terms(&mut room.terms, q, block, t)?;
             made(alloc, &room.terms, -1)
         }
         Line::Refused(p, t) => made(alloc, &[(variable(q, p, t), -1)], 0),
         Line::Pair(p, r, t) => {
             pair_terms(room, q, p, r, t)?;
+            made(alloc, &room.terms, 0)
+        }
+        Line::LessFrom(a, b, t) => {
+            order_terms(&mut room.terms, q, a, b, t, true)?;
+            made(alloc, &room.terms, 0)
+        }
+        Line::LessTo(a, b, t) => {
+            order_terms(&mut room.terms, q, b, a, t, false)?;
             made(alloc, &room.terms, 0)
         }
     }

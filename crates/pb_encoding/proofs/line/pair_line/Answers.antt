@@ -1,4 +1,4 @@
-use Rattle.std.proofs.Common.{◌≡◌, ◌⊎◌, inl, inr, ◌<◌, ◌/◌, get_or, arith}
+use Rattle.std.proofs.Common.{◌≡◌, inl, inr, ◌<◌, ◌/◌, get_or, arith}
 use Rattle.graph_theory.specs.Graph.{size}
 use Rattle.pb_encoding.specs.Numbers.{edge_numbers, non_edge_numbers}
 use Rattle.pb_encoding.proofs.LineForms.{edge_pair_at, edge_form, non_edge_pair_at, non_edge_form, in_range}

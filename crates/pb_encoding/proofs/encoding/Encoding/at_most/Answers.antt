@@ -1,4 +1,3 @@
-use Rattle.std.proofs.Common.{ap, ◌∙◌, ◌+◌, ◌*◌}
 use Rattle.encoding_theory.specs.Encoding.{at_most}
 use Rattle.encoding_theory.specs.Places.{at_most_place}
 use Rattle.encoding_theory.proofs.PlaceProofs.{place_laws}

@@ -1,21 +1,14 @@
-use Rattle.std.proofs.Common.{◌≡◌, ◌≤◌, ◌*◌, ap, ◌∙◌, length, arith}
+use Rattle.std.proofs.Common.{◌≡◌, ◌*◌, ◌∙◌, length, arith}
 use Rattle.graph_theory.specs.Graph.{size}
-use Rattle.pb_encoding.specs.Numbers.{non_edge_numbers}
-use Rattle.pb_encoding.proofs.Counts.{starts}
-use Rattle.pb_encoding.proofs.LineNumbers.{kept, kept_few}
+use Rattle.pb_encoding.proofs.Counts.{all_forms, inside_of}
+use Rattle.pb_encoding.proofs.LineNumbers.{kept, order_seen}
 use Rattle.pb_encoding.proofs.encoding.Encoding.len.Goals as goal
-
-pub lines_of-requires-clause-pairs : goal.lines_of-requires-clause-pairs
-lines_of-requires-clause-pairs c =
-    let k = kept _ _ _ _ _ _ _ c.self.view_is c.self.invariant in
-    let e : length c.deref.result.now ≡ length (non_edge_numbers c.args.self.now) = ap length (c.deref.ensures.value ∙ k.numbered.non_edges_are) in
-    let b : length (non_edge_numbers c.args.self.now) ≤ 1048576 = (kept_few _ _ _ _ _ _ k).non_edges in
-    omega arith
 
 pub returns : goal.returns
 returns c =
-    let k = kept _ _ _ _ _ _ _ c.self.view_is c.self.invariant in
-    let e : length c.deref.result.now ≡ length (non_edge_numbers c.args.self.now) = ap length (c.deref.ensures.value ∙ k.numbered.non_edges_are) in
-    let n : c.lines_of.result ≡ length (non_edge_numbers c.args.self.now) * size c.args.self.now.target = c.lines_of.ensures.lines ∙ rw (e, k.targets_are) in
-    let s = starts c.args.self.now in
+    let k = kept _ _ _ _ _ _ _ _ c.self.view_is c.self.invariant in
+    let order = order_seen _ _ _ c.self.view_is c.less-pairs.ensures.pairs c.less-pairs.ensures.order in
+    let a = all_forms c.args.self.now (inside_of c.args.self.now order) in
+    let n : length c.less-pairs.result.now ≡ length c.args.self.now.less = cc in
+    let m : c.order_lines.result ≡ length c.args.self.now.less * (2 * size c.args.self.now.target) = c.order_lines.ensures.lines ∙ rw (n, k.targets_are) in
     omega arith

@@ -1,15 +1,13 @@
-use Rattle.std.proofs.Common.{◌≡◌, ◌<◌, ◌≤◌, ℕ, ◌+◌, ◌-◌, List, [], pos, length, take, drop, slice_get, get_or, Some, ap, sym, refl, Ok, subst, rules, arith}
+use Rattle.std.proofs.Common.{◌≡◌, ◌<◌, ◌≤◌, ℕ, ◌+◌, ◌-◌, List, [], pos, length, take, drop, slice_get, get_or, Some, ap, sym, refl, subst, rules, arith}
 use Rattle.std.proofs.lemmas.Option.{slice_get-get_or}
 use Rattle.std.proofs.lemmas.List.{take_all}
 use Rattle.std.proofs.lemmas.Result.{err_from_is_err_and}
 use Rattle.proof_theory.specs.Forms.{Form}
-use Rattle.outer_io.specs.KnownText.{StopsIn}
 use Rattle.outer_io.specs.Sinks.{Spot}
 use Rattle.log_theory.specs.Words.{line_text}
 use Rattle.log_theory.specs.OpbText.{form_words}
 use Rattle.opb_text.proofs.Putting.{texts-more, texts-parts}
 use Rattle.encoding_theory.specs.Encoding.{encoding}
-use Rattle.pb_encoding.specs.Gathering.{IsGathered}
 use Rattle.pb_encoding.specs.Writing.{forms_text}
 use Rattle.pb_encoding.proofs.Gathered.{gathered-none, gathered-more, gathered-then, gathered-front, gathered-stops, gathered-ends}
 use Rattle.pb_encoding.proofs.encoding.Encoding.write_constraints.Goals as goal
