@@ -10,7 +10,8 @@ use Rattle.graph_theory.specs.Embedding.{Problem}
 use Rattle.search_theory.specs.Consistency.{IsFirstValue}
 use Rattle.graph_theory.specs.Reversed.{reversed_problem, turned_problem, AreMutual}
 use Rattle.graph_theory.specs.declared.direction.Direction.{Direction}
-use Rattle.graph_theory.proofs.ReversedGraphs.{degree-mutual, sequence-mutual}
+use Rattle.graph_theory.proofs.ReversedGraphs.{sequence-mutual}
+use Rattle.graph_theory.proofs.AskedMutual.{asked_degree-mutual, room-mutual, asked_sequence-mutual}
 use Rattle.encoding_theory.specs.Pairs.{is_allowed}
 use Rattle.encoding_theory.proofs.PairTests.{allowed_from}
 use Rattle.domain_line_theory.proofs.FirstValues.{refusals_small, forces_first}
@@ -31,7 +32,7 @@ use Rattle.log_growth.specs.Frames.{Frame, IsFrameOf, IsNamed, AreNamed, Goes, L
 use Rattle.log_growth.proofs.Going.{goes_stay, goes_then, goes_beside, goes_as}
 use Rattle.log_growth.proofs.Naming.{named_later, are_named_later, named_pushed, named_count}
 use Rattle.domain_line_theory.specs.Sums.{summed}
-use Rattle.domain_line_theory.specs.Crowds.{refused_pairs, refused_values, crowd_forms, is_high, high_neighbours, high_count, HasAllLower}
+use Rattle.domain_line_theory.specs.Crowds.{refused_pairs, refused_values, crowd_forms, is_high, high_neighbours, high_count, high_places, place_count, crowd_block, HasAllLower}
 use Rattle.domain_line_theory.proofs.Crowding.{value_refuted}
 use Rattle.domain_line_theory.proofs.HighNeighbours.{members_count, crowded}
 use Rattle.domain_lines.proofs.Turning.{frame_turned}
@@ -249,22 +250,22 @@ remembered w a b n given f old now goes keeps =
 
 -- ---- the forms of a crowd
 
-pub crowd_forms_some : (q : Problem) (p u d : ℕ) → high_count q.target u d < high_count q.pattern p d → 0 < length (crowd_forms q p u (high_neighbours q.pattern p d) (high_neighbours q.target u d))
+pub crowd_forms_some : (q : Problem) (p u d : ℕ) → place_count q u d < high_count q.pattern p d → 0 < length (crowd_forms q (crowd_block q p) p u (high_neighbours q.pattern p d) (high_places q u d))
 crowd_forms_some q p u d fewer =
     let a = members_count (is_high q.pattern p d) (size q.pattern) in
-    let l = crowd_long q p u (high_neighbours q.pattern p d) (high_neighbours q.target u d) in
+    let l = crowd_long q (crowd_block q p) p u (high_neighbours q.pattern p d) (high_places q u d) in
     omega (arith, a, l, fewer)
 
 -- Behind the clauses of the pairs that they need they refute the value.
-pub crowd_refutes : (q : Problem) (p u d : ℕ) (pairs : List (ℕ × ℕ)) → high_count q.target u d < high_count q.pattern p d → HasAllLower q p u d pairs
-    → refutes (negations (not_there q (p, u) ∷ [])) (refused_pairs q pairs ++ summed (crowd_forms q p u (high_neighbours q.pattern p d) (high_neighbours q.target u d)) ∷ []) ≡ true
+pub crowd_refutes : (q : Problem) (p u d : ℕ) (pairs : List (ℕ × ℕ)) → place_count q u d < high_count q.pattern p d → HasAllLower q p u d pairs
+    → refutes (negations (not_there q (p, u) ∷ [])) (refused_pairs q pairs ++ summed (crowd_forms q (crowd_block q p) p u (high_neighbours q.pattern p d) (high_places q u d)) ∷ []) ≡ true
 crowd_refutes q p u d pairs fewer lower =
-    value_refuted q p u (high_neighbours q.pattern p d) (high_neighbours q.target u d) pairs (crowded q p u d pairs fewer lower)
+    value_refuted q (crowd_block q p) p u (high_neighbours q.pattern p d) (high_places q u d) pairs (crowded q p u d pairs fewer lower)
 
 pub crowd_named : (q : Problem) (p u d : ℕ) (made refs : List Ref) (w : Frame) (owner : ℕ) (forms : List Form) → refs ≡ made → IsCrowd q p u d made → IsFrameFor q owner w
-    → AreNamed w forms refs (crowd_forms q p u (high_neighbours q.pattern p d) (high_neighbours q.target u d))
+    → AreNamed w forms refs (crowd_forms q (crowd_block q p) p u (high_neighbours q.pattern p d) (high_places q u d))
 crowd_named q p u d made refs w owner forms is crowd frame =
-    subst (λ (rs : List Ref). AreNamed w forms rs (crowd_forms q p u (high_neighbours q.pattern p d) (high_neighbours q.target u d))) (sym is) (crowd.named w owner forms frame)
+    subst (λ (rs : List Ref). AreNamed w forms rs (crowd_forms q (crowd_block q p) p u (high_neighbours q.pattern p d) (high_places q u d))) (sym is) (crowd.named w owner forms frame)
 
 -- The owner stays.
 pub frame_moved : (q : Problem) (old new : ℕ) (w : Frame) → new ≡ old → IsFrameOf q old w → IsFrameOf q new w
@@ -299,8 +300,8 @@ first_value q p u allowed along against = record {
 -- Where edges stand both ways, what passes the tests along them passes those against them.
 pub large_mutual : (q : Problem) (p u : ℕ) → AreMutual q → p < size q.pattern → u < size q.target → IsLarge q p u → IsLarge (reversed_problem q) p u
 large_mutual q p u ways p_in u_in large = record {
-  degree = rw (degree-mutual q.pattern p ways.pattern_mutual p_in, degree-mutual q.target u ways.target_mutual u_in) large.degree;
-  sequence = rw (sequence-mutual q.pattern p ways.pattern_mutual p_in, sequence-mutual q.target u ways.target_mutual u_in) large.sequence;
+  degree = rw (asked_degree-mutual q p ways.pattern_mutual p_in, room-mutual q u ways.target_mutual u_in) large.degree;
+  sequence = rw (asked_sequence-mutual q p ways.pattern_mutual p_in, sequence-mutual q.target u ways.target_mutual u_in) large.sequence;
 }
 
 -- A clause that was made in a direction, for the problem.

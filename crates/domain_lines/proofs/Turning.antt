@@ -4,13 +4,15 @@ use Rattle.std.specs.Prelude.{slice_get, IfSome}
 use Rattle.graph_theory.specs.Graph.{size}
 use Rattle.graph_theory.specs.Embedding.{Problem}
 use Rattle.graph_theory.specs.Reversed.{turned_problem}
+use Rattle.graph_theory.specs.Blocks.{has_block}
+use Rattle.graph_theory.proofs.BlockProofs.{block_laws_hold}
 use Rattle.graph_theory.specs.declared.direction.Direction.{Direction}
 use Rattle.graph_theory.specs.declared.direction.Direction.TheVariants.{Out, In}
 use Rattle.proof_theory.specs.Forms.{Form}
 use Rattle.encoding_theory.specs.Variables.{variables}
 use Rattle.encoding_theory.specs.Pairs.{is_edge_pair}
 use Rattle.encoding_theory.specs.Encoding.{encoding, is_refused, refusal}
-use Rattle.encoding_theory.specs.Places.{at_most_target_place, refused_place, edge_place}
+use Rattle.encoding_theory.specs.Places.{at_most_place_in, refused_place, edge_place}
 use Rattle.encoding_theory.proofs.ReversedForms.{reversed_forms}
 use Rattle.log_growth.specs.Frames.{Frame, IsFrameOf}
 use Rattle.domain_lines.specs.Given.{IsFrameFor}
@@ -34,6 +36,14 @@ edge_pair_turned In q p r p_in r_in = (reversed_forms q).edge_pair p r p_in r_in
 pub edge_place_turned : (direction : Direction) (q : Problem) (p r u : ℕ) → p < size q.pattern → r < size q.pattern → u < size q.target → edge_place (turned_problem direction q) p r u ≡ edge_place q p r u
 edge_place_turned Out q p r u p_in r_in u_in = refl
 edge_place_turned In q p r u p_in r_in u_in = (reversed_forms q).edge_at p r u p_in r_in u_in
+
+pub has_turned : (direction : Direction) (q : Problem) (b : Option ℕ) → has_block (turned_problem direction q) b ≡ has_block q b
+has_turned Out q b = refl
+has_turned In q b = block_laws_hold.reversed_has q b
+
+pub block_place_turned : (direction : Direction) (q : Problem) (b : Option ℕ) (w : ℕ) → has_block q b ≡ true → at_most_place_in (turned_problem direction q) b w ≡ at_most_place_in q b w
+block_place_turned Out q b w there = refl
+block_place_turned In q b w there = (reversed_forms q).at_most_at b w there
 
 -- So a frame of the one serves for the other.
 pub frame_turned : (direction : Direction) (q : Problem) (owner : ℕ) (w : Frame) → IsFrameOf q owner w → IsFrameFor (turned_problem direction q) owner w
@@ -80,6 +90,13 @@ module _ (direction : Direction) (q lines seen : Problem) (same : lines ≡ q) (
       ∙ ap (λ (k : ℕ). k + 1)
       (ap (λ (x : Problem). edge_place x p r u) same ∙ sym (edge_place_turned direction q p r u (vertex_in p p_in) (vertex_in r r_in) (value_in u u_in)) ∙ ap (λ (x : Problem). edge_place x p r u) is)
 
-  pub target_seen : (w line : ℕ) → line ≡ at_most_target_place lines w + 1 → line ≡ at_most_target_place seen w + 1
-  target_seen w line told =
-      told ∙ ap (λ (x : Problem). at_most_target_place x w + 1) same ∙ ap (λ (x : Problem). at_most_target_place x w + 1) is
+  pub has_seen : (b : Option ℕ) → has_block seen b ≡ true → has_block lines b ≡ true
+  has_seen b there =
+      ap (λ (x : Problem). has_block x b) same ∙ sym (has_turned direction q b) ∙ ap (λ (x : Problem). has_block x b) is ∙ there
+
+  pub block_seen : (b : Option ℕ) (w line : ℕ) → has_block seen b ≡ true → line ≡ at_most_place_in lines b w + 1 → line ≡ at_most_place_in seen b w + 1
+  block_seen b w line there told =
+      let has : has_block q b ≡ true = sym (has_turned direction q b) ∙ ap (λ (x : Problem). has_block x b) is ∙ there in
+      told
+      ∙ ap (λ (k : ℕ). k + 1)
+      (ap (λ (x : Problem). at_most_place_in x b w) same ∙ sym (block_place_turned direction q b w has) ∙ ap (λ (x : Problem). at_most_place_in x b w) is)

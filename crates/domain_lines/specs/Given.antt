@@ -4,7 +4,8 @@ use Rattle.std.specs.Prelude.{◌≡◌, ℕ, ◌<◌, ◌≤◌, true, List, []
 use Rattle.std.specs.declared.alloc.AllocError.{AllocError}
 use Rattle.graph_theory.specs.Graph.{size}
 use Rattle.graph_theory.specs.Embedding.{Problem}
-use Rattle.graph_theory.specs.Neighbours.{degree, sequence, fails_at, IsKeptBy}
+use Rattle.graph_theory.specs.Neighbours.{sequence, fails_at, IsKeptBy}
+use Rattle.graph_theory.specs.Asked.{asked_degree, room, asked_sequence}
 use Rattle.search_theory.specs.Consistency.{IsFirstValue}
 use Rattle.proof_theory.specs.Forms.{Form}
 use Rattle.log_theory.specs.declared.step.Name.{Name}
@@ -16,7 +17,7 @@ use Rattle.encoding_theory.specs.Variables.{variables}
 use Rattle.encoding_theory.specs.Encoding.{refusal}
 use Rattle.explanation_theory.specs.Reasons.{ForcesFirst}
 use Rattle.log_growth.specs.Frames.{Frame, HoldsModel, IsNamed, AreNamed, IsAddable}
-use Rattle.domain_line_theory.specs.Crowds.{refused_values, refused_pairs, crowd_forms, high_neighbours}
+use Rattle.domain_line_theory.specs.Crowds.{refused_values, refused_pairs, crowd_forms, high_neighbours, high_places, crowd_block}
 use Rattle.nds_filter.specs.Sequences.{sequences}
 use Rattle.domain_lines.specs.declared.value_clauses.Lack.{Lack}
 use Rattle.domain_lines.specs.declared.value_clauses.Lack.TheVariants.{Degree, DegreesBeside}
@@ -60,15 +61,15 @@ IsSeen w q p u (Ok (Some r)) named forms = IsNamed w forms r (refusal q p u)
 IsSeen w q p u (Ok None) named forms = AreUnits w named forms
 IsSeen w q p u (Err e) named forms = Unit {0}
 
--- Along the edges neither the degree of u nor the degrees of its neighbours are too small for p.
+-- Along the edges u has room for the neighbours of p, and the degrees of its neighbours are not too small.
 pub record IsLarge (q : Problem) (p u : ℕ) : Type 0 where
-  pub degree : degree q.pattern p ≤ degree q.target u
-  pub sequence : IsKeptBy (sequence q.pattern p) (sequence q.target u)
+  pub degree : asked_degree q p ≤ room q u
+  pub sequence : IsKeptBy (asked_sequence q p) (sequence q.target u)
 
--- The degree of u is too small for p, or at this place of their sequences a neighbour's.
+-- Too little room is at u for the neighbours of p, or at this place of their sequences a neighbour's degree is too small.
 abbrev pub Lacks : Problem → ℕ → ℕ → Lack → Type 0
-Lacks q p u Degree = degree q.target u < degree q.pattern p
-Lacks q p u (DegreesBeside place) = fails_at (sequence q.pattern p) (sequence q.target u) place
+Lacks q p u Degree = room q u < asked_degree q p
+Lacks q p u (DegreesBeside place) = fails_at (asked_sequence q p) (sequence q.target u) place
     ≡ true
 
 -- The references are those of the clauses against the first n values that are not in the first domain.
@@ -107,22 +108,23 @@ pub record IsSet (q : Problem) (pattern target : List (List ℕ)) : Type 0 where
   pub pattern_are : pattern ≡ sequences q.pattern
   pub target_are : target ≡ sequences q.target
 
--- Each of these values has a lesser degree than r.
+-- Each of these values has too little room for the neighbours of r.
 abbrev pub AreLower : Problem → ℕ → List ℕ → Type 0
 AreLower q r lower = (i : ℕ) → i < length lower
     → (slice_index lower i < size q.target)
-    × (degree q.target (slice_index lower i) < degree q.pattern r)
+    × (room q (slice_index lower i) < asked_degree q r)
 
 abbrev pub AreAllLower : Problem → List ℕ → List ℕ → Type 0
 AreAllLower q vertices lower = (i : ℕ) → i < length vertices
     → (slice_index vertices i < size q.pattern) × AreLower q (slice_index vertices i) lower
 
--- The lines of a crowd of high neighbours; they can be named, and are some where there are too many of these.
+-- The lines of a crowd of high neighbours and the places for them; they can be named, and are some where there are too many neighbours.
 pub record IsCrowd (q : Problem) (p u d : ℕ) (refs : List Ref) : Type 0 where
-  pub lines : refs ≡ crowd_refs q p u (high_neighbours q.pattern p d) (high_neighbours q.target u d)
+  pub lines : refs ≡ crowd_refs q (crowd_block q p) p u (high_neighbours q.pattern p d)
+      (high_places q u d)
   pub fits : AreRefs refs
-  pub addable : IsAddable (crowd_forms q p u (high_neighbours q.pattern p d)
-      (high_neighbours q.target u d))
+  pub addable : IsAddable (crowd_forms q (crowd_block q p) p u (high_neighbours q.pattern p d)
+      (high_places q u d))
   pub named : (w : Frame) (owner : ℕ) (forms : List Form) → IsFrameFor q owner w
-      → AreNamed w forms refs (crowd_forms q p u (high_neighbours q.pattern p d)
-      (high_neighbours q.target u d))
+      → AreNamed w forms refs (crowd_forms q (crowd_block q p) p u
+      (high_neighbours q.pattern p d) (high_places q u d))

@@ -1,4 +1,4 @@
-//! The neighbours of a vertex on one side of a degree, in a direction of edges.
+//! The ends of a vertex's edges on one side of a degree, in a direction of edges.
 
 ghost use Rattle.std.specs.Prelude.{◌≡◌, ◌<◌, ◌∷◌, ◌++◌, [], true, is_some, OnOk, IfOk};
 ghost use Rattle.graph_theory.specs.Graph.{size, edge};
@@ -21,35 +21,46 @@ fn push_where(out: &mut Vec<u16>, passes: bool, number: u16) -> Result<(), Alloc
     Ok(())
 }
 
-/// Whether `b`, to which an edge leads from `a` in this direction, is a neighbour on this side of the degree `d`. Cost: a few steps.
-fn is_chosen(graph: &Graph, direction: Direction, a: u16, d: u16, low: bool, b: u16) -> bool
+/// Whether `b`, to which an edge leads from `a` in this direction, is on this side of the degree `d`, and not `a` where they are to be apart.
+/// Cost: a few steps.
+fn is_chosen(
+    graph: &Graph,
+    direction: Direction,
+    apart: bool,
+    a: u16,
+    d: u16,
+    low: bool,
+    b: u16,
+) -> bool
     requires a_in { a < size graph.now }
     requires b_in { b < size graph.now }
     requires leads { is_some (edge (turned direction graph.now) a b) ≡ true }
-    ensures { result ≡ is_chosen (turned direction graph.now) a d low b }
+    ensures { result ≡ is_chosen apart (turned direction graph.now) a d low b }
 {
-    a != b && (graph.degree_by(direction, b) < d) == low
+    !(apart && a == b) && (graph.degree_by(direction, b) < d) == low
 }
 
-/// The neighbours of `a` in this direction whose degrees there are below `d`, or the others. Cost: a step for each neighbour, and for each
-/// word of a row.
+/// The ends of the edges of `a` in this direction whose degrees there are below `d`, or the others; without `a` itself where they are to be
+/// apart. Cost: a step for each edge, and for each word of a row.
 pub(crate) fn chosen(
     alloc: Global,
     graph: &Graph,
     direction: Direction,
+    apart: bool,
     a: u16,
     d: u16,
     low: bool,
 ) -> Result<Vec<u16>, AllocError>
     requires { a < size graph.now }
-    ensures { IfOk result (λ v. v.items ≡ chosen_of (turned direction graph.now) a d low) }
+    ensures { IfOk result
+        (λ v. v.items ≡ chosen_of apart (turned direction graph.now) a d low) }
 {
     let _size = graph.size();
     let near = graph.row_by(direction, a);
     let mut out = Vec::new(alloc);
     let mut b = next_member(near, 0);
     while b < 64 * near.len() {
-        let passes = is_chosen(graph, direction, a, d, low, b as u16);
+        let passes = is_chosen(graph, direction, apart, a, d, low, b as u16);
         push_where(&mut out, passes, b as u16)?;
         b = next_member(near, b + 1);
     }

@@ -2,7 +2,8 @@
 
 ghost use Rattle.std.specs.Prelude.{◌≡◌, ◌<◌, ◌++◌, OnOk, IfOk};
 ghost use Rattle.graph_theory.specs.Graph.{size};
-ghost use Rattle.domain_lines.specs.Operands.{beside_refs, value_refs, crowd_refs as crowd_refs_of, AreBeside, AreValues};
+ghost use Rattle.domain_line_theory.specs.Crowds.{crowd_block};
+ghost use Rattle.domain_lines.specs.Operands.{beside_refs, value_refs, crowd_refs as crowd_refs_of, AreBeside, AreValues, HasBlockFor};
 
 use crate::turned::Turned;
 use log_theory::Ref;
@@ -28,13 +29,20 @@ fn push_beside(
     Ok(())
 }
 
-/// Names the lines by which one vertex at most has each of these values.
-fn push_values(lines: &Turned, values: &[u16], refs: &mut Vec<Ref>) -> Result<(), AllocError>
-    requires { AreValues lines.now values.now }
-    ensures { OnOk result (refs.new.items ≡ refs.old.items ++ value_refs lines.now values.now) }
+/// Names the lines by which one vertex of a block at most has each of these values.
+fn push_values(
+    lines: &Turned,
+    block: Option<u16>,
+    values: &[u16],
+    refs: &mut Vec<Ref>,
+) -> Result<(), AllocError>
+    requires values { AreValues lines.now values.now }
+    requires there { HasBlockFor lines.now block values.now }
+    ensures { OnOk result
+        (refs.new.items ≡ refs.old.items ++ value_refs lines.now block values.now) }
 {
     for w in values {
-        refs.push(Ref::Line(lines.at_most_target(*w)))?;
+        refs.push(Ref::Line(lines.at_most_in(block, *w)))?;
     }
     Ok(())
 }
@@ -52,10 +60,13 @@ pub(crate) fn crowd_refs(
     requires u_in { u < size lines.now.target }
     requires beside { AreBeside lines.now p vertices.now }
     requires values { AreValues lines.now values.now }
-    ensures { IfOk result (λ v. v.items ≡ crowd_refs_of lines.now p u vertices.now values.now) }
+    requires there { HasBlockFor lines.now (crowd_block lines.now p) values.now }
+    ensures { IfOk result
+        (λ v. v.items
+        ≡ crowd_refs_of lines.now (crowd_block lines.now p) p u vertices.now values.now) }
 {
     let mut refs = Vec::new(alloc);
     push_beside(lines, p, u, vertices, &mut refs)?;
-    push_values(lines, values, &mut refs)?;
+    push_values(lines, lines.crowd_block(p), values, &mut refs)?;
     Ok(refs)
 }

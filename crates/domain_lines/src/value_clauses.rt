@@ -2,7 +2,10 @@
 
 ghost use Rattle.std.specs.Prelude.{◌≡◌, ℕ, ◌+◌, ◌<◌, ◌≤◌, [], ◌∷◌, ◌++◌, true, false, List, length, IfOk, IfSome, IfNone, slice_index};
 ghost use Rattle.graph_theory.specs.Graph.{size};
-ghost use Rattle.graph_theory.specs.Neighbours.{degree, sequence, fails_at, IsKeptBy};
+ghost use Rattle.graph_theory.specs.Neighbours.{sequence, fails_at, IsKeptBy};
+ghost use Rattle.graph_theory.specs.Asked.{asked_degree, room, asked_sequence};
+ghost use Rattle.graph_theory.specs.Blocks.{has_block};
+ghost use Rattle.graph_rows.specs.Orders.{IsOrder};
 ghost use Rattle.graph_theory.specs.Reversed.{turned_problem};
 ghost use Rattle.proof_theory.specs.Forms.{Form};
 ghost use Rattle.proof_theory.specs.Slack.{refutes, negations};
@@ -11,7 +14,7 @@ ghost use Rattle.encoding_theory.specs.Variables.{variable as variable_of};
 ghost use Rattle.encoding_theory.specs.Encoding.{is_refused, refusal};
 ghost use Rattle.explanation_theory.specs.Reasons.{not_there};
 ghost use Rattle.log_growth.specs.Frames.{Frame, IsNamed, Goes, AnyForms, Named, IsKept};
-ghost use Rattle.domain_line_theory.specs.Crowds.{refused_pairs, high_count, HasAllLower};
+ghost use Rattle.domain_line_theory.specs.Crowds.{refused_pairs, high_count, place_count, crowd_block, HasAllLower};
 ghost use Rattle.domain_lines.specs.Named.{is_false, AreUnits};
 ghost use Rattle.domain_lines.specs.Given.{IsFrameFor, IsGiven, IsMade, HasPairs, ArePushed, pairs_with, all_pairs, IsLarge, Lacks, AreLower, AreAllLower, IsCrowd};
 
@@ -20,6 +23,7 @@ use crate::turned::Turned;
 use crate::units::Units;
 use graph_rows::Problem;
 use graph_theory::direction::Direction;
+use graph_theory::embedding::Maps;
 use journals::Keeper;
 use log_growth::keep_sum;
 use log_theory::{Clause, Name, Ref, Refs, Step};
@@ -38,7 +42,7 @@ const NO_NAME: Name = Name {
 /// What shows that a value is not in the first domain of a vertex, in one direction of edges.
 #[derive(Clone, Copy)]
 pub(crate) enum Lack {
-    /// Its degree is too small.
+    /// Too little room for the neighbours.
     Degree,
     /// The degrees of its neighbours are, at this place of the sequences, counted from 0.
     DegreesBeside(u16),
@@ -112,6 +116,7 @@ impl<'a> ValueClauses<'a> {
         ensures same { result.now ≡ self.now }
         ensures few_pattern { size self.now.pattern ≤ 1024 }
         ensures few_target { size self.now.target ≤ 8192 }
+        ensures order { IsOrder (size self.now.pattern) self.now.less }
     {
         let _targets = self.turned.targets();
         &self.turned
@@ -180,10 +185,12 @@ impl<'a> ValueClauses<'a> {
         })
     }
 
-    /// The lines of the encoding for the neighbours of `p` and of `u` of degree `d` and more.
+    /// The lines of the encoding for the neighbours of `p` of degree `d` and more, and the places for them beside `u`.
     fn crowd(&self, alloc: Global, p: u16, u: u16, d: u16) -> Result<Vec<Ref>, AllocError>
         requires p_in { p < size self.now.pattern }
         requires u_in { u < size self.now.target }
+        requires there { 0 < place_count self.now u d
+            → has_block self.now (crowd_block self.now p) ≡ true }
         ensures { IfOk result (λ refs. IsCrowd self.now p u d refs.items) }
     {
         let turned = self.turned();
@@ -192,8 +199,8 @@ impl<'a> ValueClauses<'a> {
         crowd_refs(alloc, turned, p, u, &vertices, &values)
     }
 
-    /// Sums the lines of the neighbours of `p` and of `u` of degree `d` and more, and keeps the clause against `u` that follows from it behind
-    /// these clauses.
+    /// Sums the lines of the neighbours of `p` of degree `d` and more, and of the places for them beside `u`, and keeps the clause against `u`
+    /// that follows from it behind these clauses.
     fn crowd_line<K: Keeper>(
         &self,
         alloc: Global,
@@ -206,7 +213,9 @@ impl<'a> ValueClauses<'a> {
         requires p_in { p < size self.now.pattern }
         requires u_in { u < size self.now.target }
         requires fits { AreRefs clauses.items }
-        requires fewer { high_count self.now.target u d < high_count self.now.pattern p d }
+        requires fewer { place_count self.now u d < high_count self.now.pattern p d }
+        requires there { 0 < place_count self.now u d
+            → has_block self.now (crowd_block self.now p) ≡ true }
         ensures goes { (w : Frame) (pairs : List (ℕ × ℕ))
             → IsFrameFor self.now (K.owner keeper.old) w → HasAllLower self.now p u d pairs
             → Goes w (K.kept keeper.old) (K.kept keeper.new)
@@ -224,7 +233,7 @@ impl<'a> ValueClauses<'a> {
         self.keep_clause(alloc, keeper, p, u, refs)
     }
 
-    /// The two lines of a value whose degree is too small, and the name of the clause against it. Cost: a step for each neighbour of `p` and of
+    /// The two lines of a value with too little room, and the name of the clause against it. Cost: a step for each neighbour of `p` and of
     /// `u`, for each word of their rows, and for an edge line a search by halves.
     fn degree_line<K: Keeper>(
         &self,
@@ -235,7 +244,7 @@ impl<'a> ValueClauses<'a> {
     ) -> Result<Name, AllocError>
         requires p_in { p < size self.now.pattern }
         requires u_in { u < size self.now.target }
-        requires less { degree self.now.target u < degree self.now.pattern p }
+        requires less { room self.now u < asked_degree self.now p }
         ensures goes { (w : Frame) → IsFrameFor self.now (K.owner keeper.old) w
             → Goes w (K.kept keeper.old) (K.kept keeper.new) AnyForms
             (IsKept w result (refusal self.now p u)) }
@@ -247,7 +256,7 @@ impl<'a> ValueClauses<'a> {
         self.crowd_line(alloc, keeper, p, u, 0, Vec::new(alloc))
     }
 
-    /// The clause against a value whose degree is too small: the one that is there, or one that is made now.
+    /// The clause against a value with too little room: the one that is there, or one that is made now.
     fn lower_ref<K: Keeper>(
         &self,
         alloc: Global,
@@ -258,7 +267,7 @@ impl<'a> ValueClauses<'a> {
     ) -> Result<Ref, AllocError>
         requires p_in { p < size self.now.pattern }
         requires u_in { u < size self.now.target }
-        requires less { degree self.now.target u < degree self.now.pattern p }
+        requires less { room self.now u < asked_degree self.now p }
         ensures goes { (w : Frame) → IsFrameFor self.now (K.owner keeper.old) w
             → Goes w (K.kept keeper.old) (K.kept keeper.new) (AreUnits w units.old)
             (IsGiven w result (refusal self.now p u) units.new) }
@@ -274,7 +283,7 @@ impl<'a> ValueClauses<'a> {
         remember(units, self.variable(p, u), name)
     }
 
-    /// Refers to the clause against one more value of `r`, whose degree is too small.
+    /// Refers to the clause against one more value of `r`, which has too little room.
     fn push_lower<K: Keeper>(
         &self,
         alloc: Global,
@@ -286,7 +295,7 @@ impl<'a> ValueClauses<'a> {
     ) -> Result<(), AllocError>
         requires r_in { r < size self.now.pattern }
         requires w_in { w < size self.now.target }
-        requires less { degree self.now.target w < degree self.now.pattern r }
+        requires less { room self.now w < asked_degree self.now r }
         requires fits { AreRefs refs.old.items }
         ensures goes { (v : Frame) (pairs : List (ℕ × ℕ))
             → IsFrameFor self.now (K.owner keeper.old) v
@@ -303,7 +312,7 @@ impl<'a> ValueClauses<'a> {
         Ok(())
     }
 
-    /// Refers to the clauses against these values of `r`, whose degrees are too small.
+    /// Refers to the clauses against these values of `r`, which have too little room.
     fn push_all_lower<K: Keeper>(
         &self,
         alloc: Global,
@@ -333,7 +342,7 @@ impl<'a> ValueClauses<'a> {
         Ok(())
     }
 
-    /// Refers to the clauses against the pairs of one of these vertices and one of these values, whose degrees are too small for all of them.
+    /// Refers to the clauses against the pairs of one of these vertices and one of these values, which have too little room for all of them.
     fn push_pairs<K: Keeper>(
         &self,
         alloc: Global,
@@ -365,23 +374,27 @@ impl<'a> ValueClauses<'a> {
     /// The degree at a place of the sequence of `p` at which that of `u` is too small.
     fn degree_at(&self, p: u16, u: u16, place: u16) -> u16
         requires p_in { p < size self.now.pattern }
-        requires fails { fails_at (sequence self.now.pattern p) (sequence self.now.target u) place
+        requires fails { fails_at (asked_sequence self.now p) (sequence self.now.target u) place
             ≡ true }
-        ensures { result ≡ slice_index (sequence self.now.pattern p) place }
+        ensures { result ≡ slice_index (asked_sequence self.now p) place }
     {
         self.pattern.of(p)[usize::from(place)]
     }
 
-    /// Whether the sequence of `u` keeps that of `p`, or a place at which it does not.
+    /// Whether the sequence of `u` keeps what is asked of it for `p`, or a place at which it does not. Only injective maps ask for it.
     fn compared(&self, p: u16, u: u16) -> SequenceAnswer
         requires p_in { p < size self.now.pattern }
         requires u_in { u < size self.now.target }
         ensures kept { result ≡ SequenceAnswer.Kept
-            → IsKeptBy (sequence self.now.pattern p) (sequence self.now.target u) }
+            → IsKeptBy (asked_sequence self.now p) (sequence self.now.target u) }
         ensures fails { (i : ℕ) → result ≡ SequenceAnswer.FailsAt i
-            → fails_at (sequence self.now.pattern p) (sequence self.now.target u) i ≡ true }
+            → fails_at (asked_sequence self.now p) (sequence self.now.target u) i ≡ true }
     {
-        nds_filter::keeps(&self.pattern, &self.target, p, u)
+        match self.turned.maps() {
+            Maps::Injective => nds_filter::keeps(&self.pattern, &self.target, p, u),
+            Maps::Local => SequenceAnswer::Kept,
+            Maps::Any => SequenceAnswer::Kept,
+        }
     }
 
     /// The lines of a value whose sequence of neighbours' degrees is too small at a place, and the name of the clause against it.
@@ -396,7 +409,7 @@ impl<'a> ValueClauses<'a> {
     ) -> Result<Name, AllocError>
         requires p_in { p < size self.now.pattern }
         requires u_in { u < size self.now.target }
-        requires fails { fails_at (sequence self.now.pattern p) (sequence self.now.target u) place
+        requires fails { fails_at (asked_sequence self.now p) (sequence self.now.target u) place
             ≡ true }
         ensures goes { (w : Frame) → IsFrameFor self.now (K.owner keeper.old) w
             → Goes w (K.kept keeper.old) (K.kept keeper.new) (AreUnits w units.old)
@@ -414,8 +427,8 @@ impl<'a> ValueClauses<'a> {
         self.crowd_line(alloc, keeper, p, u, d, clauses)
     }
 
-    /// What `u` lacks for `p`, or none where neither its degree nor the degrees of its neighbours are too small. Cost: a few steps, and
-    /// where the degree is not too small one for each neighbour of `p` at most.
+    /// What `u` lacks for `p`, or none where neither its room nor the degrees of its neighbours are too small. Cost: a few steps, and
+    /// where the room is not too small by injective maps one for each neighbour of `p` at most.
     pub(crate) fn lack(&self, p: u16, u: u16) -> Option<Lack>
         requires p_in { p < size self.now.pattern }
         requires u_in { u < size self.now.target }

@@ -7,7 +7,7 @@ use Rattle.domain_lines.proofs.choosing.chosen.Given as goal
 
 abbrev pub invariant-loop-b : goal.invariant-loop-b
 invariant-loop-b l = record {
-  listed : l.out.items ≡ members (is_chosen (turned l.direction l.graph) l.a l.d l.low) l.b;
+  listed : l.out.items ≡ members (is_chosen l.apart (turned l.direction l.graph) l.a l.d l.low) l.b;
   within : l.b ≤ 64 * length l.near;
   member : l.b < 64 * length l.near → has l.near l.b ≡ true;
 }

@@ -9,5 +9,5 @@ returns-in-Some-clause-named c = λ w owner forms frame units.
     (rw c.turned-turned.ensures.same at c.in-Some.ensures.line) frame (rw c.turned-turned.ensures.same at c.in-Some.ensures.form)
 
 pub returns-in-Some-clause-fits : goal.returns-in-Some-clause-fits
-returns-in-Some-clause-fits c = line_fits c.args.self.now c.in-Some.line (refusal c.args.self.now c.args.p c.args.u) c.turned-turned.ensures.few_pattern c.turned-turned.ensures.few_target
+returns-in-Some-clause-fits c = line_fits c.args.self.now c.in-Some.line (refusal c.args.self.now c.args.p c.args.u) c.turned-turned.ensures.few_pattern c.turned-turned.ensures.few_target c.turned-turned.ensures.order
     (rw c.turned-turned.ensures.same at c.in-Some.ensures.form)

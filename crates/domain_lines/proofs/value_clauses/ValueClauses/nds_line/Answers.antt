@@ -3,11 +3,11 @@ use Rattle.log_theory.specs.declared.step.Ref.{Ref}
 use Rattle.encoding_theory.specs.Encoding.{refusal}
 use Rattle.log_growth.specs.Frames.{Named, AreNamed}
 use Rattle.log_growth.proofs.Going.{goes_stay, goes_as}
-use Rattle.domain_line_theory.specs.Crowds.{refused_pairs, high_count}
+use Rattle.domain_line_theory.specs.Crowds.{refused_pairs, high_count, place_count}
 use Rattle.domain_line_theory.proofs.HighNeighbours.{degree_laws}
 use Rattle.domain_lines.specs.Named.{AreUnits}
 use Rattle.domain_lines.specs.Given.{HasPairs, ArePushed, IsMade, all_pairs}
-use Rattle.domain_lines.proofs.Crowds.{chosen_all_lower, all_lower}
+use Rattle.domain_lines.proofs.Crowds.{chosen_all_lower, all_lower, fails_injective, whole_there}
 use Rattle.domain_lines.proofs.Composing.{made_err, made_beside, frame_for_moved}
 use Rattle.domain_lines.proofs.value_clauses.ValueClauses.nds_line.Goals as goal
 
@@ -23,7 +23,7 @@ returns-in_err-lower-clause-goes g c = λ w frame.
 
 pub push_pairs-requires-clause-lower : goal.push_pairs-requires-clause-lower
 push_pairs-requires-clause-lower g c =
-    chosen_all_lower c.args.self.now c.args.p c.args.u c.degree_at-d.result c.deref.result.now c.deref-2.result.now
+    chosen_all_lower c.args.self.now c.args.p c.args.u c.degree_at-d.result c.deref.result.now c.deref-2.result.now (fails_injective c.args.self.now c.args.p c.args.u c.args.place c.requires.fails)
     (c.deref.ensures.value ∙ (rw c.self.view_is at c.in_ok-vertices.ensures))
     (c.deref-2.ensures.value ∙ (rw c.self.view_is at c.in_ok-lower.ensures))
 
@@ -38,8 +38,11 @@ returns-in_err-push_pairs-clause-goes g c = λ w frame.
 
 pub crowd_line-requires-clause-fewer : goal.crowd_line-requires-clause-fewer
 crowd_line-requires-clause-fewer g c =
-    subst (λ (d : ℕ). high_count c.args.self.now.target c.args.u d < high_count c.args.self.now.pattern c.args.p d) (sym c.degree_at-d.ensures)
+    subst (λ (d : ℕ). place_count c.args.self.now c.args.u d < high_count c.args.self.now.pattern c.args.p d) (sym c.degree_at-d.ensures)
     ((degree_laws c.args.self.now).sequences c.args.p c.args.u c.args.place c.requires.fails)
+
+pub crowd_line-requires-clause-there : goal.crowd_line-requires-clause-there
+crowd_line-requires-clause-there g c = λ some. whole_there c.args.self.now c.args.p (fails_injective c.args.self.now c.args.p c.args.u c.args.place c.requires.fails)
 
 pub returns-clause-goes : goal.returns-clause-goes
 returns-clause-goes g c = λ w frame.
