@@ -6,9 +6,13 @@ use Rattle.std.specs.Prelude.{IfOk}
 use Rattle.std.specs.declared.alloc.AllocError.{AllocError}
 use Rattle.std.proofs.lemmas.Bool.{true≢false, eq-eqb, ne_eqb, eqb-true, eqb-false, cases_eq, cases_lt, ltb-true, ltb-false, or_parts}
 use Rattle.graph_theory.specs.Graph.{Graph, size, edge}
-use Rattle.graph_theory.specs.Embedding.{Problem, Matches, Compatible}
+use Rattle.graph_theory.specs.Embedding.{Problem, is_injective, differ_in, differ, Matches, Compatible}
+use Rattle.graph_theory.specs.Asked.{asked_shared_in, asked_shared}
+use Rattle.graph_theory.specs.declared.direction.Direction.{Direction}
+use Rattle.graph_theory.specs.declared.embedding.Maps.{Maps}
+use Rattle.graph_theory.specs.declared.embedding.Maps.TheVariants.{Injective, Local, Any}
 use Rattle.graph_theory.specs.Neighbours.{common}
-use Rattle.graph_theory.specs.Reversed.{reversed, reversed_problem, AreMutual}
+use Rattle.graph_theory.specs.Reversed.{reversed, reversed_problem, turned, turned_problem, AreMutual}
 use Rattle.graph_theory.proofs.ReversedGraphs.{edge-reversed}
 use Rattle.search_theory.specs.Consistency.{AreConsistent}
 use Rattle.search_theory.proofs.Pairs.{mutual_consistent}
@@ -47,6 +51,46 @@ not_true : (b : Bool) → not b ≡ true → b ≡ false
 not_true false h = refl
 not_true true h = absurd cc
 
+-- Two that are two where they have to be pass the test.
+pub apart_test : (b : Bool) (t u : ℕ) → (b ≡ true → t ≡ u → ⊥) → not (b && (t == u)) ≡ true
+apart_test true t u apart = ap not (ne_eqb t u (apart refl))
+apart_test false t u apart = refl
+
+-- Shared neighbours are asked for where images differ.
+asked_by : (k : Maps) (g h : Graph) (p r : ℕ) → 0 < asked_shared_in k h p r → differ_in k g p r ≡ true
+asked_by Injective g h p r some = refl
+asked_by Local g h p r some = absurd (omega (arith, some))
+asked_by Any g h p r some = absurd (omega (arith, some))
+
+pub asked_differs : (q : Problem) (p r : ℕ) → 0 < asked_shared q p r → differ q p r ≡ true
+asked_differs q p r some = asked_by q.maps q.pattern q.pattern p r some
+
+pub asked_differs_back : (q : Problem) (p r : ℕ) → 0 < asked_shared (reversed_problem q) p r → differ q p r ≡ true
+asked_differs_back q p r some = asked_by q.maps q.pattern (reversed q.pattern) p r some
+
+asked_counted : (k : Maps) (g : Graph) (p r : ℕ) → is_injective k ≡ true → asked_shared_in k g p r ≡ common g p r
+asked_counted Injective g p r is = refl
+asked_counted Local g p r is = absurd cc
+asked_counted Any g p r is = absurd cc
+
+pub asked_injective : (q : Problem) (p r : ℕ) → is_injective q.maps ≡ true → asked_shared q p r ≡ common q.pattern p r
+asked_injective q p r is = asked_counted q.maps q.pattern p r is
+
+-- In a direction.
+asked_turned : (direction : Direction) (q : Problem) (p r : ℕ) → Injective ≡ q.maps → asked_shared (turned_problem direction q) p r ≡ common (turned direction q.pattern) p r
+asked_turned direction q p r is = asked_counted q.maps (turned direction q.pattern) p r (sym (ap is_injective is))
+
+pub asked_as : (direction : Direction) (q : Problem) (p r : ℕ) (g : Graph) → g ≡ q.pattern → Injective ≡ q.maps → (result : Result ℕ AllocError) → IfOk result (λ n. n ≡ common (turned direction g) p r)
+    → IfOk result (λ n. n ≡ asked_shared (turned_problem direction q) p r)
+asked_as direction q p r g g_is is (Ok n) h = h ∙ (ap (λ (x : Graph). common (turned direction x) p r) g_is ∙ sym (asked_turned direction q p r is))
+asked_as direction q p r g g_is is (Err e) h = tt
+
+pub asked_local : (direction : Direction) (q : Problem) (p r : ℕ) → Local ≡ q.maps → asked_shared (turned_problem direction q) p r ≡ 0
+asked_local direction q p r is = subst (λ (k : Maps). asked_shared_in k (turned direction q.pattern) p r ≡ 0) is refl
+
+pub asked_any : (direction : Direction) (q : Problem) (p r : ℕ) → Any ≡ q.maps → asked_shared (turned_problem direction q) p r ≡ 0
+asked_any direction q p r is = subst (λ (k : Maps). asked_shared_in k (turned direction q.pattern) p r ≡ 0) is refl
+
 at_either : (b : Bool) → (b ≡ true → ⊥) → b ≡ false
 at_either true h = absurd (h refl)
 at_either false h = refl
@@ -69,7 +113,7 @@ module _ (q : Problem) (p t r u : ℕ) (p_in : p < size q.pattern) (r_in : r < s
       ∙ ap (λ (b : Bool). agree (is_some (edge q.pattern p r)) q.induced b) (ways.target_mutual.both u t u_in t_in)
 
   -- Without an edge between p and r nothing more is asked.
-  free : are_joined q p r ≡ false → (t ≡ u → ⊥) → edges_agree q p t r u ≡ true → edges_agree (reversed_problem q) p t r u ≡ true → Compatible q p t r u
+  free : are_joined q p r ≡ false → (differ q p r ≡ true → t ≡ u → ⊥) → edges_agree q p t r u ≡ true → edges_agree (reversed_problem q) p t r u ≡ true → Compatible q p t r u
   free apart other along against =
       let none = or_parts (is_some (edge q.pattern p r)) (is_some (edge q.pattern r p)) apart in
       record {
@@ -79,7 +123,7 @@ module _ (q : Problem) (p t r u : ℕ) (p_in : p < size q.pattern) (r_in : r < s
       }
 
   -- Nor where all labels are 0.
-  free_zeros : HaveZeroLabels q → (t ≡ u → ⊥) → edges_agree q p t r u ≡ true → edges_agree (reversed_problem q) p t r u ≡ true → Compatible q p t r u
+  free_zeros : HaveZeroLabels q → (differ q p r ≡ true → t ≡ u → ⊥) → edges_agree q p t r u ≡ true → edges_agree (reversed_problem q) p t r u ≡ true → Compatible q p t r u
   free_zeros zero other along against = record {
     apart = other;
     out = zeros_match q.induced (edge q.pattern p r) (edge q.target t u) (λ l. zero.pattern_zeros.zeros p r l p_in r_in) (λ l. zero.target_zeros.zeros t u l t_in u_in) along;
@@ -105,19 +149,19 @@ kept_both a b c is h = and_true a b (sym is ∙ h)
 -- What is left after the edges of each direction, then without t.
 module _ (q : Problem) (p t r : ℕ) (old out near mid : List ℕ) (p_in : p < size q.pattern) (r_in : r < size q.pattern) (t_in : t < size q.target) (within : (u : ℕ) → has old u ≡ true → u < size q.target)
     (out_is : (u : ℕ) → has out u ≡ (has old u && edges_agree q p t r u)) (near_is : (u : ℕ) → has near u ≡ (has out u && edges_agree (reversed_problem q) p t r u))
-    (mid_is : (u : ℕ) → has mid u ≡ (has near u && not (t == u))) where
+    (mid_is : (u : ℕ) → has mid u ≡ (has near u && not (differ q p r && (t == u)))) where
   pub record Parts (u : ℕ) : Type 0 where
     was : has old u ≡ true
     along : edges_agree q p t r u ≡ true
     against : edges_agree (reversed_problem q) p t r u ≡ true
-    other : t ≡ u → ⊥
+    other : differ q p r ≡ true → t ≡ u → ⊥
 
   mid_parts : (u : ℕ) → has mid u ≡ true → Parts u
   mid_parts u h =
-      let a = and_true (has near u) (not (t == u)) (sym (mid_is u) ∙ h) in
+      let a = and_true (has near u) (not (differ q p r && (t == u))) (sym (mid_is u) ∙ h) in
       let b = and_true (has out u) (edges_agree (reversed_problem q) p t r u) (sym (near_is u) ∙ a.0) in
       let c = and_true (has old u) (edges_agree q p t r u) (sym (out_is u) ∙ b.0) in
-      record { was = c.0; along = c.1; against = b.1; other = λ e. true≢false (sym (eq-eqb t u e) ∙ not_true (t == u) a.1) }
+      record { was = c.0; along = c.1; against = b.1; other = λ apart e. true≢false (sym (ap (λ (b : Bool). b && (t == u)) apart ∙ eq-eqb t u e) ∙ not_true (differ q p r && (t == u)) a.1) }
 
   pub words_within : (u : ℕ) → has mid u ≡ true → u < size q.target
   words_within u h = within u (mid_parts u h).was
@@ -129,7 +173,7 @@ module _ (q : Problem) (p t r : ℕ) (old out near mid : List ℕ) (p_in : p < s
         let both = both_agree q p t r u p_in r_in t_in (within u was) c in
         let in_out : has out u ≡ true = out_is u ∙ ap (λ (b : Bool). b && edges_agree q p t r u) was ∙ both.0 in
         let in_near : has near u ≡ true = near_is u ∙ ap (λ (b : Bool). b && edges_agree (reversed_problem q) p t r u) in_out ∙ both.1 in
-        let in_mid : has mid u ≡ true = mid_is u ∙ ap (λ (b : Bool). b && not (t == u)) in_near ∙ ap not (ne_eqb t u c.apart) in
+        let in_mid : has mid u ≡ true = mid_is u ∙ ap (λ (b : Bool). b && not (differ q p r && (t == u))) in_near ∙ apart_test (differ q p r) t u c.apart in
         true≢false (sym in_mid ∙ gone);
   }
 
@@ -192,25 +236,25 @@ tested_none q p t r m old none = record { goes = goes_itself q p t r old; all = 
 
 -- ---- shared neighbours
 
-pub not_itself : (q : Problem) (p t r : ℕ) (row : List ℕ) → AllGo q p t r row → has row t ≡ false
-not_itself q p t r row all = at_either (has row t) (λ h. (all t h).apart refl)
+pub not_itself : (q : Problem) (p t r : ℕ) (row : List ℕ) → differ q p r ≡ true → AllGo q p t r row → has row t ≡ false
+not_itself q p t r row apart all = at_either (has row t) (λ h. (all t h).apart apart refl)
 
 module _ (q : Problem) (p t r : ℕ) (p_in : p < size q.pattern) (r_in : r < size q.pattern) (t_in : t < size q.target) (old mid new : List ℕ) (within : (u : ℕ) → has old u ≡ true → u < size q.target) (all : AllGo q p t r old)
-    (along : Shares q.target t (common q.pattern p r) old mid) where
+    (along : Shares q.target t (asked_shared q p r) old mid) where
   pub out_leaves : Leaves q p t r old mid
   out_leaves = record { kept = along.kept; right = λ u was gone c. along.right u was gone c.shared }
 
-  pub out_all : AreMutual q → (b : Bool) → AllShare b q.target t (common q.pattern p r) mid → AllConsistent b q p t r mid
+  pub out_all : AreMutual q → (b : Bool) → AllShare b q.target t (asked_shared q p r) mid → AllConsistent b q p t r mid
   out_all ways false share = tt
   out_all ways true share = λ u h. let was = along.kept u h in mutual_consistent q p t r u ways p_in t_in r_in (within u was) (all u was) (share u h)
 
   pub mid_within : (u : ℕ) → has mid u ≡ true → u < size q.target
   mid_within u h = within u (along.kept u h)
 
-  pub mid_other : has mid t ≡ false
-  mid_other = at_either (has mid t) (λ h. (all t (along.kept t h)).apart refl)
+  pub mid_other : differ q p r ≡ true → has mid t ≡ false
+  mid_other apart = at_either (has mid t) (λ h. (all t (along.kept t h)).apart apart refl)
 
-  module _ (against : Shares (reversed q.target) t (common (reversed q.pattern) p r) mid new) where
+  module _ (against : Shares (reversed q.target) t (asked_shared (reversed_problem q) p r) mid new) where
     pub both_leave : Leaves q p t r old new
     both_leave = record { kept = λ u h. along.kept u (against.kept u h); right = λ u was gone c. by u was gone c (has mid u) refl }
       where
@@ -218,7 +262,7 @@ module _ (q : Problem) (p t r : ℕ) (p_in : p < size q.pattern) (r_in : r < siz
         by u was gone c true there = against.right u there gone c.in_shared
         by u was gone c false left = along.right u was left c.shared
 
-    pub both_all : (a b : Bool) → AllShare a q.target t (common q.pattern p r) mid → AllShare b (reversed q.target) t (common (reversed q.pattern) p r) new → AllConsistent (a && b) q p t r new
+    pub both_all : (a b : Bool) → AllShare a q.target t (asked_shared q p r) mid → AllShare b (reversed q.target) t (asked_shared (reversed_problem q) p r) new → AllConsistent (a && b) q p t r new
     both_all false b one two = tt
     both_all true false one two = tt
     both_all true true one two = λ u h. let there = against.kept u h in record { pair = all u (along.kept u there); shared = one u there; in_shared = two u h }
@@ -281,11 +325,11 @@ shares_itself g t n row = record { kept = λ u h. h; right = λ u was gone enoug
 
 -- Values that share enough along edges are consistent where all share enough against them.
 pub back_all : (q : Problem) (p t r : ℕ) (p_in : p < size q.pattern) (r_in : r < size q.pattern) (t_in : t < size q.target) (row : List ℕ) (within : (u : ℕ) → has row u ≡ true → u < size q.target) → AllGo q p t r row
-    → AllShare true q.target t (common q.pattern p r) row → (result : Result Bool AllocError) → IfOk result (λ b. AllShare b (reversed q.target) t (common (reversed q.pattern) p r) row)
+    → AllShare true q.target t (asked_shared q p r) row → (result : Result Bool AllocError) → IfOk result (λ b. AllShare b (reversed q.target) t (asked_shared (reversed_problem q) p r) row)
     → IfOk result (λ b. AllConsistent b q p t r row)
 back_all q p t r p_in r_in t_in row within all along (Err e) back = tt
 back_all q p t r p_in r_in t_in row within all along (Ok b) back =
-    both_all q p t r p_in r_in t_in row row row within all (shares_itself q.target t (common q.pattern p r) row) (shares_itself (reversed q.target) t (common (reversed q.pattern) p r) row) true b along back
+    both_all q p t r p_in r_in t_in row row row within all (shares_itself q.target t (asked_shared q p r) row) (shares_itself (reversed q.target) t (asked_shared (reversed_problem q) p r) row) true b along back
 
 -- ---- rows of vertices are short
 

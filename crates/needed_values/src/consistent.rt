@@ -1,7 +1,9 @@
 //! What a vertex at its place leaves to another.
 
-ghost use Rattle.std.specs.Prelude.{◌≡◌, ℕ, ◌*◌, ◌<◌, ◌≤◌, ◌&&◌, ◌==◌, ◌⊎◌, true, false, is_some, length, IfOk, OnOk};
+ghost use Rattle.std.specs.Prelude.{◌≡◌, ℕ, ◌*◌, ◌<◌, ◌≤◌, ◌&&◌, ◌==◌, ◌⊎◌, not, true, false, is_some, length, IfOk, OnOk};
 ghost use Rattle.graph_theory.specs.Graph.{size, edge};
+ghost use Rattle.graph_theory.specs.Embedding.{differ};
+ghost use Rattle.graph_theory.specs.Asked.{asked_shared};
 ghost use Rattle.graph_theory.specs.Neighbours.{common};
 ghost use Rattle.graph_theory.specs.Reversed.{turned, turned_problem, reversed_problem};
 ghost use Rattle.bit_rows.specs.BitRows.{has, words_for};
@@ -12,6 +14,7 @@ use bit_rows::{and_into, and_not_into, count_both, has_bit, keep_counted, next_m
 use common_neighbour::Counts;
 use graph_rows::{Graph, Problem};
 use graph_theory::direction::Direction;
+use graph_theory::embedding::Maps;
 use std::alloc::{AllocError, Global};
 
 /// Shared neighbours are counted with no vertex that has more neighbours than these.
@@ -91,6 +94,19 @@ pub(crate) fn asks_labels(q: &Problem, p: u16, r: u16) -> bool
     (q.pattern().keeps_edge_labels() || q.target().keeps_edge_labels()) && are_joined_by(q, p, r)
 }
 
+/// Keeps of a row of values of `r` those that are not `t`, where the images of `p` and `r` have to differ. Cost: one word, and that of `differ`.
+fn keep_apart(q: &Problem, p: u16, t: u16, r: u16, row: &mut [u64])
+    requires p_in { p < size q.now.pattern }
+    requires t_in { t < size q.now.target }
+    requires r_in { r < size q.now.pattern }
+    requires long { length row.old ≡ words_for (size q.now.target) }
+    ensures { (u : ℕ) → has row.new u ≡ (has row.old u && not (differ q.now p r && (t == u))) }
+{
+    if q.differ(p, r) {
+        unset_bit(row, usize::from(t));
+    }
+}
+
 /// Keeps of a row of values of `r` those that go together with `p` at `t`. Cost: two steps for each word, and where a graph keeps labels of
 /// edges and one joins `p` and `r` four words for each value that these leave.
 pub(crate) fn keep_compatible(q: &Problem, p: u16, t: u16, r: u16, row: &mut [u64])
@@ -104,7 +120,7 @@ pub(crate) fn keep_compatible(q: &Problem, p: u16, t: u16, r: u16, row: &mut [u6
 {
     keep_near(q, Direction::Out, p, t, r, row);
     keep_back(q, p, t, r, row);
-    unset_bit(row, usize::from(t));
+    keep_apart(q, p, t, r, row);
     if asks_labels(q, p, r) {
         keep_tested(q, p, t, r, row);
     }
@@ -126,6 +142,26 @@ fn shared_by(
     Ok(Counts::new(alloc, pattern, direction)?.count(p, r))
 }
 
+/// How many neighbours the images of two vertices have to share in a direction. Cost: one step for each word of a row, by injective maps alone.
+fn asked_by(
+    alloc: Global,
+    q: &Problem,
+    direction: Direction,
+    p: u16,
+    r: u16,
+) -> Result<u16, AllocError>
+    requires p_in { p < size q.now.pattern }
+    requires r_in { r < size q.now.pattern }
+    requires apart { p ≡ r → ⊥ }
+    ensures { IfOk result (λ n. n ≡ asked_shared (turned_problem direction q.now) p r) }
+{
+    match q.maps() {
+        Maps::Injective => shared_by(alloc, q.pattern(), direction, p, r),
+        Maps::Local => Ok(0),
+        Maps::Any => Ok(0),
+    }
+}
+
 /// Keeps of a row of values those that share so many neighbours with `t` in a direction, where these are few enough to be counted, and
 /// tells whether it did. Cost: where none need be shared, or `t` has many neighbours, two steps; else one for each value, and for each
 /// neighbour of a neighbour of `t`.
@@ -141,7 +177,7 @@ fn keep_sharing(
     requires t_in { t < size target.now }
     requires long { length row.old ≡ words_for (size target.now) }
     requires within { (u : ℕ) → has row.old u ≡ true → u < size target.now }
-    requires other { has row.old t ≡ false }
+    requires other { 0 < shared → has row.old t ≡ false }
     requires counts { length counts.old ≡ size target.now }
     ensures shares { OnOk result (Shares (turned direction target.now) t shared row.old row.new) }
     ensures all { IfOk result (λ b. AllShare b (turned direction target.now) t shared row.new) }
@@ -180,20 +216,20 @@ fn keep_sharing_both(
     ensures leaves { OnOk result (Leaves q.now p t r row.old row.new) }
     ensures all { IfOk result (λ b. AllConsistent b q.now p t r row.new) }
 {
-    let (pattern, target) = (q.pattern(), q.target());
-    let out = shared_by(alloc, pattern, Direction::Out, p, r)?;
+    let target = q.target();
+    let out = asked_by(alloc, q, Direction::Out, p, r)?;
     let along = keep_sharing(alloc, target, Direction::Out, t, out, row, counts)?;
     if q.is_mutual() {
         return Ok(along);
     }
-    let back = shared_by(alloc, pattern, Direction::In, p, r)?;
+    let back = asked_by(alloc, q, Direction::In, p, r)?;
     let against = keep_sharing(alloc, target, Direction::In, t, back, row, counts)?;
     Ok(along && against)
 }
 
 /// Keeps of a row of values of `r` those that are consistent with `p` at `t`, as far as is quickly told, and tells whether all that are
 /// left are. Cost: a few steps for each word, and where an edge with a label joins `p` and `r` for each value that edges leave; where they share
-/// neighbours and `t` has at most 12, also one for each value, and for each neighbour of a neighbour of `t`.
+/// neighbours by injective maps and `t` has at most 12, also one for each value, and for each neighbour of a neighbour of `t`.
 pub fn keep_consistent(
     alloc: Global,
     q: &Problem,
@@ -262,7 +298,7 @@ fn all_share(target: &Graph, direction: Direction, t: u16, shared: u16, row: &[u
     requires t_in { t < size target.now }
     requires long { length row.now ≡ words_for (size target.now) }
     requires within { (u : ℕ) → has row.now u ≡ true → u < size target.now }
-    requires other { has row.now t ≡ false }
+    requires other { 0 < shared → has row.now t ≡ false }
     ensures { AllShare result (turned direction target.now) t shared row.now }
 {
     let _size = target.size();
@@ -287,26 +323,30 @@ fn all_share_along(sharers: &Sharers, t: u16, shared: u16, row: &[u64]) -> bool
     requires t_in { t < size sharers.now.target }
     requires long { length row.now ≡ words_for (size sharers.now.target) }
     requires within { (u : ℕ) → has row.now u ≡ true → u < size sharers.now.target }
-    requires other { has row.now t ≡ false }
+    requires other { 0 < shared → has row.now t ≡ false }
     ensures { AllShare result sharers.now.target t shared row.now }
 {
+    if shared == 0 {
+        return true;
+    }
     match sharers.row(t, shared) {
         Some(others) => is_within(row, others),
         None => all_share(sharers.problem().target(), Direction::Out, t, shared, row),
     }
 }
 
-/// How many neighbours two pattern vertices share along edges. Cost: a few steps where that is kept, else that of `shared_by`.
+/// How many neighbours the images of two pattern vertices have to share along edges. Cost: a few steps where that is kept, else that of
+/// `asked_by`.
 #[inline(always)]
-fn shared_along(alloc: Global, sharers: &Sharers, p: u16, r: u16) -> Result<u16, AllocError>
+fn asked_along(alloc: Global, sharers: &Sharers, p: u16, r: u16) -> Result<u16, AllocError>
     requires p_in { p < size sharers.now.pattern }
     requires r_in { r < size sharers.now.pattern }
     requires apart { p ≡ r → ⊥ }
-    ensures { IfOk result (λ n. n ≡ common sharers.now.pattern p r) }
+    ensures { IfOk result (λ n. n ≡ asked_shared sharers.now p r) }
 {
     match sharers.count(p, r) {
         Some(count) => Ok(count),
-        None => shared_by(alloc, sharers.problem().pattern(), Direction::Out, p, r),
+        None => asked_by(alloc, sharers.problem(), Direction::Out, p, r),
     }
 }
 
@@ -331,7 +371,7 @@ pub fn are_all_consistent(
     ensures { IfOk result (λ b. AllConsistent b sharers.now p t r row.now) }
 {
     let q = sharers.problem();
-    let out = shared_along(alloc, sharers, p, r)?;
+    let out = asked_along(alloc, sharers, p, r)?;
     let along = all_share_along(sharers, t, out, row);
     if q.is_mutual() {
         return Ok(along);
@@ -339,6 +379,6 @@ pub fn are_all_consistent(
     if !along {
         return Ok(false);
     }
-    let back = shared_by(alloc, q.pattern(), Direction::In, p, r)?;
+    let back = asked_by(alloc, q, Direction::In, p, r)?;
     Ok(all_share(q.target(), Direction::In, t, back, row))
 }

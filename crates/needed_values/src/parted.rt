@@ -1,7 +1,8 @@
 //! Needed values of a vertex, parted by what edges leave of them.
 
-ghost use Rattle.std.specs.Prelude.{◌≡◌, ℕ, ◌+◌, ◌*◌, ◌<◌, ◌≤◌, ◌&&◌, ◌⊎◌, nat_lt, true, false, is_some, length};
+ghost use Rattle.std.specs.Prelude.{◌≡◌, ℕ, ◌+◌, ◌*◌, ◌<◌, ◌≤◌, ◌==◌, ◌&&◌, ◌⊎◌, not, nat_lt, true, false, is_some, length};
 ghost use Rattle.graph_theory.specs.Graph.{size, edge};
+ghost use Rattle.graph_theory.specs.Embedding.{differ};
 ghost use Rattle.graph_theory.specs.Reversed.{AreMutual};
 ghost use Rattle.bit_rows.specs.BitRows.{has, is_set, words_for};
 ghost use Rattle.needed_values.specs.Consistent.{agree, are_joined, HaveZeroLabels, IsParted};
@@ -141,9 +142,26 @@ fn part_at_once(
     let target = q.target();
     let values = usize::from(target.size());
     let same = part_words(asked, row, target.row(t), values, other, left);
-    let itself = has_bit(left, usize::from(t));
-    unset_bit(left, usize::from(t));
+    let itself = take_apart(q, p, t, r, left);
     same && !itself
+}
+
+/// Takes `t` out of a row of values of `r`, where the images of `p` and `r` have to differ, and tells whether it was there then.
+#[inline(always)]
+fn take_apart(q: &Problem, p: u16, t: u16, r: u16, row: &mut [u64]) -> bool
+    requires p_in { p < size q.now.pattern }
+    requires t_in { t < size q.now.target }
+    requires r_in { r < size q.now.pattern }
+    requires long { length row.old ≡ words_for (size q.now.target) }
+    ensures taken { result ≡ (differ q.now p r && has row.old t) }
+    ensures left { (u : ℕ) → has row.new u ≡ (has row.old u && not (differ q.now p r && (t == u))) }
+{
+    if q.differ(p, r) {
+        let itself = has_bit(row, usize::from(t));
+        unset_bit(row, usize::from(t));
+        return itself;
+    }
+    false
 }
 
 /// The same in any problem, one pass after another.

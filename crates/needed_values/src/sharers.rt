@@ -2,7 +2,8 @@
 
 ghost use Rattle.std.specs.Prelude.{◌≡◌, ℕ, ◌<◌, ◌≤◌, ◌==◌, not, nat_lt, true, length, slice_index, IfOk, OnOk, IfSome};
 ghost use Rattle.graph_theory.specs.Graph.{Graph as TheGraph, size};
-ghost use Rattle.graph_theory.specs.Neighbours.{common};
+ghost use Rattle.graph_theory.specs.Embedding.{is_injective};
+ghost use Rattle.graph_theory.specs.Asked.{asked_shared};
 ghost use Rattle.bit_rows.specs.BitRows.{has, words_for};
 ghost use Rattle.common_neighbour.specs.Sharing.{shares};
 ghost use Rattle.needed_values.specs.Sharers.{IsSharerRow, AreSharers, AreCounts, IsSharedCount, AreSharedCounts};
@@ -11,6 +12,7 @@ use bit_rows::{fill_below, keep_counted, unset_bit, words_for};
 use common_neighbour::Counts;
 use graph_rows::{Graph, Problem};
 use graph_theory::direction::Direction;
+use graph_theory::embedding::Maps;
 use std::alloc::{AllocError, Global};
 use std::marker::Model;
 
@@ -37,8 +39,8 @@ struct SharedCount {
 }
 
 /// For each value of a problem the rows of the other values that share at least so many neighbours with it along edges, by how many, and for each
-/// two pattern vertices how many they share. Contracts see the problem. It takes at most 512 values times 33 rows of eight words and 512 times 512
-/// counts, with lengths less than 5 MiB.
+/// two pattern vertices how many they share; nothing unless the maps are injective. Contracts see the problem. It takes at most 512 values times
+/// 33 rows of eight words and 512 times 512 counts, with lengths less than 5 MiB.
 pub struct Sharers<'a> {
     problem: &'a Problem,
     rows: Vec<SharerRow>,
@@ -59,7 +61,8 @@ impl Drop for Sharers<'_> {
 }
 
 impl<'a> Model for Sharers<'a> {
-    ghost use Rattle.graph_theory.specs.Embedding.{Problem as TheProblem};
+    ghost use Rattle.std.specs.Prelude.{◌≡◌, ◌<◌, true, length};
+    ghost use Rattle.graph_theory.specs.Embedding.{Problem as TheProblem, is_injective};
     ghost use Rattle.needed_values.specs.Sharers.{AreSharers, AreSharedCounts};
 
     ghost Value = { TheProblem };
@@ -67,7 +70,8 @@ impl<'a> Model for Sharers<'a> {
     ghost view = { λ s. s.problem.now };
 
     ghost invariant = { λ s. AreSharers s.problem.now.target s.rows.items
-        × AreSharedCounts s.problem.now.pattern s.counts.items };
+        × AreSharedCounts s.problem.now.pattern s.counts.items
+        × (0 < length s.counts.items → is_injective s.problem.now.maps ≡ true) };
 }
 
 /// The row of the other values that share at least so many neighbours with `t`, whose counts these are. Cost: that of `keep_counted`.
@@ -191,15 +195,27 @@ fn most_shared(counts: &[SharedCount]) -> u16 {
 
 impl<'a> Sharers<'a> {
     /// The counts of a problem, and its rows, for as many shared neighbours as two pattern vertices have, for at most 32; neither where a graph has
-    /// more than 512 vertices, or where memory is refused: what they would tell is then counted, so that the answers are the same. Cost: one
-    /// step for each word of a row of the pattern, for each two of its vertices, and for each two values one for each word of a row of the
-    /// target and for each number of neighbours.
+    /// more than 512 vertices, where no shared neighbours are asked for since the maps are not injective, or where memory is refused: what they
+    /// would tell is then counted, so that the answers are the same. Cost: one step for each word of a row of the pattern, for each two of its
+    /// vertices, and for each two values one for each word of a row of the target and for each number of neighbours.
     pub fn new(alloc: Global, problem: &'a Problem) -> Sharers<'a>
         ensures { result ≡ problem.now }
     {
         if problem.target().size() > MOST_VALUES || problem.pattern().size() > MOST_VALUES {
             return Sharers::without_rows(alloc, problem);
         }
+        match problem.maps() {
+            Maps::Injective => Sharers::of_injective(alloc, problem),
+            Maps::Local => Sharers::without_rows(alloc, problem),
+            Maps::Any => Sharers::without_rows(alloc, problem),
+        }
+    }
+
+    /// The rows of a problem whose maps are injective, where there is memory for them.
+    fn of_injective(alloc: Global, problem: &'a Problem) -> Sharers<'a>
+        requires { is_injective problem.now.maps ≡ true }
+        ensures { result ≡ problem.now }
+    {
         match Sharers::with_rows(alloc, problem) {
             Ok(sharers) => sharers,
             Err(_) => Sharers::without_rows(alloc, problem),
@@ -220,6 +236,7 @@ impl<'a> Sharers<'a> {
 
     /// The rows of all values of a problem. Cost: as `new` says.
     fn with_rows(alloc: Global, problem: &'a Problem) -> Result<Sharers<'a>, AllocError>
+        requires { is_injective problem.now.maps ≡ true }
         ensures { IfOk result (λ s. s ≡ problem.now) }
     {
         let target = problem.target();
@@ -241,11 +258,11 @@ impl<'a> Sharers<'a> {
         self.problem
     }
 
-    /// How many neighbours two pattern vertices share along edges, where that is kept. Cost: a few steps.
+    /// How many neighbours the images of two pattern vertices have to share along edges, where that is kept. Cost: a few steps.
     #[inline(always)]
     pub(crate) fn count(&self, p: u16, r: u16) -> Option<u16>
         requires apart { p ≡ r → ⊥ }
-        ensures { IfSome result (λ n. n ≡ common self.now.pattern p r) }
+        ensures { IfSome result (λ n. n ≡ asked_shared self.now p r) }
     {
         let place = usize::from(p) * usize::from(self.problem.pattern().size()) + usize::from(r);
         if place >= self.counts.len() {

@@ -1,4 +1,4 @@
-use Rattle.std.proofs.Common.{ℕ, ◌≤◌, sym, ap, subst, ◌∙◌}
+use Rattle.std.proofs.Common.{ℕ, ◌≤◌, sym, ap, subst, ◌∙◌, arith}
 use Rattle.std.proofs.lemmas.Bool.{true≢false}
 use Rattle.graph_theory.specs.Reversed.{turned}
 use Rattle.bit_rows.specs.BitRows.{has}
@@ -33,7 +33,7 @@ shares_enough-requires-clause-u_in c = c.requires.within c.loop-u.u (c.loop-u.in
 
 pub shares_enough-requires-clause-apart : goal.shares_enough-requires-clause-apart
 shares_enough-requires-clause-apart c = λ same.
-    true≢false (sym (c.loop-u.invariant.member c.loop-u-test.true) ∙ ap (has c.args.row.now) (sym same) ∙ c.requires.other)
+    true≢false (sym (c.loop-u.invariant.member c.loop-u-test.true) ∙ ap (has c.args.row.now) (sym same) ∙ c.requires.other (let some = c.if-shared-eq0.false in omega (arith, some)))
 
 pub shares_enough-requires-clause-long : goal.shares_enough-requires-clause-long
 shares_enough-requires-clause-long c = c.row_by-near.ensures.long

@@ -12,17 +12,17 @@ keep_back-requires-clause-along c = λ u h. (kept_both (has c.args.row.now u) (e
 
 pub returns-then-asks_labels-clause-goes : goal.returns-then-asks_labels-clause-goes
 returns-then-asks_labels-clause-goes c =
-    goes_on c.args.q.now c.args.p c.args.t c.args.r c.args.row.now c.unset_bit.new.row c.keep_tested.new.row
-    (words_go c.args.q.now c.args.p c.args.t c.args.r c.args.row.now c.keep_near.new.row c.keep_back.new.row c.unset_bit.new.row c.requires.p_in c.requires.r_in c.requires.t_in c.requires.within c.keep_near.ensures c.keep_back.ensures
-    (λ u. c.unset_bit.ensures u ∙ ap (λ (v : ℕ). has c.keep_back.new.row u && not (v == u)) c.from.ensures)) c.keep_tested.ensures.goes
+    goes_on c.args.q.now c.args.p c.args.t c.args.r c.args.row.now c.keep_apart.new.row c.keep_tested.new.row
+    (words_go c.args.q.now c.args.p c.args.t c.args.r c.args.row.now c.keep_near.new.row c.keep_back.new.row c.keep_apart.new.row c.requires.p_in c.requires.r_in c.requires.t_in c.requires.within c.keep_near.ensures c.keep_back.ensures
+    c.keep_apart.ensures) c.keep_tested.ensures.goes
 
 pub returns-else-asks_labels-clause-goes : goal.returns-else-asks_labels-clause-goes
 returns-else-asks_labels-clause-goes c =
-    words_go c.args.q.now c.args.p c.args.t c.args.r c.args.row.now c.keep_near.new.row c.keep_back.new.row c.unset_bit.new.row c.requires.p_in c.requires.r_in c.requires.t_in c.requires.within c.keep_near.ensures c.keep_back.ensures
-    (λ u. c.unset_bit.ensures u ∙ ap (λ (v : ℕ). has c.keep_back.new.row u && not (v == u)) c.from.ensures)
+    words_go c.args.q.now c.args.p c.args.t c.args.r c.args.row.now c.keep_near.new.row c.keep_back.new.row c.keep_apart.new.row c.requires.p_in c.requires.r_in c.requires.t_in c.requires.within c.keep_near.ensures c.keep_back.ensures
+    c.keep_apart.ensures
 
 pub returns-else-asks_labels-clause-all : goal.returns-else-asks_labels-clause-all
 returns-else-asks_labels-clause-all c =
-    words_all c.args.q.now c.args.p c.args.t c.args.r c.args.row.now c.keep_near.new.row c.keep_back.new.row c.unset_bit.new.row c.requires.p_in c.requires.r_in c.requires.t_in c.requires.within c.keep_near.ensures c.keep_back.ensures
-    (λ u. c.unset_bit.ensures u ∙ ap (λ (v : ℕ). has c.keep_back.new.row u && not (v == u)) c.from.ensures)
+    words_all c.args.q.now c.args.p c.args.t c.args.r c.args.row.now c.keep_near.new.row c.keep_back.new.row c.keep_apart.new.row c.requires.p_in c.requires.r_in c.requires.t_in c.requires.within c.keep_near.ensures c.keep_back.ensures
+    c.keep_apart.ensures
     (c.asks_labels.ensures c.if-asks_labels.false)
