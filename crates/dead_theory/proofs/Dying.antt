@@ -88,7 +88,8 @@ module _ (q : Problem) (rows : List Row) (sound : Sound q rows) (s : Option watc
   shown_gives by_edges (LeftOne r (cause.Guess t) from) d old now known at own values_is l out on_p on needs h x here = inr (run_keeps at own (variable q x.0 x.1) true (on x here))
   shown_gives by_edges (LeftOne r (cause.Nogood name) from) d old now known at own values_is l out on_p on needs h x here = inr (run_keeps at own (variable q x.0 x.1) true (on x here))
   shown_gives by_edges (LeftOne r (cause.Edge v u direction) from) d old now known at own values_is l out on_p on needs h x here = inr (run_keeps at own (variable q x.0 x.1) true (on x here))
-  shown_gives by_edges (LeftOthers vertices values from) d old now known at own values_is l out on_p on needs h x here = inr (run_keeps at own (variable q x.0 x.1) true (on x here))
+  shown_gives by_edges (LeftOne r (cause.Order k u side) from) d old now known at own values_is l out on_p on needs h x here = inr (run_keeps at own (variable q x.0 x.1) true (on x here))
+  shown_gives by_edges (LeftOthers centre vertices values from) d old now known at own values_is l out on_p on needs h x here = inr (run_keeps at own (variable q x.0 x.1) true (on x here))
   shown_gives by_edges (LeftOver p t direction vertices values from) d old now known at own values_is l out on_p on needs h x here = inr (run_keeps at own (variable q x.0 x.1) true (on x here))
 
   quiet : (at : Setting) (own : List Form) (v : ℕ) (b : Bool) → refutes at own ≡ false → Gives at own v b → run at own v ≡ Some b
@@ -179,10 +180,17 @@ change_in q s old new (LeftOne r (cause.Guess t) from) is l = (l.stands.0, subst
 change_in q s old new (LeftOne r (cause.Vertex p t) from) is l = (l.stands.vertex_in, l.stands.value_in, l.stands.other_in, l.stands.apart)
 change_in q s old new (LeftOne r (cause.Nogood name) from) is l = l.stands
 change_in q s old new (LeftOne r (cause.Edge p u direction) from) is l = (l.stands.joins, l.stands.value_in)
-change_in q s old new (LeftOthers vertices values from) is l =
-    (λ p h. l.stands.0.vertices_in p (same_among vertices p ∙ h), λ u h. l.stands.0.values_in u (same_among values u ∙ h))
+change_in q s old new (LeftOne r (cause.Order k u side) from) is l =
+    (record { pair = l.stands.pair; pair_is = l.stands.pair_is; end_is = l.stands.end_is; vertex_in = l.stands.vertex_in; other_in = l.stands.other_in }, l.stands.value_in)
+change_in q s old new (LeftOthers centre vertices values from) is l =
+    record {
+      block = l.stands.0.block;
+      members = λ p h. l.stands.0.members p (same_among vertices p ∙ h);
+      vertices_in = λ p h. l.stands.0.vertices_in p (same_among vertices p ∙ h);
+      values_in = λ u h. l.stands.0.values_in u (same_among values u ∙ h);
+    }
 change_in q s old new (LeftOver p t direction vertices values from) is l =
-    (l.stands.vertex_in, l.stands.value_in, λ r h. l.stands.joins r (same_among vertices r ∙ h), λ u h. l.stands.values_in u (same_among values u ∙ h))
+    (l.stands.vertex_in, l.stands.value_in, (λ r h. l.stands.joins r (same_among vertices r ∙ h)), (λ u h. l.stands.values_in u (same_among values u ∙ h)), l.stands.injective)
 
 pub told_in : (q : Problem) (s : Option watched.State) (d : State) (cs : List Change) → d.values ≡ size q.target → Told q s d cs → AreInProblem q cs
 told_in q s d [] is told = tt

@@ -52,8 +52,15 @@ exhausted_ends q s d p values left u there = refuted_among values u (left u ther
 pub end_in : (q : Problem) (rows : List Row) (s : Option watched.State) (d : State) (e : End) → NamesRows rows s → EndsBy e q s d → IsEndIn q rows e
 end_in q rows s d (Empty p) names h = h.0
 end_in q rows s d (Whole name) names h = (names name h.pairs h.named).0
-end_in q rows s d (Short vertices values) names h =
-    (λ p among. h.0.vertices_in p (same_among vertices p ∙ among), λ u among. h.0.values_in u (same_among values u ∙ among), h.1)
+end_in q rows s d (Short centre vertices values) names h = (
+  record {
+    block = h.0.block;
+    members = λ p among. h.0.members p (same_among vertices p ∙ among);
+    vertices_in = λ p among. h.0.vertices_in p (same_among vertices p ∙ among);
+    values_in = λ u among. h.0.values_in u (same_among values u ∙ among);
+  },
+  h.1,
+)
 end_in q rows s d (Exhausted p values) names h = tt
 
 -- ---- what it comes to
@@ -88,10 +95,10 @@ module _ (q : Problem) (rows : List Row) (s : Option watched.State) (names : Nam
       subst (λ (fs : List Form). refutes at fs ≡ true) (sym is)
       (conflict_refutes at (at_least q p) (at_least_fails q at p (λ u u_in. out p u u_in (needs u) (none_there d p u (h.1 u)))))
   end_refutes (Whole name) forms h needs is = whole_refutes name forms h needs is
-  end_refutes (Short [] values) forms h needs is = absurd (omega (arith, h.1))
-  end_refutes (Short (p ∷ rest) values) forms h needs is =
+  end_refutes (Short centre [] values) forms h needs is = absurd (omega (arith, h.1))
+  end_refutes (Short centre (p ∷ rest) values) forms h needs is =
       subst (λ (fs : List Form). refutes at fs ≡ true) (sym is)
-      ((explaining.end_laws q).short at (only_these (p ∷ rest) values) p rest values (these_only q d (p ∷ rest) values h.0) h.1 at (λ v b e. e) (these_out q at d needed (p ∷ rest) values h.0 out needs))
+      ((explaining.end_laws q).short at (only_these (p ∷ rest) values) centre p rest values (these_only q centre d (p ∷ rest) values h.0) h.1 at (λ v b e. e) (these_out q at centre d needed (p ∷ rest) values h.0 out needs))
   end_refutes (Exhausted p values) forms h needs is =
       subst (λ (fs : List Form). refutes at fs ≡ true) (sym is)
       ((explaining.end_laws q).refuted at (in_domain d) p path values (on_true q at path on_path) (λ u u_in there. h u there) at (λ v b e. e)

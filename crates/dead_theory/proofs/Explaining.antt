@@ -6,20 +6,22 @@ use Rattle.graph_theory.specs.Reversed.{turned}
 use Rattle.graph_theory.specs.declared.direction.Direction.{Direction}
 use Rattle.graph_theory.specs.declared.direction.Direction.TheVariants.{Out, In}
 use Rattle.graph_theory.proofs.ReversedGraphs.{edge-reversed}
-use Rattle.graph_theory.specs.Embedding.{Problem}
+use Rattle.graph_theory.specs.Embedding.{Problem, is_injective}
+use Rattle.graph_theory.specs.Blocks.{in_block}
 use Rattle.search_theory.specs.Consistency.{IsFirstValue, AreConsistent}
 use Rattle.proof_theory.specs.Forms.{Form}
 use Rattle.proof_theory.specs.Slack.{Setting, conflict, after, refutes}
 use Rattle.log_theory.specs.Lookups.{is_among, are_distinct}
 use Rattle.encoding_theory.specs.Variables.{variable}
-use Rattle.encoding_theory.specs.Encoding.{at_least, at_most, pair_form}
-use Rattle.encoding_theory.specs.Pairs.{is_match, is_compatible}
+use Rattle.encoding_theory.specs.Encoding.{at_least, at_most, leads_form, pair_form}
+use Rattle.encoding_theory.specs.Pairs.{is_match, is_open, is_compatible}
+use Rattle.encoding_theory.proofs.PairTests.{apart_open}
 use Rattle.forcing_theory.specs.Chains.{run, Domains, AreOut}
 use Rattle.forcing_theory.proofs.Chaining.{after_keeps, run_keeps}
 use Rattle.explanation_theory.specs.Reasons as reasons
 use Rattle.explanation_theory.specs.Reasons.{IsPair, ForcesFirst, at_leasts, pairs_clause, set_form, over_form}
 use Rattle.explanation_theory.proofs.Giving.{Leads, Gives, one_gives, then_gives, leads_on}
-use Rattle.explanation_theory.proofs.Forcing.{pair_takes, at_least_forces, at_most_forces, AreSet, clause_forces}
+use Rattle.explanation_theory.proofs.Forcing.{leads_takes, at_least_forces, at_most_forces, AreSet, clause_forces}
 use Rattle.explanation_theory.proofs.OverCounting.{over_takes}
 use Rattle.explanation_theory.proofs.Explaining as explaining
 use Rattle.domain_bits.specs.Removals.{State, in_domain, times}
@@ -31,9 +33,13 @@ use Rattle.nogood_watch.specs.Nogoods.{literal}
 use Rattle.nogood_book.specs.declared.row.Row.{Row}
 use Rattle.nogood_book.specs.Rows.{path_at, Sound}
 use Rattle.recorder.specs.declared.change.Cause.TheVariants as cause
+use Rattle.recorder.specs.declared.change.Side.{Side}
 use Rattle.recorder.specs.Recording.{Change, LeftOne, LeftOthers, LeftOver}
-use Rattle.recorder.specs.Telling.{HasAtMost, IsForbidden, IsUnsupported, IsCrowded, Joins, AreDistinct, HaveOnly, Leaves}
-use Rattle.dead_theory.specs.Changes.{NamesRows, IsOneOf, IsLeftOut, IsBorne, AreBorne, NogoodForms, set_forms, crowd_forms, Forces, ExplainsTold, MayTake, GoTogether, CoversTold, SufficesTold, IsUpheld, AreUpheld, AreKeptIn, AllSupport, AllBeside, Needs}
+use Rattle.recorder.specs.Telling.{HasAtMost, IsForbidden, IsUnsupported, IsOutOfOrder, end_beside, is_beside, IsCrowded, Joins, AreDistinct, HaveOnly, Leaves}
+use Rattle.dead_theory.specs.Changes.{NamesRows, IsOneOf, IsLeftOut, IsBorne, AreBorne, NogoodForms, set_forms, crowd_forms, Forces, ExplainsTold, MayTake, GoTogether, CoversTold, SufficesTold, IsUpheld, AreUpheld, AreKeptIn, AllSupport, AllOnSide, IsOrdered, AllBeside, Needs}
+
+some_same : {X : Type 0} (x y : X) → (let o : Option X = Some x in o) ≡ Some y → x ≡ y
+some_same x y e = cc
 
 -- ---- lists of vertices
 
@@ -150,22 +156,23 @@ pairs_lead q s d path known needed vertices but passes pairs out on_path on born
 abbrev pub only_these : List ℕ → List ℕ → Domains
 only_these vertices values r u = cond (is_among r vertices) (is_among u values) true
 
--- The same, with the set's values gone from all others.
-abbrev pub none_of_these : ℕ → List ℕ → List ℕ → Domains
-none_of_these n vertices values r u = cond (is_among r vertices) (is_among u values) (not (ltb r n && is_among u values))
+-- The same, with the set's values gone from all others of its block.
+abbrev pub none_of_these : Problem → Option ℕ → List ℕ → List ℕ → Domains
+none_of_these q b vertices values r u = cond (is_among r vertices) (is_among u values) (not ((ltb r (size q.pattern) && in_block q b r) && is_among u values))
 
-pub these_only : (q : Problem) (d : State) (vertices values : List ℕ) → HaveOnly q d vertices values → reasons.HaveOnly q (only_these vertices values) vertices values
-these_only q d vertices values only = record {
+pub these_only : (q : Problem) (b : Option ℕ) (d : State) (vertices values : List ℕ) → HaveOnly q b d vertices values → reasons.HaveOnly q b (only_these vertices values) vertices values
+these_only q b d vertices values only = record {
   distinct = distinct_of vertices only.distinct;
+  members = λ p h. only.members p (same_among vertices p ∙ h);
   vertices_in = λ p h. only.vertices_in p (same_among vertices p ∙ h);
   values_in = λ u h. only.values_in u (same_among values u ∙ h);
   within = λ p u h u_in there. sym (ap (λ (b : Bool). cond b (is_among u values) true) h) ∙ there;
 }
 
 -- What the needed values of the members say of these domains.
-pub these_out : (q : Problem) (s : Setting) (d : State) (needed : ℕ → ℕ → Bool) (vertices values : List ℕ) → HaveOnly q d vertices values → NeededOut q s d needed → AreKeptIn vertices values needed
+pub these_out : (q : Problem) (s : Setting) (b : Option ℕ) (d : State) (needed : ℕ → ℕ → Bool) (vertices values : List ℕ) → HaveOnly q b d vertices values → NeededOut q s d needed → AreKeptIn vertices values needed
     → (r : ℕ) → is_among r vertices ≡ true → AreOut (variable q) (size q.target) s (only_these vertices values) r
-these_out q s d needed vertices values only out kept r among u u_in gone =
+these_out q s b d needed vertices values only out kept r among u u_in gone =
     let off : is_among u values ≡ false = sym (ap (λ (b : Bool). cond b (is_among u values) true) among) ∙ gone in
     out r u u_in (kept r u among off) (by (in_domain d r u) refl off)
   where
@@ -187,11 +194,11 @@ matched_some true (Some l) (Some k) m some = refl
 compatible_leads : (q : Problem) (direction : Direction) (p r u w : ℕ) → Joins q direction p r → u < size q.target → w < size q.target → is_compatible q r u p w ≡ true
     → is_some (edge (turned direction q.target) w u) ≡ true
 compatible_leads q Out p r u w joins u_in w_in fits =
-    let parts = and_parts (not (u == w)) (is_match q.induced (edge q.pattern r p) (edge q.target u w) && is_match q.induced (edge q.pattern p r) (edge q.target w u)) fits in
+    let parts = and_parts (is_open q u w) (is_match q.induced (edge q.pattern r p) (edge q.target u w) && is_match q.induced (edge q.pattern p r) (edge q.target w u)) fits in
     let both = and_parts (is_match q.induced (edge q.pattern r p) (edge q.target u w)) (is_match q.induced (edge q.pattern p r) (edge q.target w u)) parts.1 in
     matched_some q.induced (edge q.pattern p r) (edge q.target w u) both.1 joins.joined
 compatible_leads q In p r u w joins u_in w_in fits =
-    let parts = and_parts (not (u == w)) (is_match q.induced (edge q.pattern r p) (edge q.target u w) && is_match q.induced (edge q.pattern p r) (edge q.target w u)) fits in
+    let parts = and_parts (is_open q u w) (is_match q.induced (edge q.pattern r p) (edge q.target u w) && is_match q.induced (edge q.pattern p r) (edge q.target w u)) fits in
     let both = and_parts (is_match q.induced (edge q.pattern r p) (edge q.target u w)) (is_match q.induced (edge q.pattern p r) (edge q.target w u)) parts.1 in
     ap is_some (edge-reversed q.target w u w_in u_in)
     ∙ matched_some q.induced (edge q.pattern r p) (edge q.target u w) both.0 (ap is_some (sym (edge-reversed q.pattern p r joins.vertex_in joins.other_in)) ∙ joins.joined)
@@ -200,20 +207,20 @@ compatible_leads q In p r u w joins u_in w_in fits =
 leads_beside : (q : Problem) (direction : Direction) (p t r u : ℕ) → Joins q direction p r → t < size q.target → u < size q.target → is_compatible q p t r u ≡ true
     → is_some (edge (turned direction q.target) t u) ≡ true
 leads_beside q Out p t r u joins t_in u_in fits =
-    let parts = and_parts (not (t == u)) (is_match q.induced (edge q.pattern p r) (edge q.target t u) && is_match q.induced (edge q.pattern r p) (edge q.target u t)) fits in
+    let parts = and_parts (is_open q t u) (is_match q.induced (edge q.pattern p r) (edge q.target t u) && is_match q.induced (edge q.pattern r p) (edge q.target u t)) fits in
     let both = and_parts (is_match q.induced (edge q.pattern p r) (edge q.target t u)) (is_match q.induced (edge q.pattern r p) (edge q.target u t)) parts.1 in
     matched_some q.induced (edge q.pattern p r) (edge q.target t u) both.0 joins.joined
 leads_beside q In p t r u joins t_in u_in fits =
-    let parts = and_parts (not (t == u)) (is_match q.induced (edge q.pattern p r) (edge q.target t u) && is_match q.induced (edge q.pattern r p) (edge q.target u t)) fits in
+    let parts = and_parts (is_open q t u) (is_match q.induced (edge q.pattern p r) (edge q.target t u) && is_match q.induced (edge q.pattern r p) (edge q.target u t)) fits in
     let both = and_parts (is_match q.induced (edge q.pattern p r) (edge q.target t u)) (is_match q.induced (edge q.pattern r p) (edge q.target u t)) parts.1 in
     ap is_some (edge-reversed q.target t u t_in u_in)
     ∙ matched_some q.induced (edge q.pattern r p) (edge q.target u t) both.1 (ap is_some (sym (edge-reversed q.pattern p r joins.vertex_in joins.other_in)) ∙ joins.joined)
 
--- two that are compatible are at two places
-places_apart : (q : Problem) (p t r u : ℕ) → is_compatible q p t r u ≡ true → t ≡ u → ⊥
-places_apart q p t r u fits same =
-    let parts = and_parts (not (t == u)) (is_match q.induced (edge q.pattern p r) (edge q.target t u) && is_match q.induced (edge q.pattern r p) (edge q.target u t)) fits in
-    true≢false (sym parts.0 ∙ ap not (eq-eqb t u same))
+-- two that are compatible are at two places, where the maps are injective
+places_apart : (q : Problem) (p t r u : ℕ) → is_injective q.maps ≡ true → is_compatible q p t r u ≡ true → t ≡ u → ⊥
+places_apart q p t r u apart fits same =
+    let parts = and_parts (is_open q t u) (is_match q.induced (edge q.pattern p r) (edge q.target t u) && is_match q.induced (edge q.pattern r p) (edge q.target u t)) fits in
+    apart_open q t u apart parts.0 same
 
 -- ---- crowded neighbours
 
@@ -246,7 +253,7 @@ beside_out q s d needed direction p t vertices values is out kept r among u u_in
     by true off c fits h = absurd cc
     by false off false fits h = absurd cc
     by false off true fits h =
-        let other = places_apart q p t r u fits in
+        let other = places_apart q p t r u is.injective fits in
         let leads = leads_beside q direction p t r u (is.joins r (same_among vertices r ∙ among)) is.value_in u_in fits in
         out r u u_in (kept r u among u_in other leads off) (left (in_domain d r u) refl other leads off)
 
@@ -274,9 +281,10 @@ module _ (q : Problem) (rows : List Row) (sound : Sound q rows) (s : Option watc
       one_at (y ∷ ys) zero x k_in is = inl is
       one_at (y ∷ ys) (suc k) x k_in is = inr (one_at ys k x (omega (arith, k_in)) is)
   refused_may (LeftOne p (cause.Edge v t direction) from) old new l r u there gone = l.refused r u there gone
+  refused_may (LeftOne p (cause.Order k v side) from) old new l r u there gone = l.refused r u there gone
   refused_may (LeftOver p t direction vertices values from) old new l r u there gone = l.refused r u there gone
-  refused_may (LeftOthers vertices values from) old new l r u there gone =
-      let h = l.refused r u there gone in (sym (same_among vertices r) ∙ h.1, sym (same_among values u) ∙ h.2)
+  refused_may (LeftOthers centre vertices values from) old new l r u there gone =
+      let h = l.refused r u there gone in (h.1, sym (same_among vertices r) ∙ h.2, sym (same_among values u) ∙ h.3)
 
   module _ (path known : List (ℕ × ℕ)) (at : Setting) (old : State) (values_is : old.values ≡ size q.target) (needed : ℕ → ℕ → Bool) (out : NeededOut q at old needed) (on_path : AreOn q at path)
       (on : AreOn q at known) where
@@ -341,42 +349,60 @@ module _ (q : Problem) (rows : List Row) (sound : Sound q rows) (s : Option watc
     edge_gives : (p r u : ℕ) (direction : Direction) → IsUnsupported q old direction p r u → AllSupport q direction p u needed → Gives at (pair_form q r p u ∷ []) (variable q r u) false
     edge_gives p r u direction is support =
         one_gives at (pair_form q r p u) (variable q r u) false
-        (pair_takes q at p r u
+        (leads_takes q at p r u (is_compatible q r u p)
         (λ w w_in fits. let leads = compatible_leads q direction p r u w is.joins is.value_in w_in fits in out p w w_in (support w w_in leads) (gone w leads (in_domain old p w) refl)))
       where
         gone : (w : ℕ) → is_some (edge (turned direction q.target) w u) ≡ true → (b : Bool) → in_domain old p w ≡ b → b ≡ false
         gone w leads true here = absurd (true≢false (sym leads ∙ is.none w here))
         gone w leads false here = refl
 
-    set_gives : (vertices values : List ℕ) (r u : ℕ) (own : List Form) → HaveOnly q old vertices values → length values ≤ length vertices → AreKeptIn vertices values needed → own ≡ set_forms q vertices values
-        → r < size q.pattern → is_among r vertices ≡ false → is_among u values ≡ true → u < size q.target → Gives at own (variable q r u) false
-    set_gives [] values r u own only few kept is r_in outside among u_in = absurd (none values few u among)
+    -- That of a pair that is to be in order, where no value on its side is left for the other vertex.
+    order_gives : (k r u : ℕ) (side : Side) (own : List Form) → IsOutOfOrder q old k side r u → AllOnSide q k u side needed → IsOrdered q k side r u own → Gives at own (variable q r u) false
+    order_gives k r u side own is kept ordered =
+        subst (λ (fs : List Form). Gives at fs (variable q r u) false) (sym ordered.are)
+        (one_gives at (leads_form q r u (end_beside side ordered.pair) (is_beside side u)) (variable q r u) false
+        (leads_takes q at (end_beside side ordered.pair) r u (is_beside side u)
+        (λ w w_in beside. out (end_beside side ordered.pair) w w_in (kept ordered.pair ordered.pair_is w w_in beside) (gone w beside (in_domain old (end_beside side ordered.pair) w) refl))))
+      where
+        same : is.pair ≡ ordered.pair
+        same = some_same is.pair ordered.pair (sym is.pair_is ∙ ordered.pair_is)
+
+        gone : (w : ℕ) → is_beside side u w ≡ true → (b : Bool) → in_domain old (end_beside side ordered.pair) w ≡ b → b ≡ false
+        gone w beside true here = absurd (true≢false (sym beside ∙ is.none w (ap (λ (x : ℕ × ℕ). in_domain old (end_beside side x) w) same ∙ here)))
+        gone w beside false here = refl
+
+    set_gives : (b : Option ℕ) (vertices values : List ℕ) (r u : ℕ) (own : List Form) → HaveOnly q b old vertices values → length values ≤ length vertices → AreKeptIn vertices values needed → own ≡ set_forms q b vertices values
+        → r < size q.pattern → in_block q b r ≡ true → is_among r vertices ≡ false → is_among u values ≡ true → u < size q.target → Gives at own (variable q r u) false
+    set_gives b [] values r u own only few kept is r_in inside outside among u_in = absurd (none values few u among)
       where
         none : (us : List ℕ) → length us ≤ 0 → (v : ℕ) → is_among v us ≡ true → ⊥
         none [] short v here = cc
         none (w ∷ ws) short v here = omega (arith, short)
-    set_gives (p ∷ rest) values r u own only few kept is r_in outside among u_in =
+    set_gives b (p ∷ rest) values r u own only few kept is r_in inside outside among u_in =
         subst (λ (fs : List Form). Gives at fs (variable q r u) false) (sym is)
-        (by (((explaining.change_laws q).counted at (only_these (p ∷ rest) values) (none_of_these (size q.pattern) (p ∷ rest) values) p rest values (these_only q old (p ∷ rest) values only) few
-        (λ v w inside. ap (λ (b : Bool). cond b (is_among w values) (not (ltb v (size q.pattern) && is_among w values))) inside ∙ sym (ap (λ (b : Bool). cond b (is_among w values) true) inside))
-        (λ v w there gone. left v w there gone)).forces at (λ v b e. e) (these_out q at old needed (p ∷ rest) values only out kept)))
+        (by (((explaining.change_laws q).counted at (only_these (p ∷ rest) values) (none_of_these q b (p ∷ rest) values) b p rest values (these_only q b old (p ∷ rest) values only) few
+        (λ v w here. ap (λ (x : Bool). cond x (is_among w values) (not ((ltb v (size q.pattern) && in_block q b v) && is_among w values))) here ∙ sym (ap (λ (x : Bool). cond x (is_among w values) true) here))
+        (λ v w there gone. left v w there gone)).forces at (λ v x e. e) (these_out q at b old needed (p ∷ rest) values only out kept)))
       where
-        left : (v w : ℕ) → only_these (p ∷ rest) values v w ≡ true → none_of_these (size q.pattern) (p ∷ rest) values v w ≡ false → (v < size q.pattern) × (is_among w values ≡ true)
-        left v w there gone = split (is_among v (p ∷ rest)) (ltb v (size q.pattern)) refl (is_among w values) refl there gone
+        left : (v w : ℕ) → only_these (p ∷ rest) values v w ≡ true → none_of_these q b (p ∷ rest) values v w ≡ false → (v < size q.pattern) × (in_block q b v ≡ true) × (is_among w values ≡ true)
+        left v w there gone = split (is_among v (p ∷ rest)) (ltb v (size q.pattern)) refl (in_block q b v) refl (is_among w values) refl there gone
           where
-            split : (b c : Bool) → ltb v (size q.pattern) ≡ c → (e : Bool) → is_among w values ≡ e → cond b e true ≡ true → cond b e (not (c && e)) ≡ false → (v < size q.pattern) × (is_among w values ≡ true)
-            split true c is_c e is_e here away = absurd (true≢false (sym here ∙ away))
-            split false true is_c true is_e here away = (ltb-true v (size q.pattern) is_c, is_e)
-            split false true is_c false is_e here away = absurd cc
-            split false false is_c e is_e here away = absurd cc
+            split : (x c : Bool) → ltb v (size q.pattern) ≡ c → (d : Bool) → in_block q b v ≡ d → (e : Bool) → is_among w values ≡ e → cond x e true ≡ true → cond x e (not ((c && d) && e)) ≡ false
+                → (v < size q.pattern) × (in_block q b v ≡ true) × (is_among w values ≡ true)
+            split true c is_c d is_d e is_e here away = absurd (true≢false (sym here ∙ away))
+            split false true is_c true is_d true is_e here away = (ltb-true v (size q.pattern) is_c, is_d, is_e)
+            split false true is_c true is_d false is_e here away = absurd cc
+            split false true is_c false is_d e is_e here away = absurd cc
+            split false false is_c d is_d e is_e here away = absurd cc
 
-        by : (refutes at (set_form q p rest values ∷ []) ≡ true)
-            ⊎ ((v w : ℕ) → not (is_among v (p ∷ rest)) ≡ true → w < size q.target → only_these (p ∷ rest) values v w ≡ true → none_of_these (size q.pattern) (p ∷ rest) values v w ≡ false
-            → run at (set_form q p rest values ∷ []) (variable q v w) ≡ Some false)
-            → Gives at (set_form q p rest values ∷ []) (variable q r u) false
+        by : (refutes at (set_form q b p rest values ∷ []) ≡ true)
+            ⊎ ((v w : ℕ) → not (is_among v (p ∷ rest)) ≡ true → w < size q.target → only_these (p ∷ rest) values v w ≡ true → none_of_these q b (p ∷ rest) values v w ≡ false
+            → run at (set_form q b p rest values ∷ []) (variable q v w) ≡ Some false)
+            → Gives at (set_form q b p rest values ∷ []) (variable q r u) false
         by (inl refuted) = inl refuted
-        by (inr forced) = inr (forced r u (ap not outside) u_in (ap (λ (b : Bool). cond b (is_among u values) true) outside)
-            (ap (λ (b : Bool). cond b (is_among u values) (not (ltb r (size q.pattern) && is_among u values))) outside ∙ ap (λ (b : Bool). not (b && is_among u values)) (lt-ltb r (size q.pattern) r_in) ∙ ap not among))
+        by (inr forced) = inr (forced r u (ap not outside) u_in (ap (λ (x : Bool). cond x (is_among u values) true) outside)
+            (ap (λ (x : Bool). cond x (is_among u values) (not ((ltb r (size q.pattern) && in_block q b r) && is_among u values))) outside
+            ∙ ap (λ (x : Bool). not ((x && in_block q b r) && is_among u values)) (lt-ltb r (size q.pattern) r_in) ∙ ap (λ (x : Bool). not (x && is_among u values)) inside ∙ ap not among))
 
     -- The line for neighbours that would be crowded.
     crowd_gives : (direction : Direction) (p t : ℕ) (vertices values : List ℕ) (own : List Form) → IsCrowded q old direction p t vertices values → AllBeside q direction t vertices values needed
@@ -436,11 +462,21 @@ module _ (q : Problem) (rows : List Row) (sound : Sound q rows) (s : Option watc
         by : (in_domain old r u ≡ true) × (in_domain new r u ≡ false) × SufficesTold by_edges q (LeftOne p (cause.Edge v t direction) from) r u ⊎ ((in_domain old r u ≡ false) × CoversTold by_edges q (LeftOne p (cause.Edge v t direction) from) r u) → Gives at own (variable q r u) false
         by (inl gone) = let refused = l.refused r u gone.0 gone.1 in take refused.0 refused.1
         by (inr covers) = take covers.1.0 covers.1.1
-    change_gives by_edges (LeftOthers vertices values from) new own l guessed needs h r u u_in (inl gone) =
+    change_gives by_edges (LeftOthers centre vertices values from) new own l guessed needs h r u u_in (inl gone) =
         let refused = l.refused r u gone.0 gone.1 in
-        set_gives vertices values r u own l.stands.0 l.stands.1 needs h refused.0 (sym (same_among vertices r) ∙ refused.1) (sym (same_among values u) ∙ refused.2) u_in
-    change_gives by_edges (LeftOthers vertices values from) new own l guessed needs h r u u_in (inr covers) =
-        set_gives vertices values r u own l.stands.0 l.stands.1 needs h covers.1.0 covers.1.1 covers.1.2 u_in
+        set_gives centre vertices values r u own l.stands.0 l.stands.1 needs h refused.0 refused.1 (sym (same_among vertices r) ∙ refused.2) (sym (same_among values u) ∙ refused.3) u_in
+    change_gives by_edges (LeftOthers centre vertices values from) new own l guessed needs h r u u_in (inr covers) =
+        set_gives centre vertices values r u own l.stands.0 l.stands.1 needs h covers.1.0 covers.1.1 covers.1.2 covers.1.3 u_in
+    change_gives by_edges (LeftOne p (cause.Order k v side) from) new own l guessed needs h r u u_in which = by which
+      where
+        take : r ≡ p → u ≡ v → Gives at own (variable q r u) false
+        take same is =
+            subst (λ (w : ℕ). Gives at own (variable q w u) false) (sym same)
+            (subst (λ (w : ℕ). Gives at own (variable q p w) false) (sym is) (order_gives k p v side own l.stands needs h))
+
+        by : (in_domain old r u ≡ true) × (in_domain new r u ≡ false) × SufficesTold by_edges q (LeftOne p (cause.Order k v side) from) r u ⊎ ((in_domain old r u ≡ false) × CoversTold by_edges q (LeftOne p (cause.Order k v side) from) r u) → Gives at own (variable q r u) false
+        by (inl gone) = let refused = l.refused r u gone.0 gone.1 in take refused.0 refused.1
+        by (inr covers) = take covers.1.0 covers.1.1
     change_gives by_edges (LeftOver p t direction vertices values from) new own l guessed needs h r u u_in which = by which
       where
         take : r ≡ p → u ≡ t → Gives at own (variable q r u) false

@@ -1,10 +1,11 @@
 -- A worked example: three vertices, of which 0 and 1 are joined, into the target of the edge 0 to 1 and a vertex 2. With 0 at 2 there is no value
 -- for 1. What left the domains of 2 and 0 meanwhile is passed.
-use Rattle.std.proofs.Common.{◌≡◌, ◌<◌, ◌==◌, ℕ, Bool, true, false, List, [], ◌∷◌, map, refl, sym, ◌∙◌, inl, inr}
+use Rattle.std.proofs.Common.{◌≡◌, ◌<◌, ◌==◌, ℕ, Bool, true, false, List, [], ◌∷◌, map, None, refl, sym, ◌∙◌, inl, inr}
 use Rattle.std.proofs.lemmas.Bool.{eqb-true}
 use Rattle.graph_theory.specs.Lad.{Vertex}
 use Rattle.graph_theory.specs.Graph.{graph_of, size}
 use Rattle.graph_theory.specs.Embedding.{Problem}
+use Rattle.graph_theory.specs.declared.embedding.Maps.TheVariants.{Injective}
 use Rattle.proof_theory.specs.Forms.{put, sorted}
 use Rattle.proof_theory.specs.Slack.{refutes, negations}
 use Rattle.encoding_theory.specs.Encoding.{at_least, pair_form}
@@ -23,6 +24,8 @@ example = record {
   pattern = graph_of (to ((1, 0) ∷ []) ∷ to ((0, 0) ∷ []) ∷ to [] ∷ []);
   target = graph_of (to ((1, 0) ∷ []) ∷ to ((0, 0) ∷ []) ∷ to [] ∷ []);
   induced = false;
+  maps = Injective;
+  less = [];
 }
 
 -- The guess, then what 0 at 2 takes from 2, then what it takes from 1.
@@ -76,6 +79,6 @@ unfolding sorted put
 edge_refuted = refl
 
 -- Three vertices with two values together, under no guess at all: with both values' constraints one line is a conflict by itself.
-set_refuted : refutes (negations []) (set_forms (record example { target = graph_of (to [] ∷ to [] ∷ []) }) (0 ∷ 1 ∷ 2 ∷ []) (0 ∷ 1 ∷ [])) ≡ true
+set_refuted : refutes (negations []) (set_forms (record example { target = graph_of (to [] ∷ to [] ∷ []) }) None (0 ∷ 1 ∷ 2 ∷ []) (0 ∷ 1 ∷ [])) ≡ true
 unfolding sorted put
 set_refuted = refl
