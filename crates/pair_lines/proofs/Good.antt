@@ -1,10 +1,13 @@
 -- Operations whose numbers are in their ranges, and that name no row.
-use Rattle.std.proofs.Common.{◌≡◌, ℕ, zero, suc, ◌+◌, ◌*◌, ◌^◌, ◌≤◌, ◌<◌, nat_lt, nat_le, Bool, true, false, not, ◌&&◌, cond, List, [], ◌∷◌, ◌++◌, length, refl, arith, Option, Some, None, length-append, subst}
+use Rattle.std.proofs.Common.{◌≡◌, ℕ, zero, suc, ◌+◌, ◌*◌, ◌^◌, ◌≤◌, ◌<◌, nat_lt, nat_le, Bool, true, false, not, ◌&&◌, cond, List, [], ◌∷◌, ◌++◌, length, refl, ap, arith, Option, Some, None, length-append, subst}
 use Rattle.std.specs.Prelude.{slice_get}
 use Rattle.std.proofs.lemmas.Bool.{lt-ltb, le-leb}
 use native.Mathlib.Nat.{suc-mul, mul-le-mul_right}
 use Rattle.graph_theory.specs.Graph.{size}
-use Rattle.graph_theory.specs.Embedding.{Problem}
+use Rattle.graph_theory.specs.Embedding.{Problem, is_injective}
+use Rattle.graph_theory.specs.Blocks.{has_block_in, has_block}
+use Rattle.graph_theory.specs.declared.embedding.Maps.{Maps}
+use Rattle.graph_theory.specs.declared.embedding.Maps.TheVariants.{Injective, Local, Any}
 use Rattle.graph_theory.specs.Neighbours.{count, is_neighbour}
 use Rattle.proof_theory.specs.Forms.{Form}
 use Rattle.log_theory.specs.declared.step.Name.{Name}
@@ -18,15 +21,17 @@ use Rattle.log_theory.specs.Verdicts.{in_range, axiom_variables}
 use Rattle.journal_theory.specs.Referring.{op_refs, NamesRow}
 use Rattle.encoding_theory.specs.Variables.{variable, variables, collect, when}
 use Rattle.encoding_theory.specs.Pairs.{is_edge_pair, is_non_edge_pair}
-use Rattle.encoding_theory.specs.Encoding.{vertex_forms, vertex_group, target_forms, target_group, is_refused, refusal, refused_at, refused_of, refused_group, pair_at, pair_forms, pairs_at, pairs_of, pair_group, edge_group, non_edge_group, encoding}
-use Rattle.encoding_theory.specs.Places.{at_least_place, at_most_place, at_most_target_place, edge_place, non_edge_place}
+use Rattle.encoding_theory.specs.Encoding.{encoding}
+use Rattle.encoding_theory.specs.Places.{at_least_place, at_most_place, at_most_place_in, edge_place, non_edge_place}
 use Rattle.encoding_theory.proofs.PlaceProofs.{place_laws}
 use Rattle.pair_line_theory.specs.Operations.{adds_where}
-use Rattle.pair_line_theory.specs.Rows.{at_least_line, at_most_line, target_line, edge_line, non_edge_line, is_shared, there, spread_ops, not_both, two_ops, around_ops, weight, beside_ops}
-use Rattle.pair_line_theory.specs.Laws.{InLimits}
+use Rattle.pb_encoding.proofs.LineNumbers.{encoding_few}
+use Rattle.pair_line_theory.specs.Rows.{at_least_line, at_most_line, block_line, target_line, edge_line, non_edge_line, is_shared, there, spread_ops, not_both, two_ops, around_ops, weight}
+use Rattle.pair_lines.specs.declared.meeting.Meeting.{Meeting}
+use Rattle.pair_lines.specs.declared.meeting.Meeting.TheVariants.{Never, Around, May}
 use Rattle.pair_lines.specs.declared.sharing.Sharing.{Sharing}
 use Rattle.pair_lines.specs.declared.sharing.Sharing.TheVariants.{Nothing, One, Many}
-use Rattle.pair_lines.specs.Choices.{IsSharing, own_line, entry_at, pair_key, pair_name, name_or_none, spread_ref, begin_of, counted_ops, plain_ops, row_ops}
+use Rattle.pair_lines.specs.Choices.{IsWithin, IsSharing, IsMeeting, own_line, entry_at, pair_key, pair_name, name_or_none, spread_ref, begin_of, counted_ops, alone_line, own_ops, plain_ops, row_ops}
 use Rattle.pair_lines.proofs.Pairs.{shared_first, shared_second}
 
 -- ---- operations
@@ -128,47 +133,18 @@ get_below [] k x e = absurd cc
 get_below (y ∷ xs) zero x e = omega arith
 get_below (y ∷ xs) (suc k) x e = let h = get_below xs k x e in omega (arith, h)
 
-module _ (q : Problem) (plain : InLimits q) where
-  pairs_few : (test : ℕ → ℕ → Bool) → length (pair_group test q) ≤ 8589934592
-  pairs_few test =
-      let few = plain.targets_few in
-      let less = plain.vertices_few in
-      let all = length_collect (pairs_of test q) (size q.pattern) 8388608 of_each in
-      omega (arith, few, less, all)
-    where
-      of_pair : (p r : ℕ) → length (pairs_at test q p r) ≤ 8192
-      of_pair p r =
-          let one = length_collect (pair_at q p r) (size q.target) 1 (λ t. omega arith) in
-          let w = length_when (test p r) (pair_forms q p r) in
-          let few = plain.targets_few in
-          omega (arith, one, w, few)
+-- By injective maps the block of all vertices is there.
+whole_in : (k : Maps) (q : Problem) → q.maps ≡ k → is_injective k ≡ true → has_block q None ≡ true
+whole_in Injective q same is = ap (λ (j : Maps). has_block_in j q.pattern None) same
+whole_in Local q same is = absurd cc
+whole_in Any q same is = absurd cc
 
-      of_each : (p : ℕ) → length (pairs_of test q p) ≤ 8388608
-      of_each p = let h = length_collect (pairs_at test q p) (size q.pattern) 8192 (of_pair p) in let less = plain.vertices_few in omega (arith, h, less)
+pub whole_there : (q : Problem) → is_injective q.maps ≡ true → has_block q None ≡ true
+whole_there q is = whole_in q.maps q refl is
 
-  refused_few : length (refused_group q) ≤ 8388608
-  refused_few = let h = length_collect (refused_of q) (size q.pattern) 8192 of_each in let less = plain.vertices_few in omega (arith, h, less)
-    where
-      of_each : (p : ℕ) → length (refused_of q p) ≤ 8192
-      of_each p = let h = length_collect (refused_at q p) (size q.target) 1 (λ t. length_when (is_refused q p t) (refusal q p t ∷ [])) in let few = plain.targets_few in omega (arith, h, few)
-
-  encoding_few : length (encoding q) < 2 ^ 62
-  encoding_few =
-      let v = length_collect (vertex_forms q) (size q.pattern) 2 (λ p. omega arith) in
-      let t = length_collect (target_forms q) (size q.target) 1 (λ u. omega arith) in
-      let r = refused_few in
-      let e = pairs_few (is_edge_pair q) in
-      let n = pairs_few (is_non_edge_pair q) in
-      let a = length-append (vertex_group q) (target_group q ++ (refused_group q ++ (edge_group q ++ non_edge_group q))) in
-      let b = length-append (target_group q) (refused_group q ++ (edge_group q ++ non_edge_group q)) in
-      let c = length-append (refused_group q) (edge_group q ++ non_edge_group q) in
-      let d = length-append (edge_group q) (non_edge_group q) in
-      let few = plain.targets_few in
-      let less = plain.vertices_few in
-      omega (arith, v, t, r, e, n, a, b, c, d, few, less)
-
+module _ (q : Problem) (plain : IsWithin q) where
   good_line : (k : ℕ) (f : Form) → slice_get (encoding q) k ≡ Some f → k + 1 < 2 ^ 63
-  good_line k f at = let below = get_below (encoding q) k f at in let few = encoding_few in omega (arith, below, few)
+  good_line k f at = let below = get_below (encoding q) k f at in let few = encoding_few q plain.limits.vertices_few plain.limits.targets_few plain.order in omega (arith, below, few)
 
   pub good_least : (r : ℕ) → r < size q.pattern → IsGoodRef (at_least_line q r)
   good_least r r_in = good_line (at_least_place q r) _ ((place_laws q).at_least r r_in)
@@ -176,8 +152,11 @@ module _ (q : Problem) (plain : InLimits q) where
   pub good_most : (r : ℕ) → r < size q.pattern → IsGoodRef (at_most_line q r)
   good_most r r_in = good_line (at_most_place q r) _ ((place_laws q).at_most r r_in)
 
-  pub good_target : (t : ℕ) → t < size q.target → IsGoodRef (target_line q t)
-  good_target t t_in = good_line (at_most_target_place q t) _ ((place_laws q).at_most_target t t_in)
+  good_block : (b : Option ℕ) (t : ℕ) → has_block q b ≡ true → t < size q.target → IsGoodRef (block_line q b t)
+  good_block b t there t_in = good_line (at_most_place_in q b t) _ ((place_laws q).at_most_in b t there t_in)
+
+  pub good_target : (t : ℕ) → is_injective q.maps ≡ true → t < size q.target → IsGoodRef (target_line q t)
+  good_target t is t_in = good_block None t (whole_there q is) t_in
 
   good_edge : (p r t : ℕ) → p < size q.pattern → r < size q.pattern → t < size q.target → is_edge_pair q p r ≡ true → IsGoodRef (edge_line q p r t)
   good_edge p r t p_in r_in t_in is = good_line (edge_place q p r t) _ ((place_laws q).edge p r t p_in r_in t_in is)
@@ -189,14 +168,14 @@ module _ (q : Problem) (plain : InLimits q) where
   good_there w v w_in v_in =
       let row = mul-le-mul_right {m = suc v} {n = size q.pattern} (size q.target) (omega (arith, v_in)) in
       let next = suc-mul v (size q.target) in
-      let most = mul-le-mul_right {m = size q.pattern} {n = 1024} (size q.target) plain.vertices_few in
-      let few = plain.targets_few in
+      let most = mul-le-mul_right {m = size q.pattern} {n = 1024} (size q.target) plain.limits.vertices_few in
+      let few = plain.limits.targets_few in
       (omega arith, omega (arith, row, next, w_in), omega (arith, row, next, w_in, most, few))
 
-  pub good_spread_ops : (p r w less : ℕ) → p < size q.pattern → r < size q.pattern → w < size q.target → less ≤ 65536 → AreGood (variables q) (spread_ops q p r w less)
-  good_spread_ops p r w less p_in r_in w_in few =
+  pub good_spread_ops : (p r w less : ℕ) → is_injective q.maps ≡ true → p < size q.pattern → r < size q.pattern → w < size q.target → less ≤ 65536 → AreGood (variables q) (spread_ops q p r w less)
+  good_spread_ops p r w less apart p_in r_in w_in few =
       good_append (variables q) (Push (target_line q w) ∷ adds_where (λ v. not (is_shared q.pattern p r v)) (λ v. Axiom (there q w v)) (size q.pattern)) _
-      (good_target w w_in, good_where (variables q) (λ v. not (is_shared q.pattern p r v)) (λ v. Axiom (there q w v)) (size q.pattern) (λ v v_in is. good_there w v w_in v_in))
+      (good_target w apart w_in, good_where (variables q) (λ v. not (is_shared q.pattern p r v)) (λ v. Axiom (there q w v)) (size q.pattern) (λ v v_in is. good_there w v w_in v_in))
       (good_append (variables q) (Times less ∷ adds_where (is_shared q.pattern p r) (λ m. Push (edge_line q m r w)) (size q.pattern)) (Divide (less + 1) ∷ [])
       (omega (arith, few), good_where (variables q) (is_shared q.pattern p r) (λ m. Push (edge_line q m r w)) (size q.pattern) (λ m m_in is. good_edge m r w m_in r_in w_in (shared_second q p r m is)))
       (omega (arith, few), tt))
@@ -242,15 +221,15 @@ module _ (q : Problem) (plain : InLimits q) where
       by None is = omega arith
 
   good_weight : (t : ℕ) → weight q t < 2 ^ 63
-  good_weight t = let d = count_few (is_neighbour q.target t) (size q.target) in let few = plain.targets_few in omega (arith, d, few)
+  good_weight t = let d = count_few (is_neighbour q.target t) (size q.target) in let few = plain.limits.targets_few in omega (arith, d, few)
 
-  good_begin : (own : Option Ref) (t r : ℕ) → IsGoodOwn own → r < size q.pattern → t < size q.target → AreGood (variables q) (begin_of q own t r)
-  good_begin (Some own) t r good r_in t_in = (good_most r r_in, (omega arith, (good, (tt, (good_weight t, tt)))))
-  good_begin None t r good r_in t_in = (good_most r r_in, (good_target t t_in, (tt, (good_weight t, tt))))
+  good_begin : (own : Option Ref) (t r : ℕ) → is_injective q.maps ≡ true → IsGoodOwn own → r < size q.pattern → t < size q.target → AreGood (variables q) (begin_of q own t r)
+  good_begin (Some own) t r apart good r_in t_in = (good_most r r_in, (omega arith, (good, (tt, (good_weight t, tt)))))
+  good_begin None t r apart good r_in t_in = (good_most r r_in, (good_target t apart t_in, (tt, (good_weight t, tt))))
 
-  good_counted : (names : List (ℕ × Name)) → ((k : ℕ) (n : Name) → entry_at names k ≡ Some n → IsName n) → (sharing : Sharing) (own : Option Ref) (p t r : ℕ) → IsSharing q p r sharing → IsGoodOwn own
+  good_counted : (names : List (ℕ × Name)) → ((k : ℕ) (n : Name) → entry_at names k ≡ Some n → IsName n) → (sharing : Sharing) (own : Option Ref) (p t r : ℕ) → is_injective q.maps ≡ true → IsSharing q p r sharing → IsGoodOwn own
       → p < size q.pattern → t < size q.target → r < size q.pattern → AreGood (variables q) (counted_ops q names sharing own p t r)
-  good_counted names fit sharing own p t r shares good p_in t_in r_in = by own (good_append (variables q) (begin_of q own t r) (around_ops q (spread_ref q names sharing p r) p t r) (good_begin own t r good r_in t_in)
+  good_counted names fit sharing own p t r apart shares good p_in t_in r_in = by own (good_append (variables q) (begin_of q own t r) (around_ops q (spread_ref q names sharing p r) p t r) (good_begin own t r apart good r_in t_in)
       (good_append (variables q) (adds_where (is_shared q.pattern p r) (λ m. Push (edge_line q p m t)) (size q.pattern)) _
       (good_where (variables q) (is_shared q.pattern p r) (λ m. Push (edge_line q p m t)) (size q.pattern) (λ m m_in is. good_edge p m t p_in m_in t_in (shared_first q p r m is)))
       (good_where (variables q) (is_neighbour q.target t) (λ w. Push (spread_ref q names sharing p r w)) (size q.target) (λ w w_in is. good_spread_ref names fit sharing p r w shares p_in r_in w_in))))
@@ -259,16 +238,30 @@ module _ (q : Problem) (plain : InLimits q) where
       by (Some o) h = h
       by None h = h
 
-  good_plain : (own : Option Ref) (t r : ℕ) → IsGoodOwn own → t < size q.target → r < size q.pattern → AreGood (variables q) (plain_ops q own t r)
-  good_plain (Some own) t r good t_in r_in = (good, (good_most r r_in, (tt, tt)))
-  good_plain None t r good t_in r_in = (good_target t t_in, tt)
+  good_alone : (meeting : Meeting) (p t r : ℕ) → IsMeeting q p r meeting → t < size q.target → r < size q.pattern → IsGoodRef (alone_line q meeting t r)
+  good_alone Never p t r meets t_in r_in = good_target t meets t_in
+  good_alone (Around c) p t r meets t_in r_in = good_block (Some c) t meets.0 t_in
+  good_alone May p t r meets t_in r_in = good_most r r_in
+
+  -- The line of the encoding that serves.
+  pub good_served : (meeting : Meeting) (p t r : ℕ) → IsMeeting q p r meeting → t < size q.target → r < size q.pattern → IsRef (alone_line q meeting t r)
+  good_served meeting p t r meets t_in r_in = good_ref (alone_line q meeting t r) (good_alone meeting p t r meets t_in r_in)
+
+  good_own_ops : (meeting : Meeting) (own : Ref) (p t r : ℕ) → IsMeeting q p r meeting → IsGoodRef own → t < size q.target → r < size q.pattern → AreGood (variables q) (own_ops q meeting own t r)
+  good_own_ops Never own p t r meets good t_in r_in = (good, (good_most r r_in, (tt, tt)))
+  good_own_ops (Around c) own p t r meets good t_in r_in = (good, (good_most r r_in, (tt, (good_block (Some c) t meets.0 t_in, (tt, tt)))))
+  good_own_ops May own p t r meets good t_in r_in = (good, (good_most r r_in, (tt, tt)))
+
+  good_plain : (meeting : Meeting) (own : Option Ref) (p t r : ℕ) → IsMeeting q p r meeting → IsGoodOwn own → t < size q.target → r < size q.pattern → AreGood (variables q) (plain_ops q meeting own t r)
+  good_plain meeting (Some own) p t r meets good t_in r_in = good_own_ops meeting own p t r meets good t_in r_in
+  good_plain meeting None p t r meets good t_in r_in = (good_alone meeting p t r meets t_in r_in, tt)
 
   -- The pair's own line, with that of r.
-  pub good_beside : (own : Ref) (p r t : ℕ) → p < size q.pattern → r < size q.pattern → t < size q.target → own_line q p r t ≡ Some own → AreGood (variables q) (beside_ops q own r)
-  good_beside own p r t p_in r_in t_in mine = good_plain (Some own) t r (subst (λ (o : Option Ref). IsGoodOwn o) mine (good_own p r t p_in r_in t_in)) t_in r_in
+  pub good_own_row : (meeting : Meeting) (own : Ref) (p r t : ℕ) → IsMeeting q p r meeting → p < size q.pattern → r < size q.pattern → t < size q.target → own_line q p r t ≡ Some own → AreGood (variables q) (own_ops q meeting own t r)
+  good_own_row meeting own p r t meets p_in r_in t_in mine = good_own_ops meeting own p t r meets (subst (λ (o : Option Ref). IsGoodOwn o) mine (good_own p r t p_in r_in t_in)) t_in r_in
 
-  pub good_row_ops : (names : List (ℕ × Name)) → ((k : ℕ) (n : Name) → entry_at names k ≡ Some n → IsName n) → (sharing : Sharing) (p t r : ℕ) → IsSharing q p r sharing → p < size q.pattern → t < size q.target → r < size q.pattern
-      → AreGood (variables q) (row_ops q names sharing (own_line q p r t) p t r)
-  good_row_ops names fit Nothing p t r shares p_in t_in r_in = good_plain (own_line q p r t) t r (good_own p r t p_in r_in t_in) t_in r_in
-  good_row_ops names fit (One m) p t r shares p_in t_in r_in = good_counted names fit (One m) (own_line q p r t) p t r shares (good_own p r t p_in r_in t_in) p_in t_in r_in
-  good_row_ops names fit (Many c) p t r shares p_in t_in r_in = good_counted names fit (Many c) (own_line q p r t) p t r shares (good_own p r t p_in r_in t_in) p_in t_in r_in
+  pub good_row_ops : (names : List (ℕ × Name)) → ((k : ℕ) (n : Name) → entry_at names k ≡ Some n → IsName n) → (sharing : Sharing) (meeting : Meeting) (p t r : ℕ) → IsSharing q p r sharing → IsMeeting q p r meeting
+      → p < size q.pattern → t < size q.target → r < size q.pattern → AreGood (variables q) (row_ops q names sharing meeting (own_line q p r t) p t r)
+  good_row_ops names fit Nothing meeting p t r shares meets p_in t_in r_in = good_plain meeting (own_line q p r t) p t r meets (good_own p r t p_in r_in t_in) t_in r_in
+  good_row_ops names fit (One m) meeting p t r shares meets p_in t_in r_in = good_counted names fit (One m) (own_line q p r t) p t r shares.3 shares (good_own p r t p_in r_in t_in) p_in t_in r_in
+  good_row_ops names fit (Many c) meeting p t r shares meets p_in t_in r_in = good_counted names fit (Many c) (own_line q p r t) p t r shares.2 shares (good_own p r t p_in r_in t_in) p_in t_in r_in

@@ -3,7 +3,7 @@ use Rattle.std.proofs.Common.{◌≡◌, ℕ, zero, suc, ◌≤◌, ◌<◌, nat
 use Rattle.std.specs.declared.alloc.AllocError.{AllocError}
 use Rattle.std.proofs.lemmas.Bool.{lt-ltb, le-leb}
 use Rattle.graph_theory.specs.Graph.{size}
-use Rattle.graph_theory.specs.Embedding.{Problem}
+use Rattle.graph_theory.specs.Embedding.{Problem, is_injective}
 use Rattle.proof_theory.specs.declared.literal.Literal.{Literal}
 use Rattle.proof_theory.specs.Forms.{Form}
 use Rattle.log_theory.specs.declared.step.Name.{Name}
@@ -17,7 +17,8 @@ use Rattle.log_theory.specs.LogText.{IsName, AreOps, AreLiterals, AreRefs}
 use Rattle.log_theory.specs.Verdicts.{in_range}
 use Rattle.encoding_theory.specs.Variables.{variable, variables, collect, when}
 use Rattle.pair_line_theory.specs.Rows.{at_least_line, there, is_consistent, consistent_places, consistent_clause, consistent_form, beside_ops}
-use Rattle.pair_line_theory.specs.Laws.{InLimits, IsPlace}
+use Rattle.pair_line_theory.specs.Laws.{IsPlace}
+use Rattle.pair_lines.specs.Choices.{IsWithin}
 use Rattle.pair_line_theory.proofs.Making.{row_laws}
 use Rattle.pair_line_theory.proofs.BothWays.{row_serves}
 use Rattle.journals.specs.Keeping.{IsLine, Keeps}
@@ -43,7 +44,7 @@ range_append n (x ∷ xs) ys g h = by (nat_lt 0 x.variable) (nat_le x.variable n
     by true false e rest = absurd cc
     by false b e rest = absurd cc
 
-module _ (q : Problem) (limits : InLimits q) where
+module _ (q : Problem) (limits : IsWithin q) where
   places_good : (test : ℕ → Bool) (r n : ℕ) → r < size q.pattern → n ≤ size q.target
       → AreLiterals (collect (λ u. when (test u) (there q u r ∷ [])) n) × (in_range (variables q) (variables_of (collect (λ u. when (test u) (there q u r ∷ [])) n)) ≡ true)
   places_good test r zero r_in fits = (tt, refl)
@@ -83,7 +84,7 @@ module _ (q : Problem) (limits : InLimits q) where
         subst (λ (ls : List Literal). MayFollow w forms (U name ls refs) (consistent_clause q p t r)) (sym are)
         (subst (λ (rs : List Ref). MayFollow w forms (U name (consistent_places q p t r) rs) (consistent_clause q p t r)) (sym is) (record {
           made = λ look finds own.
-              ((row_laws q limits).makes look (finds_encoding q owner w look (frame_of q owner w frame) finds)).clause name (Made out) (Made back) lines.0.0 lines.1.0 p t r place
+              ((row_laws q limits.limits).makes look (finds_encoding q owner w look (frame_of q owner w frame) finds)).clause name (Made out) (Made back) lines.0.0 lines.1.0 p t r place
               (lines.0.1.found look finds own) lines.0.2 (lines.1.1.found look finds own) lines.1.2;
           rows = λ k names. absurd names;
           ranges = ap (λ (x : Problem). in_range (variables x) (variables_of (consistent_places q p t r))) frame.problem_is ∙ literals_good.1;
@@ -109,16 +110,16 @@ module _ (q : Problem) (limits : InLimits q) where
     both_follows owner w forms clause name ops frame fits is named =
         subst (λ (os : List Op). MayFollow w forms (P name os) (consistent_form q p t r)) (sym is)
         (good_follows q owner w forms name (beside_ops q (Made clause) r) (consistent_form q p t r) (frame_of q owner w frame) (ops_good clause fits)
-        (λ look finds own. ((row_laws q limits).makes look (finds_encoding q owner w look (frame_of q owner w frame) finds)).both name (Made clause) p t r place (named.found look finds own)))
+        (λ look finds own. ((row_laws q limits.limits).makes look (finds_encoding q owner w look (frame_of q owner w frame) finds)).both name (Made clause) p t r place (named.found look finds own)))
 
-    both_kept : (w : Frame) (result : Result Name AllocError) (forms : List Form) → IsKept w result (consistent_form q p t r) forms → IsRowLine w q p t r result forms
-    both_kept w (Ok n) forms kept = (consistent_form q p t r, kept, (row_serves q).both p t r place)
-    both_kept w (Err e) forms kept = tt
+    both_kept : (w : Frame) (result : Result Name AllocError) (forms : List Form) → is_injective q.maps ≡ true → IsKept w result (consistent_form q p t r) forms → IsRowLine w q p t r result forms
+    both_kept w (Ok n) forms apart kept = (consistent_form q p t r, kept, (row_serves q).both p t r place apart)
+    both_kept w (Err e) forms apart kept = tt
 
-    pub both_goes : (owner : ℕ) (w : Frame) (clause name : Name) (ops : List Op) (result : Result Name AllocError) (old new : Option (List Step)) → IsFrameOf q owner w → IsName clause → ops ≡ beside_ops q (Made clause) r
+    pub both_goes : (owner : ℕ) (w : Frame) (clause name : Name) (ops : List Op) (result : Result Name AllocError) (old new : Option (List Step)) → is_injective q.maps ≡ true → IsFrameOf q owner w → IsName clause → ops ≡ beside_ops q (Made clause) r
         → Keeps result owner old new (P name ops) → Goes w old new (λ forms. IsNamed w forms (Made clause) (consistent_clause q p t r)) (IsRowLine w q p t r result)
-    both_goes owner w clause name ops result old new frame fits is keeps =
+    both_goes owner w clause name ops result old new apart frame fits is keeps =
         goes_as w old new (λ forms. IsNamed w forms (Made clause) (consistent_clause q p t r)) (IsKept w result (consistent_form q p t r)) (λ forms. IsNamed w forms (Made clause) (consistent_clause q p t r)) (IsRowLine w q p t r result)
-        (λ forms h. h) (λ forms k. both_kept w result forms k)
+        (λ forms h. h) (λ forms k. both_kept w result forms apart k)
         (goes_kept w result owner old new (P name ops) (consistent_form q p t r) (λ forms. IsNamed w forms (Made clause) (consistent_clause q p t r)) frame.owner_is keeps (both_ops clause ops fits is)
         (λ forms named. both_follows owner w forms clause name ops frame fits is named))

@@ -1,4 +1,5 @@
 pub mod Pairs
+pub mod Meetings
 pub mod Walking
 pub mod Tables
 pub mod Turned

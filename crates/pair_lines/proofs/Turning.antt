@@ -3,8 +3,8 @@ use Rattle.std.proofs.Common.{◌≡◌, ℕ, List, ◌++◌, ap, subst, sym, Op
 use Rattle.std.specs.Prelude.{slice_get, Some}
 use Rattle.std.specs.declared.alloc.AllocError.{AllocError}
 use Rattle.graph_theory.specs.Embedding.{Problem}
-use Rattle.graph_theory.specs.Neighbours.{common}
-use Rattle.graph_theory.specs.Reversed.{reversed, reversed_problem, AreMutual}
+use Rattle.graph_theory.specs.Asked.{asked_shared}
+use Rattle.graph_theory.specs.Reversed.{reversed_problem, AreMutual}
 use Rattle.proof_theory.specs.Forms.{Form}
 use Rattle.log_theory.specs.declared.step.Name.{Name}
 use Rattle.log_theory.specs.declared.step.Ref.TheVariants.{Made}
@@ -43,16 +43,16 @@ shared_last w q p t r (Err e) forms more h = tt
 
 -- ---- one direction
 
-pub serve_out : (q : Problem) (p t r : ℕ) → IsPlace q p t r → (line : Form) → AreMutual q ⊎ (common (reversed q.pattern) p r ≡ 0) → ForcesShared q line p t r → ForcesBeside q line p t r
+pub serve_out : (q : Problem) (p t r : ℕ) → IsPlace q p t r → (line : Form) → AreMutual q ⊎ (asked_shared (reversed_problem q) p r ≡ 0) → ForcesShared q line p t r → ForcesBeside q line p t r
 serve_out q p t r place line (inl ways) takes = (row_serves q).both_ways line p t r place ways takes
 serve_out q p t r place line (inr none) takes = (row_serves q).out line p t r place none takes
 
-out_row : (w : Frame) (q : Problem) (p t r : ℕ) → IsPlace q p t r → (result : Result Name AllocError) (forms : List Form) → AreMutual q ⊎ (common (reversed q.pattern) p r ≡ 0) → IsSharedLine w q p t r result forms
+out_row : (w : Frame) (q : Problem) (p t r : ℕ) → IsPlace q p t r → (result : Result Name AllocError) (forms : List Form) → AreMutual q ⊎ (asked_shared (reversed_problem q) p r ≡ 0) → IsSharedLine w q p t r result forms
     → IsRowLine w q p t r result forms
 out_row w q p t r place (Ok n) forms ways h = (h.0, h.1, serve_out q p t r place h.0 ways h.2)
 out_row w q p t r place (Err e) forms ways h = tt
 
-back_row : (w : Frame) (q : Problem) (p t r : ℕ) → IsPlace q p t r → (result : Result Name AllocError) (forms : List Form) → common q.pattern p r ≡ 0 → IsSharedLine w (reversed_problem q) p t r result forms → IsRowLine w q p t r result forms
+back_row : (w : Frame) (q : Problem) (p t r : ℕ) → IsPlace q p t r → (result : Result Name AllocError) (forms : List Form) → asked_shared q p r ≡ 0 → IsSharedLine w (reversed_problem q) p t r result forms → IsRowLine w q p t r result forms
 back_row w q p t r place (Ok n) forms none h = (h.0, h.1, (row_serves q).back h.0 p t r place none h.2)
 back_row w q p t r place (Err e) forms none h = tt
 
@@ -63,7 +63,7 @@ beside_back w q p t r a b old new back result goes =
     goes_beside w a b (AreSpreads w q old) (IsSharedRow w q p t r new result) (AreSpreads w (reversed_problem q) back) (λ forms more h. spreads_last w (reversed_problem q) back forms more h) goes
 
 pub row_out : (w : Frame) (q k : Problem) (p t r owner : ℕ) (a b : Option (List Step)) (old : Spreads) (new : List (ℕ × Name)) (result : Result Name AllocError) → k ≡ q → IsPlace q p t r → IsFrameOf q owner w
-    → AreMutual q ⊎ (common (reversed q.pattern) p r ≡ 0) → ((f : Frame) → HasEncoding k owner f → Goes f a b (AreSpreads f k old.out) (IsSharedRow f k p t r new result))
+    → AreMutual q ⊎ (asked_shared (reversed_problem q) p r ≡ 0) → ((f : Frame) → HasEncoding k owner f → Goes f a b (AreSpreads f k old.out) (IsSharedRow f k p t r new result))
     → Goes w a b (AreTurned w q old) (IsRow w q p t r (record { out = new; back = old.back }) result)
 row_out w q k p t r owner a b old new result same place frame ways goes =
     goes_as w a b (λ forms. AreSpreads w q old.out forms × AreSpreads w (reversed_problem q) old.back forms) (λ forms. IsSharedRow w q p t r new result forms × AreSpreads w (reversed_problem q) old.back forms)
@@ -72,7 +72,7 @@ row_out w q k p t r owner a b old new result same place frame ways goes =
     (subst (λ (x : Problem). (f : Frame) → HasEncoding x owner f → Goes f a b (AreSpreads f x old.out) (IsSharedRow f x p t r new result)) same goes w (frame_of q owner w frame)))
 
 pub row_back : (w : Frame) (q k : Problem) (p t r owner : ℕ) (a b : Option (List Step)) (old : Spreads) (new : List (ℕ × Name)) (result : Result Name AllocError) → k ≡ reversed_problem q → IsPlace q p t r → IsFrameOf q owner w
-    → common q.pattern p r ≡ 0 → ((f : Frame) → HasEncoding k owner f → Goes f a b (AreSpreads f k old.back) (IsSharedRow f k p t r new result))
+    → asked_shared q p r ≡ 0 → ((f : Frame) → HasEncoding k owner f → Goes f a b (AreSpreads f k old.back) (IsSharedRow f k p t r new result))
     → Goes w a b (AreTurned w q old) (IsRow w q p t r (record { out = old.out; back = new }) result)
 row_back w q k p t r owner a b old new result same place frame none goes =
     goes_as w a b (λ forms. AreSpreads w (reversed_problem q) old.back forms × AreSpreads w q old.out forms) (λ forms. IsSharedRow w (reversed_problem q) p t r new result forms × AreSpreads w q old.out forms)

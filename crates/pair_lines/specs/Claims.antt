@@ -13,7 +13,7 @@ use Rattle.log_theory.specs.declared.step.Ref.TheVariants.{Made}
 use Rattle.log_theory.specs.declared.step.Op.{Op}
 use Rattle.log_theory.specs.declared.step.Step.TheVariants.{P}
 use Rattle.explanation_theory.specs.Reasons.{ForcesBeside, ForcesByEdges}
-use Rattle.pair_line_theory.specs.Rows.{target_line, is_paired, spread_form, not_both_form}
+use Rattle.pair_line_theory.specs.Rows.{is_paired, spread_form, not_both_form}
 use Rattle.pair_line_theory.specs.Laws.{ForcesShared}
 use Rattle.encoding_theory.specs.Variables.{variables}
 use Rattle.log_growth.specs.Frames.{Frame, HoldsModel, IsNamed, IsKept, MayFollow}
@@ -22,7 +22,8 @@ use Rattle.pair_lines.specs.declared.sharing.Sharing.{Sharing}
 use Rattle.pair_lines.specs.declared.sharing.Sharing.TheVariants.{Nothing, Many}
 use Rattle.pair_lines.specs.declared.sharing.Asked.TheVariants.{Out}
 use Rattle.pair_lines.specs.declared.turned_names.Spreads.{Spreads}
-use Rattle.pair_lines.specs.Choices.{IsAsked, Names, entry_at, pair_name, not_both_name}
+use Rattle.pair_lines.specs.declared.meeting.Meeting.{Meeting}
+use Rattle.pair_lines.specs.Choices.{IsAsked, IsMeeting, alone_line, Names, entry_at, pair_name, not_both_name}
 
 -- The frame has the encoding of this problem, and its variables: it is one of this problem, or of the problem turned round.
 pub record HasEncoding (q : Problem) (owner : ℕ) (w : Frame) : Type 0 where
@@ -138,8 +139,14 @@ IsKnownRow by_edges w q p t r lines (Ok ref) forms = Knows w q lines forms
     × IsRowNamed by_edges w q p t r ref forms
 IsKnownRow by_edges w q p t r lines (Err e) forms = Knows w q lines forms
 
--- A line of the encoding serves: nothing but the place itself is refused.
+-- A line of the encoding serves: nothing but the place itself is refused, or nothing at all.
+pub record IsServed (q : Problem) (p t r : ℕ) (ref : Ref) : Type 0 where
+  pub meeting : Meeting
+  pub is_so : IsMeeting q p r meeting
+  pub line : ref ≡ alone_line q meeting t r
+  pub asked : IsAsked q p r (Out Nothing)
+  pub unpaired : is_paired q p r ≡ false
+
 abbrev pub IsThere : Problem → ℕ → ℕ → ℕ → Option Ref → Type 0
 IsThere q p t r None = Unit {0}
-IsThere q p t r (Some ref) = (ref ≡ target_line q t) × IsAsked q p r (Out Nothing)
-    × (is_paired q p r ≡ false)
+IsThere q p t r (Some ref) = IsServed q p t r ref

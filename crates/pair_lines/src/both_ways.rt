@@ -1,9 +1,11 @@
 //! The line of two directions: a clause that follows from a line of each, and what is made of it.
 
-ghost use Rattle.std.specs.Prelude.{◌≡◌, ◌<◌, ◌++◌, ◌∷◌, [], ℕ, not, nat_lt, List, OnOk, IfOk};
+ghost use Rattle.std.specs.Prelude.{◌≡◌, ◌<◌, ◌++◌, ◌∷◌, [], ℕ, true, not, nat_lt, List, OnOk, IfOk};
 ghost use Rattle.graph_theory.specs.Graph.{size};
 ghost use Rattle.graph_theory.specs.Neighbours.{common};
-ghost use Rattle.graph_theory.specs.Reversed.{turned};
+ghost use Rattle.graph_theory.specs.Embedding.{is_injective};
+ghost use Rattle.graph_theory.specs.Asked.{asked_shared};
+ghost use Rattle.graph_theory.specs.Reversed.{turned, turned_problem};
 ghost use Rattle.proof_theory.specs.Forms.{Form};
 ghost use Rattle.log_theory.specs.declared.step.Ref.TheVariants.{Made as MadeRef};
 ghost use Rattle.log_theory.specs.LogText.{IsName};
@@ -24,7 +26,7 @@ use log_theory::{Clause, Name, Op, Ops, Ref, Refs, Step};
 use proof_theory::Literal;
 use std::alloc::{AllocError, Global};
 
-/// Whether the place and `u` share as many neighbours as the two vertices in a direction. Cost: one step for each word of two rows.
+/// Whether the place and `u` share as many neighbours as is asked of the two vertices in a direction. Cost: one step for each word of two rows.
 fn share_enough(
     alloc: Global,
     q: &Problem,
@@ -35,9 +37,10 @@ fn share_enough(
     requires placed { IsPlace q.now pair.p pair.t pair.r }
     requires u_in { u < size q.now.target }
     requires apart { pair.t ≡ u → ⊥ }
+    requires injective { is_injective q.now.maps ≡ true }
     ensures { IfOk result
         (λ b. b ≡ not (nat_lt (common (turned direction q.now.target) pair.t u)
-        (common (turned direction q.now.pattern) pair.p pair.r))) }
+        (asked_shared (turned_problem direction q.now) pair.p pair.r))) }
 {
     let asked = Counts::new(alloc, q.pattern(), direction)?.count(pair.p, pair.r);
     let there = Counts::new(alloc, q.target(), direction)?.count(pair.t, u);
@@ -49,6 +52,7 @@ fn share_enough(
 fn is_consistent(alloc: Global, q: &Problem, pair: PlacedPair, u: u16) -> Result<bool, AllocError>
     requires placed { IsPlace q.now pair.p pair.t pair.r }
     requires u_in { u < size q.now.target }
+    requires injective { is_injective q.now.maps ≡ true }
     ensures { IfOk result (λ b. b ≡ is_consistent_by q.now pair.p pair.t pair.r u) }
 {
     if !q.compatible(pair.p, pair.t, pair.r, u) {
@@ -83,6 +87,7 @@ fn add_place(
 fn places(alloc: Global, q: &Problem, known: &Known, pair: PlacedPair) -> Result<Clause, AllocError>
     requires same { known.now ≡ q.now }
     requires placed { IsPlace q.now pair.p pair.t pair.r }
+    requires injective { is_injective q.now.maps ≡ true }
     ensures { IfOk result (λ lits. lits ≡ consistent_places q.now pair.p pair.t pair.r) }
 {
     let mut lits = Vec::new(alloc);
@@ -135,6 +140,7 @@ fn keep_of_clause<K: Keeper>(
 ) -> Result<Name, AllocError>
     requires clause { IsName clause }
     requires placed { IsPlace known.now pair.p pair.t pair.r }
+    requires injective { is_injective known.now.maps ≡ true }
     ensures goes { (w : Frame) → IsFrameOf known.now (K.owner keeper.old) w
         → Goes w (K.kept keeper.old) (K.kept keeper.new)
         (λ forms. IsNamed w forms (MadeRef clause)
@@ -163,6 +169,7 @@ pub(crate) fn both_line<K: Keeper>(
     requires first { IsName lines.0 }
     requires second { IsName lines.1 }
     requires placed { IsPlace q.now pair.p pair.t pair.r }
+    requires injective { is_injective q.now.maps ≡ true }
     ensures goes { (w : Frame) → IsFrameOf q.now (K.owner keeper.old) w
         → Goes w (K.kept keeper.old) (K.kept keeper.new)
         (AreBothLines w q.now pair.p pair.t pair.r lines.0 lines.1)

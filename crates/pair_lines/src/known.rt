@@ -1,21 +1,27 @@
 //! A problem with its encoding, as its edges lead or with both graphs turned round: the tests that the lines go by, and the references that
 //! they make. The encoding is the same either way.
 
-ghost use Rattle.std.specs.Prelude.{◌≡◌, ◌<◌, ◌≤◌, ◌*◌, ◌==◌, ◌&&◌, not, true, length, IfOk};
+ghost use Rattle.std.specs.Prelude.{◌≡◌, ◌<◌, ◌≤◌, ◌*◌, ◌==◌, ◌&&◌, not, true, length, IfOk, Some};
 ghost use Rattle.graph_theory.specs.Graph.{size};
 ghost use Rattle.graph_theory.specs.Neighbours.{is_neighbour, common, degree as degree_of};
+ghost use Rattle.graph_theory.specs.Embedding.{is_injective, near_both};
+ghost use Rattle.graph_theory.specs.Blocks.{has_block};
 ghost use Rattle.graph_theory.specs.Reversed.{turned, turned_problem};
 ghost use Rattle.bit_rows.specs.BitRows.{has};
 ghost use Rattle.encoding_theory.specs.Pairs.{is_edge_pair as is_edge, is_non_edge_pair as is_non_edge};
 ghost use Rattle.explanation_theory.specs.Reasons.{not_there};
-ghost use Rattle.pair_line_theory.specs.Laws.{InLimits};
-ghost use Rattle.pair_line_theory.specs.Rows.{at_least_line, at_most_line, target_line, edge_line, non_edge_line, is_shared as is_shared_by, is_paired as is_paired_by, there as there_at, weight as weight_at};
-ghost use Rattle.pair_lines.specs.Choices.{IsNext};
+ghost use Rattle.pair_line_theory.specs.Laws.{IsPlace};
+ghost use Rattle.pair_line_theory.specs.Rows.{at_least_line, at_most_line, block_line, target_line, edge_line, non_edge_line, is_shared as is_shared_by, is_paired as is_paired_by, there as there_at, weight as weight_at};
+ghost use Rattle.pair_lines.specs.Choices.{IsNext, IsWithin, IsMeeting, alone_line};
 
 use bit_rows::{has_bit, next_member};
 use common_neighbour::Counts;
+use crate::meeting::Meeting;
+use crate::placed_pair::PlacedPair;
+use graph_rows::near::is_near;
 use graph_rows::{Graph, Problem};
 use graph_theory::direction::Direction;
+use graph_theory::embedding::Maps;
 use log_theory::Ref;
 use pb_encoding::{Encoding, is_edge_pair, is_non_edge_pair};
 use proof_theory::Literal;
@@ -139,10 +145,30 @@ impl<'a, 'b> Known<'a, 'b> {
         Ok(Counts::new(alloc, self.q.pattern(), self.direction)?.count(p, r))
     }
 
-    /// The graphs are within their limits. It changes nothing; the fact is what it is called for.
-    pub(crate) fn in_limits(&self)
-        ensures { InLimits self.now }
+    /// Which images have to differ.
+    pub(crate) fn maps(&self) -> Maps
+        ensures { result ≡ self.now.maps }
     {
+        self.q.maps()
+    }
+
+    /// Whether `c` is near both. Cost: a few words.
+    pub(crate) fn is_near_both(&self, c: u16, p: u16, r: u16) -> bool
+        requires c_in { c < size self.now.pattern }
+        requires p_in { p < size self.now.pattern }
+        requires r_in { r < size self.now.pattern }
+        ensures { result ≡ near_both self.now.pattern p r c }
+    {
+        let near = is_near(self.q.pattern(), c, p);
+        let other = is_near(self.q.pattern(), c, r);
+        near && other
+    }
+
+    /// The graphs, and the pairs that are to be in order, are within their limits. It changes nothing; the fact is what it is called for.
+    pub(crate) fn in_limits(&self)
+        ensures { IsWithin self.now }
+    {
+        let _less = self.q.less();
         let pattern = self.q.pattern();
         let target = self.q.target();
         let _vertices = pattern.size();
@@ -208,11 +234,44 @@ impl<'a, 'b> Known<'a, 'b> {
         Ref::Line(self.lines.at_most(r))
     }
 
+    /// That of a block at `t`.
+    fn block(&self, block: Option<u16>, t: u16) -> Ref
+        requires t_in { t < size self.now.target }
+        requires exists { has_block self.now block ≡ true }
+        ensures { result ≡ block_line self.now block t }
+    {
+        Ref::Line(self.lines.at_most_in(block, t))
+    }
+
+    /// That of all vertices.
     pub(crate) fn target(&self, t: u16) -> Ref
-        requires { t < size self.now.target }
+        requires t_in { t < size self.now.target }
+        requires injective { is_injective self.now.maps ≡ true }
         ensures { result ≡ target_line self.now t }
     {
-        Ref::Line(self.lines.at_most_target(t))
+        self.block(None, t)
+    }
+
+    /// That of the block around `c`.
+    pub(crate) fn around(&self, c: u16, t: u16) -> Ref
+        requires t_in { t < size self.now.target }
+        requires exists { has_block self.now (Some c) ≡ true }
+        ensures { result ≡ block_line self.now (Some c) t }
+    {
+        self.block(Some(c), t)
+    }
+
+    /// The line of the encoding that serves two vertices without one of their own.
+    pub(crate) fn alone(&self, meeting: Meeting, pair: PlacedPair) -> Ref
+        requires placed { IsPlace self.now pair.p pair.t pair.r }
+        requires meets { IsMeeting self.now pair.p pair.r meeting }
+        ensures { result ≡ alone_line self.now meeting pair.t pair.r }
+    {
+        match meeting {
+            Meeting::Never => self.target(pair.t),
+            Meeting::Around(c) => self.around(c, pair.t),
+            Meeting::May => self.at_most(pair.r),
+        }
     }
 
     pub(crate) fn edge(&self, p: u16, r: u16, t: u16) -> Ref

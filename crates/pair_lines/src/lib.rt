@@ -9,6 +9,7 @@
 
 mod both_ways;
 mod known;
+mod meeting;
 mod ops;
 mod pair_lines;
 mod pair_names;

@@ -2,6 +2,7 @@
 
 ghost use Rattle.std.specs.Prelude.{◌≡◌, ◌<◌, ◌≤◌, ◌+◌, ◌++◌, ◌∷◌, [], true, not, OnOk, IfOk};
 ghost use Rattle.graph_theory.specs.Graph.{size};
+ghost use Rattle.graph_theory.specs.Embedding.{is_injective};
 ghost use Rattle.graph_theory.specs.Neighbours.{is_neighbour};
 ghost use Rattle.log_theory.specs.declared.step.Op.TheVariants.{Push as PushOp, Axiom as AxiomOp, Add as AddOp};
 ghost use Rattle.log_theory.specs.declared.step.Ref.TheVariants.{Made as MadeRef};
@@ -9,10 +10,11 @@ ghost use Rattle.encoding_theory.specs.Variables.{when};
 ghost use Rattle.encoding_theory.specs.Pairs.{is_edge_pair};
 ghost use Rattle.pair_line_theory.specs.Laws.{IsPlace};
 ghost use Rattle.pair_line_theory.specs.Operations.{adds_where};
-ghost use Rattle.pair_line_theory.specs.Rows.{edge_line, is_shared as is_shared_by, there as there_at, spread_ops as spread_ops_of, two_ops as two_ops_of, not_both as not_both_of, target_line, beside_ops as beside_ops_of};
-ghost use Rattle.pair_lines.specs.Choices.{IsSharing, begin_of, own_line as own_line_of, spread_ref as spread_ref_of, plain_ops as plain_ops_of, counted_ops as counted_ops_of, row_ops as row_ops_of};
+ghost use Rattle.pair_line_theory.specs.Rows.{edge_line, is_shared as is_shared_by, there as there_at, spread_ops as spread_ops_of, two_ops as two_ops_of, not_both as not_both_of, target_line};
+ghost use Rattle.pair_lines.specs.Choices.{IsSharing, IsMeeting, begin_of, own_line as own_line_of, spread_ref as spread_ref_of, own_ops as own_ops_of, alone_line, block_ops, plain_ops as plain_ops_of, counted_ops as counted_ops_of, row_ops as row_ops_of};
 
 use crate::known::Known;
+use crate::meeting::Meeting;
 use crate::pair_names::PairNames;
 use crate::placed_pair::PlacedPair;
 use crate::sharing::Sharing;
@@ -116,6 +118,7 @@ pub(crate) fn spread_ops(
     requires p_in { p < size known.now.pattern }
     requires r_in { r < size known.now.pattern }
     requires w_in { w < size known.now.target }
+    requires injective { is_injective known.now.maps ≡ true }
     ensures { IfOk result (λ ops. ops ≡ spread_ops_of known.now p r w less) }
 {
     let mut ops = Vec::with_capacity(alloc, 2 * usize::from(known.vertices()) + 3)?;
@@ -169,7 +172,8 @@ pub(crate) fn not_both(
 
 /// The line that such a clause follows from.
 pub(crate) fn target_refs(alloc: Global, known: &Known, w: u16) -> Result<Refs, AllocError>
-    requires { w < size known.now.target }
+    requires w_in { w < size known.now.target }
+    requires injective { is_injective known.now.maps ≡ true }
     ensures { IfOk result (λ refs. refs ≡ target_line known.now w ∷ []) }
 {
     let mut refs = Vec::new(alloc);
@@ -256,40 +260,82 @@ pub(crate) fn own_line(known: &Known, p: u16, r: u16, t: u16) -> Option<Ref>
     }
 }
 
-/// The operations of the pair's own line and that of `r`.
-pub(crate) fn beside_ops(alloc: Global, known: &Known, own: Ref, r: u16) -> Result<Ops, AllocError>
-    requires { r < size known.now.pattern }
-    ensures { IfOk result (λ ops. ops ≡ beside_ops_of known.now own r) }
+/// Adds the line of a block that has both, where there is one that is to be added.
+fn add_block(
+    known: &Known,
+    ops: &mut Vec<Op>,
+    meeting: Meeting,
+    pair: PlacedPair,
+) -> Result<(), AllocError>
+    requires placed { IsPlace known.now pair.p pair.t pair.r }
+    requires meets { IsMeeting known.now pair.p pair.r meeting }
+    ensures { OnOk result
+        (ops.new.items ≡ ops.old.items ++ block_ops known.now meeting pair.t) }
+{
+    match meeting {
+        Meeting::Around(c) => {
+            ops.push(Op::Push(known.around(c, pair.t)))?;
+            ops.push(Op::Add)?;
+            Ok(())
+        }
+        Meeting::Never => Ok(()),
+        Meeting::May => Ok(()),
+    }
+}
+
+/// The operations of the pair's own line and that of `r`, and of a block where one is needed.
+pub(crate) fn own_ops(
+    alloc: Global,
+    known: &Known,
+    meeting: Meeting,
+    own: Ref,
+    pair: PlacedPair,
+) -> Result<Ops, AllocError>
+    requires placed { IsPlace known.now pair.p pair.t pair.r }
+    requires meets { IsMeeting known.now pair.p pair.r meeting }
+    ensures { IfOk result (λ ops. ops ≡ own_ops_of known.now meeting own pair.t pair.r) }
 {
     let mut ops = Vec::with_capacity(alloc, 3)?;
     ops.push(Op::Push(own))?;
-    ops.push(Op::Push(known.at_most(r)))?;
+    ops.push(Op::Push(known.at_most(pair.r)))?;
     ops.push(Op::Add)?;
+    add_block(known, &mut ops, meeting, pair)?;
     Ok(Ops::new(ops))
 }
 
-/// The operations where no shared neighbour is asked for: one or two lines.
+/// The operation that names one line of the encoding.
+fn alone_ops(
+    alloc: Global,
+    known: &Known,
+    meeting: Meeting,
+    pair: PlacedPair,
+) -> Result<Ops, AllocError>
+    requires placed { IsPlace known.now pair.p pair.t pair.r }
+    requires meets { IsMeeting known.now pair.p pair.r meeting }
+    ensures { IfOk result
+        (λ ops. ops ≡ PushOp (alone_line known.now meeting pair.t pair.r) ∷ []) }
+{
+    let mut ops = Vec::new(alloc);
+    ops.push(Op::Push(known.alone(meeting, pair)))?;
+    Ok(Ops::new(ops))
+}
+
+/// The operations where no shared neighbour is asked for: one line, two or three.
 fn plain_ops(
     alloc: Global,
     known: &Known,
+    meeting: Meeting,
     own: Option<Ref>,
-    t: u16,
-    r: u16,
+    pair: PlacedPair,
 ) -> Result<Ops, AllocError>
-    requires r_in { r < size known.now.pattern }
-    requires t_in { t < size known.now.target }
-    ensures { IfOk result (λ ops. ops ≡ plain_ops_of known.now own t r) }
+    requires placed { IsPlace known.now pair.p pair.t pair.r }
+    requires meets { IsMeeting known.now pair.p pair.r meeting }
+    ensures { IfOk result (λ ops. ops ≡ plain_ops_of known.now meeting own pair.t pair.r) }
 {
-    let mut ops = Vec::new(alloc);
     match own {
-        Some(own) => {
-            ops.push(Op::Push(own))?;
-            ops.push(Op::Push(known.at_most(r)))?;
-            ops.push(Op::Add)?;
-        }
-        None => ops.push(Op::Push(known.target(t)))?,
+        Some(own) => own_ops(alloc, known, meeting, own, pair),
+        None => alone_ops(alloc, known, meeting, pair),
     }
-    Ok(Ops::new(ops))
 }
 
 /// What comes before the lines round a place: what refuses the values that are not compatible, often enough.
@@ -302,6 +348,7 @@ fn begin(
 ) -> Result<(), AllocError>
     requires r_in { r < size known.now.pattern }
     requires t_in { t < size known.now.target }
+    requires injective { is_injective known.now.maps ≡ true }
     ensures { OnOk result (ops.new.items ≡ ops.old.items ++ begin_of known.now own t r) }
 {
     ops.push(Op::Push(known.at_most(r)))?;
@@ -336,6 +383,7 @@ fn counted_ops(
 ) -> Result<Ops, AllocError>
     requires placed { IsPlace known.now pair.p pair.t pair.r }
     requires sharing { IsSharing known.now pair.p pair.r sharing }
+    requires injective { is_injective known.now.maps ≡ true }
     ensures { IfOk result
         (λ ops. ops ≡ counted_ops_of known.now spreads.now sharing own pair.p pair.t pair.r) }
 {
@@ -352,17 +400,20 @@ pub(crate) fn row_ops(
     known: &Known,
     spreads: &PairNames,
     sharing: Sharing,
+    meeting: Meeting,
     pair: PlacedPair,
 ) -> Result<Ops, AllocError>
     requires placed { IsPlace known.now pair.p pair.t pair.r }
     requires sharing { IsSharing known.now pair.p pair.r sharing }
+    requires meets { IsMeeting known.now pair.p pair.r meeting }
     ensures { IfOk result
-        (λ ops. ops ≡ row_ops_of known.now spreads.now sharing
+        (λ ops. ops ≡ row_ops_of known.now spreads.now sharing meeting
         (own_line_of known.now pair.p pair.r pair.t) pair.p pair.t pair.r) }
 {
     let own = own_line(known, pair.p, pair.r, pair.t);
     match sharing {
-        Sharing::Nothing => plain_ops(alloc, known, own, pair.t, pair.r),
-        sharing => counted_ops(alloc, known, spreads, sharing, own, pair),
+        Sharing::Nothing => plain_ops(alloc, known, meeting, own, pair),
+        Sharing::One(_) => counted_ops(alloc, known, spreads, sharing, own, pair),
+        Sharing::Many(_) => counted_ops(alloc, known, spreads, sharing, own, pair),
     }
 }

@@ -5,13 +5,13 @@ ghost use Rattle.graph_theory.specs.Embedding.{Problem as TheProblem};
 ghost use Rattle.proof_theory.specs.Forms.{Form};
 ghost use Rattle.log_theory.specs.LogText.{IsName, IsRef};
 ghost use Rattle.pair_line_theory.specs.Laws.{IsPlace};
-ghost use Rattle.pair_line_theory.specs.Rows.{beside_form};
 ghost use Rattle.log_growth.specs.Frames.{Frame, IsFrameOf, IsKept, Goes, AnyForms};
-ghost use Rattle.pair_lines.specs.Choices.{IsAsked, own_line as own_line_of};
+ghost use Rattle.pair_lines.specs.Choices.{IsAsked, IsMeeting, own_form, own_line as own_line_of};
 ghost use Rattle.pair_lines.specs.Claims.{HasEncoding, Knows, IsKnownRow, IsThere};
 
 use crate::known::Known;
-use crate::ops::{beside_ops, own_line};
+use crate::meeting::{Meeting, meeting_of};
+use crate::ops::{own_line, own_ops};
 use crate::pair_names::PairNames;
 use crate::placed_pair::PlacedPair;
 use crate::row::row_line_with;
@@ -43,7 +43,7 @@ impl Drop for PairLines {
     }
 }
 
-/// The line of the encoding that serves where nothing but the place itself is refused.
+/// The line of the encoding that serves where nothing but the place itself is refused, or nothing at all.
 fn line_there(known: &Known, asked: Asked, pair: PlacedPair) -> Option<Ref>
     requires placed { IsPlace known.now pair.p pair.t pair.r }
     requires asked { IsAsked known.now pair.p pair.r asked }
@@ -57,7 +57,8 @@ fn line_there(known: &Known, asked: Asked, pair: PlacedPair) -> Option<Ref>
                 if known.is_paired(pair.p, pair.r) {
                     None
                 } else {
-                    Some(known.target(pair.t))
+                    let meeting = meeting_of(known, pair.p, pair.r);
+                    Some(known.alone(meeting, pair))
                 }
             }
             Sharing::One(_) => None,
@@ -68,26 +69,28 @@ fn line_there(known: &Known, asked: Asked, pair: PlacedPair) -> Option<Ref>
     }
 }
 
-/// Keeps the line of the two vertices at the place, with that of the other one.
+/// Keeps the line of the two vertices at the place, with that of the other one, and of a block where one is needed.
 fn keep_edge_row<K: Keeper>(
     alloc: Global,
     known: &Known,
     keeper: &mut K,
+    meeting: Meeting,
     own: Ref,
     pair: PlacedPair,
 ) -> Result<Name, AllocError>
     requires placed { IsPlace known.now pair.p pair.t pair.r }
+    requires meets { IsMeeting known.now pair.p pair.r meeting }
     requires own { own_line_of known.now pair.p pair.r pair.t ≡ Some own }
     ensures goes { (w : Frame) → HasEncoding known.now (K.owner keeper.old) w
         → Goes w (K.kept keeper.old) (K.kept keeper.new) AnyForms
-        (IsKept w result (beside_form known.now pair.p pair.t pair.r)) }
+        (IsKept w result (own_form known.now meeting pair.p pair.t pair.r)) }
     ensures name { IfOk result IsName }
     ensures owner { K.owner keeper.new ≡ K.owner keeper.old }
     ensures notes { K.notes keeper.new ≡ K.notes keeper.old }
     ensures spare { K.spare keeper.new ≡ K.spare keeper.old }
 {
     known.in_limits();
-    let ops = beside_ops(alloc, known, own, pair.r)?;
+    let ops = own_ops(alloc, known, meeting, own, pair)?;
     keeper.keep(Step::P { name: NO_NAME, ops })
 }
 
@@ -105,8 +108,8 @@ impl PairLines {
 
     /// A reference to a line that takes from `pair.r` each value that is not consistent with `pair.p` at `pair.t`, or by edges alone those that
     /// edges, and their labels, do not let go together with it. The first is a line of the encoding where one serves; the second is that of the
-    /// encoding for the two at the place and that of `pair.r` summed, or the place's own. A line is made when it is first asked for. Cost: where it
-    /// was made, that of finding its name.
+    /// encoding for the two at the place and that of `pair.r` summed, by local maps with that of a block that has both; or a line of the
+    /// encoding. A line is made when it is first asked for. Cost: where it was made, that of finding its name.
     pub fn row<K: Keeper>(
         &mut self,
         alloc: Global,
@@ -132,11 +135,12 @@ impl PairLines {
             if let Some(name) = self.edge_rows.find(pair.p, pair.r, pair.t) {
                 return Ok(Ref::Made(name));
             }
+            let meeting = meeting_of(&known, pair.p, pair.r);
             let own = match own_line(&known, pair.p, pair.r, pair.t) {
-                None => return Ok(known.target(pair.t)),
+                None => return Ok(known.alone(meeting, pair)),
                 Some(own) => own,
             };
-            let name = keep_edge_row(alloc, &known, keeper, own, pair)?;
+            let name = keep_edge_row(alloc, &known, keeper, meeting, own, pair)?;
             self.edge_rows.add(pair.p, pair.r, pair.t, name)?;
             return Ok(Ref::Made(name));
         }

@@ -2,6 +2,7 @@
 
 ghost use Rattle.std.specs.Prelude.{◌≡◌, ◌<◌, ◌≤◌, ℕ, true, OnOk, IfOk, IsSome, Result};
 ghost use Rattle.graph_theory.specs.Graph.{size};
+ghost use Rattle.graph_theory.specs.Embedding.{is_injective};
 ghost use Rattle.graph_theory.specs.Neighbours.{is_neighbour};
 ghost use Rattle.graph_theory.specs.Reversed.{reversed_problem};
 ghost use Rattle.log_theory.specs.LogText.{IsName};
@@ -13,6 +14,7 @@ ghost use Rattle.pair_lines.specs.Claims.{AreSpreads, HasAround, HasEncoding, Is
 
 use crate::both_ways::both_line;
 use crate::known::Known;
+use crate::meeting::meeting_of;
 use crate::ops::row_ops;
 use crate::pair_names::PairNames;
 use crate::placed_pair::PlacedPair;
@@ -81,7 +83,8 @@ fn keep_row<K: Keeper>(
 {
     known.in_limits();
     spreads.fit();
-    let ops = row_ops(alloc, known, spreads, sharing, pair)?;
+    let meeting = meeting_of(known, pair.p, pair.r);
+    let ops = row_ops(alloc, known, spreads, sharing, meeting, pair)?;
     keeper.keep(Step::P { name: NO_NAME, ops })
 }
 
@@ -120,6 +123,7 @@ fn lines_both<K: Keeper>(
 ) -> Result<Name, AllocError>
     requires encoding { lines.now ≡ q.now }
     requires placed { IsPlace q.now pair.p pair.t pair.r }
+    requires injective { is_injective q.now.maps ≡ true }
     requires shared { IsSharing q.now pair.p pair.r shared.0 }
     requires in_shared { IsSharing (reversed_problem q.now) pair.p pair.r shared.1 }
     ensures goes { (w : Frame) → IsFrameOf q.now (K.owner keeper.old) w
@@ -138,10 +142,10 @@ fn lines_both<K: Keeper>(
 }
 
 /// Gives a keeper the line that takes from `pair.r` each value that is not consistent with `pair.p` at `pair.t`, and those that it rests on and
-/// that the table does not name. The line names two others, or one; where the two share neighbours it names one more for each of these and
-/// for each neighbour of the place. Each line that it rests on names one for each shared neighbour, and a literal for each other vertex;
-/// or where two are shared a clause in place of these literals. Where edges have directions and the two share neighbours in both,
-/// there is such a line for each, a clause that follows from these, and the line is the clause with one other.
+/// that the table does not name. The line names two others, or one, or by local maps three; where the two share neighbours, and maps are
+/// injective, it names one more for each of these and for each neighbour of the place. Each line that it rests on names one for each shared
+/// neighbour, and a literal for each other vertex; or where two are shared a clause in place of these literals. Where edges have directions and
+/// the two share neighbours in both, there is such a line for each, a clause that follows from these, and the line is the clause with one other.
 pub fn row_line_with<K: Keeper>(
     alloc: Global,
     q: &Problem,

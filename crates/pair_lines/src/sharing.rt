@@ -1,8 +1,9 @@
-//! How many neighbours two pattern vertices share.
+//! How many shared neighbours are asked for of two pattern vertices.
 
 ghost use Rattle.std.specs.Prelude.{◌≡◌, ◌<◌, ℕ, true, IfOk, IfSome};
 ghost use Rattle.graph_theory.specs.Graph.{size};
-ghost use Rattle.graph_theory.specs.Embedding.{Problem as TheProblem};
+ghost use Rattle.graph_theory.specs.Embedding.{Problem as TheProblem, is_injective};
+ghost use Rattle.graph_theory.specs.Asked.{asked_shared};
 ghost use Rattle.graph_theory.specs.Neighbours.{common};
 ghost use Rattle.pair_line_theory.specs.Rows.{is_shared as is_shared_by};
 ghost use Rattle.pair_line_theory.specs.Laws.{AreTwoShared};
@@ -12,9 +13,10 @@ ghost use Rattle.pair_lines.specs.Choices.{IsAsked};
 
 use crate::known::Known;
 use graph_rows::Problem;
+use graph_theory::embedding::Maps;
 use std::alloc::{AllocError, Global};
 
-/// The shared neighbours of two vertices: none, this one alone, or so many.
+/// The shared neighbours that are asked for of two vertices: none, this one alone, or so many.
 #[derive(Clone, Copy, PartialEq, Eq, Debug)]
 pub(crate) enum Sharing {
     Nothing,
@@ -26,7 +28,7 @@ impl Sharing {
     /// How many there are.
     pub(crate) fn count(self) -> u16
         ensures { (q : TheProblem) (p r : ℕ) → IsSharing q p r self
-            → result ≡ common q.pattern p r }
+            → result ≡ asked_shared q p r }
     {
         match self {
             Sharing::Nothing => 0,
@@ -37,7 +39,7 @@ impl Sharing {
 }
 
 /// In which directions a line has to count shared neighbours, and which there are: in one where edges are known to stand both ways or the
-/// other has none.
+/// other asks for none.
 #[derive(Clone, Copy, PartialEq, Eq, Debug)]
 pub(crate) enum Asked {
     Out(Sharing),
@@ -104,9 +106,9 @@ pub(crate) fn two_shared(known: &Known, pair: Sharers) -> Option<(u16, u16)>
     }
 }
 
-/// How many neighbours the two share. Cost: two words for each word of a row, and only where it is one alone, a step for each neighbour of `p`
-/// up to it.
-pub(crate) fn sharing_of(
+/// How many neighbours the two share, where the maps are injective. Cost: two words for each word of a row, and only where it is one alone, a
+/// step for each neighbour of `p` up to it.
+fn counted_sharing(
     alloc: Global,
     known: &Known,
     p: u16,
@@ -115,6 +117,7 @@ pub(crate) fn sharing_of(
     requires p_in { p < size known.now.pattern }
     requires r_in { r < size known.now.pattern }
     requires others { p ≡ r → ⊥ }
+    requires injective { is_injective known.now.maps ≡ true }
     ensures { IfOk result (IsSharing known.now p r) }
 {
     let count = known.count_shared(alloc, p, r)?;
@@ -127,6 +130,25 @@ pub(crate) fn sharing_of(
     match first_shared(known, p, r) {
         Some(m) => Ok(Sharing::One(m)),
         None => Ok(Sharing::Nothing),
+    }
+}
+
+/// How many shared neighbours are asked for of the two. Cost: where the maps are injective that of `counted_sharing`, else nothing.
+pub(crate) fn sharing_of(
+    alloc: Global,
+    known: &Known,
+    p: u16,
+    r: u16,
+) -> Result<Sharing, AllocError>
+    requires p_in { p < size known.now.pattern }
+    requires r_in { r < size known.now.pattern }
+    requires others { p ≡ r → ⊥ }
+    ensures { IfOk result (IsSharing known.now p r) }
+{
+    match known.maps() {
+        Maps::Injective => counted_sharing(alloc, known, p, r),
+        Maps::Local => Ok(Sharing::Nothing),
+        Maps::Any => Ok(Sharing::Nothing),
     }
 }
 

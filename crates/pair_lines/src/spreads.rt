@@ -3,6 +3,7 @@
 
 ghost use Rattle.std.specs.Prelude.{◌≡◌, ◌<◌, true, OnOk, IfOk, IsSome};
 ghost use Rattle.graph_theory.specs.Graph.{size};
+ghost use Rattle.graph_theory.specs.Embedding.{is_injective};
 ghost use Rattle.log_theory.specs.LogText.{IsName, AreOps};
 ghost use Rattle.pair_line_theory.specs.Rows.{not_both_form};
 ghost use Rattle.pair_line_theory.specs.Laws.{AreTwoShared};
@@ -37,6 +38,7 @@ fn make_not_both<K: Keeper>(
     requires order { m < n }
     requires n_in { n < size known.now.pattern }
     requires w_in { w < size known.now.target }
+    requires injective { is_injective known.now.maps ≡ true }
     ensures goes { (f : Frame) → HasEncoding known.now (K.owner keeper.old) f
         → Goes f (K.kept keeper.old) (K.kept keeper.new) AnyForms
         (IsKept f result (not_both_form known.now m n w)) }
@@ -68,6 +70,7 @@ fn keep_not_both<K: Keeper>(
     requires order { m < n }
     requires n_in { n < size known.now.pattern }
     requires w_in { w < size known.now.target }
+    requires injective { is_injective known.now.maps ≡ true }
     ensures goes { (f : Frame) → HasEncoding known.now (K.owner keeper.old) f
         → Goes f (K.kept keeper.old) (K.kept keeper.new) (AreSpreads f known.now spreads.old)
         (IsNotBoth f known.now m n w spreads.new result) }

@@ -19,4 +19,4 @@ keep-requires g c = both_ops c.args.known.now c.in_limits.ensures c.args.pair.p 
 pub returns-clause-goes : goal.returns-clause-goes
 returns-clause-goes g c = λ f frame.
     both_goes c.args.known.now c.in_limits.ensures c.args.pair.p c.args.pair.t c.args.pair.r c.requires.placed
-    (g.K.Keeper.owner c.args.keeper.now) f c.args.clause (record { owner = 0; number = 0 }) c.in_ok-ops.ops c.keep.result (g.K.Keeper.kept c.args.keeper.now) (g.K.Keeper.kept c.keep.new.self) frame c.requires.clause c.in_ok-ops.ensures c.keep.ensures.kept
+    (g.K.Keeper.owner c.args.keeper.now) f c.args.clause (record { owner = 0; number = 0 }) c.in_ok-ops.ops c.keep.result (g.K.Keeper.kept c.args.keeper.now) (g.K.Keeper.kept c.keep.new.self) c.requires.injective frame c.requires.clause c.in_ok-ops.ensures c.keep.ensures.kept

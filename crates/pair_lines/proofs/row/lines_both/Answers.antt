@@ -83,3 +83,6 @@ line_by-requires-clause-placed g c = subst (λ (x : Problem). IsPlace x c.args.p
 
 pub line_by-requires-2-clause-shared : goal.line_by-requires-2-clause-shared
 line_by-requires-2-clause-shared g c = subst (λ (x : Problem). IsSharing x c.args.pair.p c.args.pair.r c.args.shared.1) (sym c.new-back.ensures) c.requires.in_shared
+
+pub both_line-requires-clause-injective : goal.both_line-requires-clause-injective
+both_line-requires-clause-injective g c = c.requires.injective

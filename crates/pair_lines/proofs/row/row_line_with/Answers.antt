@@ -101,3 +101,6 @@ lines_both-requires-clause-placed g c = c.requires.placed
 
 pub line_by-requires-clause-placed : goal.line_by-requires-clause-placed
 line_by-requires-clause-placed g c = subst (λ (x : Problem). IsPlace x c.args.pair.p c.args.pair.t c.args.pair.r) (sym c.new-out.ensures) c.requires.placed
+
+pub lines_both-requires-clause-injective : goal.lines_both-requires-clause-injective
+lines_both-requires-clause-injective g c = (subst (λ (a : Asked). IsAsked c.args.q.now c.args.pair.p c.args.pair.r a) c.in-Both.is c.in_ok-shared.ensures).2

@@ -5,12 +5,12 @@ use Rattle.graph_theory.specs.Embedding.{Problem}
 use Rattle.log_theory.specs.declared.step.Ref.{Ref}
 use Rattle.log_theory.specs.declared.step.Ref.TheVariants.{Made}
 use Rattle.log_theory.specs.LogText.{IsRef}
-use Rattle.pair_line_theory.specs.Laws.{InLimits, IsPlace}
-use Rattle.pair_line_theory.specs.Rows.{target_line}
+use Rattle.pair_line_theory.specs.Laws.{IsPlace}
+use Rattle.pair_lines.specs.Choices.{IsWithin}
 use Rattle.log_growth.specs.Frames.{Goes}
 use Rattle.log_growth.proofs.Going.{goes_stay}
 use Rattle.pair_lines.specs.Claims.{HasEncoding, Knows, IsKnownRow}
-use Rattle.pair_lines.proofs.Good.{good_ref, good_target}
+use Rattle.pair_lines.proofs.Good.{good_served}
 use Rattle.pair_lines.proofs.Turning.{frame_of}
 use Rattle.pair_lines.proofs.Following.{edge_found, edge_there, edge_kept, edge_refused, row_refused, row_added, row_there_of}
 use Rattle.pair_lines.proofs.Failing.{if_ok_failed}
@@ -26,35 +26,35 @@ returns-in-Some-clause-goes g c = λ w frame.
 
 pub returns-in-None-clause-goes : goal.returns-in-None-clause-goes
 returns-in-None-clause-goes g c = λ w frame.
-    subst (λ (b : Bool). Goes w (g.K.Keeper.kept c.args.keeper.now) (g.K.Keeper.kept c.args.keeper.now) (Knows w c.args.q.now c.args.self.now) (IsKnownRow b w c.args.q.now c.args.pair.p c.args.pair.t c.args.pair.r c.args.self.now (Ok c.target.result))) (sym c.if-by_edges.true)
-    (goes_stay w (g.K.Keeper.kept c.args.keeper.now) (g.K.Keeper.kept c.args.keeper.now) (Knows w c.args.q.now c.args.self.now) (IsKnownRow true w c.args.q.now c.args.pair.p c.args.pair.t c.args.pair.r c.args.self.now (Ok c.target.result)) refl
+    subst (λ (b : Bool). Goes w (g.K.Keeper.kept c.args.keeper.now) (g.K.Keeper.kept c.args.keeper.now) (Knows w c.args.q.now c.args.self.now) (IsKnownRow b w c.args.q.now c.args.pair.p c.args.pair.t c.args.pair.r c.args.self.now (Ok c.alone.result))) (sym c.if-by_edges.true)
+    (goes_stay w (g.K.Keeper.kept c.args.keeper.now) (g.K.Keeper.kept c.args.keeper.now) (Knows w c.args.q.now c.args.self.now) (IsKnownRow true w c.args.q.now c.args.pair.p c.args.pair.t c.args.pair.r c.args.self.now (Ok c.alone.result)) refl
     (λ forms k. (
       k,
-      edge_there c.args.q.now c.new-known.result c.new-known.ensures c.in_limits.ensures (g.K.Keeper.owner c.args.keeper.now) w c.args.pair.p c.args.pair.t c.args.pair.r c.target.result forms frame c.requires.placed
-          (sym c.own_line.ensures ∙ c.in-None.is) c.target.ensures,
+      edge_there c.args.q.now c.new-known.result c.new-known.ensures c.in_limits.ensures (g.K.Keeper.owner c.args.keeper.now) w c.args.pair.p c.args.pair.t c.args.pair.r c.meeting_of-meeting.result c.alone.result forms frame c.requires.placed
+          c.meeting_of-meeting.ensures (sym c.own_line.ensures ∙ c.in-None.is) c.alone.ensures,
     )))
 
 pub returns-in-None-clause-fits : goal.returns-in-None-clause-fits
 returns-in-None-clause-fits g c =
-    subst (λ (x : Ref). IsRef x) (sym c.target.ensures) (good_ref (target_line c.new-known.result c.args.pair.t) (good_target c.new-known.result c.in_limits.ensures c.args.pair.t
-    (subst (λ (x : Problem). c.args.pair.t < size x.target) (sym c.new-known.ensures) c.requires.placed.place)))
+    subst (λ (x : Ref). IsRef x) (sym c.alone.ensures) (good_served c.new-known.result c.in_limits.ensures c.meeting_of-meeting.result c.args.pair.p c.args.pair.t c.args.pair.r c.meeting_of-meeting.ensures
+    (subst (λ (x : Problem). c.args.pair.t < size x.target) (sym c.new-known.ensures) c.requires.placed.place) (subst (λ (x : Problem). c.args.pair.r < size x.pattern) (sym c.new-known.ensures) c.requires.placed.second))
 
 pub returns-in_err-name-clause-goes : goal.returns-in_err-name-clause-goes
 returns-in_err-name-clause-goes g c = λ w frame.
     rw (err_from_is_err_and c.from_residual.result c.from_residual.ensures.1).1
-    (edge_refused w c.args.q.now c.new-known.result c.args.pair.p c.args.pair.t c.args.pair.r (g.K.Keeper.kept c.args.keeper.now) (g.K.Keeper.kept c.keep_edge_row.new.keeper) c.args.self.now (record { rows = c.args.self.now.rows; edge_rows = c.args.self.now.edge_rows; spreads = c.args.self.now.spreads })
+    (edge_refused w c.args.q.now c.new-known.result c.args.pair.p c.args.pair.t c.args.pair.r c.meeting_of-meeting.result (g.K.Keeper.kept c.args.keeper.now) (g.K.Keeper.kept c.keep_edge_row.new.keeper) c.args.self.now (record { rows = c.args.self.now.rows; edge_rows = c.args.self.now.edge_rows; spreads = c.args.self.now.spreads })
     c.keep_edge_row.result refl refl refl (c.keep_edge_row.ensures.goes w (subst (λ (x : Problem). HasEncoding x (g.K.Keeper.owner c.args.keeper.now) w) (sym c.new-known.ensures) (frame_of c.args.q.now (g.K.Keeper.owner c.args.keeper.now) w frame))))
 
 pub returns-in_err-add-clause-goes : goal.returns-in_err-add-clause-goes
 returns-in_err-add-clause-goes g c = λ w frame.
     rw (err_from_is_err_and c.from_residual-in_err-add.result c.from_residual-in_err-add.ensures.1).1
-    (edge_refused w c.args.q.now c.new-known.result c.args.pair.p c.args.pair.t c.args.pair.r (g.K.Keeper.kept c.args.keeper.now) (g.K.Keeper.kept c.keep_edge_row.new.keeper) c.args.self.now (record { rows = c.args.self.now.rows; edge_rows = c.add.new.self; spreads = c.args.self.now.spreads })
+    (edge_refused w c.args.q.now c.new-known.result c.args.pair.p c.args.pair.t c.args.pair.r c.meeting_of-meeting.result (g.K.Keeper.kept c.args.keeper.now) (g.K.Keeper.kept c.keep_edge_row.new.keeper) c.args.self.now (record { rows = c.args.self.now.rows; edge_rows = c.add.new.self; spreads = c.args.self.now.spreads })
     c.keep_edge_row.result refl refl c.in_err-add.ensures.refused (c.keep_edge_row.ensures.goes w (subst (λ (x : Problem). HasEncoding x (g.K.Keeper.owner c.args.keeper.now) w) (sym c.new-known.ensures) (frame_of c.args.q.now (g.K.Keeper.owner c.args.keeper.now) w frame))))
 
 pub returns-then-by_edges-clause-goes : goal.returns-then-by_edges-clause-goes
 returns-then-by_edges-clause-goes g c = λ w frame.
     subst (λ (b : Bool). Goes w (g.K.Keeper.kept c.args.keeper.now) (g.K.Keeper.kept c.keep_edge_row.new.keeper) (Knows w c.args.q.now c.args.self.now) (IsKnownRow b w c.args.q.now c.args.pair.p c.args.pair.t c.args.pair.r (record { rows = c.args.self.now.rows; edge_rows = c.add.new.self; spreads = c.args.self.now.spreads }) (Ok (Made c.in_ok-name.name)))) (sym c.if-by_edges.true)
-    (edge_kept w c.args.q.now c.new-known.result c.new-known.ensures c.in_limits.ensures c.args.pair.p c.args.pair.t c.args.pair.r (g.K.Keeper.kept c.args.keeper.now) (g.K.Keeper.kept c.keep_edge_row.new.keeper) c.args.self.now (record { rows = c.args.self.now.rows; edge_rows = c.add.new.self; spreads = c.args.self.now.spreads }) c.in_ok-name.name c.requires.placed
+    (edge_kept w c.args.q.now c.new-known.result c.new-known.ensures c.in_limits.ensures c.args.pair.p c.args.pair.t c.args.pair.r c.meeting_of-meeting.result c.meeting_of-meeting.ensures (g.K.Keeper.kept c.args.keeper.now) (g.K.Keeper.kept c.keep_edge_row.new.keeper) c.args.self.now (record { rows = c.args.self.now.rows; edge_rows = c.add.new.self; spreads = c.args.self.now.spreads }) c.in_ok-name.name c.requires.placed
     refl refl c.in_ok-add.ensures.added (c.in_ok-name.ensures.goes w (subst (λ (x : Problem). HasEncoding x (g.K.Keeper.owner c.args.keeper.now) w) (sym c.new-known.ensures) (frame_of c.args.q.now (g.K.Keeper.owner c.args.keeper.now) w frame))))
 
 -- ---- by all that is to be consistent
@@ -95,7 +95,7 @@ returns-in_err-add-2-clause-goes g c = λ w frame.
 pub returns-clause-goes : goal.returns-clause-goes
 returns-clause-goes g c = λ w frame.
     subst (λ (b : Bool). Goes w (g.K.Keeper.kept c.args.keeper.now) (g.K.Keeper.kept c.row_line_with.new.keeper) (Knows w c.args.q.now c.args.self.now) (IsKnownRow b w c.args.q.now c.args.pair.p c.args.pair.t c.args.pair.r (record { rows = c.add-2.new.self; edge_rows = c.args.self.now.edge_rows; spreads = c.row_line_with.new.spreads }) (Ok (Made c.in_ok-name-2.name)))) (sym c.if-by_edges.false)
-    (row_added w c.args.q.now (subst (λ (x : Problem). InLimits x) c.new-known.ensures c.in_limits.ensures) c.args.pair.p c.args.pair.t c.args.pair.r (g.K.Keeper.kept c.args.keeper.now) (g.K.Keeper.kept c.row_line_with.new.keeper) c.args.self.now
+    (row_added w c.args.q.now (subst (λ (x : Problem). IsWithin x) c.new-known.ensures c.in_limits.ensures) c.args.pair.p c.args.pair.t c.args.pair.r (g.K.Keeper.kept c.args.keeper.now) (g.K.Keeper.kept c.row_line_with.new.keeper) c.args.self.now
     (record { rows = c.add-2.new.self; edge_rows = c.args.self.now.edge_rows; spreads = c.row_line_with.new.spreads }) c.in_ok-name-2.name c.requires.placed.first c.requires.placed.place c.requires.placed.second c.in_ok-add-2.ensures.added refl (c.in_ok-name-2.ensures.goes w frame))
 
 pub returns-in-Some-clause-owner : goal.returns-in-Some-clause-owner
@@ -236,8 +236,23 @@ own_line-requires-clause-r_in g c = subst (λ (x : Problem). c.args.pair.r < siz
 pub own_line-requires-clause-t_in : goal.own_line-requires-clause-t_in
 own_line-requires-clause-t_in g c = subst (λ (x : Problem). c.args.pair.t < size x.target) (sym c.new-known.ensures) c.requires.placed.place
 
-pub target-requires : goal.target-requires
-target-requires g c = subst (λ (x : Problem). c.args.pair.t < size x.target) (sym c.new-known.ensures) c.requires.placed.place
+pub meeting_of-meeting-requires-clause-p_in : goal.meeting_of-meeting-requires-clause-p_in
+meeting_of-meeting-requires-clause-p_in g c = subst (λ (x : Problem). c.args.pair.p < size x.pattern) (sym c.new-known.ensures) c.requires.placed.first
+
+pub meeting_of-meeting-requires-clause-r_in : goal.meeting_of-meeting-requires-clause-r_in
+meeting_of-meeting-requires-clause-r_in g c = subst (λ (x : Problem). c.args.pair.r < size x.pattern) (sym c.new-known.ensures) c.requires.placed.second
+
+pub meeting_of-meeting-requires-clause-others : goal.meeting_of-meeting-requires-clause-others
+meeting_of-meeting-requires-clause-others g c = c.requires.placed.others
+
+pub alone-requires-clause-placed : goal.alone-requires-clause-placed
+alone-requires-clause-placed g c = subst (λ (x : Problem). IsPlace x c.args.pair.p c.args.pair.t c.args.pair.r) (sym c.new-known.ensures) c.requires.placed
+
+pub alone-requires-clause-meets : goal.alone-requires-clause-meets
+alone-requires-clause-meets g c = c.meeting_of-meeting.ensures
+
+pub keep_edge_row-requires-clause-meets : goal.keep_edge_row-requires-clause-meets
+keep_edge_row-requires-clause-meets g c = c.meeting_of-meeting.ensures
 
 pub keep_edge_row-requires-clause-placed : goal.keep_edge_row-requires-clause-placed
 keep_edge_row-requires-clause-placed g c = subst (λ (x : Problem). IsPlace x c.args.pair.p c.args.pair.t c.args.pair.r) (sym c.new-known.ensures) c.requires.placed
