@@ -11,8 +11,12 @@ use native.Mathlib.Nat.{mul-le-mul, mul-le-mul_right, suc-mul}
 use Rattle.bit_rows.specs.BitRows.{has, words_for}
 use Rattle.graph_rows.proofs.Places.{place_within}
 use Rattle.graph_theory.specs.Graph.{Graph, size}
-use Rattle.graph_theory.specs.Embedding.{Problem}
-use Rattle.graph_theory.specs.Neighbours.{is_neighbour}
+use Rattle.graph_theory.specs.Embedding.{Problem, differ_in}
+use Rattle.graph_theory.specs.Asked.{asked_shared_in}
+use Rattle.graph_theory.specs.Reversed.{reversed}
+use Rattle.graph_theory.specs.declared.embedding.Maps.{Maps}
+use Rattle.graph_theory.specs.declared.embedding.Maps.TheVariants.{Injective, Local, Any}
+use Rattle.graph_theory.specs.Neighbours.{is_neighbour, common}
 use Rattle.graph_rows.specs.Held.{stands_in}
 use Rattle.search_theory.specs.Consistency.{AreConsistent}
 use Rattle.pair_supports.specs.declared.kinds.PairKind.{PairKind}
@@ -22,12 +26,27 @@ use Rattle.pair_supports.specs.Rows.{At}
 use Rattle.pair_supports.specs.Shape.{Shape, Shaped}
 use Rattle.pair_supports.proofs.Rowing.{next_row, row_same, part_same, part_long}
 
+-- where images need not differ no neighbours are asked
+asked_at : (k : Maps) (g : Graph) (p r n : ℕ) → (differ_in k g p r ≡ true → asked_shared_in k g p r ≤ n) → asked_shared_in k g p r ≤ n
+asked_at Injective g p r n h = h refl
+asked_at Local g p r n h = omega arith
+asked_at Any g p r n h = omega arith
+
+asked_back : (k : Maps) (g : Graph) (p r n : ℕ) → (differ_in k g p r ≡ true → asked_shared_in k (reversed g) p r ≤ n) → asked_shared_in k (reversed g) p r ≤ n
+asked_back Injective g p r n h = h refl
+asked_back Local g p r n h = omega arith
+asked_back Any g p r n h = omega arith
+
 -- values that join in a pair's kind are consistent, and the other way round
 pub consistent_joins : (q : Problem) (p r t u : ℕ) → Joins q (kind_of q p r) t u → AreConsistent q p t r u
-consistent_joins q p r t u j = record { pair = record { apart = j.apart; out = j.out; back = j.back }; shared = j.shared; in_shared = j.in_shared }
+consistent_joins q p r t u j = record {
+  pair = record { apart = j.apart; out = j.out; back = j.back };
+  shared = asked_at q.maps q.pattern p r (common q.target t u) j.shared;
+  in_shared = asked_back q.maps q.pattern p r (common (reversed q.target) t u) j.in_shared;
+}
 
 pub joins_consistent : (q : Problem) (p r t u : ℕ) → AreConsistent q p t r u → Joins q (kind_of q p r) t u
-joins_consistent q p r t u c = record { apart = c.pair.apart; out = c.pair.out; back = c.pair.back; shared = c.shared; in_shared = c.in_shared }
+joins_consistent q p r t u c = record { apart = c.pair.apart; out = c.pair.out; back = c.pair.back; shared = λ _. c.shared; in_shared = λ _. c.in_shared }
 
 -- so it is where they join just by being apart and no neighbours, of which there is a list
 pub listed_consistent : (q : Problem) (p r t u : ℕ) (us : List ℕ) → Joins q (kind_of q p r) t u ↔ ((t ≡ u → ⊥) × (is_neighbour q.target t u ≡ false)) → stands_in us u ≡ is_neighbour q.target t u

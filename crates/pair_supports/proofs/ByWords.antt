@@ -128,18 +128,36 @@ module _ (q : Problem) (k : PairKind) (t : ℕ) (old now new out back : List ℕ
       to_all : (a b : Bool) → a ≡ true → b ≡ true → (a && b) ≡ true
       to_all a b x y = rw (x, y) refl
 
--- the steps by which such a row is made leave what joins
-pub whole_by_words : (q : Problem) (k : PairKind) (first free shared row : List ℕ) (t : ℕ) → ((u : ℕ) → has first u ≡ nat_lt u (size q.target))
+-- where images may meet, edges tell all
+pub whole_meeting : (q : Problem) (k : PairKind) (first row : List ℕ) (t : ℕ) → k.apart ≡ false → ((u : ℕ) → has first u ≡ nat_lt u (size q.target))
+    → ((u : ℕ) → has row u ≡ true → (has first u ≡ true) × MatchEdges q k t u) → ((u : ℕ) → has first u ≡ true → MatchEdges q k t u → has row u ≡ true) → RowIs q k t row
+whole_meeting q k first row t meets below right complete = record {
+  right = λ u h.
+      let kept = right u h in (
+        ltb-true u (size q.target) (sym (below u) ∙ kept.0),
+        record {
+          apart = λ is. absurd (false≢true (sym meets ∙ is));
+          out = kept.1.out;
+          back = kept.1.back;
+          shared = λ is. absurd (false≢true (sym meets ∙ is));
+          in_shared = λ is. absurd (false≢true (sym meets ∙ is));
+        },
+      );
+  complete = λ u u_in j. complete u (below u ∙ lt-ltb u (size q.target) u_in) (record { out = j.out; back = j.back });
+}
+
+-- the steps by which such a row is made leave what joins, where images are apart
+pub whole_by_words : (q : Problem) (k : PairKind) (first free shared row : List ℕ) (t : ℕ) → k.apart ≡ true → ((u : ℕ) → has first u ≡ nat_lt u (size q.target))
     → ((u : ℕ) → has free u ≡ true → (has first u ≡ true) × MatchEdges q k t u) → ((u : ℕ) → has first u ≡ true → MatchEdges q k t u → has free u ≡ true)
     → ((u : ℕ) → has shared u ≡ true → (has free u ≡ true) × ((t ≡ u → ⊥) → Shares q k t u)) → ((u : ℕ) → has free u ≡ true → (t ≡ u → ⊥) → Shares q k t u → has shared u ≡ true)
     → ((u : ℕ) → has row u ≡ (has shared u && not (t == u))) → RowIs q k t row
-whole_by_words q k first free shared row t below free_right free_complete shared_right shared_complete cut = record {
+whole_by_words q k first free shared row t two below free_right free_complete shared_right shared_complete cut = record {
   right = λ u h. found u (left_of (has shared u) (t == u) (sym (cut u) ∙ h));
   complete = λ u u_in j.
       cut u
       ∙ left_by (has shared u) (t == u)
-      (shared_complete u (free_complete u (below u ∙ lt-ltb u (size q.target) u_in) (record { out = j.out; back = j.back })) j.apart (record { shared = j.shared; in_shared = j.in_shared }))
-      (ne_eqb t u j.apart);
+      (shared_complete u (free_complete u (below u ∙ lt-ltb u (size q.target) u_in) (record { out = j.out; back = j.back })) (j.apart two) (record { shared = j.shared two; in_shared = j.in_shared two }))
+      (ne_eqb t u (j.apart two));
 }
   where
     found : (u : ℕ) → (has shared u ≡ true) × ((t == u) ≡ false) → (u < size q.target) × Joins q k t u
@@ -149,7 +167,7 @@ whole_by_words q k first free shared row t below free_right free_complete shared
         let alone = free_right u kept.0 in
         let enough = kept.1 ne in (
           ltb-true u (size q.target) (sym (below u) ∙ alone.0),
-          record { apart = ne; out = alone.1.out; back = alone.1.back; shared = enough.shared; in_shared = enough.in_shared },
+          record { apart = λ _. ne; out = alone.1.out; back = alone.1.back; shared = λ _. enough.shared; in_shared = λ _. enough.in_shared },
         )
 
 -- ---- the steps
@@ -222,18 +240,18 @@ pub still_within : (n : ℕ) (old new : List ℕ) (f : ℕ → Bool) → ((u : �
 still_within n old new f within cut u h = within u ((and_parts (has old u) (f u) (sym (cut u) ∙ h)).0)
 
 -- a kind that asks for distinct images without an edge alone, where edges stand both ways
-pub bare_joins : (q : Problem) (k : PairKind) (t u : ℕ) → q.induced ≡ true → IsMutual q.target → (is_some k.out || is_some k.back) ≡ false → (k.shared ≡ 0) × (k.in_shared ≡ 0)
+pub bare_joins : (q : Problem) (k : PairKind) (t u : ℕ) → k.apart ≡ true → q.induced ≡ true → IsMutual q.target → (is_some k.out || is_some k.back) ≡ false → (k.shared ≡ 0) × (k.in_shared ≡ 0)
     → t < size q.target → u < size q.target → Joins q k t u ↔ ((t ≡ u → ⊥) × (is_neighbour q.target t u ≡ false))
-bare_joins q k t u induced ways none shared t_in u_in = (
-  (λ (j : Joins q k t u). (j.apart, ap (λ (b : Bool). not (t == u) && b) (second_of q.induced (is_some (edge q.target t u)) induced (brings_none q.induced k.out (edge q.target t u) edges.0 j.out)) ∙ never (not (t == u)))),
+bare_joins q k t u two induced ways none shared t_in u_in = (
+  (λ (j : Joins q k t u). (j.apart two, ap (λ (b : Bool). not (t == u) && b) (second_of q.induced (is_some (edge q.target t u)) induced (brings_none q.induced k.out (edge q.target t u) edges.0 j.out)) ∙ never (not (t == u)))),
   (λ (h : (t ≡ u → ⊥) × (is_neighbour q.target t u ≡ false)).
       let apart : is_some (edge q.target t u) ≡ false = sym (ap (λ (b : Bool). not b && is_some (edge q.target t u)) (ne_eqb t u h.0)) ∙ h.1 in
       record {
-        apart = h.0;
+        apart = λ _. h.0;
         out = matches_none q.induced k.out (edge q.target t u) edges.0 (within q.induced (is_some (edge q.target t u)) apart);
         back = matches_none q.induced k.back (edge q.target u t) edges.1 (within q.induced (is_some (edge q.target u t)) (ways.both u t u_in t_in ∙ apart));
-        shared = omega (arith, shared.0);
-        in_shared = omega (arith, shared.1);
+        shared = λ _. omega (arith, shared.0);
+        in_shared = λ _. omega (arith, shared.1);
       }),
 )
   where

@@ -9,6 +9,11 @@ use native.Mathlib.Nat.{mul-le-mul}
 use Rattle.graph_rows.proofs.Places.{eqb-places, place_within}
 use Rattle.graph_theory.specs.Graph.{size}
 use Rattle.graph_theory.specs.Embedding.{Problem}
+use Rattle.graph_theory.specs.Neighbours.{common}
+use Rattle.graph_theory.specs.Asked.{asked_shared, asked_shared_in}
+use Rattle.graph_theory.specs.Reversed.{reversed, reversed_problem}
+use Rattle.graph_theory.specs.declared.embedding.Maps.{Maps}
+use Rattle.graph_theory.specs.declared.embedding.Maps.TheVariants.{Injective, Local, Any}
 use Rattle.pair_supports.specs.declared.kinds.PairKind.{PairKind}
 use Rattle.pair_supports.specs.Kinds.{kind_of, AreKinds, KindsStay}
 use Rattle.pair_supports.proofs.Rowing.{next_row}
@@ -64,3 +69,16 @@ turned_before q kinds places p r pair other before less p_in pair_is =
   where
     below : r * size q.pattern + p < p * size q.pattern + r
     below = let m = next_row r p (size q.pattern) less in omega (arith, m, p_in)
+
+-- injective maps ask for the neighbours that are shared, and others for none
+pub asked_counted : (q : Problem) (p r n : ℕ) → Injective ≡ q.maps → n ≡ common q.pattern p r → n ≡ asked_shared q p r
+asked_counted q p r n is counted = counted ∙ ap (λ (k : Maps). asked_shared_in k q.pattern p r) is
+
+pub asked_back_counted : (q : Problem) (p r n : ℕ) → Injective ≡ q.maps → n ≡ common (reversed q.pattern) p r → n ≡ asked_shared (reversed_problem q) p r
+asked_back_counted q p r n is counted = counted ∙ ap (λ (k : Maps). asked_shared_in k (reversed q.pattern) p r) is
+
+pub nothing_asked : (q : Problem) (p r : ℕ) → (Local ≡ q.maps → 0 ≡ asked_shared q p r) × (Any ≡ q.maps → 0 ≡ asked_shared q p r)
+nothing_asked q p r = (λ is. ap (λ (k : Maps). asked_shared_in k q.pattern p r) is, λ is. ap (λ (k : Maps). asked_shared_in k q.pattern p r) is)
+
+pub nothing_asked_back : (q : Problem) (p r : ℕ) → (Local ≡ q.maps → 0 ≡ asked_shared (reversed_problem q) p r) × (Any ≡ q.maps → 0 ≡ asked_shared (reversed_problem q) p r)
+nothing_asked_back q p r = (λ is. ap (λ (k : Maps). asked_shared_in k (reversed q.pattern) p r) is, λ is. ap (λ (k : Maps). asked_shared_in k (reversed q.pattern) p r) is)

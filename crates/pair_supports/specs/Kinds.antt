@@ -2,29 +2,38 @@
 
 use Rattle.std.specs.Prelude.{◌≡◌, ℕ, ◌+◌, ◌*◌, ◌<◌, ◌≤◌, ◌↔◌, Bool, true, false, ◌⊎◌, List, Option, Some, None, length, take, slice_get, slice_index}
 use Rattle.graph_theory.specs.Graph.{Graph, size, edge}
-use Rattle.graph_theory.specs.Embedding.{Problem, Matches}
+use Rattle.graph_theory.specs.Embedding.{Problem, Matches, differ}
 use Rattle.graph_theory.specs.Neighbours.{common}
-use Rattle.graph_theory.specs.Reversed.{reversed, IsMutual}
+use Rattle.graph_theory.specs.Asked.{asked_shared}
+use Rattle.graph_theory.specs.Reversed.{reversed, reversed_problem, IsMutual}
 use Rattle.bit_rows.specs.BitRows.{has}
 use Rattle.graph_rows.specs.Labels.{HasZeroLabels}
 use Rattle.pair_supports.specs.declared.kinds.PairKind.{PairKind}
 
--- The edges between two pattern vertices, and how many neighbours they share in each direction.
+-- Whether two pattern vertices have two images, the edges between them, and how many neighbours their images have to share in each
+-- direction.
 abbrev pub kind_of : Problem → ℕ → ℕ → PairKind
 kind_of q p r = record {
+  apart = differ q p r;
   out = edge q.pattern p r;
   back = edge q.pattern r p;
-  shared = common q.pattern p r;
-  in_shared = common (reversed q.pattern) p r;
+  shared = asked_shared q p r;
+  in_shared = asked_shared (reversed_problem q) p r;
 }
 
--- Target vertices t and u give a pair of this kind what it asks.
+-- Target vertices t and u give a pair of this kind what it asks. (Of a pair that may have one image no neighbours are asked.)
 pub record Joins (q : Problem) (k : PairKind) (t u : ℕ) : Type 0 where
-  pub apart : t ≡ u → ⊥
+  pub apart : k.apart ≡ true → t ≡ u → ⊥
   pub out : Matches q.induced k.out (edge q.target t u)
   pub back : Matches q.induced k.back (edge q.target u t)
-  pub shared : k.shared ≤ common q.target t u
-  pub in_shared : k.in_shared ≤ common (reversed q.target) t u
+  pub shared : k.apart ≡ true → k.shared ≤ common q.target t u
+  pub in_shared : k.apart ≡ true → k.in_shared ≤ common (reversed q.target) t u
+
+-- Where a kind asks for two images, they are two, and share as many neighbours as it asks for, in each direction.
+pub record AreApart (q : Problem) (k : PairKind) (t u : ℕ) : Type 0 where
+  pub apart : k.apart ≡ true → t ≡ u → ⊥
+  pub shared : k.apart ≡ true → k.shared ≤ common q.target t u
+  pub in_shared : k.apart ≡ true → k.in_shared ≤ common (reversed q.target) t u
 
 -- They share as many neighbours as it asks for, in each direction.
 pub record Shares (q : Problem) (k : PairKind) (t u : ℕ) : Type 0 where

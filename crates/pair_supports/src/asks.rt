@@ -1,6 +1,6 @@
 //! What a pair of a kind is asked, as far as the way to take what is not consistent differs by it.
 
-ghost use Rattle.std.specs.Prelude.{◌≡◌, ℕ, ◌<◌, ◌↔◌, ◌||◌, false, is_some, IsTrue};
+ghost use Rattle.std.specs.Prelude.{◌≡◌, ℕ, ◌<◌, ◌↔◌, ◌||◌, true, false, is_some, IsTrue};
 ghost use Rattle.graph_theory.specs.Graph.{size};
 ghost use Rattle.graph_theory.specs.Neighbours.{is_neighbour};
 ghost use Rattle.graph_theory.specs.Reversed.{IsMutual};
@@ -23,9 +23,10 @@ fn shares_none(kind: &PairKind) -> bool
     kind.shared == 0 && kind.in_shared == 0
 }
 
-/// Whether a pair of the kind is asked nothing but distinct images.
+/// Whether a pair of the kind is asked nothing but distinct images, if these.
 pub(crate) fn asks_nothing(q: &Problem, kind: &PairKind) -> bool
-    ensures { IsTrue result → (t u : ℕ) → (t ≡ u → ⊥) → Joins q.now kind.now t u }
+    ensures { IsTrue result → (t u : ℕ) → (kind.now.apart ≡ true → t ≡ u → ⊥)
+        → Joins q.now kind.now t u }
 {
     !q.induced() && !has_edge(kind) && shares_none(kind)
 }
@@ -37,5 +38,5 @@ pub(crate) fn asks_no_edge(q: &Problem, kind: &PairKind, both_ways: bool) -> boo
     ensures { IsTrue result → (t u : ℕ) → t < size q.now.target → u < size q.now.target
         → Joins q.now kind.now t u ↔ ((t ≡ u → ⊥) × (is_neighbour q.now.target t u ≡ false)) }
 {
-    both_ways && q.induced() && !has_edge(kind) && shares_none(kind)
+    both_ways && q.induced() && kind.apart && !has_edge(kind) && shares_none(kind)
 }

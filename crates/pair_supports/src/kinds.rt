@@ -4,30 +4,36 @@ ghost use Rattle.std.specs.Prelude.{◌≡◌, ℕ, ◌+◌, ◌*◌, ◌^◌, �
 ghost use Rattle.graph_theory.specs.Graph.{size, edge};
 ghost use Rattle.graph_theory.specs.Neighbours.{common};
 ghost use Rattle.graph_theory.specs.Embedding.{Matches};
-ghost use Rattle.graph_theory.specs.Reversed.{reversed};
+ghost use Rattle.graph_theory.specs.Asked.{asked_shared};
+ghost use Rattle.graph_theory.specs.Reversed.{reversed, reversed_problem};
+ghost use Rattle.graph_theory.specs.declared.embedding.Maps.TheVariants.{Injective};
 ghost use Rattle.bit_rows.specs.BitRows.{has, words_for};
 ghost use Rattle.graph_rows.specs.Labels.{agree};
-ghost use Rattle.pair_supports.specs.Kinds.{kind_of, Joins, Shares, MatchEdges, IsTold, AreTold, Serve, ServeAll, RowIs, HasRow, AreKinds, KindsStay, WordsStay};
+ghost use Rattle.pair_supports.specs.Kinds.{kind_of, Joins, Shares, MatchEdges, IsTold, AreTold, Serve, ServeAll, RowIs, HasRow, AreKinds, KindsStay, WordsStay, AreApart};
 
 use crate::asks::has_edge;
+use crate::kind_places::{GUESSES, place_of};
 use bit_rows::{
     and_into, and_not_into, clear, fill_below, keep_counted, next_member, set_bit, unset_bit,
 };
 use common_neighbour::Counts;
 use graph_rows::{Graph, Problem};
 use graph_theory::direction::{Direction, reversed_laws};
+use graph_theory::embedding::Maps;
 use std::alloc::{AllocError, Global};
 
 /// What two pattern vertices ask of their images.
 #[derive(Clone, Copy, PartialEq, Eq)]
 pub(crate) struct PairKind {
+    /// Whether the two images have to differ.
+    pub(crate) apart: bool,
     /// The label of the edge from the first to the second, or none.
     pub(crate) out: Option<u32>,
     /// The label of the edge back, or none.
     pub(crate) back: Option<u32>,
-    /// How many vertices edges lead to from both.
+    /// How many vertices edges have to lead to from both images.
     pub(crate) shared: u16,
-    /// How many vertices edges lead from to both. (Without directions as many.)
+    /// How many vertices edges have to lead from to both. (Without directions as many.)
     pub(crate) in_shared: u16,
 }
 
@@ -50,9 +56,6 @@ struct PatternCounts<'a> {
     /// How many vertices edges lead from to both.
     back: Counts<'a>,
 }
-
-/// How many first guesses are kept of where a kind stands.
-const GUESSES: usize = 256;
 
 /// The kinds that occur, and for each two vertices the place of their kind among them, pair after pair. Cost: one step
 /// for each pair, one for each word of a row for each two vertices, and where the first guess of a kind fails one for each kind.
@@ -165,12 +168,38 @@ fn pair_kind(
     requires before { AreKinds q.now kinds.now places.now (p * size q.now.pattern + r) }
     ensures { result ≡ kind_of q.now p r }
 {
-    let (shared, in_shared) = shared_by(q, counts, p, r, kinds, places);
+    let (shared, in_shared) = asked_by(q, counts, p, r, kinds, places);
     PairKind {
+        apart: q.differ(p, r),
         out: q.pattern().edge(p, r),
         back: q.pattern().edge(r, p),
         shared,
         in_shared,
+    }
+}
+
+/// How many neighbours the images of a pair have to share in each direction: none where maps need not be injective.
+fn asked_by(
+    q: &Problem,
+    counts: &PatternCounts,
+    p: u16,
+    r: u16,
+    kinds: &[PairKind],
+    places: &[u32],
+) -> (u16, u16)
+    requires same { counts.now.out ≡ q.now.pattern }
+    requires in_same { counts.now.back ≡ reversed q.now.pattern }
+    requires p_in { p < size q.now.pattern }
+    requires r_in { r < size q.now.pattern }
+    requires apart { p ≡ r → ⊥ }
+    requires before { AreKinds q.now kinds.now places.now (p * size q.now.pattern + r) }
+    ensures out { result.0 ≡ asked_shared q.now p r }
+    ensures back { result.1 ≡ asked_shared (reversed_problem q.now) p r }
+{
+    match q.maps() {
+        Maps::Injective => shared_by(q, counts, p, r, kinds, places),
+        Maps::Local => (0, 0),
+        Maps::Any => (0, 0),
     }
 }
 
@@ -188,6 +217,7 @@ fn shared_by(
     requires p_in { p < size q.now.pattern }
     requires r_in { r < size q.now.pattern }
     requires apart { p ≡ r → ⊥ }
+    requires injective { q.now.maps ≡ Injective }
     requires before { AreKinds q.now kinds.now places.now (p * size q.now.pattern + r) }
     ensures out { result.0 ≡ common q.now.pattern p r }
     ensures back { result.1 ≡ common (reversed q.now.pattern) p r }
@@ -216,83 +246,6 @@ fn in_shared(q: &Problem, in_counts: &Counts, p: u16, r: u16, shared: u16) -> u1
     } else {
         in_counts.count(p, r)
     }
-}
-
-/// The place of the kind, which is added where it is new. The guess for it is looked at first, and is that place from then on.
-fn place_of(
-    kinds: &mut Vec<PairKind>,
-    kind: PairKind,
-    guesses: &mut [u32],
-) -> Result<u32, AllocError>
-    requires few { length kinds.old.items < 2 ^ 32 }
-    requires guesses { length guesses.old ≡ 256 }
-    ensures found { IfOk result (λ i. slice_get kinds.new.items i ≡ Some kind) }
-    ensures stay { KindsStay kinds.old.items kinds.new.items }
-    ensures more { length kinds.new.items ≤ length kinds.old.items + 1 }
-{
-    let guess = remainder(kind);
-    let first = guesses[guess];
-    if is_at(kinds, first, kind) {
-        return Ok(first);
-    }
-    let place = find_or_add(kinds, kind)?;
-    guesses[guess] = place;
-    Ok(place)
-}
-
-/// The number under which the guess for a kind stands: mostly another one for another kind.
-fn remainder(kind: PairKind) -> usize
-    ensures { result < 256 }
-{
-    let edges = label_or_none(kind.out) + 61 * label_or_none(kind.back);
-    let shared = usize::from(kind.shared) + 16 * usize::from(kind.in_shared);
-    (edges + 4 * shared) % GUESSES
-}
-
-/// A number for the label of an edge, and another where there is none.
-fn label_or_none(edge: Option<u32>) -> usize
-    ensures { result ≤ 4294967296 }
-{
-    match edge {
-        None => 0,
-        Some(label) => label as usize + 1,
-    }
-}
-
-/// Whether the kind stands at the place.
-fn is_at(kinds: &[PairKind], place: u32, kind: PairKind) -> bool
-    ensures { IsTrue result → slice_get kinds.now place ≡ Some kind }
-{
-    let i = place as usize;
-    i < kinds.len() && kinds[i] == kind
-}
-
-/// The place of the kind, which is added where it is new. Cost: one step for each kind.
-fn find_or_add(kinds: &mut Vec<PairKind>, kind: PairKind) -> Result<u32, AllocError>
-    requires few { length kinds.old.items < 2 ^ 32 }
-    ensures found { IfOk result (λ i. slice_get kinds.new.items i ≡ Some kind) }
-    ensures stay { KindsStay kinds.old.items kinds.new.items }
-    ensures more { length kinds.new.items ≤ length kinds.old.items + 1 }
-{
-    if let Some(place) = find_kind(kinds, kind) {
-        return Ok(place);
-    }
-    let place = kinds.len() as u32;
-    kinds.push(kind)?;
-    Ok(place)
-}
-
-/// The place of the kind, if it is there. Cost: one step for each kind.
-fn find_kind(kinds: &[PairKind], kind: PairKind) -> Option<u32>
-    requires few { length kinds.now < 2 ^ 32 }
-    ensures { IfSome result (λ i. slice_get kinds.now i ≡ Some kind) }
-{
-    for i in 0..kinds.len() {
-        if kinds[i] == kind {
-            return Some(i as u32);
-        }
-    }
-    None
 }
 
 /// Whether a kind has an edge and `t` so few neighbours that testing each costs less than some steps for each word of a row. Cost: two steps.
@@ -416,6 +369,9 @@ fn fill_by_words(q: &Problem, kind: &PairKind, t: u16, counts: &SharedCounts<'_>
 {
     fill_below(row, usize::from(q.target().size()));
     keep_matching(q, kind, t, row);
+    if !kind.apart {
+        return;
+    }
     keep_shared(q, kind, t, counts, row);
     unset_bit(row, usize::from(t));
 }
@@ -479,11 +435,23 @@ fn joins(q: &Problem, kind: &PairKind, t: u16, u: u16, shared: u16, in_shared: u
         ↔ (kind.now.in_shared ≤ common (reversed q.now.target) t u) }
     ensures { IsTrue result ↔ Joins q.now kind.now t u }
 {
-    t != u
-        && kind.shared <= shared
-        && kind.in_shared <= in_shared
+    are_apart(q, kind, t, u, shared, in_shared)
         && matches(q.induced(), kind.out, q.target().edge(t, u))
         && matches(q.induced(), kind.back, q.target().edge(u, t))
+}
+
+/// Whether `t` and `u` are two vertices that share enough neighbours, where the kind asks for two.
+fn are_apart(_q: &Problem, kind: &PairKind, t: u16, u: u16, shared: u16, in_shared: u16) -> bool
+    requires told { (t ≡ u → ⊥) → kind.now.shared ≤ shared
+        ↔ (kind.now.shared ≤ common _q.now.target t u) }
+    requires in_told { (t ≡ u → ⊥) → kind.now.in_shared ≤ in_shared
+        ↔ (kind.now.in_shared ≤ common (reversed _q.now.target) t u) }
+    ensures { IsTrue result ↔ AreApart _q.now kind.now t u }
+{
+    if !kind.apart {
+        return true;
+    }
+    t != u && kind.shared <= shared && kind.in_shared <= in_shared
 }
 
 /// Whether a pattern edge and its image match, in the induced kind or the plain one.

@@ -9,6 +9,7 @@
 #![tactic(auto)]
 
 mod asks;
+mod kind_places;
 mod kinds;
 mod near;
 mod pair_kinds;

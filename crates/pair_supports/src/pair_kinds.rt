@@ -3,6 +3,7 @@
 ghost use Rattle.std.specs.Prelude.{◌≡◌, ℕ, ◌<◌, true, false, is_some, Some, IsTrue, IfOk, IfSome, slice_get};
 ghost use Rattle.graph_theory.specs.Graph.{size};
 ghost use Rattle.graph_theory.specs.Neighbours.{is_neighbour};
+ghost use Rattle.graph_theory.specs.Embedding.{differ};
 ghost use Rattle.graph_rows.specs.Held.{stands_in};
 ghost use Rattle.search_theory.specs.Consistency.{AreConsistent};
 ghost use Rattle.pair_supports.specs.Near.{is_listed};
@@ -107,13 +108,14 @@ impl<'a> PairKinds<'a> {
         })
     }
 
-    /// Whether `p` and `r` are asked nothing but distinct images, so that no row is needed: the copy is not to be an induced one, no edge
-    /// leads from one to the other in either direction, and they share no neighbour. Cost: two steps.
+    /// Whether `p` and `r` are asked nothing but distinct images, if these, so that no row is needed: the copy is not to be an induced one,
+    /// no edge leads from one to the other in either direction, and their images need share no neighbour. Cost: two steps.
     pub fn is_free(&self, p: u16, r: u16) -> bool
         requires p_in { p < size self.now.problem.pattern }
         requires r_in { r < size self.now.problem.pattern }
         requires apart { p ≡ r → ⊥ }
-        ensures { IsTrue result → (t u : ℕ) → (t ≡ u → ⊥) → AreConsistent self.now.problem p t r u }
+        ensures { IsTrue result → (t u : ℕ) → (differ self.now.problem p r ≡ true → t ≡ u → ⊥)
+            → AreConsistent self.now.problem p t r u }
     {
         let pair = usize::from(p) * self.vertices + usize::from(r);
         asks_nothing(self.problem, &self.kinds[self.places[pair] as usize])

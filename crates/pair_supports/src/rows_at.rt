@@ -2,6 +2,7 @@
 
 ghost use Rattle.std.specs.Prelude.{◌≡◌, ℕ, ◌<◌, ◌↔◌, true, false, length, IsTrue, IfSome};
 ghost use Rattle.graph_theory.specs.Graph.{size};
+ghost use Rattle.graph_theory.specs.Embedding.{differ};
 ghost use Rattle.bit_rows.specs.BitRows.{has, words_for};
 ghost use Rattle.graph_rows.specs.Held.{stands_in};
 ghost use Rattle.search_theory.specs.Consistency.{AreConsistent};
@@ -56,17 +57,30 @@ impl<'a> RowsAt<'a> {
         &self.block[from..from + kinds.width]
     }
 
-    /// Whether `r` is asked nothing but another image, as `PairKinds::is_free` says of two vertices. Cost: three steps.
+    /// Whether `r` is asked nothing but another image, if that, as `PairKinds::is_free` says of two vertices. Cost: three steps.
     #[inline(always)]
     pub fn is_free(&self, r: u16) -> bool
         requires r_in { r < size self.now.problem.pattern }
         requires apart { self.now.vertex ≡ r → ⊥ }
-        ensures { IsTrue result → (u : ℕ) → (self.now.value ≡ u → ⊥)
+        ensures { IsTrue result → (u : ℕ)
+            → (differ self.now.problem self.now.vertex r ≡ true → self.now.value ≡ u → ⊥)
             → AreConsistent self.now.problem self.now.vertex self.now.value r u }
     {
         let kinds = self.kinds;
         let place = self.places[usize::from(r)] as usize;
         asks_nothing(kinds.problem, &kinds.kinds[place])
+    }
+
+    /// Whether `r` is asked another image. Cost: three steps.
+    #[inline(always)]
+    pub fn is_apart(&self, r: u16) -> bool
+        requires r_in { r < size self.now.problem.pattern }
+        requires apart { self.now.vertex ≡ r → ⊥ }
+        ensures { result ≡ differ self.now.problem self.now.vertex r }
+    {
+        let kinds = self.kinds;
+        let place = self.places[usize::from(r)] as usize;
+        kinds.kinds[place].apart
     }
 
     /// The neighbours of the value, where `r` is asked nothing but an image that is none of them nor the value: the copy is to be an induced

@@ -1,4 +1,4 @@
-use Rattle.std.proofs.Common.{◌≡◌, ap, subst}
+use Rattle.std.proofs.Common.{◌≡◌, true, ap, subst}
 use Rattle.graph_theory.specs.Embedding.{Problem}
 use Rattle.pair_supports.specs.declared.kinds.PairKind.{PairKind}
 use Rattle.pair_supports.specs.Shape.{Shape}
@@ -14,5 +14,5 @@ returns c = λ told t u apart.
     c.requires.p_in c.requires.r_in c.requires.apart c.from.result c.from-2.result c.index.result.now c.index-2.result.now
     c.from.ensures c.from-2.ensures c.index.ensures c.index-2.ensures in
     consistent_joins q c.args.p c.args.r t u
-    (subst (λ (k : PairKind). Joins q k t u) kind
-    (subst (λ (x : Problem). Joins x c.index-2.result.now t u) same (c.asks_nothing.ensures told t u apart)))
+    (subst (λ (k : PairKind). (k.apart ≡ true → t ≡ u → ⊥) → Joins q k t u) kind
+    (subst (λ (x : Problem). (c.index-2.result.now.apart ≡ true → t ≡ u → ⊥) → Joins x c.index-2.result.now t u) same (c.asks_nothing.ensures told t u)) apart)

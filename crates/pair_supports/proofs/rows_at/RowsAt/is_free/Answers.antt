@@ -1,4 +1,4 @@
-use Rattle.std.proofs.Common.{◌≡◌, ap, arith, subst, ◌∙◌}
+use Rattle.std.proofs.Common.{◌≡◌, true, ap, arith, subst, ◌∙◌}
 use Rattle.graph_theory.specs.Graph.{size}
 use Rattle.graph_theory.specs.Embedding.{Problem}
 use Rattle.pair_supports.specs.declared.kinds.PairKind.{PairKind}
@@ -29,5 +29,5 @@ returns c = λ told u apart.
     let given = kind_given at.problem k.width k.kinds.items at.vertex at.value f.places.now f.block.now held c.args.r c.from.result c.from.ensures c.requires.r_in c.requires.apart in
     let same : k.problem.now ≡ at.problem = ap (λ (x : Shape). x.problem) c.kinds.view_is ∙ ap (λ (x : At). x.problem) c.self.view_is in
     consistent_joins at.problem at.vertex c.args.r at.value u
-    (subst (λ (x : PairKind). Joins at.problem x at.value u) (given.is c.index.result.now c.index.ensures)
-    (subst (λ (x : Problem). Joins x c.index.result.now at.value u) same (c.asks_nothing.ensures told at.value u apart)))
+    (subst (λ (x : PairKind). (x.apart ≡ true → at.value ≡ u → ⊥) → Joins at.problem x at.value u) (given.is c.index.result.now c.index.ensures)
+    (subst (λ (x : Problem). (c.index.result.now.apart ≡ true → at.value ≡ u → ⊥) → Joins x c.index.result.now at.value u) same (c.asks_nothing.ensures told at.value u)) apart)
