@@ -3,7 +3,9 @@
 use Rattle.std.proofs.Common.{◌≡◌, ℕ, ◌*◌, ◌<◌, ◌≤◌, true, false, ◌&&◌, ◌||◌, not, is_some, eqb, List, [], ◌∷◌, length, slice_index, refl, sym, ◌∙◌, subst, arith, ◌⊎◌, inl, inr}
 use Rattle.std.proofs.lemmas.Bool.{true≢false, and_parts, and_from, or_cases, or_left, or_right, cases_eq, eq-eqb, eqb-true, ne_eqb}
 use Rattle.graph_theory.specs.Graph.{Graph, size, edge}
-use Rattle.graph_theory.specs.Embedding.{Problem, Embeds}
+use Rattle.graph_theory.specs.Embedding.{Problem, Embeds, is_injective, differ_in}
+use Rattle.graph_theory.specs.declared.embedding.Maps.{Maps}
+use Rattle.graph_theory.specs.declared.embedding.Maps.TheVariants.{Injective, Local, Any}
 use Rattle.graph_theory.specs.Reversed.{turned}
 use Rattle.graph_theory.specs.Neighbours.{count, members}
 use Rattle.graph_theory.specs.declared.direction.Direction.{Direction}
@@ -74,11 +76,12 @@ members_distinct row =
     (omega (arith, length-members (has row) n, count-less (has row) (among (members (has row) n)) n (λ v v_in passes. among_passing (has row) n v passes v_in)))
 
 -- neighbours that are short of images are crowded
-pub crowded_of : (q : Problem) (d : State) (direction : Direction) (p t : ℕ) (near images chosen union : List ℕ) → p < size q.pattern → t < size q.target
+pub crowded_of : (q : Problem) (d : State) (direction : Direction) (p t : ℕ) (near images chosen union : List ℕ) → is_injective q.maps ≡ true → p < size q.pattern → t < size q.target
     → ((r : ℕ) → has near r ≡ is_some (edge (turned direction q.pattern) p r)) → ((r : ℕ) → has near r ≡ true → r < size q.pattern)
     → ((u : ℕ) → has images u ≡ is_some (edge (turned direction q.target) t u)) → ((u : ℕ) → has images u ≡ true → u < size q.target) → Gathers d p t near images chosen union
     → IsShort chosen union → IsCrowded q d direction p t (members_of chosen) (members_of union)
-crowded_of q d direction p t near images chosen union p_in t_in near_is near_in images_are images_in g short = record {
+crowded_of q d direction p t near images chosen union injective p_in t_in near_is near_in images_are images_in g short = record {
+  injective = injective;
   vertex_in = p_in;
   value_in = t_in;
   joins = λ r here. joins_at r (passes_among (has chosen) (64 * length chosen) r here);
@@ -99,14 +102,14 @@ crowded_of q d direction p t near images chosen union p_in t_in near_is near_in 
     }
 
 -- the same of rows by their graphs, under the names by which it is told
-pub spot_crowded : (q : Problem) (d : State) (pattern target : Graph) (direction : Direction) (p t : ℕ) (near images chosen union vertices values : List ℕ) → pattern ≡ q.pattern → target ≡ q.target
+pub spot_crowded : (q : Problem) (d : State) (pattern target : Graph) (direction : Direction) (p t : ℕ) (near images chosen union vertices values : List ℕ) → is_injective q.maps ≡ true → pattern ≡ q.pattern → target ≡ q.target
     → p < size q.pattern → t < size q.target → ((r : ℕ) → has near r ≡ is_some (edge (turned direction pattern) p r)) → ((r : ℕ) → has near r ≡ true → r < size pattern)
     → ((u : ℕ) → has images u ≡ is_some (edge (turned direction target) t u)) → ((u : ℕ) → has images u ≡ true → u < size target) → Gathers d p t near images chosen union
     → IsShort chosen union → chosen ≡ vertices → union ≡ values → IsCrowded q d direction p t (members_of vertices) (members_of values)
-spot_crowded q d pattern target direction p t near images chosen union vertices values pattern_is target_is p_in t_in near_is near_in images_are images_in g short vertices_are values_are =
+spot_crowded q d pattern target direction p t near images chosen union vertices values injective pattern_is target_is p_in t_in near_is near_in images_are images_in g short vertices_are values_are =
     subst (λ (xs : List ℕ). IsCrowded q d direction p t (members_of xs) (members_of values)) vertices_are
     (subst (λ (ys : List ℕ). IsCrowded q d direction p t (members_of chosen) (members_of ys)) values_are
-    (crowded_of q d direction p t near images chosen union p_in t_in
+    (crowded_of q d direction p t near images chosen union injective p_in t_in
     (subst (λ (h : Graph). (r : ℕ) → has near r ≡ is_some (edge (turned direction h) p r)) pattern_is near_is)
     (subst (λ (h : Graph). (r : ℕ) → has near r ≡ true → r < size h) pattern_is near_in)
     (subst (λ (h : Graph). (u : ℕ) → has images u ≡ is_some (edge (turned direction h) t u)) target_is images_are)
@@ -138,6 +141,11 @@ unused_crowded q d direction p t vertices values is = record {
   none = clash;
 }
   where
+    differs : (k : Maps) → is_injective k ≡ true → (r s : ℕ) → differ_in k q.pattern r s ≡ true
+    differs Injective on r s = refl
+    differs Local on r s = cc
+    differs Any on r s = cc
+
     clash : (m : List ℕ) → Embeds q m → Inside q (in_domain d) m → slice_index m p ≡ t → ⊥
     clash m e h here =
         omega (
@@ -146,12 +154,12 @@ unused_crowded q d direction p t vertices values is = record {
           counted_distinct vertices (size q.pattern) is.distinct (λ r r_in. (is.joins r r_in).other_in),
           few_among values (size q.target),
           pigeons (among vertices) (among values) (size q.pattern) (size q.target) (slice_index m) (λ r r_in there. let image = goes r there in (is.values_in (slice_index m r) image, image))
-              (λ r s r_in s_in r_there s_there same. e.distinct r s r_in s_in same),
+              (λ r s r_in s_in r_there s_there same. e.distinct r s r_in s_in (differs q.maps is.injective r s) same),
         )
       where
         goes : (r : ℕ) → among vertices r ≡ true → among values (slice_index m r) ≡ true
         goes r there =
             let joins = is.joins r there in
-            is.within r (slice_index m r) there (h r joins.other_in) (λ same. joins.apart (e.distinct p r joins.vertex_in joins.other_in (here ∙ same)))
+            is.within r (slice_index m r) there (h r joins.other_in) (λ same. joins.apart (e.distinct p r joins.vertex_in joins.other_in (differs q.maps is.injective p r) (here ∙ same)))
             (subst (λ (v : ℕ). is_some (edge (turned direction q.target) v (slice_index m r)) ≡ true) here
             (kept_there q.induced _ _ ((embeds_turned direction q m e).edges p r joins.vertex_in joins.other_in) joins.joined))

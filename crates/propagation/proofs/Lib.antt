@@ -12,6 +12,9 @@ pub mod Acting
 pub mod Taking
 pub mod Reasons
 pub mod Supporting
+pub mod BlockCounts
+pub mod Nearness
+pub mod Ordering
 pub mod Gathering
 pub mod Takes
 pub mod Failing

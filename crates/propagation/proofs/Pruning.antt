@@ -4,7 +4,9 @@ use Rattle.std.proofs.Common.{◌≡◌, ℕ, ◌+◌, ◌<◌, Bool, true, fals
 use Rattle.std.proofs.lemmas.Bool.{cases_eq}
 use Rattle.std.proofs.lemmas.List.{length-set}
 use Rattle.graph_theory.specs.Graph.{size}
-use Rattle.graph_theory.specs.Embedding.{Problem, Embeds}
+use Rattle.graph_theory.specs.Embedding.{Problem, Embeds, differ, differ_in}
+use Rattle.graph_theory.specs.declared.embedding.Maps.{Maps}
+use Rattle.graph_theory.specs.declared.embedding.Maps.TheVariants.{Injective}
 use Rattle.search_theory.specs.Claims.{Inside, NoneInside, Quiet, Single}
 use Rattle.domain_bits.specs.Removals.{State, in_domain, size_of}
 use Rattle.domain_bits.proofs.Sizes.{some_counted, size_single, not_single}
@@ -18,37 +20,41 @@ use Rattle.propagation.proofs.Waiting.{rests_on, rests_with_two, flag_other}
 
 -- ---- choices and embeddings
 
+-- by injective maps any two images differ
+pub all_differ : (q : Problem) (p r : ℕ) → q.maps ≡ Injective → differ q p r ≡ true
+all_differ q p r injective = ap (λ (k : Maps). differ_in k q.pattern p r) injective
+
 -- an embedding within the domains is an injective choice from them
-choice_of : (q : Problem) (d : State) (m : List ℕ) → IsOf q d → Embeds q m → Inside q (in_domain d) m → Chooses d (slice_index m)
-choice_of q d m is e h = record {
+choice_of : (q : Problem) (d : State) (m : List ℕ) → IsOf q d → q.maps ≡ Injective → Embeds q m → Inside q (in_domain d) m → Chooses d (slice_index m)
+choice_of q d m is injective e h = record {
   inside = λ p p_in. h p (subst (λ (n : ℕ). p < n) is.vertices_is p_in);
-  distinct = λ p r p_in r_in same. e.distinct p r (subst (λ (n : ℕ). p < n) is.vertices_is p_in) (subst (λ (n : ℕ). r < n) is.vertices_is r_in) same;
+  distinct = λ p r p_in r_in same. e.distinct p r (subst (λ (n : ℕ). p < n) is.vertices_is p_in) (subst (λ (n : ℕ). r < n) is.vertices_is r_in) (all_differ q p r injective) same;
 }
 
 -- removals that lose no choice lose no embedding
-pub narrows_choices : (q : Problem) (old new : State) → IsOf q old → LosesNoChoice old new → Narrows q old new
-narrows_choices q old new is l = record {
+pub narrows_choices : (q : Problem) (old new : State) → IsOf q old → q.maps ≡ Injective → LosesNoChoice old new → Narrows q old new
+narrows_choices q old new is injective l = record {
   vertices_same = l.vertices_same;
   values_same = l.values_same;
   rest = l.rest;
   front = l.front;
   less = l.less;
-  keeps = λ m e h. λ p p_in. (l.keeps (slice_index m) (choice_of q old m is e h)).inside p (subst (λ (n : ℕ). p < n) (sym (l.vertices_same ∙ is.vertices_is)) p_in);
+  keeps = λ m e h. λ p p_in. (l.keeps (slice_index m) (choice_of q old m is injective e h)).inside p (subst (λ (n : ℕ). p < n) (sym (l.vertices_same ∙ is.vertices_is)) p_in);
 }
 
 -- where there is no choice, there is no embedding
-pub none_chosen : (q : Problem) (d : State) → IsOf q d → ((m : ℕ → ℕ) → Chooses d m → ⊥) → NoneInside q (in_domain d)
-none_chosen q d is none = λ m e h. none (slice_index m) (choice_of q d m is e h)
+pub none_chosen : (q : Problem) (d : State) → IsOf q d → q.maps ≡ Injective → ((m : ℕ → ℕ) → Chooses d m → ⊥) → NoneInside q (in_domain d)
+none_chosen q d is injective none = λ m e h. none (slice_index m) (choice_of q d m is injective e h)
 
 -- ---- what is decided
 
 -- domains at rest hold no value that is all of another
-pub decided_apart : (q : Problem) (d : State) → IsOf q d → Quiet q (in_domain d) → DecidedApart d
-decided_apart q d is quiet = record {
+pub decided_apart : (q : Problem) (d : State) → IsOf q d → q.maps ≡ Injective → Quiet q (in_domain d) → DecidedApart d
+decided_apart q d is injective quiet = record {
   apart = λ p r t p_in r_in other one here there.
       let s = size_single d p t one here in
       let settled = quiet.settled p t (subst (λ (n : ℕ). p < n) is.vertices_is p_in) (record { here = s.here; only = s.only }) in
-      (settled.goes r t (subst (λ (n : ℕ). r < n) is.vertices_is r_in) other there).pair.apart refl;
+      (settled.goes r t (subst (λ (n : ℕ). r < n) is.vertices_is r_in) other there).pair.apart (all_differ q p r injective) refl;
 }
 
 -- a domain of one value that keeps one is the same
@@ -144,11 +150,10 @@ ready_noted q old new before after quiet is n long undecided g = record {
 
 -- ---- what each answer tells
 
-pub pruned_fail : (q : Problem) (old new : State) → IsOf q old → (new ≡ old) × ((m : ℕ → ℕ) → Chooses old m → ⊥) → Narrows q old new × NoneInside q (in_domain old)
-pruned_fail q old new is says = (subst (λ (d : State). Narrows q old d) (sym says.0) (narrows_none q old), none_chosen q old is says.1)
+pub pruned_fail : (q : Problem) (old new : State) → (new ≡ old) × NoneInside q (in_domain old) → Narrows q old new × NoneInside q (in_domain old)
+pruned_fail q old new says = (subst (λ (d : State). Narrows q old d) (sym says.0) (narrows_none q old), says.1)
 
-pub pruned_empty : (q : Problem) (old new : State) → IsOf q old → LosesNoChoice old new → (p : ℕ) × (p < new.vertices) × ((t : ℕ) → in_domain new p t ≡ true → ⊥)
+pub pruned_empty : (q : Problem) (old new : State) → IsOf q old → Narrows q old new → (p : ℕ) × (p < new.vertices) × ((t : ℕ) → in_domain new p t ≡ true → ⊥)
     → Narrows q old new × NoneInside q (in_domain old)
-pruned_empty q old new is l empty =
-    let n = narrows_choices q old new is l in
+pruned_empty q old new is n empty =
     (n, none_narrowed q old new n (none_in_empty q new empty.0 (omega (arith, empty.1, n.vertices_same, is.vertices_is)) empty.2))

@@ -5,6 +5,9 @@ use Rattle.std.proofs.lemmas.Bool.{cases_eq, cases_lt, eq-eqb, eqb-true, ne_eqb,
 use Rattle.std.proofs.lemmas.List.{append-nil}
 use Rattle.graph_theory.specs.Graph.{size}
 use Rattle.graph_theory.specs.Embedding.{Problem}
+use Rattle.graph_theory.specs.Blocks.{has_block, has_block_in}
+use Rattle.graph_theory.specs.declared.embedding.Maps.{Maps}
+use Rattle.graph_theory.specs.declared.embedding.Maps.TheVariants.{Injective}
 use Rattle.graph_theory.specs.declared.direction.Direction.{Direction}
 use Rattle.search_theory.specs.Claims.{Single}
 use Rattle.bit_rows.specs.BitRows.{has}
@@ -30,7 +33,7 @@ use Rattle.nogood_watch.proofs.Visits.{partner_half, partner_in}
 use Rattle.recorder.specs.declared.change.Cause.{Cause}
 use Rattle.recorder.specs.declared.change.Cause.TheVariants as cause
 use Rattle.recorder.specs.Recording.{Change, LeftOne, LeftOthers, LeftOver, CountedSet, members_of, KeepsUnited}
-use Rattle.recorder.specs.Telling.{IsOf, HasFirst, HasAtMost, NamesUnit, RefusesBy, StandsBy, IsForbidden, AreForbidden, IsCrowded, AreDistinct, HaveOnly, Leaves, IsDecided, IsShown}
+use Rattle.recorder.specs.Telling.{IsOf, HasFirst, HasAtMost, NamesUnit, RefusesBy, StandsBy, IsForbidden, AreForbidden, IsCrowded, AreDistinct, HaveOnly, HasShort, Leaves, IsDecided, IsShown}
 use Rattle.propagation.specs.Propagation.{Sweeps}
 use Rattle.propagation.proofs.Visits.{gone_kept}
 use Rattle.propagation.proofs.Forcing.{half_in}
@@ -216,9 +219,15 @@ held_in row t h = by (cases_lt t (64 * length row))
     by (inl lt) = lt
     by (inr le) = absurd (true≢false (sym h ∙ has_past row t le))
 
+-- where any two images have to differ, all vertices are a block
+all_block : (q : Problem) → q.maps ≡ Injective → has_block q None ≡ true
+all_block q injective = ap (λ (k : Maps). has_block_in k q.pattern None) injective
+
 -- the vertices of a shown set have no other values than the row, which are no more than the union has
-pub shown_only : (q : Problem) (d : State) (n : ℕ) (set row : List ℕ) → IsOf q d → n ≤ d.vertices → Shows d n set row → HaveOnly q d set (members_of row)
-shown_only q d n set row of within shows = record {
+pub shown_only : (q : Problem) (d : State) (n : ℕ) (set row : List ℕ) → q.maps ≡ Injective → IsOf q d → n ≤ d.vertices → Shows d n set row → HaveOnly q None d set (members_of row)
+shown_only q d n set row injective of within shows = record {
+  block = all_block q injective;
+  members = λ p here. refl;
   vertices_in = λ p here. subst (λ (k : ℕ). p < k) of.vertices_is (prefix_in p (sym (shows.vertices p) ∙ here));
   values_in = λ t here. subst (λ (k : ℕ). t < k) of.values_is (union_below d n t (sym (shows.values t) ∙ passes_among (has row) (64 * length row) t here));
   distinct = distinct_counted set d.vertices (omega (arith, shows.size, count_prefix d n within, count_same (among set) (in_prefix d n) d.vertices (λ p p_in. shows.vertices p)));
@@ -231,12 +240,13 @@ shown_only q d n set row of within shows = record {
     prefix_in : (p : ℕ) → in_prefix d n p ≡ true → p < d.vertices
     prefix_in p h = ltb-true p d.vertices (and_parts (ltb p d.vertices) (ltb (rank (size_of d) d.vertices p) n) h).0
 
-shown_few : (d : State) (n : ℕ) (set row : List ℕ) → Shows d n set row → length (members_of row) ≤ union_size d n
-shown_few d n set row shows =
+-- a row that is a union has no more values than the union
+pub values_few : (d : State) (n : ℕ) (row : List ℕ) → ((t : ℕ) → has row t ≡ in_union d n t) → length (members_of row) ≤ union_size d n
+values_few d n row same =
     omega (
       arith,
       length-members (has row) (64 * length row),
-      count_same (has row) (in_union d n) (64 * length row) (λ t t_in. shows.values t),
+      count_same (has row) (in_union d n) (64 * length row) (λ t t_in. same t),
       count_le (in_union d n) (in_union d n) (64 * length row) (d.values + 64 * length row) (omega arith) (λ t h. h),
       count_past (in_union d n) d.values (64 * length row) (λ t le. beyond t le (in_union d n t) refl),
     )
@@ -246,10 +256,10 @@ shown_few d n set row shows =
     beyond t le false h = refl
 
 -- the values of a set leave all other domains
-pub leaves_counted : (q : Problem) (s : Option watched.State) (old new : State) (set row : List ℕ) (from : ℕ) → IsOf q old → Prunes pruned.Hall old new set row → from ≡ length old.removed
-    → Leaves q s old new (LeftOthers set (members_of row) from)
-leaves_counted q s old new set row from of (n, none, first, shows, after) is =
-    subst (λ (d : State). Leaves q s old d (LeftOthers set (members_of row) from)) (sym after) leaves
+pub leaves_counted : (q : Problem) (s : Option watched.State) (old new : State) (set row : List ℕ) (from : ℕ) → q.maps ≡ Injective → IsOf q old → Prunes pruned.Hall old new set row
+    → from ≡ length old.removed → Leaves q s old new (LeftOthers None set (members_of row) from)
+leaves_counted q s old new set row from injective of (n, none, first, shows, after) is =
+    subst (λ (d : State). Leaves q s old d (LeftOthers None set (members_of row) from)) (sym after) leaves
   where
     cleared_in : (p t : ℕ) → in_domain old p t ≡ true → in_domain (without_union old n) p t ≡ false → (ltb p old.vertices && (not (in_prefix old n p) && in_union old n t)) ≡ true
     cleared_in p t here gone = failed (in_domain old p t) (ltb p old.vertices && (not (in_prefix old n p) && in_union old n t)) here
@@ -260,12 +270,13 @@ leaves_counted q s old new set row from of (n, none, first, shows, after) is =
         failed true false h out = cc
         failed false b h out = cc
 
-    refused : (p t : ℕ) → in_domain old p t ≡ true → in_domain (without_union old n) p t ≡ false → (p < size q.pattern) × (among set p ≡ false) × (among (members_of row) t ≡ true)
+    refused : (p t : ℕ) → in_domain old p t ≡ true → in_domain (without_union old n) p t ≡ false → (p < size q.pattern) × (true ≡ true) × (among set p ≡ false) × (among (members_of row) t ≡ true)
     refused p t here gone =
         let parts = and_parts (ltb p old.vertices) (not (in_prefix old n p) && in_union old n t) (cleared_in p t here gone) in
         let more = and_parts (not (in_prefix old n p)) (in_union old n t) parts.1 in
         let held = shows.values t ∙ more.1 in (
           subst (λ (k : ℕ). p < k) of.vertices_is (ltb-true p old.vertices parts.0),
+          refl,
           shows.vertices p ∙ off (in_prefix old n p) more.0,
           among_passing (has row) (64 * length row) t held (held_in row t held),
         )
@@ -274,14 +285,14 @@ leaves_counted q s old new set row from of (n, none, first, shows, after) is =
         off true h = cc
         off false h = refl
 
-    leaves : Leaves q s old (without_union old n) (LeftOthers set (members_of row) from)
+    leaves : Leaves q s old (without_union old n) (LeftOthers None set (members_of row) from)
     leaves = let f = cleared_follows old (λ r. not (in_prefix old n r)) (in_union old n) old.vertices in record {
       vertices_same = f.vertices_same;
       values_same = f.values_same;
       rest = f.rest;
       front = f.front;
       from_is = is;
-      stands = (shown_only q old n set row of first.here.within shows, omega (arith, shown_few old n set row shows, first.here.full, shows.size));
+      stands = (shown_only q old n set row injective of first.here.within shows, omega (arith, values_few old n row shows.values, first.here.full, shows.size));
       refused = refused;
     }
 
@@ -291,21 +302,23 @@ leaves_counted q s old new set row from of (n, none, first, shows, after) is =
 pub failed_inside : (old new : State) (set row : List ℕ) → Prunes pruned.Fail old new set row → (k : ℕ) → k < length set → get_or set k 0 < new.vertices
 failed_inside old new set row (n, first, lists, after) k l = rw after (lists_inside old n set lists k l)
 
-pub short_shown : (q : Problem) (old new : State) (set row : List ℕ) (cs : Option (List Change)) (short : Option CountedSet) (n : ℕ) → IsOf q old → Prunes pruned.Fail old new set row
-    → KeepsUnited cs short new set → n ≡ length set → Short new n × ((cs ≡ None) ⊎ IsShown q new short)
-short_shown q old new set unseen cs short n of (k, first, lists, after) keeps is =
-    subst (λ (d : State). Short d n × ((cs ≡ None) ⊎ IsShown q d short)) (sym after)
-    (subst (λ (i : ℕ). Short old i) (sym (is ∙ lists.size)) first.here, by (subst (λ (d : State). KeepsUnited cs short d set) after keeps))
+pub short_shown : (q : Problem) (old new : State) (set row : List ℕ) (cs : Option (List Change)) (short : Option CountedSet) (n : ℕ) → q.maps ≡ Injective → IsOf q old
+    → Prunes pruned.Fail old new set row → KeepsUnited cs short new None set → n ≡ length set → HasShort q new n × ((cs ≡ None) ⊎ IsShown q new short)
+short_shown q old new set unseen cs short n injective of (k, first, lists, after) keeps is =
+    subst (λ (d : State). HasShort q d n × ((cs ≡ None) ⊎ IsShown q d short)) (sym after) (
+      record { centre = None; block = all_block q injective; short = subst (λ (i : ℕ). Short old i) (sym (is ∙ lists.size)) first.here },
+      by (subst (λ (d : State). KeepsUnited cs short d None set) after keeps),
+    )
   where
-    by : KeepsUnited cs short old set → (cs ≡ None) ⊎ IsShown q old short
+    by : KeepsUnited cs short old None set → (cs ≡ None) ⊎ IsShown q old short
     by (inl none) = inl none
     by (inr (row, bits, kept)) =
         let shows : Shows old k set row = shows_united old k set row lists bits in
         inr (record {
-          set = record { vertices = set; values = members_of row };
+          set = record { centre = None; vertices = set; values = members_of row };
           set_is = kept;
-          only = shown_only q old k set row of first.here.within shows;
-          fewer = omega (arith, shown_few old k set row shows, first.here.few, shows.size);
+          only = shown_only q old k set row injective of first.here.within shows;
+          fewer = omega (arith, values_few old k row shows.values, first.here.few, shows.size);
         })
 
 -- a nogood that is whole is decided

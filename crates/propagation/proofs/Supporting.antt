@@ -9,7 +9,6 @@ use Rattle.graph_theory.specs.Reversed.{turned}
 use Rattle.graph_theory.specs.declared.direction.Direction.{Direction}
 use Rattle.graph_theory.proofs.ReversedGraphs.{embeds_turned}
 use Rattle.search_theory.specs.Claims.{Inside, Quiet}
-use Rattle.all_different.specs.Prefixes.{Balanced}
 use Rattle.bit_rows.specs.BitRows.{has}
 use Rattle.domain_bits.specs.Removals.{State, in_domain}
 use Rattle.domain_bits.proofs.Sizes.{in_below}
@@ -90,7 +89,7 @@ forces_more true q old mid new before between after s f = shrinks_more q old mid
 forces_more false q old mid new before between after s f = forces_none q old mid new before between s f
 
 -- where the trail is no longer, nothing has left
-narrows_same : (q : Problem) (old new : State) → Narrows q old new → length new.removed ≤ length old.removed → new ≡ old
+pub narrows_same : (q : Problem) (old new : State) → Narrows q old new → length new.removed ≤ length old.removed → new ≡ old
 narrows_same q old new n le = by n.rest n.front
   where
     by : (rest : List (ℕ × ℕ)) → new.removed ≡ old.removed ++ rest → new ≡ old
@@ -98,9 +97,10 @@ narrows_same q old new n le = by n.rest n.front
     by (x ∷ xs) front = absurd (omega (arith, ap length front, length-append old.removed (x ∷ xs), le))
 
 -- what has left domains at rest, in the words of a filter's answer
-pub supported_prunes : (some : Bool) (q : Problem) (old new : State) (before after : List Bool) → Quiet q (in_domain old) → Balanced old → length before ≡ size q.pattern
-    → Shrinks q old before new after → some ≡ ltb (length old.removed) (length new.removed) → PrunesFor (Ok some) q old new after
-supported_prunes true q old new before after quiet balanced long s is = (
+pub supported_prunes : (Has : State → Type 0) (some : Bool) (q : Problem) (old new : State) (before after : List Bool) → Quiet q (in_domain old)
+    → (length new.removed ≤ length old.removed → Has new) → length before ≡ size q.pattern
+    → Shrinks q old before new after → some ≡ ltb (length old.removed) (length new.removed) → PrunesFor Has (Ok some) q old new after
+supported_prunes Has true q old new before after quiet has long s is = (
   s.narrows,
   ready_on q old new before after (ready_at_rest q old before quiet long) s,
   ltb-true (length old.removed) (length new.removed) (sym is),
@@ -112,9 +112,9 @@ supported_prunes true q old new before after quiet balanced long s is = (
     by p (inl waits) = inl waits
     by p (inr (inl two)) = inr (inl two)
     by p (inr (inr same)) = inr (inr same.domain)
-supported_prunes false q old new before after quiet balanced long s is =
-    let same = narrows_same q old new s.narrows (by (cases_lt (length old.removed) (length new.removed))) in
-    (same, subst (λ (d : State). Balanced d) (sym same) balanced)
+supported_prunes Has false q old new before after quiet has long s is =
+    let few = by (cases_lt (length old.removed) (length new.removed)) in
+    (narrows_same q old new s.narrows few, has few)
   where
     by : (length old.removed < length new.removed) ⊎ (length new.removed ≤ length old.removed) → length new.removed ≤ length old.removed
     by (inl less) = absurd (true≢false (sym (lt-ltb (length old.removed) (length new.removed) less) ∙ sym is))

@@ -1,11 +1,10 @@
 -- What a filter takes, one look after another, and what it then answers.
 
-use Rattle.std.proofs.Common.{◌≡◌, ℕ, ◌*◌, ◌==◌, ◌≤◌, ltb, not, Bool, true, false, List, length, Option, Result, Ok, Err, IsErrAnd, ◌∙◌, subst, arith}
+use Rattle.std.proofs.Common.{◌≡◌, ℕ, ◌*◌, ◌==◌, ◌≤◌, ltb, not, Bool, true, false, List, length, Option, Result, Ok, Err, IsErrAnd, ◌∙◌, sym, subst, arith}
 use Rattle.std.specs.Result.{is_ok}
 use Rattle.std.proofs.lemmas.Result.{err_from_is_err_and}
 use Rattle.graph_theory.specs.Embedding.{Problem}
 use Rattle.search_theory.specs.Claims.{Quiet}
-use Rattle.all_different.specs.Prefixes.{Balanced}
 use Rattle.domain_bits.specs.Changes.{Keeps}
 use Rattle.domain_bits.specs.Removals.{State, in_domain}
 use Rattle.recorder.specs.declared.change.Failure.{Failure}
@@ -18,7 +17,7 @@ use Rattle.propagation.specs.Learning.{IsUnused}
 use Rattle.propagation.specs.Propagation.{NotesTaken, PrunesFor}
 use Rattle.propagation.specs.Taking.{AreFlagged, Takes, Prunes}
 use Rattle.propagation.proofs.Forcing.{shrinks_taken, none_taken, emptied_taken}
-use Rattle.propagation.proofs.Supporting.{forces_more, supported_prunes}
+use Rattle.propagation.proofs.Supporting.{forces_more, narrows_same, supported_prunes}
 use Rattle.propagation.proofs.Waiting.{shrinks_none}
 
 -- What has been taken where nothing has failed.
@@ -109,36 +108,53 @@ takes_value false q old mid new before between after told tells more r u flagged
 
 -- ---- answers
 
+-- what held of the domains holds where nothing has left
+pub has_still : {A : Type 0} (Has : State → Type 0) (a : A) (q : Problem) (old new : State) (before after : List Bool) (told tells : Option (List Change)) → Has old
+    → Takes (Ok a) q old before told new after tells → length new.removed ≤ length old.removed → Has new
+has_still Has a q old new before after told tells has took few = subst Has (sym (narrows_same q old new took.forces.narrows few)) has
+
 -- of domains at rest
-pub prunes_taken : {A : Type 0} (a : A) (some : Bool) (q : Problem) (old new : State) (before after : List Bool) (told tells : Option (List Change)) (short : Option CountedSet)
-    → Quiet q (in_domain old) → Balanced old → AreFlagged q old before → Takes (Ok a) q old before told new after tells → some ≡ ltb (length old.removed) (length new.removed)
-    → Prunes (Ok some) q old told new after tells short
-prunes_taken a some q old new before after told tells short quiet balanced flagged took is = record {
-  pruned = supported_prunes some q old new before after quiet balanced flagged.long took.forces is;
+pub prunes_taken : {A : Type 0} (a : A) (Has : State → Type 0) (some : Bool) (q : Problem) (old new : State) (before after : List Bool) (told tells : Option (List Change)) (short : Option CountedSet)
+    → Quiet q (in_domain old) → (length new.removed ≤ length old.removed → Has new) → AreFlagged q old before → Takes (Ok a) q old before told new after tells
+    → some ≡ ltb (length old.removed) (length new.removed) → Prunes Has (Ok some) q old told new after tells short
+prunes_taken a Has some q old new before after told tells short quiet has flagged took is = record {
+  pruned = supported_prunes Has some q old new before after quiet has flagged.long took.forces is;
   fails = λ s. tt;
   told_on = took.told_on;
   guesses = took.guesses;
 }
 
-pub prunes_failed : {A : Type 0} (failure : Failure) (answer : Result Bool Failure) (q : Problem) (old new : State) (before after : List Bool) (told tells : Option (List Change)) (short : Option CountedSet)
-    → IsErrAnd answer (λ y. y ≡ failure) → Takes {A = A} (Err failure) q old before told new after tells → Prunes answer q old told new after tells short
-prunes_failed failure answer q old new before after told tells short is took =
+pub prunes_failed : {A : Type 0} (Has : State → Type 0) (failure : Failure) (answer : Result Bool Failure) (q : Problem) (old new : State) (before after : List Bool) (told tells : Option (List Change)) (short : Option CountedSet)
+    → IsErrAnd answer (λ y. y ≡ failure) → Takes {A = A} (Err failure) q old before told new after tells → Prunes Has answer q old told new after tells short
+prunes_failed Has failure answer q old new before after told tells short is took =
     let p = err_from_is_err_and answer is in
     rw (p.1, p.2) (record { pruned = took.forces; fails = λ s. fails_emptied q s new tells short failure took.none; told_on = took.told_on; guesses = took.guesses })
 
 -- of what filters answer one after another, where the first has found nothing
-pub prunes_then : (answer : Result Bool Failure) (q : Problem) (old mid new : State) (between after : List Bool) (told tells more : Option (List Change)) (before short : Option CountedSet)
-    → Prunes (Ok false) q old told mid between tells before → Prunes answer q mid tells new after more short → Prunes answer q old told new after more short
-prunes_then answer q old mid new between after told tells more before short first next = record {
-  pruned = subst (λ (d : State). PrunesFor answer q d new after) first.pruned.0 next.pruned;
+pruned_then : (First Next Both : State → Type 0) → ((d : State) → First d → Next d → Both d) → (answer : Result Bool Failure) (q : Problem) (old mid new : State) (after : List Bool)
+    → (mid ≡ old) × First mid → PrunesFor Next answer q mid new after → PrunesFor Both answer q old new after
+pruned_then First Next Both both (Ok false) q old mid new after first next = (next.0 ∙ first.0, both new (subst First (sym next.0) first.1) next.1)
+pruned_then First Next Both both (Ok true) q old mid new after first next = subst (λ (d : State). PrunesFor Both (Ok true) q d new after) first.0 next
+pruned_then First Next Both both (Err failure) q old mid new after first next = subst (λ (d : State). PrunesFor Both (Err failure) q d new after) first.0 next
+
+pub prunes_then : (First Next Both : State → Type 0) → ((d : State) → First d → Next d → Both d) → (answer : Result Bool Failure) (q : Problem) (old mid new : State) (between after : List Bool)
+    (told tells more : Option (List Change)) (before short : Option CountedSet)
+    → Prunes First (Ok false) q old told mid between tells before → Prunes Next answer q mid tells new after more short → Prunes Both answer q old told new after more short
+prunes_then First Next Both both answer q old mid new between after told tells more before short first next = record {
+  pruned = pruned_then First Next Both both answer q old mid new after first.pruned next.pruned;
   fails = next.fails;
   told_on = λ s t. next.told_on s (first.told_on s t);
   guesses = guesses_more told tells more first.guesses next.guesses;
 }
 
 -- what a filter that has failed answers, as another one's answer
-pub prunes_returned : (failure : Failure) (answer : Result Bool Failure) (q : Problem) (old new : State) (after : List Bool) (told tells : Option (List Change)) (short : Option CountedSet)
-    → IsErrAnd answer (λ y. y ≡ failure) → Prunes (Err failure) q old told new after tells short → Prunes answer q old told new after tells short
-prunes_returned failure answer q old new after told tells short is prunes =
+pub prunes_returned : (Has More : State → Type 0) (failure : Failure) (answer : Result Bool Failure) (q : Problem) (old new : State) (after : List Bool) (told tells : Option (List Change)) (short : Option CountedSet)
+    → IsErrAnd answer (λ y. y ≡ failure) → Prunes Has (Err failure) q old told new after tells short → Prunes More answer q old told new after tells short
+prunes_returned Has More failure answer q old new after told tells short is prunes =
     let p = err_from_is_err_and answer is in
-    rw (p.1, p.2) prunes
+    rw (p.1, p.2) (record { pruned = prunes.pruned; fails = prunes.fails; told_on = prunes.told_on; guesses = prunes.guesses })
+
+-- where values have left, whatever was looked for
+pub prunes_some : (Has More : State → Type 0) (q : Problem) (old new : State) (after : List Bool) (told tells : Option (List Change)) (short : Option CountedSet)
+    → Prunes Has (Ok true) q old told new after tells short → Prunes More (Ok true) q old told new after tells short
+prunes_some Has More q old new after told tells short prunes = record { pruned = prunes.pruned; fails = prunes.fails; told_on = prunes.told_on; guesses = prunes.guesses }

@@ -1,9 +1,9 @@
 -- The steps of propagation, put together: one domain, all domains, one vertex that waited.
 
 use Rattle.std.proofs.Common.{◌≡◌, ℕ, zero, suc, ◌*◌, ◌<◌, ◌≤◌, ◌==◌, ◌&&◌, not, Bool, true, false, List, length, slice_set, refl, sym, ◌∙◌, subst, arith, ◌⊎◌, inl, inr}
-use Rattle.std.proofs.lemmas.Bool.{cases_eq, eq-eqb, ne_eqb}
+use Rattle.std.proofs.lemmas.Bool.{cases_eq, eq-eqb, ne_eqb, true≢false}
 use Rattle.graph_theory.specs.Graph.{size}
-use Rattle.graph_theory.specs.Embedding.{Problem}
+use Rattle.graph_theory.specs.Embedding.{Problem, differ}
 use Rattle.search_theory.specs.Consistency.{AreConsistent}
 use Rattle.search_theory.specs.Claims.{Single}
 use Rattle.graph_theory.specs.Neighbours.{count}
@@ -125,22 +125,32 @@ sweeps_narrowed answer q old new before after p t r keeps values p_in r_in other
     by_answer true n = kept_swept q old new p t r keeps values k right
     by_answer false n = n.0
 
+-- a domain from which nothing was taken, where p and r are asked nothing, not even distinct images
+pub sweeps_free : (q : Problem) (d : State) (waiting : List Bool) (p t r : ℕ) → length d.removed ≤ d.vertices * d.values → ((u : ℕ) → AreConsistent q p t r u) → Sweeps true q d waiting d waiting p t r
+sweeps_free q d waiting p t r bounded free = record {
+  narrows = narrows_none q d;
+  swept = λ u other here. free u;
+  own = λ v. refl;
+  gone = λ x u here gone. absurd (true≢false (sym here ∙ gone));
+  shrinks = λ _. shrinks_same q d d waiting waiting refl refl bounded;
+}
+
 -- a domain from which t was taken, where p and r are asked nothing but distinct images
 pub sweeps_taken : (answer : Bool) (q : Problem) (old new : State) (before after : List Bool) (p t r : ℕ) → old.values ≡ size q.target → p < size q.pattern → r < size q.pattern → (p ≡ r → ⊥)
     → r < length before → Single (in_domain old) p t → changes.Keeps old new r (λ v. not (v == t)) → NotesTaken answer old before new after r t
-    → length new.removed ≤ new.vertices * new.values → ((u : ℕ) → (t ≡ u → ⊥) → AreConsistent q p t r u)
+    → length new.removed ≤ new.vertices * new.values → differ q p r ≡ true → ((u : ℕ) → (differ q p r ≡ true → t ≡ u → ⊥) → AreConsistent q p t r u)
     → (waits_at before r ≡ true) ⊎ ((u : ℕ) → Single (in_domain old) r u → ⊥) → Sweeps answer q old before new after p t r
-sweeps_taken answer q old new before after p t r values p_in r_in other flag s k taken bounded free undecided = by_taken taken
+sweeps_taken answer q old new before after p t r values p_in r_in other flag s k taken bounded apart free undecided = by_taken taken
   where
     right : (u : ℕ) → u < size q.target → not (u == t) ≡ true → AreConsistent q p t r u
-    right u u_in passes = free u (λ same. not_both (u == t) (passed (u == t) passes) (eq-eqb u t (sym same)))
+    right u u_in passes = free u (λ _ same. not_both (u == t) (passed (u == t) passes) (eq-eqb u t (sym same)))
       where
         passed : (b : Bool) → not b ≡ true → b ≡ false
         passed true h = cc
         passed false h = refl
 
     complete : (u : ℕ) → AreConsistent q p t r u → u < size q.target → not (u == t) ≡ true
-    complete u c u_in = rw (ne_eqb u t (λ same. c.pair.apart (sym same))) refl
+    complete u c u_in = rw (ne_eqb u t (λ same. c.pair.apart apart (sym same))) refl
 
     by_taken : NotesTaken answer old before new after r t → Sweeps answer q old before new after p t r
     by_taken (inr (here, notes)) = sweeps_narrowed answer q old new before after p t r (λ v. not (v == t)) values p_in r_in other flag s k notes bounded right complete undecided

@@ -10,7 +10,7 @@ use Rattle.nogood_watch.specs.Nogoods as watched
 use Rattle.nogood_watch.specs.Watching.{forced_at}
 use Rattle.all_different.specs.Memory.{Memory}
 use Rattle.propagation.specs.Edges.{RoomSize, IsRoomFor}
-use Rattle.propagation.specs.Propagation.{IsFor, Narrows, Shrinks, waits_at}
+use Rattle.propagation.specs.Propagation.{IsFor, AreNeighbourhoods, Narrows, Shrinks, waits_at}
 
 -- These pairs are a nogood: no vertex has two of them, and no embedding has all of them.
 pub record IsNogood (q : Problem) (xs : List (ℕ × ℕ)) : Type 0 where
@@ -33,10 +33,12 @@ AreKept q (Some s) = AreNogoods q s
 
 -- ---- what propagation makes of it
 
--- What propagation works with is of the problem: the memory for counting and that for edges are made for it, and what is kept are nogoods.
-pub record Works (q : Problem) (memory : Memory) (edges : RoomSize) (nogoods : Option
-    watched.State) : Type 0 where
+-- What propagation works with is of the problem: the memory for counting and that for edges are made for it, by local maps these are its
+-- neighbourhoods, and what is kept are nogoods.
+pub record Works (q : Problem) (memory : Memory) (near : List (List ℕ)) (edges : RoomSize)
+    (nogoods : Option watched.State) : Type 0 where
   pub is_for : IsFor q memory
+  pub lists : AreNeighbourhoods q near
   pub room : IsRoomFor q edges
   pub kept : AreKept q nogoods
 

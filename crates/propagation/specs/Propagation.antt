@@ -1,10 +1,13 @@
 -- Propagation: what taking consequences does to domains, and which vertices still wait for theirs to be taken.
 
-use Rattle.std.specs.Prelude.{◌≡◌, ℕ, ◌+◌, ◌-◌, ◌*◌, ◌<◌, ◌≤◌, Bool, true, false, ◌⊎◌, if◌then◌else◌, List, [], ◌∷◌, ◌++◌, length, slice_index_or, slice_set, Result, Ok, Err}
-use Rattle.graph_theory.specs.Graph.{size}
+use Rattle.std.specs.Prelude.{◌≡◌, ℕ, ◌+◌, ◌-◌, ◌*◌, ◌<◌, ◌≤◌, Bool, true, false, ◌⊎◌, if◌then◌else◌, List, [], ◌∷◌, ◌++◌, length, slice_index_or, slice_set, Result, Ok, Err, Option}
+use Rattle.graph_theory.specs.Graph.{Graph, size}
+use Rattle.graph_theory.specs.Neighbours.{is_near, members}
+use Rattle.graph_theory.specs.declared.embedding.Maps.TheVariants.{Local}
 use Rattle.graph_theory.specs.Embedding.{Problem}
+use Rattle.graph_theory.specs.Blocks.{has_block}
 use Rattle.search_theory.specs.Consistency.{AreConsistent}
-use Rattle.search_theory.specs.Claims.{KeepsEmbeddings, NoneInside, Single, Settled, Quiet}
+use Rattle.search_theory.specs.Claims.{KeepsEmbeddings, NoneInside, Single, Settled, Quiet, Ordered}
 use Rattle.domain_bits.specs.Removals.{State, in_domain, size_of}
 use Rattle.sparse_set.specs.Removals as sparse
 use Rattle.all_different.specs.Memory.{Memory}
@@ -12,11 +15,21 @@ use Rattle.all_different.specs.Prefixes.{Balanced}
 use Rattle.all_different.specs.declared.Pruned.{Pruned}
 use Rattle.all_different.specs.declared.Pruned.TheVariants as pruned
 use Rattle.recorder.specs.declared.change.Failure.{Failure}
+use Rattle.recorder.specs.Telling.{block_state}
 
 -- The memory for counting is made for the domains of the problem.
 pub record IsFor (q : Problem) (memory : Memory) : Type 0 where
   pub vertices_is : memory.vertices ≡ size q.pattern
   pub values_is : memory.values ≡ size q.target
+
+-- The vertices near each of the first n vertices, rising.
+pub record AreListed (g : Graph) (lists : List (List ℕ)) (n : ℕ) : Type 0 where
+  pub long : length lists ≡ n
+  pub each : (c : ℕ) → c < n → slice_index_or lists c [] ≡ members (is_near g c) (size g)
+
+-- By local maps these are the vertices near each pattern vertex.
+pub record AreNeighbourhoods (q : Problem) (lists : List (List ℕ)) : Type 0 where
+  pub listed : q.maps ≡ Local → AreListed q.pattern lists (size q.pattern)
 
 -- Values were removed, and no embedding was lost.
 pub record Narrows (q : Problem) (old new : State) : Type 0 where
@@ -186,14 +199,31 @@ pruned_of (Ok false) = pruned.Quiet
 pruned_of (Ok true) = pruned.Hall
 pruned_of (Err failure) = pruned.Fail
 
--- What pruning tells of a problem: its domains are balanced; or values left that no embedding needs, each vertex waits or rests, and each that is decided by it waits; or no embedding is within them.
-abbrev pub PrunesFor : Result Bool Failure → Problem → State → State → List Bool → Type 0
-PrunesFor (Ok false) q old new after = (new ≡ old) × Balanced new
-PrunesFor (Ok true) q old new after = Narrows q old new × Ready q new after
-    × (length old.removed < length new.removed) × DecidedOnesWait q old new after
-PrunesFor (Err failure) q old new after = Narrows q old new × NoneInside q (in_domain old)
+-- The domains of each block are balanced.
+abbrev pub AreBalanced : Problem → State → Type 0
+AreBalanced q d = (centre : Option ℕ) → has_block q centre ≡ true → Balanced (block_state q d centre)
 
--- What propagation answers: domains at rest, those of unions of them included, or none that an embedding is within.
+-- The domains are balanced, and in the order that is asked of images.
+pub record AreCalm (q : Problem) (d : State) : Type 0 where
+  pub balanced : AreBalanced q d
+  pub ordered : Ordered q (in_domain d)
+
+-- What counting over a block, or over all of them, tells: the domains have what it looks for; or values left that no embedding needs; or no
+-- embedding is within them.
+abbrev pub Counts : (State → Type 0) → Result Bool Failure → Problem → State → State → Type 0
+Counts Has (Ok false) q old new = (new ≡ old) × Has new
+Counts Has (Ok true) q old new = Narrows q old new × (length old.removed < length new.removed)
+Counts Has (Err failure) q old new = (new ≡ old) × NoneInside q (in_domain old)
+
+-- What a filter tells of a problem: its domains have what it looks for; or values left that no embedding needs, each vertex waits or rests, and each that is decided by it waits; or no embedding is within them.
+abbrev pub PrunesFor : (State → Type 0) → Result Bool Failure → Problem → State → State
+    → List Bool → Type 0
+PrunesFor Has (Ok false) q old new after = (new ≡ old) × Has new
+PrunesFor Has (Ok true) q old new after = Narrows q old new × Ready q new after
+    × (length old.removed < length new.removed) × DecidedOnesWait q old new after
+PrunesFor Has (Err failure) q old new after = Narrows q old new × NoneInside q (in_domain old)
+
+-- What propagation answers: domains at rest, those of unions of them and the order of images included, or none that an embedding is within.
 abbrev pub Propagates : Bool → Problem → State → State → Type 0
-Propagates true q old new = Narrows q old new × Quiet q (in_domain new) × Balanced new
+Propagates true q old new = Narrows q old new × Quiet q (in_domain new) × AreCalm q new
 Propagates false q old new = Narrows q old new × NoneInside q (in_domain old)

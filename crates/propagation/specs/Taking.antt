@@ -37,11 +37,11 @@ pub record Takes {A : Type 0} (answer : Result A Failure) (q : Problem) (old : S
   pub told_on : TellsOn q old told new tells
   pub guesses : NoNewGuess told tells
 
--- The same of domains at rest, by whether values have left, with what a failure says.
-pub record Prunes (answer : Result Bool Failure) (q : Problem) (old : State) (told : Option
+-- The same of domains at rest, by whether values have left, with what they have else, and what a failure says.
+pub record Prunes (Has : State → Type 0) (answer : Result Bool Failure) (q : Problem) (old : State) (told : Option
     (List Change)) (new : State) (after : List Bool) (tells : Option (List Change))
     (short : Option CountedSet) : Type 0 where
-  pub pruned : PrunesFor answer q old new after
+  pub pruned : PrunesFor Has answer q old new after
   pub fails : (s : Option watched.State) → IfErr answer (Fails q s new tells short)
   pub told_on : TellsOn q old told new tells
   pub guesses : NoNewGuess told tells

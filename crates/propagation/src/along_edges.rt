@@ -1,12 +1,13 @@
 //! What leaves along edges where counting finds nothing: values without support, and values beside which neighbours would be crowded. Either filter looks on
 //! as far as its credit goes.
 
-ghost use Rattle.std.specs.Prelude.{◌≡◌, ℕ, ◌*◌, ◌<◌, ◌≤◌, length, slice_index};
+ghost use Rattle.std.specs.Prelude.{◌≡◌, ℕ, ◌*◌, ◌<◌, ◌≤◌, true, length, slice_index};
 ghost use Rattle.graph_theory.specs.Graph.{size};
+ghost use Rattle.graph_theory.specs.Embedding.{is_injective};
 ghost use Rattle.domain_bits.specs.Removals.{in_domain};
 ghost use Rattle.search_theory.specs.Claims.{Quiet};
-ghost use Rattle.all_different.specs.Prefixes.{Balanced};
 ghost use Rattle.propagation.specs.Edges.{IsRoomFor};
+ghost use Rattle.propagation.specs.Propagation.{AreCalm};
 ghost use Rattle.propagation.specs.Taking.{AreFlagged, Prunes, Takes};
 
 use crate::edge_room::EdgeRoom;
@@ -14,6 +15,7 @@ use crate::edges::support_all;
 use crate::matching::{choose, match_vertex};
 use domain_bits::{Domains, Trail};
 use graph_rows::Problem;
+use graph_theory::embedding::Maps;
 use recorder::{Failure, Recorder};
 use sparse_set::SparseSet;
 
@@ -59,7 +61,34 @@ fn left_for(room: &EdgeRoom, filter: EdgeFilter) -> u64 {
     }
 }
 
-/// Looks once, at all vertices that are due or at the one whose turn it is, and says whether there was one. Cost: that of `support_all`, or of `choose` and `match_vertex`.
+/// Looks for crowded neighbours of the one whose turn it is, and says whether there was one. Cost: that of `choose` and `match_vertex`.
+fn look_around<T: Trail, R: Recorder>(
+    q: &Problem,
+    d: &mut Domains<T>,
+    waiting: &mut [bool],
+    undecided: &SparseSet,
+    room: &mut EdgeRoom,
+    told: &mut R,
+) -> Result<bool, Failure>
+    requires flagged { AreFlagged q.now d.old waiting.old }
+    requires count { undecided.now.count ≡ size q.now.pattern }
+    requires injective { is_injective q.now.maps ≡ true }
+    requires room { IsRoomFor q.now room.old }
+    ensures takes { Takes result q.now d.old waiting.old (R.changes told.old)
+        d.new waiting.new (R.changes told.new) }
+    ensures room { IsRoomFor q.now room.new }
+{
+    match choose(q, d, undecided, &mut room.matching) {
+        None => Ok(false),
+        Some(p) => {
+            match_vertex(q, d, waiting, &mut room.matching, told, p)?;
+            Ok(true)
+        }
+    }
+}
+
+/// Looks once, at all vertices that are due or at the one whose turn it is, and says whether there was one. Neighbours are crowded only
+/// where any two images have to differ. Cost: that of `support_all` or of `look_around`.
 fn look<T: Trail, R: Recorder>(
     q: &Problem,
     d: &mut Domains<T>,
@@ -78,12 +107,10 @@ fn look<T: Trail, R: Recorder>(
 {
     match filter {
         EdgeFilter::Support => support_all(q, d, waiting, undecided, room, told),
-        EdgeFilter::Matching => match choose(q, d, undecided, &mut room.matching) {
-            None => Ok(false),
-            Some(p) => {
-                match_vertex(q, d, waiting, &mut room.matching, told, p)?;
-                Ok(true)
-            }
+        EdgeFilter::Matching => match q.maps() {
+            Maps::Injective => look_around(q, d, waiting, undecided, room, told),
+            Maps::Local => Ok(false),
+            Maps::Any => Ok(false),
         },
     }
 }
@@ -128,9 +155,9 @@ pub(crate) fn prune_along_edges<T: Trail, R: Recorder>(
     requires count { undecided.now.count ≡ size problem.now.pattern }
     requires room { IsRoomFor problem.now room.old }
     requires quiet { Quiet problem.now (in_domain d.old) }
-    requires balanced { Balanced d.old }
-    ensures prunes { Prunes result problem.now d.old (R.changes told.old) d.new waiting.new
-        (R.changes told.new) (R.short told.new) }
+    requires calm { AreCalm problem.now d.old }
+    ensures prunes { Prunes (AreCalm problem.now) result problem.now d.old (R.changes told.old)
+        d.new waiting.new (R.changes told.new) (R.short told.new) }
     ensures room { IsRoomFor problem.now room.new }
     ensures bounded { length d.new.removed ≤ d.new.vertices * d.new.values }
 {

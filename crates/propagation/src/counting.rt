@@ -11,12 +11,13 @@ ghost use Rattle.domain_bits.specs.Removals.{in_domain, size_of};
 ghost use Rattle.search_theory.specs.Claims.{Quiet};
 ghost use Rattle.propagation.specs.Learning.{DecidedWait};
 ghost use Rattle.sparse_set.specs.Removals.{has as is_member};
-ghost use Rattle.propagation.specs.Propagation.{IsFor, LeavesPast, UndecidedWait, NotesDecided, Notes};
+ghost use Rattle.propagation.specs.Propagation.{AreBalanced, AreCalm, AreNeighbourhoods, IsFor, LeavesPast, UndecidedWait, NotesDecided, Notes};
 
 use crate::along_edges::prune_along_edges;
+use crate::blocks::count_domains;
+use crate::count_room::CountRoom;
 use crate::edge_room::EdgeRoom;
-use crate::removal::prune;
-use all_different::Scratch;
+use crate::order::prune_order;
 use domain_bits::{Domains, Trail};
 use graph_rows::Problem;
 use recorder::{Failure, Recorder};
@@ -87,28 +88,30 @@ fn note_all_decided<T: Trail>(d: &Domains<T>, waiting: &mut [bool]) -> Result<()
     Ok(())
 }
 
-/// Counts the values of the first domains together, and says whether any leave. Where values do, the vertices that this decides wait: the
+/// Counts the values of the first domains of each block together, and says whether any leave. Where values do, the vertices that this decides wait: the
 /// flags are raised of those that are undecided before, and lowered of those that still are.
 pub(crate) fn prune_noting<T: Trail, R: Recorder>(
     d: &mut Domains<T>,
     waiting: &mut [bool],
     undecided: &SparseSet,
-    scratch: &mut Scratch,
+    counting: &mut CountRoom,
     told: &mut R,
     problem: &Problem,
 ) -> Result<bool, Failure>
     requires is_of { IsOf problem.now d.old }
     requires left { LeavesPast problem.now d.old undecided.now }
-    requires is_for { IsFor problem.now scratch.old }
+    requires is_for { IsFor problem.now counting.old.scratch }
+    requires near { AreNeighbourhoods problem.now counting.old.near }
     requires quiet { Quiet problem.now (in_domain d.old) }
     requires long { length waiting.old ≡ size problem.now.pattern }
-    ensures prunes { Prunes result problem.now d.old (R.changes told.old) d.new waiting.new
-        (R.changes told.new) (R.short told.new) }
-    ensures is_for { IsFor problem.now scratch.new }
+    ensures prunes { Prunes (AreBalanced problem.now) result problem.now d.old (R.changes told.old)
+        d.new waiting.new (R.changes told.new) (R.short told.new) }
+    ensures is_for { IsFor problem.now counting.new.scratch }
+    ensures near { counting.new.near ≡ counting.old.near }
     ensures bounded { length d.new.removed ≤ d.new.vertices * d.new.values }
 {
     raise_undecided(d, waiting, undecided);
-    let answer = prune(problem, d, scratch, told);
+    let answer = count_domains(problem, d, counting, told);
     let _removed = d.mark();
     let have_left = answer?;
     if !have_left {
@@ -119,30 +122,38 @@ pub(crate) fn prune_noting<T: Trail, R: Recorder>(
     Ok(true)
 }
 
-/// Counts the values of the first domains together, and where none leave so, takes those that edges do not leave room for; says whether any
-/// have left. Where values do, the vertices that this decides wait. Cost: that of `prune_noting`, and of `prune_along_edges`.
+/// Takes the values that the order of images leaves no room for; where none leave so, counts the values of the first domains of each block together;
+/// and where none leave so either, takes those that edges do not leave room for. Says whether any have left. Where values do, the vertices that this
+/// decides wait. Cost: that of `prune_order`, of `prune_noting`, and of `prune_along_edges`.
 pub(crate) fn filter_more<T: Trail, R: Recorder>(
     d: &mut Domains<T>,
     waiting: &mut [bool],
     undecided: &SparseSet,
-    scratch: &mut Scratch,
+    counting: &mut CountRoom,
     room: &mut EdgeRoom,
     told: &mut R,
     problem: &Problem,
 ) -> Result<bool, Failure>
     requires is_of { IsOf problem.now d.old }
     requires left { LeavesPast problem.now d.old undecided.now }
-    requires is_for { IsFor problem.now scratch.old }
+    requires is_for { IsFor problem.now counting.old.scratch }
+    requires near { AreNeighbourhoods problem.now counting.old.near }
     requires room { IsRoomFor problem.now room.old }
     requires quiet { Quiet problem.now (in_domain d.old) }
     requires long { length waiting.old ≡ size problem.now.pattern }
-    ensures prunes { Prunes result problem.now d.old (R.changes told.old) d.new waiting.new
-        (R.changes told.new) (R.short told.new) }
-    ensures is_for { IsFor problem.now scratch.new }
+    ensures prunes { Prunes (AreCalm problem.now) result problem.now d.old (R.changes told.old)
+        d.new waiting.new (R.changes told.new) (R.short told.new) }
+    ensures is_for { IsFor problem.now counting.new.scratch }
+    ensures near { counting.new.near ≡ counting.old.near }
     ensures room { IsRoomFor problem.now room.new }
     ensures bounded { length d.new.removed ≤ d.new.vertices * d.new.values }
 {
-    let have_left = prune_noting(d, waiting, undecided, scratch, told, problem)?;
+    let _removed = d.mark();
+    let in_order = prune_order(problem, d, waiting, told)?;
+    if in_order {
+        return Ok(true);
+    }
+    let have_left = prune_noting(d, waiting, undecided, counting, told, problem)?;
     if have_left {
         return Ok(true);
     }

@@ -10,9 +10,9 @@ ghost use Rattle.recorder.specs.Holding.{HoldsRows};
 ghost use Rattle.propagation.specs.Learning.{AreKept, Forces, unlearned};
 ghost use Rattle.propagation.specs.Acting.{UnitsOutAfter};
 
+use crate::count_room::CountRoom;
 use crate::edge_room::EdgeRoom;
 use crate::nogoods::Nogoods;
-use all_different::Scratch;
 use bit_rows::words_for;
 use domain_bits::{Domains, Trail};
 use graph_rows::Problem;
@@ -26,7 +26,7 @@ use std::marker::Model;
 /// also the nogoods among them.
 pub struct Filters<'a> {
     pub(crate) rows: PairSupports<'a>,
-    pub(crate) scratch: Scratch,
+    pub(crate) counting: CountRoom,
     pub(crate) edges: EdgeRoom,
     pub(crate) nogoods: Option<Nogoods>,
 }
@@ -36,7 +36,7 @@ impl Drop for Filters<'_> {
     fn drop(self) {
         let Filters {
             rows: _,
-            scratch: _,
+            counting: _,
             edges: _,
             nogoods: _,
         } = self;
@@ -50,12 +50,13 @@ impl<'a> Model for Filters<'a> {
 
     ghost view = { λ f. record { problem = f.rows.problem; nogoods = f.nogoods } };
 
-    ghost invariant = { λ f. Works f.rows.problem f.scratch f.edges f.nogoods };
+    ghost invariant = { λ f. Works f.rows.problem f.counting.scratch f.counting.near f.edges
+        f.nogoods };
 }
 
 impl<'a> Filters<'a> {
     /// No rows and no nogoods yet, with memory for counting and for at most so many words of rows, which the kinds of the problem's
-    /// pairs are shared for. Cost: that of `PairSupports::new`, and 128 steps at most for each pattern vertex.
+    /// pairs are shared for. Cost: that of `PairSupports::new` and of `CountRoom::new`, and 128 steps at most for each pattern vertex.
     pub fn new(
         alloc: Global,
         q: &Problem,
@@ -66,11 +67,11 @@ impl<'a> Filters<'a> {
         ensures { IfOk result (λ f. f ≡ unlearned q.now) }
     {
         let rows = PairSupports::new(alloc, kinds, most)?;
-        let scratch = Scratch::new(alloc, q.pattern().size(), q.target().size())?;
+        let counting = CountRoom::new(alloc, q)?;
         let edges = EdgeRoom::new(alloc, q, pair_cost(q, kinds))?;
         Ok(Filters {
             rows,
-            scratch,
+            counting,
             edges,
             nogoods: None,
         })

@@ -15,6 +15,8 @@
 #![tactic(auto)]
 
 mod along_edges;
+mod blocks;
+mod count_room;
 mod counting;
 mod crowding;
 mod edge_room;
@@ -23,6 +25,7 @@ mod filters;
 mod match_room;
 mod matching;
 mod nogoods;
+mod order;
 mod propagation;
 mod removal;
 mod shared;

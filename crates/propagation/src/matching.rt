@@ -1,10 +1,11 @@
 //! Neighbourhoods matched: where `p` goes to `t`, the vertices to which edges lead from `p` go to values to which edges lead from `t`, and no two to the
-//! same. Where some of them have fewer such values together than there are of them, `t` leaves the domain of `p`. (C. Solnon 2010 asks for a matching of
+//! same where any two images have to differ. Where some of them have fewer such values together than there are of them, `t` leaves the domain of `p`. (C. Solnon 2010 asks for a matching of
 //! all neighbours. Here they are taken up in order of how many values each has, and each time those so far are counted: this finds less, costs less,
 //! and needs no proof of how it was found.)
 
-ghost use Rattle.std.specs.Prelude.{◌≡◌, ℕ, ◌<◌, ◌≤◌, length, slice_index, IfSome};
+ghost use Rattle.std.specs.Prelude.{◌≡◌, ℕ, ◌<◌, ◌≤◌, true, length, slice_index, IfSome};
 ghost use Rattle.graph_theory.specs.Graph.{size};
+ghost use Rattle.graph_theory.specs.Embedding.{is_injective};
 ghost use Rattle.recorder.specs.Telling.{IsOf};
 ghost use Rattle.propagation.specs.Edges.{IsRoomFor};
 ghost use Rattle.propagation.specs.Taking.{AreFlagged, Takes};
@@ -40,6 +41,7 @@ fn match_spot<T: Trail, R: Recorder>(
     requires flagged { AreFlagged q.now d.old waiting.old }
     requires p_in { spot.p < size q.now.pattern }
     requires t_in { spot.t < size q.now.target }
+    requires injective { is_injective q.now.maps ≡ true }
     requires room { IsRoomFor q.now room.old }
     ensures takes { Takes result q.now d.old waiting.old (R.changes told.old)
         d.new waiting.new (R.changes told.new) }
@@ -98,6 +100,7 @@ fn match_value<T: Trail, R: Recorder>(
     requires flagged { AreFlagged q.now d.old waiting.old }
     requires p_in { p < size q.now.pattern }
     requires t_in { t < size q.now.target }
+    requires injective { is_injective q.now.maps ≡ true }
     requires room { IsRoomFor q.now room.old }
     ensures takes { Takes result q.now d.old waiting.old (R.changes told.old)
         d.new waiting.new (R.changes told.new) }
@@ -141,6 +144,7 @@ pub(crate) fn match_vertex<T: Trail, R: Recorder>(
 ) -> Result<(), Failure>
     requires flagged { AreFlagged q.now d.old waiting.old }
     requires p_in { p < size q.now.pattern }
+    requires injective { is_injective q.now.maps ≡ true }
     requires room { IsRoomFor q.now room.old }
     ensures takes { Takes result q.now d.old waiting.old (R.changes told.old)
         d.new waiting.new (R.changes told.new) }

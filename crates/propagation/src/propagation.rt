@@ -313,7 +313,7 @@ pub fn propagate<T: Trail, R: Recorder>(
             d,
             waiting,
             undecided,
-            &mut filters.scratch,
+            &mut filters.counting,
             &mut filters.edges,
             told,
             q,

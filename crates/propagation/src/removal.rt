@@ -6,6 +6,7 @@
 ghost use Rattle.std.specs.Prelude.{◌≡◌, ℕ, ◌*◌, ◌<◌, ◌≤◌, ◌==◌, ◌&&◌, ◌⊎◌, ◌↔◌, true, false, not, length, slice_index, Option, IfSome, IfErr};
 ghost use Rattle.graph_theory.specs.Graph.{size};
 ghost use Rattle.graph_theory.specs.Embedding.{Problem};
+ghost use Rattle.graph_theory.specs.declared.embedding.Maps.TheVariants.{Injective};
 ghost use Rattle.graph_rows.specs.Held.{stands_in};
 ghost use Rattle.bit_rows.specs.BitRows.{has, words_for};
 ghost use Rattle.domain_bits.specs.Changes as changes;
@@ -13,12 +14,12 @@ ghost use Rattle.domain_bits.specs.Changes.{Keeps};
 ghost use Rattle.domain_bits.specs.Removals.{State, in_domain};
 ghost use Rattle.search_theory.specs.Claims.{Single};
 ghost use Rattle.search_theory.specs.Consistency.{AreConsistent};
-ghost use Rattle.all_different.specs.Pruning.{DecidedApart, PruneSays};
+ghost use Rattle.all_different.specs.Pruning.{DecidedApart};
 ghost use Rattle.nogood_watch.specs.Nogoods as watched;
 ghost use Rattle.recorder.specs.declared.change.Cause.TheVariants as cause;
 ghost use Rattle.recorder.specs.Recording.{KeepsSame, KeepsUnited, LeftOne, LeftOver, MayTake, NoNewGuess, members_of};
 ghost use Rattle.recorder.specs.Telling.{IsOf, HasFirst, IsCrowded, Leaves, RefusesBy, StandsBy, Tells, TellsOn, Fails};
-ghost use Rattle.propagation.specs.Propagation.{IsFor, waits_at, NotesSize, NotesTaken, Sweeps, pruned_of};
+ghost use Rattle.propagation.specs.Propagation.{AreBalanced, Counts, IsFor, waits_at, NotesSize, NotesTaken, Sweeps};
 ghost use Rattle.propagation.specs.Taking.{AreFlagged, Meets};
 
 use all_different::{Pruned, Scratch, prune_undecided};
@@ -187,7 +188,8 @@ fn take_inconsistent<T: Trail>(
 }
 
 /// Takes from the domain of `r` what is not consistent with the vertex at its value, and tells it. Where `r` is asked nothing but another
-/// image, as nearly all pairs of a sparse pattern are, this is the value alone, and no row is read. Cost: that of the removal.
+/// image, as nearly all pairs of a sparse pattern are, this is the value alone, and no row is read; where it is not asked even that, nothing leaves.
+/// Cost: that of the removal.
 #[inline(always)]
 pub(crate) fn keep_consistent<T: Trail, R: Recorder>(
     at: &RowsAt<'_>,
@@ -207,6 +209,10 @@ pub(crate) fn keep_consistent<T: Trail, R: Recorder>(
     let t = at.value();
     let cause = Cause::Vertex(at.vertex(), t);
     if at.is_free(r) {
+        if !at.is_apart(r) {
+            let _removed = d.mark();
+            return true;
+        }
         let some = take_value(d, waiting, r, t);
         tell(d, told, r, cause, from);
         return some;
@@ -315,14 +321,20 @@ pub fn give<T: Trail, R: Recorder>(d: &mut Domains<T>, told: &mut R, p: u16, t: 
     tell(d, told, p, Cause::Guess(t), from);
 }
 
-/// Tells the set that was found to have too few values. Its values are united for who listens alone. Cost: one step, and where somebody
+/// Tells the set of the block of a centre, or of all vertices, that was found to have too few values. Its values are united for who listens alone. Cost: one step, and where somebody
 /// listens those of `Scratch::unite` and `found_short`.
-fn tell_short<T: Trail, R: Recorder>(d: &Domains<T>, scratch: &mut Scratch, told: &mut R)
+pub(crate) fn tell_short<T: Trail, R: Recorder>(
+    d: &Domains<T>,
+    scratch: &mut Scratch,
+    told: &mut R,
+    centre: Option<u16>,
+)
     requires vertices { scratch.old.vertices ≡ d.now.vertices }
     requires values { scratch.old.values ≡ d.now.values }
     requires inside { (k : ℕ) → k < length scratch.old.set
         → slice_index scratch.old.set k < d.now.vertices }
-    ensures kept { KeepsUnited (R.changes told.new) (R.short told.new) d.now scratch.old.set }
+    ensures kept { KeepsUnited (R.changes told.new) (R.short told.new) d.now centre
+        scratch.old.set }
     ensures same { KeepsSame (R.changes told.old) (R.changes told.new) }
     ensures set { scratch.new.set ≡ scratch.old.set }
     ensures same_vertices { scratch.new.vertices ≡ scratch.old.vertices }
@@ -332,10 +344,10 @@ fn tell_short<T: Trail, R: Recorder>(d: &Domains<T>, scratch: &mut Scratch, told
         return;
     }
     scratch.unite(d);
-    told.found_short(scratch.set(), scratch.values());
+    told.found_short(centre, scratch.set(), scratch.values());
 }
 
-/// Counts the values of the first domains together, where each value that is all of a domain has left the others, and tells what leaves:
+/// Counts the values of the first of all domains together, where any two images have to differ and each value that is all of a domain has left the others, and tells what leaves:
 /// whether any has, or that some domains have fewer values than there are of them. Cost: that of `prune_undecided`.
 pub(crate) fn prune<T: Trail, R: Recorder>(
     q: &Problem,
@@ -345,8 +357,9 @@ pub(crate) fn prune<T: Trail, R: Recorder>(
 ) -> Result<bool, Failure>
     requires is_of { IsOf q.now d.old }
     requires is_for { IsFor q.now scratch.old }
+    requires injective { q.now.maps ≡ Injective }
     requires apart { DecidedApart d.old }
-    ensures says { PruneSays (pruned_of result) d.old d.new }
+    ensures counts { Counts (AreBalanced q.now) result q.now d.old d.new }
     ensures fails { (s : Option watched.State)
         → IfErr result (Fails q.now s d.new (R.changes told.new) (R.short told.new)) }
     ensures told { TellsOn q.now d.old (R.changes told.old) d.new (R.changes told.new) }
@@ -358,11 +371,11 @@ pub(crate) fn prune<T: Trail, R: Recorder>(
     match prune_undecided(d, scratch) {
         Pruned::Quiet => Ok(false),
         Pruned::Hall => {
-            told.counted(scratch.set(), scratch.values(), from);
+            told.counted(None, scratch.set(), scratch.values(), from);
             Ok(true)
         }
         Pruned::Fail => {
-            tell_short(d, scratch, told);
+            tell_short(d, scratch, told, None);
             Err(Failure::Short(scratch.set().len() as u16))
         }
     }

@@ -18,7 +18,7 @@ returns-then-not-take_crowded-clause-takes g c =
     let vertices = sym (c.deref-2.ensures.value ∙ with_items_is c.room-2.inside.chosen c.gather.new.chosen (c.gather.auto.chosen ∙ c.deref_mut-3.ensures.len)) in
     let values = sym (c.deref-3.ensures.value ∙ with_items_is c.room-2.inside.union c.gather.new.union (c.gather.auto.union ∙ c.deref_mut-4.ensures.len)) in
     let crowded = spot_crowded c.args.q.now c.args.d.now c.pattern.result.now c.target.result.now c.args.spot.direction c.args.spot.p c.args.spot.t c.row_by-near.result.now c.row_by-images.result.now
-    c.gather.new.chosen c.gather.new.union c.deref-2.result.now c.deref-3.result.now c.pattern.ensures.pattern c.target.ensures.target c.requires.p_in c.requires.t_in c.row_by-near.ensures.neighbours
+    c.gather.new.chosen c.gather.new.union c.deref-2.result.now c.deref-3.result.now c.requires.injective c.pattern.ensures.pattern c.target.ensures.target c.requires.p_in c.requires.t_in c.row_by-near.ensures.neighbours
     c.row_by-near.ensures.within c.row_by-images.ensures.neighbours c.row_by-images.ensures.within c.if-not-gather.ensures.gathers (c.if-not-gather.ensures.short refl) vertices values in
     let unused = unused_crowded c.args.q.now c.args.d.now c.args.spot.direction c.args.spot.p c.args.spot.t (members_of c.deref-2.result.now) (members_of c.deref-3.result.now) crowded in
     takes_value false _ _ c.args.d.now _ _ _ _ _ _ _ c.args.spot.p c.args.spot.t c.requires.flagged (takes_none tt _ _ _ _ c.requires.flagged) unused c.if-not-take_crowded.ensures.keeps
@@ -29,7 +29,7 @@ returns-clause-takes g c =
     let vertices = sym (c.deref-2.ensures.value ∙ with_items_is c.room-2.inside.chosen c.gather.new.chosen (c.gather.auto.chosen ∙ c.deref_mut-3.ensures.len)) in
     let values = sym (c.deref-3.ensures.value ∙ with_items_is c.room-2.inside.union c.gather.new.union (c.gather.auto.union ∙ c.deref_mut-4.ensures.len)) in
     let crowded = spot_crowded c.args.q.now c.args.d.now c.pattern.result.now c.target.result.now c.args.spot.direction c.args.spot.p c.args.spot.t c.row_by-near.result.now c.row_by-images.result.now
-    c.gather.new.chosen c.gather.new.union c.deref-2.result.now c.deref-3.result.now c.pattern.ensures.pattern c.target.ensures.target c.requires.p_in c.requires.t_in c.row_by-near.ensures.neighbours
+    c.gather.new.chosen c.gather.new.union c.deref-2.result.now c.deref-3.result.now c.requires.injective c.pattern.ensures.pattern c.target.ensures.target c.requires.p_in c.requires.t_in c.row_by-near.ensures.neighbours
     c.row_by-near.ensures.within c.row_by-images.ensures.neighbours c.row_by-images.ensures.within c.if-not-gather.ensures.gathers (c.if-not-gather.ensures.short refl) vertices values in
     let unused = unused_crowded c.args.q.now c.args.d.now c.args.spot.direction c.args.spot.p c.args.spot.t (members_of c.deref-2.result.now) (members_of c.deref-3.result.now) crowded in
     takes_value true _ _ c.args.d.now _ _ _ _ _ _ _ c.args.spot.p c.args.spot.t c.requires.flagged (takes_none tt _ _ _ _ c.requires.flagged) unused c.if-not-take_crowded.ensures.keeps

@@ -1,11 +1,10 @@
 use Rattle.std.proofs.Common.{◌≡◌, true, false, List, Option, IfSome, sym, ◌∙◌, subst}
 use Rattle.search_theory.specs.Claims.{Quiet}
-use Rattle.all_different.specs.Prefixes.{Balanced}
 use Rattle.graph_theory.specs.Embedding.{Problem}
 use Rattle.nogood_watch.specs.InForce.{InForce}
 use Rattle.propagation.specs.Acting.{WatchesWait}
 use Rattle.propagation.specs.Learning.{AreKept}
-use Rattle.propagation.specs.Propagation.{TakenUp, LeavesPast, Narrows, Propagates}
+use Rattle.propagation.specs.Propagation.{AreCalm, AreNeighbourhoods, TakenUp, LeavesPast, Narrows, Propagates}
 use Rattle.propagation.proofs.Acting.{kept_then, moved_more, wait_pruned}
 use Rattle.propagation.proofs.Past.{leaves_on, fewer_more}
 use Rattle.propagation.proofs.Narrowing.{narrows_more, none_narrowed}
@@ -45,6 +44,7 @@ loop-d-preserved g c =
     record {
       problem = c.in_ok-take_up.ensures.problem ∙ c.loop-d.invariant.problem;
       is_for = c.in_ok-have_left.ensures.is_for;
+      near = subst (AreNeighbourhoods c.args.q.now) (sym c.in_ok-have_left.ensures.near) c.loop-d.invariant.near;
       room = c.in_ok-have_left.ensures.room;
       kept = kept;
       narrows = narrows_more _ _ _ _ (narrows_more _ _ _ _ c.loop-d.invariant.narrows taken.0) pruned.0;
@@ -103,11 +103,11 @@ returns-then-not-have_left-clause-guesses g c =
 
 -- ---- where nothing is left to be taken
 
-propagated_balanced : (q : Problem) (old mid up new : State) → Narrows q old mid → Narrows q mid up → Quiet q (in_domain up) → new ≡ up → Balanced new → Propagates true q old new
-propagated_balanced q old mid up new before after quiet same balanced = (
+propagated_calm : (q : Problem) (old mid up new : State) → Narrows q old mid → Narrows q mid up → Quiet q (in_domain up) → new ≡ up → AreCalm q new → Propagates true q old new
+propagated_calm q old mid up new before after quiet same calm = (
   subst (λ (d : State). Narrows q old d) (sym same) (narrows_more q old mid up before after),
   subst (λ (d : State). Quiet q (in_domain d)) (sym same) quiet,
-  balanced,
+  calm,
 )
 
 pub returns-in_err-take_up-clause-problem : goal.returns-in_err-take_up-clause-problem
@@ -147,7 +147,7 @@ pub returns-then-not-have_left-clause-propagated : goal.returns-then-not-have_le
 returns-then-not-have_left-clause-propagated g c =
     let pruned = rw c.if-not-have_left.true at c.in_ok-have_left.ensures.prunes.pruned in
     let taken = subst (λ (q : Problem). TakenUp true q c.loop-d.d c.take_up.new.d) c.loop-d.invariant.problem c.in_ok-take_up.ensures.taken in
-    propagated_balanced _ c.args.d.now c.loop-d.d c.take_up.new.d _ c.loop-d.invariant.narrows taken.0 taken.1 pruned.0 pruned.1
+    propagated_calm _ c.args.d.now c.loop-d.d c.take_up.new.d _ c.loop-d.invariant.narrows taken.0 taken.1 pruned.0 pruned.1
 
 pub returns-then-not-have_left-clause-in_force : goal.returns-then-not-have_left-clause-in_force
 returns-then-not-have_left-clause-in_force g c =

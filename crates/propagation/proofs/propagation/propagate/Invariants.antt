@@ -4,13 +4,14 @@ use Rattle.recorder.specs.Telling.{Tells}
 use Rattle.propagation.specs.Edges.{IsRoomFor}
 use Rattle.propagation.specs.Learning.{AreKept}
 use Rattle.propagation.specs.Acting.{HaveMoved, WatchesWait}
-use Rattle.propagation.specs.Propagation.{IsFor, Narrows, Ready, LeavesPast, Fewer}
+use Rattle.propagation.specs.Propagation.{AreNeighbourhoods, IsFor, Narrows, Ready, LeavesPast, Fewer}
 use Rattle.propagation.proofs.propagation.propagate.Given as goal
 
 abbrev pub invariant-loop-d : goal.invariant-loop-d
 invariant-loop-d g l = record {
   problem : l.filters-inside.rows.problem ≡ l.q;
-  is_for : IsFor l.q l.filters-inside.scratch;
+  is_for : IsFor l.q l.filters-inside.counting.scratch;
+  near : AreNeighbourhoods l.q l.filters-inside.counting.near;
   room : IsRoomFor l.q l.filters-inside.edges;
   kept : AreKept l.q l.filters-inside.nogoods;
   narrows : Narrows l.q l.fn.d l.d;
