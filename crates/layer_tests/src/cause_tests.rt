@@ -5,10 +5,10 @@ use recorder::{Cause, Causes, Recorder, Silent};
 use std::alloc::{AllocError, Global};
 use std::test::Fail;
 
-/// Tells of a value that left the domain of 0, and then of a set of two vertices with the values 3 and 66.
+/// Tells of a value that left the domain of 0, and then of a set of two vertices near it with the values 3 and 66.
 fn tell_two<R: Recorder>(told: &mut R, first: Mark, second: Mark) {
     told.took(0, Cause::Vertex(1, 2), first);
-    told.counted(&[1, 2], &[1 << 3, 1 << 2], second);
+    told.counted(Some(0), &[1, 2], &[1 << 3, 1 << 2], second);
 }
 
 /// The moment before a value leaves the domain of 0, and the one after.
@@ -39,7 +39,7 @@ fn numbers_are(causes: &Causes, numbers: &[u16]) -> bool {
 fn told(alloc: Global, first: Mark, second: Mark) -> Causes {
     let mut causes = Causes::new(alloc);
     tell_two(&mut causes, first, second);
-    causes.found_short(&[0], &[0]);
+    causes.found_short(None, &[0], &[0]);
     causes
 }
 
@@ -65,7 +65,7 @@ fn nobody_is_told(rt: HostRuntime) -> Result<(), Fail> {
     let domains = Domains::new(rt.alloc(), 3, 70)?;
     let mut silent = Silent;
     tell_two(&mut silent, domains.mark(), domains.mark());
-    silent.found_short(&[0], &[0]);
+    silent.found_short(None, &[0], &[0]);
     silent.forget_to(domains.mark());
     Ok(())
 }

@@ -16,6 +16,8 @@ mod command_tests;
 #[cfg(test)]
 mod logger_tests;
 #[cfg(test)]
+mod map_tests;
+#[cfg(test)]
 mod problems;
 #[cfg(test)]
 mod proof_file_tests;

@@ -34,7 +34,7 @@ const FOUR_PAIRS: &[u8] =
 
 /// How a run ended.
 #[derive(Clone, Copy, PartialEq, Eq)]
-enum End {
+pub enum End {
     /// With an embedding that `Problem::is_embedding` finds to be one.
     Yes,
     /// With none.
@@ -223,7 +223,7 @@ fn search<'a>(
 }
 
 /// The same, with the kinds of pairs.
-fn search_for(alloc: Global, q: &Problem, budget: u32, rows: u16) -> Result<End, AllocError> {
+pub fn search_for(alloc: Global, q: &Problem, budget: u32, rows: u16) -> Result<End, AllocError> {
     let kinds = PairKinds::new(alloc, q)?;
     search(alloc, q, &kinds, budget, rows)
 }
