@@ -13,9 +13,8 @@ use Rattle.search_theory.specs.Account.{Account, path, Honest}
 use Rattle.domain_bits.specs.Removals.{State, in_domain, full}
 use Rattle.domain_bits.specs.Changes.{Keeps}
 use Rattle.sparse_set.specs.Removals as sparse
-use Rattle.all_different.specs.Prefixes.{Balanced}
 use Rattle.recorder.specs.Telling.{IsOf}
-use Rattle.propagation.specs.Propagation.{Narrows, waits_at, HasValue, HasTwo, NotesSize, Rests, Ready, LeavesPast, Propagates}
+use Rattle.propagation.specs.Propagation.{AreCalm, Narrows, waits_at, HasValue, HasTwo, NotesSize, Rests, Ready, LeavesPast, Propagates}
 use Rattle.restart_search.specs.Searching.{Beginning}
 use Rattle.restart_search.specs.declared.position.Moment.{Moment}
 use Rattle.restart_search.specs.Searching.{AtRest, Roots, IsNow, Levels, Sound}
@@ -135,8 +134,8 @@ pub inside_full : (q : Problem) (m : List ℕ) → Embeds q m → Inside q (in_d
 inside_full q m e = λ p p_in. let within : slice_index m p < size q.target = e.values p p_in in grind (arith, common_steps)
 
 -- so domains that lost none from full ones hold every embedding
-pub root_at_rest : (q : Problem) (d : State) → Narrows q (full (size q.pattern) (size q.target)) d → Quiet q (in_domain d) → Balanced d → AtRest q [] d
-root_at_rest q d n quiet balanced = record { quiet = quiet; balanced = balanced; stands = λ m e h. n.keeps m e (inside_full q m e); pins = tt }
+pub root_at_rest : (q : Problem) (d : State) → Narrows q (full (size q.pattern) (size q.target)) d → Quiet q (in_domain d) → AreCalm q d → AtRest q [] d
+root_at_rest q d n quiet calm = record { quiet = quiet; calm = calm; stands = λ m e h. n.keeps m e (inside_full q m e); pins = tt }
 
 -- and where none is within full ones, none exists
 pub none_at_all : (q : Problem) → NoneInside q (in_domain (full (size q.pattern) (size q.target))) → HasNone q

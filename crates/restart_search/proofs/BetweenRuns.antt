@@ -8,14 +8,13 @@ use Rattle.search_theory.specs.Account.{Account, restarted, Honest}
 use Rattle.search_theory.specs.Claims.{Quiet}
 use Rattle.domain_bits.specs.Removals.{State, in_domain, undone}
 use Rattle.sparse_set.specs.Removals as sparse
-use Rattle.all_different.specs.Prefixes.{Balanced}
 use Rattle.nogood_watch.specs.Nogoods as watched
 use Rattle.nogood_book.specs.declared.row.Row.{Row}
 use Rattle.nogood_book.specs.Rows as book
 use Rattle.nogood_book.specs.Places.{StartsWith}
 use Rattle.nogood_book.specs.Facts.{Facts}
 use Rattle.recorder.specs.Holding.{HoldsRows}
-use Rattle.propagation.specs.Propagation.{Narrows, LeavesPast}
+use Rattle.propagation.specs.Propagation.{AreCalm, Narrows, LeavesPast}
 use Rattle.propagation.specs.Acting.{AreActedOn}
 use Rattle.propagation.proofs.Narrowing.{is_of_narrowed}
 use Rattle.restart_search.specs.declared.position.Moment.{Moment}
@@ -56,14 +55,14 @@ at_root_restarted q d s a marks root sound honest =
 
 -- so it does after a propagation there, with a new moment
 pub at_root_again : (q : Problem) (d e : State) (s r : sparse.State) (a : Account) (marks : List Moment) (root now : Moment) → IsAtRoot q d s a marks root → Narrows q d e
-    → Quiet q (in_domain e) → Balanced e → LeavesPast q e r → IsNow e r now → IsAtRoot q e r a marks now
-at_root_again q d e s r a marks root now at n quiet balanced left is = record {
+    → Quiet q (in_domain e) → AreCalm q e → LeavesPast q e r → IsNow e r now → IsAtRoot q e r a marks now
+at_root_again q d e s r a marks root now at n quiet calm left is = record {
   is_of = is_of_narrowed q d e n at.is_of;
   honest = at.honest;
   no_path = at.no_path;
   no_marks = at.no_marks;
   now = is;
-  rest = rest_again q d e at.rest n quiet balanced;
+  rest = rest_again q d e at.rest n quiet calm;
   left = left;
 }
 

@@ -11,9 +11,8 @@ use Rattle.search_theory.proofs.Domains.{all_refuted_is_dead, domain_values_fit}
 use Rattle.search_theory.proofs.Refuted.{path_of_push}
 use Rattle.domain_bits.specs.Removals.{State, in_domain, undone}
 use Rattle.sparse_set.specs.Removals as sparse
-use Rattle.all_different.specs.Prefixes.{Balanced}
 use Rattle.restart_search.specs.declared.position.Moment.{Moment}
-use Rattle.propagation.specs.Propagation.{Narrows, Fewer}
+use Rattle.propagation.specs.Propagation.{AreCalm, Narrows, Fewer}
 use Rattle.restart_search.specs.Searching.{AtRest, IsEarlier, HasBeen, Levels, Based, Sound}
 use Rattle.restart_search.proofs.Levels.{Later, low_within, been_undone, been_later, earlier_undone, rested_further, rested_later, levels_pop, levels_pop_rest}
 
@@ -103,8 +102,8 @@ sound_undone_again q d e s r a marks root sound honest n fewer =
     )
 
 -- domains at rest that held every embedding still do after a propagation
-pub rest_again : (q : Problem) (old new : State) → AtRest q [] old → Narrows q old new → Quiet q (in_domain new) → Balanced new → AtRest q [] new
-rest_again q old new rest n quiet balanced = record { quiet = quiet; balanced = balanced; stands = λ m e h. n.keeps m e (rest.stands m e h); pins = tt }
+pub rest_again : (q : Problem) (old new : State) → AtRest q [] old → Narrows q old new → Quiet q (in_domain new) → AreCalm q new → AtRest q [] new
+rest_again q old new rest n quiet calm = record { quiet = quiet; calm = calm; stands = λ m e h. n.keeps m e (rest.stands m e h); pins = tt }
 
 -- and where none is within them, none exists
 pub none_again : (q : Problem) (d : State) → AtRest q [] d → NoneInside q (in_domain d) → HasNone q
@@ -141,7 +140,7 @@ may_guess q d s a marks root p t sound p_in is off here untried = record {
   level = is;
   new_vertex = off;
   untried = untried;
-  fits = domain_values_fit q (in_domain d) (path a) p t sound.here.quiet sound.here.pins off p_in here;
+  fits = domain_values_fit q (in_domain d) (path a) p t sound.here.quiet sound.here.calm.ordered sound.here.pins off p_in here;
 }
 
 -- so a spent budget is spent where a guess is due

@@ -13,8 +13,7 @@ use Rattle.search_theory.proofs.Refuted.{path_of_push}
 use Rattle.domain_bits.specs.Removals.{State, in_domain}
 use Rattle.domain_bits.specs.Changes.{Keeps}
 use Rattle.sparse_set.specs.Removals as sparse
-use Rattle.all_different.specs.Prefixes.{Balanced}
-use Rattle.propagation.specs.Propagation.{Narrows, waits_at, HasValue, Rests, Ready}
+use Rattle.propagation.specs.Propagation.{AreCalm, Narrows, waits_at, HasValue, Rests, Ready}
 use Rattle.restart_search.specs.declared.position.Moment.{Moment}
 use Rattle.restart_search.specs.Searching.{AtRest, IsNow, Levels, Based, Sound}
 use Rattle.propagation.proofs.Waiting.{rests_on, flag_here}
@@ -79,10 +78,10 @@ pins_more q (x ∷ xs) D p t h p_in s = (h.0, h.1, pins_more q xs D p t h.2 p_in
 -- ---- at rest after the guess
 
 pub rest_guessed : (q : Problem) (above : List (ℕ × ℕ)) (old mid new : State) (p t : ℕ) (keeps : ℕ → Bool) → AtRest q above old → Keeps old mid p keeps
-    → Single (in_domain mid) p t → p < size q.pattern → Narrows q mid new → Quiet q (in_domain new) → Balanced new → AtRest q (above ++ (p, t) ∷ []) new
-rest_guessed q above old mid new p t keeps rest k s p_in n quiet balanced = record {
+    → Single (in_domain mid) p t → p < size q.pattern → Narrows q mid new → Quiet q (in_domain new) → AreCalm q new → AtRest q (above ++ (p, t) ∷ []) new
+rest_guessed q above old mid new p t keeps rest k s p_in n quiet calm = record {
   quiet = quiet;
-  balanced = balanced;
+  calm = calm;
   stands = λ m e h. n.keeps m e (inside_assigned q above old mid p t keeps rest.stands k s m e h);
   pins = pins_more q above (in_domain new) p t
       (pins_kept q above (in_domain old) (in_domain new) (λ r u h. k.shrinks.less r u (n.less r u h)) quiet.some rest.pins) p_in

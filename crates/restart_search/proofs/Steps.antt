@@ -13,13 +13,12 @@ use Rattle.domain_bits.specs.Changes as changes
 use Rattle.bit_rows.specs.BitRows.{has}
 use Rattle.bit_rows.proofs.Rows.{has_past}
 use Rattle.domain_bits.proofs.Sizes.{count_some}
-use Rattle.all_different.specs.Prefixes.{Balanced}
 use Rattle.domain_bits.specs.Removals.{State, in_domain}
 use Rattle.fail_account.proofs.Members.{off_members, members_off}
 use Rattle.sparse_set.specs.Removals as sparse
 use Rattle.restart_search.specs.declared.position.Moment.{Moment}
 use Rattle.recorder.specs.Telling.{IsOf}
-use Rattle.propagation.specs.Propagation.{Narrows, Fewer, LeavesPast}
+use Rattle.propagation.specs.Propagation.{AreCalm, Narrows, Fewer, LeavesPast}
 use Rattle.restart_search.specs.Searching.{AtRest, IsNow, Levels, Based, Sound, IsBest, IsFirstUndecided}
 use Rattle.restart_search.proofs.Guessing.{path_deepened, based_guessed, rest_guessed}
 
@@ -112,11 +111,11 @@ based_narrowed q old mid new s r a marks root p t k keeps sound kept n fewer now
     }) now honest
 
 pub sound_guessed : (q : Problem) (old mid new : State) (s r : sparse.State) (a : Account) (marks : List Moment) (root : Moment) (p t : ℕ) (k : Moment) (keeps : ℕ → Bool)
-    → Sound q old s a marks root → changes.Keeps old mid p keeps → Single (in_domain mid) p t → Narrows q mid new → Quiet q (in_domain new) → Balanced new → p < size q.pattern
+    → Sound q old s a marks root → changes.Keeps old mid p keeps → Single (in_domain mid) p t → Narrows q mid new → Quiet q (in_domain new) → AreCalm q new → p < size q.pattern
     → Fewer s r → LeavesPast q new r → IsNow old s k → Honest q (deepened a p t) → Sound q new r (deepened a p t) (marks ++ k ∷ []) root
-sound_guessed q old mid new s r a marks root p t k keeps sound kept single n quiet balanced p_in fewer left now honest = record {
+sound_guessed q old mid new s r a marks root p t k keeps sound kept single n quiet calm p_in fewer left now honest = record {
   based = based_narrowed q old mid new s r a marks root p t k keeps sound kept n fewer now honest;
-  here = subst (λ (ps : List (ℕ × ℕ)). AtRest q ps new) (sym (path_deepened a p t)) (rest_guessed q (path a) old mid new p t keeps sound.here kept single p_in n quiet balanced);
+  here = subst (λ (ps : List (ℕ × ℕ)). AtRest q ps new) (sym (path_deepened a p t)) (rest_guessed q (path a) old mid new p t keeps sound.here kept single p_in n quiet calm);
   left = left;
 }
 

@@ -9,13 +9,12 @@ use Rattle.search_theory.specs.Bounds.{enough}
 use Rattle.search_theory.specs.Account.{Account, path, Honest, Spends}
 use Rattle.domain_bits.specs.Removals.{State, in_domain, size_of, undone}
 use Rattle.sparse_set.specs.Removals as sparse
-use Rattle.all_different.specs.Prefixes.{Balanced}
 use Rattle.nogood_watch.specs.Nogoods as watched
 use Rattle.recorder.specs.declared.change.Failure.{Failure}
 use Rattle.recorder.specs.Recording.{Change, CountedSet}
 use Rattle.recorder.specs.Telling.{IsOf, Fails}
 use Rattle.recorder.specs.Holding.{HoldsRows}
-use Rattle.propagation.specs.Propagation.{LeavesPast, Narrows, waits_at, HasTwo, HasValue}
+use Rattle.propagation.specs.Propagation.{AreCalm, LeavesPast, Narrows, waits_at, HasTwo, HasValue}
 use Rattle.nogood_book.specs.Rows as book
 use Rattle.nogood_book.specs.Facts.{Facts}
 use Rattle.worker_gate.specs.Answers.{AnswerView, NoteView}
@@ -37,7 +36,7 @@ use Rattle.restart_search.specs.declared.outcome.Stage.TheVariants.{Fresh, Halfw
 -- each pair of the path as its vertex's domain.
 pub record AtRest (q : Problem) (path : List (ℕ × ℕ)) (d : State) : Type 0 where
   pub quiet : Quiet q (in_domain d)
-  pub balanced : Balanced d
+  pub calm : AreCalm q d
   pub stands : Stands q path (in_domain d)
   pub pins : Pins q path (in_domain d)
 

@@ -6,7 +6,7 @@ ghost use Rattle.bit_rows.specs.BitRows.{words_for};
 ghost use Rattle.domain_bits.specs.Removals.{in_domain};
 ghost use Rattle.search_theory.specs.Account.{MayGuess};
 ghost use Rattle.search_theory.specs.Bounds.{cutoff};
-ghost use Rattle.search_theory.specs.Claims.{Single, Quiet};
+ghost use Rattle.search_theory.specs.Claims.{Ordered, Quiet, Single};
 ghost use Rattle.search_theory.specs.Remaining.{remaining};
 ghost use Rattle.nogood_book.specs.Rows as book;
 ghost use Rattle.recorder.specs.Holding.{HoldsRows, KeepsSame};
@@ -168,10 +168,11 @@ fn guess<T: Trail, L: ProofLogger>(
     }
 }
 
-/// The embedding that domains of one value are.
+/// The embedding that domains of one value are, which are in order.
 fn found<'a, T: Trail>(alloc: Global, q: &Problem, d: &Domains<T>) -> Outcome<'a>
     requires is_of { IsOf q.now d.now }
     requires quiet { Quiet q.now (in_domain d.now) }
+    requires ordered { Ordered q.now (in_domain d.now) }
     requires single { (p : ℕ) → p < size q.now.pattern → (t : ℕ) × Single (in_domain d.now) p t }
     ensures { FoundOf q.now result }
 {
