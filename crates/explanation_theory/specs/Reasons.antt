@@ -43,7 +43,7 @@ set_form q b p vertices values = sum_from (at_least q p) (at_leasts q vertices
 abbrev pub beside_forms : Problem → ℕ → ℕ → List ℕ → List Form
 beside_forms q p t vertices = map (λ r. pair_form q p r t) vertices
 
--- The same of r and of these vertices, and that values are taken once, all added up: beside p at t they need as many of these values as they are.
+-- The same of r and of these vertices, and that values are taken once, as by injective maps, all added up: they need as many values as they are.
 abbrev pub over_form : Problem → ℕ → ℕ → ℕ → List ℕ → List ℕ → Form
 over_form q p t r vertices values = sum_from (pair_form q p r t) (beside_forms q p t vertices
     ++ map (at_most_target q) values)

@@ -18,7 +18,7 @@ in_block q (Some c) p = is_near q.pattern c p
 abbrev pub has_near : Graph → ℕ → Bool
 has_near g c = nat_lt c (size g) && nat_lt 1 (count (is_near g c) (size g))
 
--- The maps ask two images of any two vertices of this block, and it may have two.
+-- The maps ask two images of any two vertices of this block; around a centre it has two vertices at least.
 -- Example: in a path of three vertices local maps have the block of the middle one alone, which is the two ends.
 abbrev pub has_block_in : Maps → Graph → Option ℕ → Bool
 has_block_in Injective g None = true

@@ -3,8 +3,8 @@
 
 ghost use Rattle.graph_theory.specs.NeighbourLaws.{NeighbourLaws};
 
-/// The image of a vertex has as many neighbours at least, of degrees that are nowhere less in falling order, and the
-/// images of two vertices share as many neighbours at least.
+/// The image of a vertex has room for its neighbours; by injective maps their degrees, in falling order, are nowhere less,
+/// and the images of two vertices share as many neighbours at least.
 pub fn neighbour_laws()
     ensures { NeighbourLaws }
 {}

@@ -16,7 +16,7 @@ pub(crate) fn has_edge(kind: &PairKind) -> bool
     kind.out.is_some() || kind.back.is_some()
 }
 
-/// Whether a pair of the kind shares no neighbour, in either direction.
+/// Whether a pair of the kind is asked no shared neighbour, in either direction.
 fn shares_none(kind: &PairKind) -> bool
     ensures { IsTrue result → (kind.now.shared ≡ 0) × (kind.now.in_shared ≡ 0) }
 {

@@ -257,7 +257,7 @@ fn has_few(q: &Problem, kind: &PairKind, t: u16, words: usize) -> bool
 }
 
 /// Makes the rows of all kinds at `t`, one after another from row `first` on; the other rows stay. Cost: for each kind some steps for
-/// each word of a row, and where it shares neighbours one for each value that edges leave; where labels of edges have to be compared, one for
+/// each word of a row, and where it asks for shared neighbours one for each value that edges leave; where labels of edges are compared, one for
 /// each neighbour of `t` in a direction that the kind has an edge in.
 pub(crate) fn fill_block(
     q: &Problem,
@@ -357,8 +357,8 @@ fn near_row<'a>(q: &'a Problem, kind: &PairKind, t: u16) -> &'a [u64]
     }
 }
 
-/// Makes the row of a kind whose edges bits tell, by whole words. Cost: four steps for each word, and where the kind shares neighbours
-/// one for each value that edges leave.
+/// Makes the row of a kind whose edges bits tell, by whole words. Cost: four steps for each word, and where the kind asks for shared
+/// neighbours one for each value that edges leave.
 fn fill_by_words(q: &Problem, kind: &PairKind, t: u16, counts: &SharedCounts<'_>, row: &mut [u64])
     requires told { AreTold q.now kind.now }
     requires t_in { t < size q.now.target }
@@ -405,7 +405,7 @@ fn keep_matching(q: &Problem, kind: &PairKind, t: u16, row: &mut [u64])
 }
 
 /// Keeps of the row, beside `t` itself, the vertices that share as many neighbours with `t` as the kind asks for. Cost: one step for each
-/// of them where the kind shares neighbours, and another where it asks for more in the other direction.
+/// of them where the kind asks for some, and another where it asks for more in the other direction.
 fn keep_shared(q: &Problem, kind: &PairKind, t: u16, counts: &SharedCounts<'_>, row: &mut [u64])
     requires t_in { t < size q.now.target }
     requires counted { Serve q.now kind.now t counts.now.out.now counts.now.back.now

@@ -1,7 +1,7 @@
 //! Rows of consistent values: which values of one vertex go together with a value of another.
 //!
-//! A pair of pattern vertices is of a kind: its edges in both directions, and how many neighbours it shares in each. There are
-//! few kinds, and for each kind and each target vertex t there is one bit row of the u that go together with t. The
+//! A pair of pattern vertices is of a kind: its edges in both directions, whether its images have to differ, and how many neighbours
+//! these have to share in each. There are few kinds, and for each kind and target vertex t one bit row of the u that go with t. The
 //! layer above cuts a domain by one row at each assignment, and knows of a row only that it holds exactly the consistent
 //! values. Rows are made for all kinds at a target vertex when it is first needed, into memory that was taken before.
 //! (A table of compatible values is that of Ullmann's bit-vector algorithms, 2010; shared neighbours as rows are

@@ -104,7 +104,7 @@ impl<'a> PairSupports<'a> {
     /// of `t` in the directions in which a kind asks for them, one of which serves for both where the target's edges are known to stand both
     /// ways, and for each kind one step for each word of a row,
     /// with one for each neighbour of `t` in a direction that the kind has an edge in, or for each target vertex where it has none and
-    /// shares neighbours.
+    /// asks for shared neighbours.
     #[inline(always)]
     pub fn make(&mut self, t: u16)
         requires t_in { t < size self.old.problem.target }

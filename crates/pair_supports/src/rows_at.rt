@@ -84,8 +84,8 @@ impl<'a> RowsAt<'a> {
     }
 
     /// The neighbours of the value, where `r` is asked nothing but an image that is none of them nor the value: the copy is to be an induced
-    /// one, the target's edges are known to stand both ways, no edge leads from one of the two vertices to the other, they share no neighbour,
-    /// and the value's neighbours are listed. Cost: a few steps.
+    /// one, the target's edges are known to stand both ways, no edge leads from one of the two vertices to the other, they are asked no shared
+    /// neighbour, and the value's neighbours are listed. Cost: a few steps.
     #[inline(always)]
     pub fn near_alone(&self, r: u16) -> Option<&[u16]>
         requires r_in { r < size self.now.problem.pattern }

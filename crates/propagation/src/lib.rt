@@ -1,8 +1,8 @@
 //! Propagation: it removes values that no embedding within the domains has.
 //!
-//! It removes what is inconsistent with a decided vertex, what nogoods force out, and what domains counted together leave no
-//! room for. It also removes what has no support along edges or would crowd neighbours. It tells a recorder the cause of each
-//! removal.
+//! It removes what is inconsistent with a decided vertex, what nogoods force out, what is out of the order of images, and what the
+//! domains of a block, counted together, leave no room for. It also removes what has no support along edges or, by injective maps, would
+//! crowd neighbours. It tells a recorder the cause of each removal.
 //!
 //! It keeps `Filters`: rows of consistent values, nogoods with their watches, and working memory. The domains are the
 //! caller's, who also undoes them. It offers `propagate` and `propagate_again`, which leave the domains at rest or say why

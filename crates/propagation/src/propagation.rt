@@ -1,9 +1,9 @@
-//! Propagation. A vertex whose domain has one value takes its consequences: this value, and what is not consistent with
-//! it, leaves the other domains. A vertex waits while its consequences are to be taken; the others are at rest. One row
-//! of consistent values for each pair of vertices makes this one AND of words for each other vertex (Ullmann 2010); a
-//! pair that is asked nothing but distinct images, as nearly all are in a large sparse pattern, needs no row; in the
-//! induced kind the image's neighbours are taken too, one by one where they are few. Once none waits, the values of
-//! domains are counted together, which may decide further vertices.
+//! Propagation. A vertex whose domain has one value takes its consequences: what is not consistent with it, this value itself
+//! where two images have to differ, leaves the other domains. A vertex waits while its consequences are to be taken; the others are
+//! at rest. One row of consistent values for each pair of vertices makes this one AND of words for each other vertex (Ullmann 2010); a
+//! pair that is asked nothing but distinct images, or not even these, as nearly all are in a large sparse pattern, needs no row; in the
+//! induced kind the image's neighbours are taken too, one by one where they are few. Once none waits, what the order of images leaves
+//! no room for leaves, and the domains of each block are counted together, which may decide further vertices.
 //!
 //! A vertex that has taken its consequences is past (the word is that of Haralick and Elliott 1980): it leaves the set of
 //! the vertices that are still looked at, since nothing is left to be taken from its domain. Who undoes the domains gives

@@ -35,8 +35,8 @@ pub trait Recorder: Drop {
         ensures { Took (changes self.old) (changes self.new) (LeftOthers centre vertices.now
             (members_of row.now) from) };
 
-    /// The value left the domain of the vertex, since to the vertices of the one row edges lead from it in the direction, and they have no other values than
-    /// those of the second row, too few, among the ones to which edges lead from the value.
+    /// By injective maps the value left the domain of the vertex, since to the vertices of the one row edges lead from it in the direction, and they have
+    /// no other values than those of the second row, too few, among the ones to which edges lead from the value.
     fn crowded(
         &mut self,
         vertex: u16,

@@ -32,8 +32,8 @@ use Rattle.restart_search.specs.declared.outcome.Outcome.TheVariants.{Found, Ref
 use Rattle.restart_search.specs.declared.outcome.Stage.{Stage}
 use Rattle.restart_search.specs.declared.outcome.Stage.TheVariants.{Fresh, Halfway, Over}
 
--- The domains are at rest, one by one, pair by pair and in their unions; they hold each embedding that extends the path, and have
--- each pair of the path as its vertex's domain.
+-- The domains are at rest, one by one, pair by pair, in the unions of each block and in the order of images; they hold each embedding
+-- that extends the path, and have each pair of the path as its vertex's domain.
 pub record AtRest (q : Problem) (path : List (ℕ × ℕ)) (d : State) : Type 0 where
   pub quiet : Quiet q (in_domain d)
   pub calm : AreCalm q d
