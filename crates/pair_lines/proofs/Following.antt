@@ -362,12 +362,11 @@ edge_kept w q k same plain p t r meeting meets a b old new n place spreads rows 
     (goes_beside w a b AnyForms (IsKept w (Ok n) (own_form k meeting p t r)) (Knows w q old) (λ forms more h. knows_last w q old forms more h) goes)
   where
     line : (forms : List Form) → IsKept w (Ok n) (own_form k meeting p t r) forms → IsRowNamed true w q p t r (Made n) forms
-    line forms kept =
-        (
-          own_form q meeting p t r,
-          subst (λ (x : Problem). IsKept w (Ok n) (own_form x meeting p t r) forms) same kept,
-          edge_forces q (subst (λ (x : Problem). IsWithin x) same plain) p t r place meeting (subst (λ (x : Problem). IsMeeting x p r meeting) same meets),
-        )
+    line forms kept = (
+      own_form q meeting p t r,
+      subst (λ (x : Problem). IsKept w (Ok n) (own_form x meeting p t r) forms) same kept,
+      edge_forces q (subst (λ (x : Problem). IsWithin x) same plain) p t r place meeting (subst (λ (x : Problem). IsMeeting x p r meeting) same meets),
+    )
 
 -- No line was made, or its name was not added.
 pub edge_refused : (w : Frame) (q k : Problem) (p t r : ℕ) (meeting : Meeting) (a b : Option (List Step)) (old new : PairLines) (result : Result Name AllocError) → new.spreads ≡ old.spreads → new.rows ≡ old.rows → new.edge_rows ≡ old.edge_rows

@@ -14,10 +14,10 @@ ghost use Rattle.pair_line_theory.specs.Laws.{IsPlace};
 ghost use Rattle.pair_line_theory.specs.Rows.{at_least_line, at_most_line, block_line, target_line, edge_line, non_edge_line, is_shared as is_shared_by, is_paired as is_paired_by, there as there_at, weight as weight_at};
 ghost use Rattle.pair_lines.specs.Choices.{IsNext, IsWithin, IsMeeting, alone_line};
 
-use bit_rows::{has_bit, next_member};
-use common_neighbour::Counts;
 use crate::meeting::Meeting;
 use crate::placed_pair::PlacedPair;
+use bit_rows::{has_bit, next_member};
+use common_neighbour::Counts;
 use graph_rows::near::is_near;
 use graph_rows::{Graph, Problem};
 use graph_theory::direction::Direction;

@@ -108,12 +108,7 @@ pub(crate) fn two_shared(known: &Known, pair: Sharers) -> Option<(u16, u16)>
 
 /// How many neighbours the two share, where the maps are injective. Cost: two words for each word of a row, and only where it is one alone, a
 /// step for each neighbour of `p` up to it.
-fn counted_sharing(
-    alloc: Global,
-    known: &Known,
-    p: u16,
-    r: u16,
-) -> Result<Sharing, AllocError>
+fn counted_sharing(alloc: Global, known: &Known, p: u16, r: u16) -> Result<Sharing, AllocError>
     requires p_in { p < size known.now.pattern }
     requires r_in { r < size known.now.pattern }
     requires others { p ≡ r → ⊥ }
