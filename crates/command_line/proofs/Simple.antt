@@ -6,16 +6,16 @@ use Rattle.clap.specs.Walk.{is_empty}
 use Rattle.clap.specs.declared.error.Error.{Error}
 use Rattle.clap.specs.declared.error.kind.ErrorKind.TheVariants.{OutOfMemory}
 use Rattle.clap.specs.declared.parser.matches.ArgMatches.{ArgMatches}
-use Rattle.command_line.specs.Grammar.{grammar, answering, solve_grammar, verify_grammar, encode_grammar, check_grammar, trim_grammar, reading, trimming, demo_grammar, batch_grammar, with_graphs, with_kind, with_mapping, with_search, with_proof}
+use Rattle.command_line.specs.Grammar.{grammar, answering, solve_grammar, verify_grammar, encode_grammar, check_grammar, trim_grammar, reading, trimming, demo_grammar, batch_grammar, with_graphs, with_question, with_mapping, with_search, with_proof}
 
 -- the matches are clap's function of the words
 pub is_simple_grammar : is_simple grammar ≡ true
-unfolding grammar answering solve_grammar verify_grammar encode_grammar check_grammar trim_grammar reading trimming demo_grammar batch_grammar with_graphs with_kind with_mapping with_search with_proof
+unfolding grammar answering solve_grammar verify_grammar encode_grammar check_grammar trim_grammar reading trimming demo_grammar batch_grammar with_graphs with_question with_mapping with_search with_proof
 is_simple_grammar = refl
 
 -- no argument has a rule on another, so a parse fails exactly where clap's function says so
 pub is_free_grammar : is_simple_and_free grammar ≡ true
-unfolding grammar answering solve_grammar verify_grammar encode_grammar check_grammar trim_grammar reading trimming demo_grammar batch_grammar with_graphs with_kind with_mapping with_search with_proof
+unfolding grammar answering solve_grammar verify_grammar encode_grammar check_grammar trim_grammar reading trimming demo_grammar batch_grammar with_graphs with_question with_mapping with_search with_proof
 is_free_grammar = refl
 
 -- a parse by the grammar that succeeds has no fault, and gives clap's function of the words

@@ -1,6 +1,6 @@
 -- Which command a list of words is.
 
-use Rattle.std.specs.Prelude.{◌≢◌, ℕ, ◌<◌, ◌≤◌, ◌^◌, Bool, true, false, not, ◌&&◌, ◌||◌, if◌then◌else◌, List, length, Option, Some, None, IfSome, option_and_then, codes}
+use Rattle.std.specs.Prelude.{◌≢◌, ℕ, ◌<◌, ◌≤◌, ◌^◌, Bool, true, false, not, ◌&&◌, ◌||◌, if◌then◌else◌, List, [], length, Option, Some, None, IfSome, option_and_then, codes}
 use Rattle.std.specs.Option.{option_map_or}
 use Rattle.std.specs.Str.{bytes_eq}
 use Rattle.clap.specs.Words.{Row, Text, first_of, fault_of, subcommand_of}
@@ -8,8 +8,13 @@ use Rattle.clap.specs.Walk.{is_empty}
 use Rattle.log_theory.specs.declared.profile.Profile.{Profile}
 use Rattle.log_theory.specs.declared.profile.Profile.TheVariants.{Hinted}
 use Rattle.graph_theory.specs.declared.lad_text.LadKind.{LadKind}
-use Rattle.graph_theory.specs.declared.lad_text.LadKind.TheVariants.{Lad, VertexLabelledLad, DirectedLad, LabelledLad}
-use Rattle.command_line.specs.Words.{file_name, threads, budget, seed, book, profile, format}
+use Rattle.graph_theory.specs.declared.lad_text.LadKind.TheVariants.{Lad}
+use Rattle.graph_theory.specs.Embedding.{is_injective}
+use Rattle.graph_theory.specs.declared.embedding.Maps.{Maps}
+use Rattle.graph_theory.specs.declared.embedding.Maps.TheVariants.{Injective}
+use Rattle.command_line.specs.Words.{file_name, threads, budget, seed, book, profile, format, maps}
+use Rattle.command_line.specs.Pairs.{pairs}
+use Rattle.command_line.specs.Questions.{Question, IsQuestion}
 use Rattle.command_line.specs.Grammar.{grammar}
 use Rattle.command_line.specs.declared.commands.Command.{Command}
 use Rattle.command_line.specs.declared.commands.Command.TheVariants.{Solve, Verify, Encode, Check, Trim, Demo}
@@ -37,6 +42,26 @@ or_default default read (Some text) = read text
 -- The format of both graphs, `lad` where none is named.
 abbrev pub format_at : List Row → Option LadKind
 format_at rows = or_default Lad format (first_of (codes "format") rows)
+
+-- Which images have to differ, those of any two vertices where no word says it.
+abbrev pub maps_at : List Row → Option Maps
+maps_at rows = or_default Injective maps (first_of (codes "map") rows)
+
+-- The pairs that are to be in order, none where no word names them.
+abbrev pub less_at : List Row → Option (List (ℕ × ℕ))
+less_at rows = or_default [] pairs (first_of (codes "less") rows)
+
+-- What is asked, where each of its words is good; induced copies are those of injective maps alone.
+abbrev pub question_from : Bool → Option Maps → Option (List (ℕ × ℕ)) → Option LadKind
+    → Option Question
+question_from induced (Some m) (Some l) (Some f) = if induced && not (is_injective m) then None
+    else Some (record { induced = induced; maps = m; less = l; format = f })
+question_from _ _ _ _ = None
+
+-- What the words ask.
+abbrev pub question_at : List Row → Option Question
+question_at rows = question_from (flag_at (codes "induced") rows) (maps_at rows) (less_at rows)
+    (format_at rows)
 
 -- The budget, the largest where none is named.
 abbrev pub budget_at : List Row → Option ℕ
@@ -82,35 +107,33 @@ prove_at rows = prove_from (first_of (codes "prove") rows) (first_of (codes "log
     (codes "profile") rows)
 
 -- A solve, where each of its words is good, and the files of its proof are apart.
-abbrev pub solve_from : Option Text → Option Text → Bool → Option LadKind → Option ℕ → Option ℕ
+abbrev pub solve_from : Option Text → Option Text → Option Question → Option ℕ → Option ℕ
     → Option ℕ → Option ℕ
     → Option (Option ProveWords) → Option Command
-solve_from (Some p) (Some t) induced (Some f) (Some n) (Some s) (Some b) (Some k)
+solve_from (Some p) (Some t) (Some a) (Some n) (Some s) (Some b) (Some k)
     (Some w) = if are_apart p t w then Some (Solve (record {
       pattern = p;
       target = t;
-      induced = induced;
-      format = f;
+      ask = a;
       threads = n;
       seed = s;
       budget = b;
       book = k;
       prove = w;
     })) else None
-solve_from _ _ _ _ _ _ _ _ _ = None
+solve_from _ _ _ _ _ _ _ _ = None
 
 -- A verify, where each of its words is good.
-abbrev pub verify_from : Option Text → Option Text → Option Text → Bool → Option LadKind
-    → Option Command
-verify_from (Some p) (Some t) (Some m) induced (Some f) =
-    Some (Verify (record { pattern = p; target = t; mapping = m; induced = induced; format = f }))
-verify_from _ _ _ _ _ = None
+abbrev pub verify_from : Option Text → Option Text → Option Text → Option Question → Option Command
+verify_from (Some p) (Some t) (Some m) (Some a) =
+    Some (Verify (record { pattern = p; target = t; mapping = m; ask = a }))
+verify_from _ _ _ _ = None
 
 -- An encode, where each of its words is good.
-abbrev pub encode_from : Option Text → Option Text → Bool → Option LadKind → Option Command
-encode_from (Some p) (Some t) induced (Some f) = Some (Encode
-    (record { pattern = p; target = t; induced = induced; format = f }))
-encode_from _ _ _ _ = None
+abbrev pub encode_from : Option Text → Option Text → Option Question → Option Command
+encode_from (Some p) (Some t) (Some a) = Some (Encode
+    (record { pattern = p; target = t; ask = a }))
+encode_from _ _ _ = None
 
 -- A check, where both of its words are good.
 abbrev pub check_from : Option Text → Option Text → Option Command
@@ -131,18 +154,17 @@ demo_from _ _ _ = None
 -- The solve that the words after `solve` are.
 abbrev pub solve_of : List Row → Option Command
 solve_of rows = solve_from (name_at (codes "pattern") rows) (name_at (codes "target") rows)
-    (flag_at (codes "induced") rows) (format_at rows) (threads_at rows) (seed_at rows)
-    (budget_at rows) (book_at rows) (prove_at rows)
+    (question_at rows) (threads_at rows) (seed_at rows) (budget_at rows) (book_at rows) (prove_at rows)
 
 -- The verify that the words after `verify` are.
 abbrev pub verify_of : List Row → Option Command
 verify_of rows = verify_from (name_at (codes "pattern") rows) (name_at (codes "target") rows)
-    (name_at (codes "mapping") rows) (flag_at (codes "induced") rows) (format_at rows)
+    (name_at (codes "mapping") rows) (question_at rows)
 
 -- The encode that the words after `encode` are.
 abbrev pub encode_of : List Row → Option Command
 encode_of rows = encode_from (name_at (codes "pattern") rows) (name_at (codes "target") rows)
-    (flag_at (codes "induced") rows) (format_at rows)
+    (question_at rows)
 
 -- The check that the words after `check` are.
 abbrev pub check_of : List Row → Option Command
@@ -191,6 +213,7 @@ pub record IsProveInRange (pattern target : List ℕ) (w : ProveWords) : Type 0 
 pub record IsSolveInRange (w : SolveWords) : Type 0 where
   pub pattern : length w.pattern ≤ 4095
   pub target : length w.target ≤ 4095
+  pub question : IsQuestion w.ask
   pub some : 1 ≤ w.threads
   pub few : w.threads ≤ 64
   pub least : 1 ≤ w.budget
@@ -202,10 +225,12 @@ pub record IsVerifyInRange (w : VerifyWords) : Type 0 where
   pub pattern : length w.pattern ≤ 4095
   pub target : length w.target ≤ 4095
   pub mapping : length w.mapping ≤ 4095
+  pub question : IsQuestion w.ask
 
 pub record IsEncodeInRange (w : EncodeWords) : Type 0 where
   pub pattern : length w.pattern ≤ 4095
   pub target : length w.target ≤ 4095
+  pub question : IsQuestion w.ask
 
 pub record IsCheckInRange (w : CheckWords) : Type 0 where
   pub encoding : length w.encoding ≤ 4095

@@ -32,9 +32,11 @@ flag name = record (new_rule name) { long = Some name; action = Some SetTrue }
 unfoldable pub with_graphs : App → App
 with_graphs a = with_rule (with_rule a (positional (codes "pattern"))) (positional (codes "target"))
 
--- The kind of embedding and the format of the graphs.
-unfoldable pub with_kind : App → App
-with_kind a = with_rule (with_rule a (flag (codes "induced"))) (option (codes "format"))
+-- What is asked of a map, and the format of the graphs.
+unfoldable pub with_question : App → App
+with_question a = with_rule (with_rule (with_rule (with_rule a (flag (codes "induced"))) (option
+    (codes "map"))) (option (codes "less")))
+    (option (codes "format"))
 
 -- The mapping to be tested.
 unfoldable pub with_mapping : App → App
@@ -50,19 +52,19 @@ unfoldable pub with_proof : App → App
 with_proof a = with_rule (with_rule (with_rule a (option (codes "prove"))) (option (codes "log")))
     (option (codes "profile"))
 
--- `solve P T [--induced] [--format F] [--threads N] [--seed N] [--budget N] [--book N]`
+-- `solve P T [--induced] [--map M] [--less L] [--format F] [--threads N] [--seed N] [--budget N] [--book N]`
 -- `[--prove ENC --log LOG [--profile N]]`
 unfoldable pub solve_grammar : App
-solve_grammar = with_proof (with_rule (with_search (with_kind (with_graphs (new_app
+solve_grammar = with_proof (with_rule (with_search (with_question (with_graphs (new_app
     (codes "solve"))))) (option (codes "book")))
 
--- `verify P T MAP [--induced] [--format F]`
+-- `verify P T MAP [--induced] [--map M] [--less L] [--format F]`
 unfoldable pub verify_grammar : App
-verify_grammar = with_kind (with_mapping (with_graphs (new_app (codes "verify"))))
+verify_grammar = with_question (with_mapping (with_graphs (new_app (codes "verify"))))
 
--- `encode P T [--induced] [--format F]`
+-- `encode P T [--induced] [--map M] [--less L] [--format F]`
 unfoldable pub encode_grammar : App
-encode_grammar = with_kind (with_graphs (new_app (codes "encode")))
+encode_grammar = with_question (with_graphs (new_app (codes "encode")))
 
 -- `check ENC LOG`
 unfoldable pub check_grammar : App

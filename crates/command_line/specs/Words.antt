@@ -1,10 +1,12 @@
--- What single words stand for: names of files, numbers and formats.
+-- What single words stand for: names of files, numbers, formats and kinds of maps.
 
 use Rattle.std.specs.Prelude.{ℕ, ◌==◌, ◌&&◌, nat_lt, nat_le, if◌then◌else◌, List, length, Option, Some, None, option_map, codes}
 use Rattle.std.specs.Str.{all_ascii_digits, bytes_eq}
 use Rattle.std.specs.Str.Parse.{digits_value}
 use Rattle.log_theory.specs.declared.profile.Profile.{Profile}
 use Rattle.log_theory.specs.declared.profile.Profile.TheVariants.{Hinted, Plain}
+use Rattle.graph_theory.specs.declared.embedding.Maps.{Maps}
+use Rattle.graph_theory.specs.declared.embedding.Maps.TheVariants.{Injective, Local, Any}
 use Rattle.graph_theory.specs.declared.lad_text.LadKind.{LadKind}
 use Rattle.graph_theory.specs.declared.lad_text.LadKind.TheVariants.{Lad, VertexLabelledLad, DirectedLad, LabelledLad}
 
@@ -45,3 +47,9 @@ format text = if bytes_eq text (codes "lad") then Some Lad
     else (if bytes_eq text (codes "vertexlabelledlad") then Some VertexLabelledLad
     else (if bytes_eq text (codes "directedlad") then Some DirectedLad
     else (if bytes_eq text (codes "labelledlad") then Some LabelledLad else None)))
+
+-- Which images have to differ, as a word names it.
+abbrev pub maps : List ℕ → Option Maps
+maps text = if bytes_eq text (codes "injective") then Some Injective
+    else (if bytes_eq text (codes "local") then Some Local
+    else (if bytes_eq text (codes "any") then Some Any else None))

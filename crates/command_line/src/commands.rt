@@ -1,7 +1,7 @@
 //! The commands, with what their words tell.
 
+use crate::asking::AskWords;
 use crate::file_name::FileName;
-use graph_theory::lad_text::LadKind;
 use log_theory::Profile;
 
 /// What the program is asked to do.
@@ -28,10 +28,8 @@ pub struct SolveWords<'a> {
     pub pattern: FileName<'a>,
     /// The file of the target; it may be the pattern's too.
     pub target: FileName<'a>,
-    /// Whether non-edges are kept too.
-    pub induced: bool,
-    /// The format of both graphs.
-    pub format: LadKind,
+    /// What is asked of a map, and the format of both graphs.
+    pub ask: AskWords,
     /// How many workers search beside each other, from 1 to 64.
     pub threads: u32,
     /// Where the choices of values begin, from 0 to 2^64 - 1.
@@ -64,10 +62,8 @@ pub struct VerifyWords<'a> {
     pub target: FileName<'a>,
     /// The file of the mapping.
     pub mapping: FileName<'a>,
-    /// Whether non-edges are kept too.
-    pub induced: bool,
-    /// The format of both graphs.
-    pub format: LadKind,
+    /// What is asked of a map, and the format of both graphs.
+    pub ask: AskWords,
 }
 
 /// What the words of `encode` tell.
@@ -77,10 +73,8 @@ pub struct EncodeWords<'a> {
     pub pattern: FileName<'a>,
     /// The file of the target; it may be the pattern's too.
     pub target: FileName<'a>,
-    /// Whether non-edges are kept too.
-    pub induced: bool,
-    /// The format of both graphs.
-    pub format: LadKind,
+    /// What is asked of a map, and the format of both graphs.
+    pub ask: AskWords,
 }
 
 /// What the words of `check` tell.

@@ -67,14 +67,16 @@ fn add_graphs<'a>(alloc: Global, made: Made<'a>) -> Made<'a>
     add_positional(alloc, with_pattern, "target")
 }
 
-/// The command with the kind of embedding and the format.
-#[tactic(auto, unfolding(crate::specs::Grammar::with_kind))]
-fn add_kind<'a>(alloc: Global, made: Made<'a>) -> Made<'a>
-    ensures app { (a : App) → Makes a made.entry → Makes (spec.with_kind a) result }
+/// The command with what is asked of a map, and the format.
+#[tactic(auto, unfolding(crate::specs::Grammar::with_question))]
+fn add_question<'a>(alloc: Global, made: Made<'a>) -> Made<'a>
+    ensures app { (a : App) → Makes a made.entry → Makes (spec.with_question a) result }
     ensures local { IsLocal made.entry → IsLocal result }
 {
     let with_induced = add_flag(alloc, made, "induced");
-    add_option(alloc, with_induced, "format")
+    let with_map = add_option(alloc, with_induced, "map");
+    let with_less = add_option(alloc, with_map, "less");
+    add_option(alloc, with_less, "format")
 }
 
 /// The command with the mapping.
@@ -108,20 +110,20 @@ fn add_proof<'a>(alloc: Global, made: Made<'a>) -> Made<'a>
     add_option(alloc, with_log, "profile")
 }
 
-/// `solve P T [--induced] [--format F] [--threads N] [--seed N] [--budget N] [--book N] [--prove ENC --log LOG [--profile N]]`
+/// `solve P T [--induced] [--map M] [--less L] [--format F] [--threads N] [--seed N] [--budget N] [--book N] [--prove ENC --log LOG [--profile N]]`
 #[tactic(auto, unfolding(crate::specs::Grammar::solve_grammar))]
 fn solve_command<'a>(alloc: Global) -> Made<'a>
     ensures app { Makes spec.solve_grammar result }
     ensures local { IsLocal result }
 {
     let with_graphs = add_graphs(alloc, Ok(Command::new(alloc, "solve")));
-    let with_kind = add_kind(alloc, with_graphs);
-    let with_search = add_search(alloc, with_kind);
+    let with_question = add_question(alloc, with_graphs);
+    let with_search = add_search(alloc, with_question);
     let with_book = add_option(alloc, with_search, "book");
     add_proof(alloc, with_book)
 }
 
-/// `verify P T MAP [--induced] [--format F]`
+/// `verify P T MAP [--induced] [--map M] [--less L] [--format F]`
 #[tactic(auto, unfolding(crate::specs::Grammar::verify_grammar))]
 fn verify_command<'a>(alloc: Global) -> Made<'a>
     ensures app { Makes spec.verify_grammar result }
@@ -129,17 +131,17 @@ fn verify_command<'a>(alloc: Global) -> Made<'a>
 {
     let with_graphs = add_graphs(alloc, Ok(Command::new(alloc, "verify")));
     let with_mapping = add_mapping(alloc, with_graphs);
-    add_kind(alloc, with_mapping)
+    add_question(alloc, with_mapping)
 }
 
-/// `encode P T [--induced] [--format F]`
+/// `encode P T [--induced] [--map M] [--less L] [--format F]`
 #[tactic(auto, unfolding(crate::specs::Grammar::encode_grammar))]
 fn encode_command<'a>(alloc: Global) -> Made<'a>
     ensures app { Makes spec.encode_grammar result }
     ensures local { IsLocal result }
 {
     let with_graphs = add_graphs(alloc, Ok(Command::new(alloc, "encode")));
-    add_kind(alloc, with_graphs)
+    add_question(alloc, with_graphs)
 }
 
 /// `check ENC LOG`

@@ -12,13 +12,16 @@ ghost use Rattle.command_line.specs.Words as word;
 ghost use Rattle.command_line.specs.Grammar.{grammar};
 ghost use Rattle.command_line.specs.CommandLine as line;
 
+use crate::asking::AskWords;
 use crate::commands::{
     CheckWords, Command, DemoWords, EncodeWords, ProveWords, SolveWords, TrimWords, VerifyWords,
 };
 use crate::file_name::FileName;
 use crate::grammar::whole_grammar;
+use crate::pairs::Pairs;
 use clap::error::ErrorKind;
 use clap::{ArgMatches, Error};
+use graph_theory::embedding::Maps;
 use graph_theory::lad_text::LadKind;
 use log_theory::Profile;
 use std::alloc::{AllocError, Global};
@@ -85,7 +88,7 @@ fn number_of(text: &str, least: u64, most: u64) -> Option<u64>
 }
 
 /// The same of a number that is written with at most 32 bits.
-fn small_number_of(text: &str, least: u32, most: u32) -> Option<u32>
+pub(crate) fn small_number_of(text: &str, least: u32, most: u32) -> Option<u32>
     ensures value { result ≡ number_within least most text.now }
     ensures range { IfSome result (λ n. (least ≤ n) × (n ≤ most)) }
 {
@@ -107,6 +110,21 @@ fn format_named(text: &str) -> Option<LadKind>
         Some(LadKind::DirectedLad)
     } else if text == "labelledlad" {
         Some(LadKind::LabelledLad)
+    } else {
+        None
+    }
+}
+
+/// The kind of maps that a word names.
+fn maps_named(text: &str) -> Option<Maps>
+    ensures { result ≡ word.maps text.now }
+{
+    if text == "injective" {
+        Some(Maps::Injective)
+    } else if text == "local" {
+        Some(Maps::Local)
+    } else if text == "any" {
+        Some(Maps::Any)
     } else {
         None
     }
@@ -147,6 +165,37 @@ pub(crate) fn format_at(matches: &ArgMatches) -> Option<LadKind>
         Some(text) => format_named(text),
         None => Some(LadKind::Lad),
     }
+}
+
+/// Which images have to differ.
+fn maps_at(matches: &ArgMatches) -> Option<Maps>
+    ensures { result ≡ line.maps_at (rows_of (found_of matches.now)) }
+{
+    match word_at(matches, "map") {
+        Some(text) => maps_named(text),
+        None => Some(Maps::Injective),
+    }
+}
+
+/// The pairs that are to be in order.
+fn less_at(matches: &ArgMatches) -> Option<Pairs>
+    ensures { result ≡ line.less_at (rows_of (found_of matches.now)) }
+{
+    match word_at(matches, "less") {
+        Some(text) => Pairs::named(text),
+        None => Some(Pairs::none()),
+    }
+}
+
+/// What the words ask.
+fn question_at(matches: &ArgMatches) -> Option<AskWords>
+    ensures { result ≡ line.question_at (rows_of (found_of matches.now)) }
+{
+    let induced = flag_at(matches, "induced");
+    let maps = maps_at(matches)?;
+    let less = less_at(matches)?;
+    let format = format_at(matches)?;
+    AskWords::new(induced, maps, less, format)
 }
 
 /// The seed.
@@ -280,8 +329,7 @@ fn solve_words<'a>(matches: &ArgMatches<'a>) -> Option<Command<'a>>
 {
     let pattern = name_at(matches, "pattern")?;
     let target = name_at(matches, "target")?;
-    let induced = flag_at(matches, "induced");
-    let format = format_at(matches)?;
+    let ask = question_at(matches)?;
     let threads = threads_at(matches)?;
     let seed = seed_at(matches)?;
     let budget = budget_at(matches)?;
@@ -293,8 +341,7 @@ fn solve_words<'a>(matches: &ArgMatches<'a>) -> Option<Command<'a>>
     Some(Command::Solve(SolveWords {
         pattern,
         target,
-        induced,
-        format,
+        ask,
         threads,
         seed,
         budget,
@@ -311,14 +358,12 @@ fn verify_words<'a>(matches: &ArgMatches<'a>) -> Option<Command<'a>>
     let pattern = name_at(matches, "pattern")?;
     let target = name_at(matches, "target")?;
     let mapping = name_at(matches, "mapping")?;
-    let induced = flag_at(matches, "induced");
-    let format = format_at(matches)?;
+    let ask = question_at(matches)?;
     Some(Command::Verify(VerifyWords {
         pattern,
         target,
         mapping,
-        induced,
-        format,
+        ask,
     }))
 }
 
@@ -329,13 +374,11 @@ fn encode_words<'a>(matches: &ArgMatches<'a>) -> Option<Command<'a>>
 {
     let pattern = name_at(matches, "pattern")?;
     let target = name_at(matches, "target")?;
-    let induced = flag_at(matches, "induced");
-    let format = format_at(matches)?;
+    let ask = question_at(matches)?;
     Some(Command::Encode(EncodeWords {
         pattern,
         target,
-        induced,
-        format,
+        ask,
     }))
 }
 
