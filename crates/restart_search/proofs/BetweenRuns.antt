@@ -103,6 +103,13 @@ halfway_of Fresh q n d s a marks root f is h = cc
 halfway_of Halfway q n d s a marks root f is h = h
 halfway_of Over q n d s a marks root f is h = cc
 
+-- before its last run has ended a search is honest
+pub honest_at : (stage : Stage) (q : Problem) (n : Option watched.State) (d : State) (s : sparse.State) (a : Account) (marks : List Moment) (root : Moment) (f : Facts)
+    → stage ≢ Over → AtStage stage q n d s a marks root f → Honest q a
+honest_at Fresh q n d s a marks root f open_ h = h.at_root.honest
+honest_at Halfway q n d s a marks root f open_ h = h.sound.based.honest
+honest_at Over q n d s a marks root f open_ h = absurd (open_ refl)
+
 -- ---- rows that were seen, among more
 
 pub take_seen : (more rows : List Row) (k : ℕ) → StartsWith more rows → k ≤ length rows → take k more ≡ take k rows

@@ -134,20 +134,30 @@ learned_again q old mid new s t u h due is learned owner grew few = record {
   learned = subst (λ (xs : List Pairs). Learns s u xs) (sym (all_again h.ends mid)) (learns_on s t u (refuted_in_all h.ends) (refuted_in mid) h.learned learned owner grew few);
 }
 
--- where memory is refused at a restart
-pub part_again : (q : Problem) (old mid : Account) (s t u : Facts) (o : ℕ) → LearnedInRuns q old mid s t → mid.count ≡ cutoff mid.run → LearnsFirst o t.seen u.seen (refuted_in mid) → s.owner ≡ o
-    → Grew t u → length u.seen ≤ u.size → LearnedPart q old s u
-part_again q old mid s t u o h due first owner grew few = record {
-  ends = h.ends ++ mid ∷ [];
-  last = restarted mid;
-  restarts = restarts_again q old mid h.ends h.restarts due;
-  learned = subst (λ (xs : List Pairs). LearnsFirst s.owner s.seen u.seen xs) (sym (all_again h.ends mid))
-      (learns_first s t u (refuted_in_all h.ends) (refuted_in mid) h.learned (subst (λ (n : ℕ). LearnsFirst n t.seen u.seen (refuted_in mid)) (sym owner) first) grew few);
-}
+-- where memory is refused at a restart, before it or after
+pub part_again : (q : Problem) (old mid new : Account) (s t u : Facts) (o : ℕ) → LearnedInRuns q old mid s t → mid.count ≡ cutoff mid.run → (new ≡ mid) ⊎ (new ≡ restarted mid) → LearnsFirst o t.seen u.seen (refuted_in mid)
+    → s.owner ≡ o → Grew t u → length u.seen ≤ u.size → LearnedPart q old new s u
+part_again q old mid new s t u o h due is first owner grew few = by is
+  where
+    firsts : LearnsFirst s.owner s.seen u.seen (refuted_in_all (h.ends ++ mid ∷ []))
+    firsts = subst (λ (xs : List Pairs). LearnsFirst s.owner s.seen u.seen xs) (sym (all_again h.ends mid))
+        (learns_first s t u (refuted_in_all h.ends) (refuted_in mid) h.learned (subst (λ (n : ℕ). LearnsFirst n t.seen u.seen (refuted_in mid)) (sym owner) first) grew few)
+
+    before : LearnedPart q old mid s u
+    before = record { ends = h.ends; restarts = h.restarts; run = h.run; learned = inr (due, firsts) }
+
+    by : (new ≡ mid) ⊎ (new ≡ restarted mid) → LearnedPart q old new s u
+    by (inl same) = subst (λ (a : Account). LearnedPart q old a s u) (sym same) before
+    by (inr next) = record {
+      ends = h.ends ++ mid ∷ [];
+      restarts = subst (λ (a : Account). RestartsAt q old (h.ends ++ mid ∷ []) a) (sym next) (restarts_again q old mid h.ends h.restarts due);
+      run = omega (arith, ap (λ (a : Account). a.run) next, h.run, length-append h.ends (mid ∷ []));
+      learned = inl firsts;
+    }
 
 -- and where it is refused elsewhere
-pub part_of : (q : Problem) (old new : Account) (s t : Facts) → LearnedInRuns q old new s t → LearnedPart q old s t
-part_of q old new s t h = record { ends = h.ends; last = new; restarts = h.restarts; learned = by h.learned }
+pub part_of : (q : Problem) (old new : Account) (s t : Facts) → LearnedInRuns q old new s t → LearnedPart q old new s t
+part_of q old new s t h = record { ends = h.ends; restarts = h.restarts; run = h.run; learned = inl (by h.learned) }
   where
     by : Learns s t (refuted_in_all h.ends) → LearnsFirst s.owner s.seen t.seen (refuted_in_all h.ends)
     by (inl is) = first_all s.owner s.seen t.seen (refuted_in_all h.ends) is

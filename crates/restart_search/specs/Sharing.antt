@@ -114,12 +114,14 @@ pub record LearnedInRuns (q : Problem) (old new : Account) (s t : Facts) : Type 
   pub run : new.run ≡ old.run + length ends
   pub learned : Learns s t (refuted_in_all ends)
 
--- It has learned the first ones of these, in order, and nothing else: where memory is refused at a restart, the rest of what is due there is lacking.
-pub record LearnedPart (q : Problem) (old : Account) (s t : Facts) : Type 0 where
+-- Where memory is refused, the account too has come from the old one by lawful events, with a restart at each of these accounts. Of what these had refuted the first ones are learned, in order, and nothing else; or the account stands at its cutoff, and what it holds refuted comes after that of these.
+pub record LearnedPart (q : Problem) (old new : Account) (s t : Facts) : Type 0 where
   pub ends : List Account
-  pub last : Account
-  pub restarts : RestartsAt q old ends last
+  pub restarts : RestartsAt q old ends new
+  pub run : new.run ≡ old.run + length ends
   pub learned : LearnsFirst s.owner s.seen t.seen (refuted_in_all ends)
+      ⊎ ((new.count ≡ cutoff new.run) × LearnsFirst s.owner s.seen t.seen (refuted_in_all (ends
+      ++ new ∷ [])))
 
 -- ---- which rows are in force
 

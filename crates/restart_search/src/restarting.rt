@@ -1,8 +1,8 @@
 //! How a run begins: what the position has refuted goes to the book, and what the book has is taken up at the root.
 
-ghost use Rattle.std.specs.Prelude.{◌≡◌, ◌≢◌, ◌<◌, ◌≤◌, length, take, IfOk, OnOk, vec_capacity};
+ghost use Rattle.std.specs.Prelude.{◌≡◌, ◌≢◌, ◌<◌, ◌≤◌, ◌⊎◌, length, take, IfOk, OnOk, vec_capacity};
 ghost use Rattle.graph_theory.specs.Graph.{size};
-ghost use Rattle.search_theory.specs.Account.{restarted};
+ghost use Rattle.search_theory.specs.Account.{Honest, restarted};
 ghost use Rattle.search_theory.specs.Bounds.{cutoff};
 ghost use Rattle.search_theory.specs.Remaining.{remaining};
 ghost use Rattle.nogood_book.specs.Facts.{CaughtUp, Grew};
@@ -122,6 +122,9 @@ pub(crate) fn begin_again<T: Trail, B: Book, L: ProofLogger>(
     ensures few { length (B.Seat.shows seat.new).seen ≤ (B.Seat.shows seat.new).size }
     ensures restarted { OnOk result
         (position.new.account ≡ restarted position.old.account) }
+    ensures account { (position.new.account ≡ position.old.account)
+        ⊎ (position.new.account ≡ restarted position.old.account) }
+    ensures honest { Honest author.now.problem.now position.new.account }
     ensures owner { L.owner log.new ≡ L.owner log.old }
     ensures logged { IfOk result
         (λ some. LogsOnAt some author.now.problem.now (B.Seat.shows seat.new).seen

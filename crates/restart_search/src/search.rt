@@ -4,7 +4,7 @@ ghost use Rattle.std.specs.Prelude.{◌≡◌, ◌≢◌, ℕ, ◌<◌, ◌≤�
 ghost use Rattle.graph_theory.specs.Graph.{size};
 ghost use Rattle.bit_rows.specs.BitRows.{words_for};
 ghost use Rattle.domain_bits.specs.Removals.{in_domain};
-ghost use Rattle.search_theory.specs.Account.{MayGuess};
+ghost use Rattle.search_theory.specs.Account.{Honest, MayGuess};
 ghost use Rattle.search_theory.specs.Bounds.{cutoff};
 ghost use Rattle.search_theory.specs.Claims.{Ordered, Quiet, Single};
 ghost use Rattle.search_theory.specs.Remaining.{remaining};
@@ -123,8 +123,8 @@ fn guess<T: Trail, L: ProofLogger>(
         (L.Told.changes position.new.told) (L.writes log.new)) }
     ensures owner { L.owner log.new ≡ L.owner log.old }
     ensures steps { L.steps log.new q.now rows.now }
-    ensures went { OnOk result
-        (GoesWithinRun q.now position.old.account position.new.account) }
+    ensures went { GoesWithinRun q.now position.old.account position.new.account }
+    ensures honest { Honest q.now position.new.account }
     ensures nearer { OnOk result
         (remaining position.new.account < remaining position.old.account) }
     ensures budget { position.new.account.budget ≡ position.old.account.budget }
@@ -237,11 +237,12 @@ pub(crate) fn run<'a, T: Trail, B: Book, L: ProofLogger, G: Gate>(
     ensures alone { signals.now.cell ≡ None → IsNotStopped result }
     ensures cell { IfStopped result (λ n. IfSome signals.now.cell (λ c. n.cell ≡ c.now)) }
     ensures budget { walk.new.position.account.budget ≡ walk.old.position.account.budget }
+    ensures honest { Honest author.now.problem.now walk.new.position.account }
     ensures learned { IfMemory result
         (LearnedInRuns author.now.problem.now walk.old.position.account walk.new.position.account
         (B.Seat.shows seat.old) (B.Seat.shows seat.new))
-        (LearnedPart author.now.problem.now walk.old.position.account (B.Seat.shows seat.old)
-        (B.Seat.shows seat.new)) }
+        (LearnedPart author.now.problem.now walk.old.position.account walk.new.position.account
+        (B.Seat.shows seat.old) (B.Seat.shows seat.new)) }
     ensures begun { Leaves result
         (GoesOn author.now.problem.now walk.new.propagator.filters.nogoods walk.new.position
         (B.Seat.shows seat.new)) }

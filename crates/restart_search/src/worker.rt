@@ -320,12 +320,14 @@ impl<'a, S: RowSeat + Drop, T: Trail, L: ProofLogger> Worker<'a, S, T, L> {
         ensures refutes { IfRefuted result
             (L.refutes self.new.log self.new.problem self.new.facts.seen) }
         ensures budget { self.new.account.budget ≡ self.old.account.budget }
+        ensures honest { Honest self.new.problem self.new.account }
         ensures stage { self.new.stage ≡ stage_after result }
         ensures paused { Leaves result (IsPaused self.new) }
         ensures learned { IfMemory result
             (LearnedInRuns self.new.problem self.old.account self.new.account self.old.facts
             self.new.facts)
-            (LearnedPart self.new.problem self.old.account self.old.facts self.new.facts) }
+            (LearnedPart self.new.problem self.old.account self.new.account self.old.facts
+            self.new.facts) }
     {
         let author = Author {
             problem: self.problem,

@@ -1,5 +1,5 @@
-use Rattle.std.proofs.Common.{List, ◌<◌, length, sym, ap, subst, ◌∙◌, arith}
-use Rattle.search_theory.specs.Account.{Account}
+use Rattle.std.proofs.Common.{List, ◌<◌, length, refl, sym, ap, subst, ◌∙◌, inl, inr, arith}
+use Rattle.search_theory.specs.Account.{Account, Honest}
 use Rattle.search_theory.specs.Remaining.{remaining}
 use Rattle.nogood_book.specs.declared.row.Row.{Row}
 use Rattle.nogood_book.proofs.Lists.{starts_length}
@@ -82,3 +82,15 @@ returns-clause-part g c =
 
 pub returns-clause-restarted : goal.returns-clause-restarted
 returns-clause-restarted g c = on_ok c.take_up_book.result _ (c.take_up_book.ensures.account ∙ c.restart.ensures.restarted)
+
+pub returns-clause-account : goal.returns-clause-account
+returns-clause-account g c = inr (c.take_up_book.ensures.account ∙ c.restart.ensures.restarted)
+
+pub returns-in_err-_whole-clause-account : goal.returns-in_err-_whole-clause-account
+returns-in_err-_whole-clause-account g c = inl refl
+
+pub returns-clause-honest : goal.returns-clause-honest
+returns-clause-honest g c = subst (λ (a : Account). Honest c.args.author.now.problem.now a) (sym c.take_up_book.ensures.account) c.restart.ensures.at_root.honest
+
+pub returns-in_err-_whole-clause-honest : goal.returns-in_err-_whole-clause-honest
+returns-in_err-_whole-clause-honest g c = c.requires.begun.sound.based.honest

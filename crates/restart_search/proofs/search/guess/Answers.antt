@@ -158,6 +158,18 @@ returns-in_ok-close-in-Err-clause-logged g c =
 pub returns-in-Ok-clause-went : goal.returns-in-Ok-clause-went
 returns-in-Ok-clause-went g c = within_guess c.args.q.now _ _ c.args.pair.0 c.args.pair.1 c.requires.unspent c.requires.before_cutoff c.requires.may c.deepen.ensures.deepened
 
+pub returns-in_err-close-in-Err-clause-went : goal.returns-in_err-close-in-Err-clause-went
+returns-in_err-close-in-Err-clause-went g c = within_guess c.args.q.now _ _ c.args.pair.0 c.args.pair.1 c.requires.unspent c.requires.before_cutoff c.requires.may c.deepen.ensures.deepened
+
+pub returns-in-Ok-clause-honest : goal.returns-in-Ok-clause-honest
+returns-in-Ok-clause-honest g c = c.deepen.ensures.honest
+
+pub returns-in_err-close-in-Err-clause-honest : goal.returns-in_err-close-in-Err-clause-honest
+returns-in_err-close-in-Err-clause-honest g c = c.deepen.ensures.honest
+
+pub returns-in_ok-close-in-Err-clause-honest : goal.returns-in_ok-close-in-Err-clause-honest
+returns-in_ok-close-in-Err-clause-honest g c = c.take_back.ensures.sound.based.honest
+
 pub returns-in_ok-close-in-Err-clause-went : goal.returns-in_ok-close-in-Err-clause-went
 returns-in_ok-close-in-Err-clause-went g c =
     let told = c.in-Err.ensures.propagated in

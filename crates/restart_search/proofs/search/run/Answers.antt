@@ -1,13 +1,13 @@
 use Rattle.std.proofs.Common.{◌≡◌, ◌++◌, true, false, List, take, vec_capacity, ℕ, ◌<◌, length, sym, ap, ◌∙◌, refl, subst, arith}
 use Rattle.std.proofs.lemmas.Bool.{eqb-true}
 use Rattle.bit_rows.specs.BitRows.{has, words_for}
-use Rattle.search_theory.specs.Account.{Account}
+use Rattle.search_theory.specs.Account.{Account, Honest}
 use Rattle.restart_search.specs.Sharing.{KeepsUp}
 use Rattle.propagation.proofs.Holding.{holds_same}
 use Rattle.restart_search.proofs.Closing.{dead_where_all_refuted, none_where_dead, may_guess, spends_where_due}
 use Rattle.restart_search.proofs.Steps.{none_left, enough_for}
 use Rattle.restart_search.proofs.Runs.{learned_none, learned_on, learned_again, part_again, part_of, within_fail, memory_of}
-use Rattle.restart_search.proofs.BetweenRuns.{goes_on, found_ends, found_alone, found_note, found_refutes, leaves_of}
+use Rattle.restart_search.proofs.BetweenRuns.{goes_on, honest_at, found_ends, found_alone, found_note, found_refutes, leaves_of}
 use Rattle.nogood_book.specs.declared.row.Row.{Row}
 use Rattle.restart_search.specs.Logging.{IsLogged}
 use Rattle.restart_search.proofs.Logging.{ends_path, logs_true}
@@ -138,7 +138,7 @@ loop-p-preserved g c =
         keeps = subst (λ (n : ℕ). KeepsUp (g.B.Seat.RowSeat.shows c.loop-p.seat) n) (sym c.guess.ensures.run) begun.keeps;
       };
       budget = c.guess.ensures.budget ∙ c.loop-p.invariant.budget;
-      learned = learned_on c.args.author.now.problem.now _ _ _ _ _ c.loop-p.invariant.learned c.in-Ok-guess.ensures.went;
+      learned = learned_on c.args.author.now.problem.now _ _ _ _ _ c.loop-p.invariant.learned c.guess.ensures.went;
       long = c.guess.ensures.long;
       words = ap length (written _ _ _ len) ∙ c.fill_untried.ensures.long ∙ ap words_for begun.sound.based.is_of.values_is;
       choice = c.choose-t.ensures.same ∙ c.loop-p.invariant.choice;
@@ -198,7 +198,9 @@ pub returns-in_default-close-clause-learned : goal.returns-in_default-close-clau
 returns-in_default-close-clause-learned g c = part_of c.args.author.now.problem.now _ _ _ _ c.loop-p.invariant.learned
 
 pub returns-in_default-guess-clause-learned : goal.returns-in_default-guess-clause-learned
-returns-in_default-guess-clause-learned g c = part_of c.args.author.now.problem.now _ _ _ _ c.loop-p.invariant.learned
+returns-in_default-guess-clause-learned g c =
+    part_of c.args.author.now.problem.now _ _ _ _
+    (learned_on c.args.author.now.problem.now _ c.loop-p.walk.position.account c.guess.new.position.account _ _ c.loop-p.invariant.learned c.guess.ensures.went)
 
 pub returns-in-Ok-false-begin_again-clause-learned : goal.returns-in-Ok-false-begin_again-clause-learned
 returns-in-Ok-false-begin_again-clause-learned g c =
@@ -208,8 +210,8 @@ returns-in-Ok-false-begin_again-clause-learned g c =
 
 pub returns-in-Err-begin_again-clause-learned : goal.returns-in-Err-begin_again-clause-learned
 returns-in-Err-begin_again-clause-learned g c =
-    part_again c.args.author.now.problem.now c.args.walk.now.position.account c.loop-p.walk.position.account (g.B.Seat.RowSeat.shows c.args.seat.now) (g.B.Seat.RowSeat.shows c.loop-p.seat)
-    (g.B.Seat.RowSeat.shows c.begin_again.new.seat) c.args.author.now.owner c.loop-p.invariant.learned (c.if-at_cutoff.ensures.exactly.0 refl) c.begin_again.ensures.part c.requires.seat.owner_is
+    part_again c.args.author.now.problem.now c.args.walk.now.position.account c.loop-p.walk.position.account c.begin_again.new.position.account (g.B.Seat.RowSeat.shows c.args.seat.now) (g.B.Seat.RowSeat.shows c.loop-p.seat)
+    (g.B.Seat.RowSeat.shows c.begin_again.new.seat) c.args.author.now.owner c.loop-p.invariant.learned (c.if-at_cutoff.ensures.exactly.0 refl) c.begin_again.ensures.account c.begin_again.ensures.part c.requires.seat.owner_is
     c.begin_again.ensures.grew c.begin_again.ensures.few
 
 pub loop-p-preserved-in-Ok-true-begin_again : goal.loop-p-preserved-in-Ok-true-begin_again
@@ -439,3 +441,35 @@ begin-requires-clause-problem g c = c.requires.walk.problem
 
 pub begin-requires-clause-long : goal.begin-requires-clause-long
 begin-requires-clause-long g c = c.requires.walk.long
+
+pub returns-in-Ok-false-clause-honest : goal.returns-in-Ok-false-clause-honest
+returns-in-Ok-false-clause-honest g c =
+    subst (λ (a : Account). Honest c.args.author.now.problem.now a) (sym c.begin.ensures.account) (honest_at c.args.stage _ _ _ _ _ _ _ _ c.requires.open c.requires.stands)
+
+pub returns-in-Err-clause-honest : goal.returns-in-Err-clause-honest
+returns-in-Err-clause-honest g c =
+    subst (λ (a : Account). Honest c.args.author.now.problem.now a) (sym c.begin.ensures.account) (honest_at c.args.stage _ _ _ _ _ _ _ _ c.requires.open c.requires.stands)
+
+pub returns-in_default-clause-honest : goal.returns-in_default-clause-honest
+returns-in_default-clause-honest g c = c.loop-p.invariant.begun.sound.based.honest
+
+pub returns-in_default-close-clause-honest : goal.returns-in_default-close-clause-honest
+returns-in_default-close-clause-honest g c = c.loop-p.invariant.begun.sound.based.honest
+
+pub returns-then-is_empty-clause-honest : goal.returns-then-is_empty-clause-honest
+returns-then-is_empty-clause-honest g c = c.loop-p.invariant.begun.sound.based.honest
+
+pub returns-in-Some-stop_at-clause-honest : goal.returns-in-Some-stop_at-clause-honest
+returns-in-Some-stop_at-clause-honest g c = c.loop-p.invariant.begun.sound.based.honest
+
+pub returns-then-spent-clause-honest : goal.returns-then-spent-clause-honest
+returns-then-spent-clause-honest g c = c.loop-p.invariant.begun.sound.based.honest
+
+pub returns-in-Ok-false-begin_again-clause-honest : goal.returns-in-Ok-false-begin_again-clause-honest
+returns-in-Ok-false-begin_again-clause-honest g c = c.begin_again.ensures.honest
+
+pub returns-in-Err-begin_again-clause-honest : goal.returns-in-Err-begin_again-clause-honest
+returns-in-Err-begin_again-clause-honest g c = c.begin_again.ensures.honest
+
+pub returns-in_default-guess-clause-honest : goal.returns-in_default-guess-clause-honest
+returns-in_default-guess-clause-honest g c = c.guess.ensures.honest
