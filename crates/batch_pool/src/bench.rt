@@ -33,8 +33,7 @@ impl<'a, W: Work, G> Drop for Bench<'a, W, G> {
 impl<'a, W: Work, G: JobGate> Bench<'a, W, G> {
     /// Tells the gate that a worker took a job, and does it.
     pub(crate) fn does(&self, worker: u32, number: u32) -> Result<W::Out, AllocError>
-        requires ready { W.ready self.now.work.now }
-        requires below { number < length self.now.jobs.now }
+        requires { number < length self.now.jobs.now }
         ensures { IfOk result (λ out. IsAnswerAt (W.answers self.now.work.now) self.now.jobs.now
             number out) }
     {

@@ -80,7 +80,6 @@ where
         pass: &mut Pass<u32, Hand>,
         entries: &mut Entries<W::Out>,
     ) -> Result<(), AllocError>
-        requires ready { W.ready self.now.work.now }
         requires queue { IsPassOf self.now.queue.now pass.old }
         requires whole { (view pass.old).parts ≡ all_parts }
         requires pushed { (view pass.old).pushed ≡ length self.now.jobs.now }
@@ -102,7 +101,6 @@ where
 
     /// The answer to a job: the one that is there, or else the caller does the job.
     fn out_of(&self, place: usize, out: Option<W::Out>) -> Result<W::Out, AllocError>
-        requires ready { W.ready self.now.work.now }
         requires below { place < length self.now.jobs.now }
         requires answer { IfSome out
             (λ o. IsAnswerAt (W.answers self.now.work.now) self.now.jobs.now place o) }
@@ -122,7 +120,6 @@ where
         pass: Pass<u32, Hand>,
         entries: Entries<W::Out>,
     ) -> Result<Ran<W::Out>, AllocError>
-        requires ready { W.ready self.now.work.now }
         requires all { AreBelow (length self.now.jobs.now) (view pass).taken }
         requires placed { ArePlaced (W.answers self.now.work.now) self.now.jobs.now self.now.workers
             (view pass).taken entries.slots.items }

@@ -62,7 +62,6 @@ fn run_all<R: Threads + Wait + Sync, W: Work + Sync, G: JobGate + Sync>(
 where
     W::Job: Sync,
     W::Out: Send + Drop,
-    requires ready { W.ready bench.now.work.now }
     requires hired { All (λ w. IsHired bench.now.queue.now (length bench.now.jobs.now)
         bench.now.workers w) staff.items }
     ensures count { IfOk result (λ v. length v.items ≡ length staff.items) }
@@ -73,8 +72,8 @@ where
         rt,
         staff,
         &|worker| -> Done<W::Out>
-            requires { W.ready bench.now.work.now × IsHired bench.now.queue.now
-                (length bench.now.jobs.now) bench.now.workers worker }
+            requires { IsHired bench.now.queue.now (length bench.now.jobs.now)
+                bench.now.workers worker }
             ensures { HasHanded (W.answers bench.entry.now.work.now) bench.entry.now.jobs.now
                 bench.entry.now.queue.now bench.entry.now.workers result }
         { bench.work_off(rt, alloc, worker) },
@@ -96,7 +95,6 @@ pub fn run_jobs<R: Threads + Wait + Sync, W: Work + Sync, G: JobGate + Sync>(
 where
     W::Job: Sync + Drop,
     W::Out: Send + Drop,
-    requires ready { W.ready work.now }
     requires few { length jobs.items < 2 ^ 32 }
     ensures outs { IfOk result (λ r. AreDone (W.answers work.now) jobs.items r.outs.items) }
     ensures by { IfOk result (λ r. AreTakers (length jobs.items) workers r.by.items) }

@@ -10,14 +10,10 @@ pub trait Work {
 
     type Out;
 
-    /// Jobs may be given to it.
-    ghost ready: { Self → Type 0 };
-
     /// This is a right answer to the job.
     ghost answers: { Self → Self.Job → Self.Out → Type 0 };
 
     /// Does a job. It may be called again for a job that was refused memory.
     fn does(&self, job: &Self::Job) -> Result<Self::Out, AllocError>
-        requires { ready self.now }
         ensures { IfOk result (λ out. answers self.now job.now out) };
 }

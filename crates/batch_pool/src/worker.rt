@@ -47,7 +47,6 @@ where
         pass: &mut Pass<u32, Hand>,
         taken: &mut Vec<Taken<W::Out>>,
     ) -> bool
-        requires ready { W.ready self.now.work.now }
         requires queue { IsPassOf self.now.queue.now pass.old }
         requires worked { HasWorked (W.answers self.now.work.now) self.now.jobs.now (view pass.old)
             taken.old.items }
@@ -69,7 +68,6 @@ where
 
     /// Works until the queue is empty.
     pub(crate) fn work_off<R: Wait>(&self, rt: &R, alloc: Global, worker: Worker) -> Done<W::Out>
-        requires ready { W.ready self.now.work.now }
         requires queue { IsPassOf self.now.queue.now worker.pass }
         requires begins { view worker.pass ≡ hand 1 (length self.now.jobs.now) [] }
         ensures number { result.worker ≡ worker.number }

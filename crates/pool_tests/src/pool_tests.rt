@@ -23,8 +23,6 @@ impl Work for AddOne {
 
     ghost use Rattle.std.specs.Prelude.{◌≡◌, ◌+◌};
 
-    ghost ready = { λ work. Unit {0} };
-
     ghost answers = { λ work job out. out ≡ job + 1 };
 
     fn does(&self, job: &u32) -> Result<u64, AllocError> {
@@ -44,8 +42,6 @@ impl Work for Refused {
     type Out = u64;
 
     ghost use Rattle.std.specs.Prelude.{◌≡◌, ◌+◌};
-
-    ghost ready = { λ work. Unit {0} };
 
     ghost answers = { λ work job out. out ≡ job + 1 };
 
@@ -104,7 +100,6 @@ fn ran<R: Threads + Wait + Sync, W: Work<Job = u32, Out = u64> + Sync, G: JobGat
     work: &W,
     gate: &G,
 ) -> Result<Ran<u64>, AllocError>
-    requires ready { W.ready work.now }
     requires few { length jobs.now < 2 ^ 32 }
 {
     let jobs = Vec::from_slice(alloc, jobs)?;
