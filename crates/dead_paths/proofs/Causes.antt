@@ -1,5 +1,6 @@
 -- What pushing the references of a change, or of an end, comes to.
 use Rattle.std.proofs.Common.{◌≡◌, ℕ, ◌<◌, Bool, List, [], ◌∷◌, ◌++◌, Option, Some, Result, Ok, Err, OnOk, inl, inr, refl, sym, ap, subst, ◌∙◌, append_assoc}
+use Rattle.std.specs.Prelude.{slice_get}
 use Rattle.std.specs.List.{slice_range}
 use Rattle.std.specs.declared.alloc.AllocError.{AllocError}
 use Rattle.graph_theory.specs.Graph.{size}
@@ -8,7 +9,7 @@ use Rattle.graph_theory.specs.declared.direction.Direction.{Direction}
 use Rattle.proof_theory.specs.Forms.{Form}
 use Rattle.log_theory.specs.declared.step.Ref.{Ref}
 use Rattle.log_theory.specs.declared.step.Step.{Step}
-use Rattle.encoding_theory.specs.Encoding.{at_least, at_most, pair_form}
+use Rattle.encoding_theory.specs.Encoding.{at_least, at_most, leads_form, pair_form}
 use Rattle.explanation_theory.specs.Reasons.{pairs_clause, at_leasts}
 use Rattle.nogood_book.specs.declared.row.Row.{Row}
 use Rattle.nogood_book.specs.Rows.{path_at}
@@ -20,15 +21,17 @@ use Rattle.recorder.specs.declared.change.What.TheVariants.{One, Others, Over}
 use Rattle.recorder.specs.declared.change.Place.{Place}
 use Rattle.recorder.specs.Recording.{change_by}
 use Rattle.recorder.specs.Telling.{Joins}
-use Rattle.dead_theory.specs.Changes.{Chosen, known_after, ExplainsChange, ExplainAll, set_forms, crowd_forms}
+use Rattle.recorder.specs.declared.change.Side.{Side}
+use Rattle.recorder.specs.Telling.{end_beside, is_beside}
+use Rattle.dead_theory.specs.Changes.{IsEndOf, Chosen, known_after, ExplainsChange, ExplainAll, set_forms, crowd_forms}
 use Rattle.log_growth.specs.Frames.{Frame, IsFrameOf, IsNamed, AreNamed, AnyForms, Goes, Lasts}
 use Rattle.log_growth.proofs.Going.{goes_stay, goes_as, goes_then, goes_beside}
 use Rattle.log_growth.proofs.Naming.{named_later, are_named_later, named_behind, named_pushed}
-use Rattle.dead_paths.specs.Lines.{at_least_ref, at_most_ref, edge_ref, at_least_refs}
+use Rattle.dead_paths.specs.Lines.{at_least_ref, at_most_ref, edge_ref, order_ref, at_least_refs}
 use Rattle.dead_paths.specs.Making.{IsRowLine, GivesFirst, GivesRow, AreRowsNamed}
 use Rattle.dead_paths.specs.Choosing.{asked_of}
-use Rattle.dead_paths.specs.Explaining.{Explained, Knowing, Adds, AddsFor, AddsNogood, MayAdd, IsSetPushed, IsCrowdPushed, IsChangePushed, AreChangesPushed}
-use Rattle.dead_paths.proofs.LineRefs.{at_least_named, at_most_named, joins_pair, edge_named, at_leasts_named}
+use Rattle.dead_paths.specs.Explaining.{IsLimited, Explained, Knowing, Adds, AddsFor, AddsNogood, MayAdd, IsSetPushed, IsCrowdPushed, IsChangePushed, AreChangesPushed}
+use Rattle.dead_paths.proofs.LineRefs.{at_least_named, at_most_named, joins_pair, edge_named, order_named, at_leasts_named}
 
 -- ---- pushing
 
@@ -102,20 +105,20 @@ module _ (q : Problem) (rows : List Row) (known : List (ℕ × ℕ)) (w : Frame)
       }
 
   -- A set.
-  pub set_goes_on : (k : Place) (old new : List Ref) (result : Result (Unit {0}) AllocError) → what ≡ Others k
-      → Goes w a b knows (IsSetPushed q (slice_range numbers k.start k.middle) (slice_range numbers k.middle k.end) w old new now result)
+  pub set_goes_on : (centre : Option ℕ) (k : Place) (old new : List Ref) (result : Result (Unit {0}) AllocError) → what ≡ Others centre k
+      → Goes w a b knows (IsSetPushed q centre (slice_range numbers k.start k.middle) (slice_range numbers k.middle k.end) w old new now result)
       → Goes w a b (Knowing knows (AreRowsNamed q rows w names)) (IsChangePushed q rows known (asked_of by_edges (change_by numbers what from)) w old new now result)
-  set_goes_on k old new result is goes =
-      goes_as w a b knows (IsSetPushed q (slice_range numbers k.start k.middle) (slice_range numbers k.middle k.end) w old new now result) (Knowing knows (AreRowsNamed q rows w names))
+  set_goes_on centre k old new result is goes =
+      goes_as w a b knows (IsSetPushed q centre (slice_range numbers k.start k.middle) (slice_range numbers k.middle k.end) w old new now result) (Knowing knows (AreRowsNamed q rows w names))
       (IsChangePushed q rows known (asked_of by_edges (change_by numbers what from)) w old new now result) (λ forms h. h.0) (λ forms h. by result forms h) goes
     where
-      by : (result : Result (Unit {0}) AllocError) (forms : List Form) → IsSetPushed q (slice_range numbers k.start k.middle) (slice_range numbers k.middle k.end) w old new now result forms
+      by : (result : Result (Unit {0}) AllocError) (forms : List Form) → IsSetPushed q centre (slice_range numbers k.start k.middle) (slice_range numbers k.middle k.end) w old new now result forms
           → IsChangePushed q rows known (asked_of by_edges (change_by numbers what from)) w old new now result forms
       by (Ok u) forms h = (
         h.0,
         record {
-          own = set_forms q (slice_range numbers k.start k.middle) (slice_range numbers k.middle k.end);
-          explains = subst (λ (x : What). ExplainsChange q rows known (asked_of by_edges (change_by numbers x from)) (set_forms q (slice_range numbers k.start k.middle) (slice_range numbers k.middle k.end))) (sym is) refl;
+          own = set_forms q centre (slice_range numbers k.start k.middle) (slice_range numbers k.middle k.end);
+          explains = subst (λ (x : What). ExplainsChange q rows known (asked_of by_edges (change_by numbers x from)) (set_forms q centre (slice_range numbers k.start k.middle) (slice_range numbers k.middle k.end))) (sym is) refl;
           adds = h.1;
         },
       )
@@ -172,6 +175,25 @@ module _ (q : Problem) (rows : List Row) (known : List (ℕ × ℕ)) (w : Frame)
           explains = subst (λ (x : What). ExplainsChange q rows known (asked_of by_edges (change_by numbers x from)) (pair_form q r p u ∷ [])) (sym at) refl;
           adds = adds_one w old new ref (pair_form q r p u) forms pushed
               (subst (λ (x : Ref). IsNamed w forms x (pair_form q r p u)) (sym ref_is) (edge_named q owner w forms r p u frame joins.other_in joins.vertex_in u_in (joins_pair q direction p r joins)));
+        },
+      ))
+
+  -- A pair that is to be in order.
+  pub order_goes : (owner k u r : ℕ) (side : Side) (why : Cause) (old new : List Ref) (ref : Ref) → IsFrameOf q owner w → IsLimited q → IsEndOf q k side r → u < size q.target → what ≡ One r why → why ≡ cause.Order k u side
+      → ((x : ℕ × ℕ) → slice_get q.less k ≡ Some x → ref ≡ order_ref q k x side u) → new ≡ old ++ ref ∷ []
+      → Goes w kept kept (Knowing knows (AreRowsNamed q rows w names)) (IsChangePushed q rows known (asked_of by_edges (change_by numbers what from)) w old new knows (Ok tt))
+  order_goes owner k u r side why old new ref frame limited end u_in is by_order ref_is pushed =
+      let at : what ≡ One r (cause.Order k u side) = is ∙ ap (λ (c : Cause). let x : What = One r c in x) by_order in
+      let form : Form = leads_form q r u (end_beside side end.pair) (is_beside side u) in
+      goes_stay w kept kept (Knowing knows (AreRowsNamed q rows w names)) (IsChangePushed q rows known (asked_of by_edges (change_by numbers what from)) w old new knows (Ok tt)) refl
+      (λ forms h. (
+        h.0,
+        record {
+          own = form ∷ [];
+          explains = subst (λ (x : What). ExplainsChange q rows known (asked_of by_edges (change_by numbers x from)) (form ∷ [])) (sym at) (record { pair = end.pair; pair_is = end.pair_is; are = refl });
+          adds = adds_one w old new ref form forms pushed
+              (subst (λ (x : Ref). IsNamed w forms x form) (sym (ref_is end.pair end.pair_is))
+              (subst (λ (p : ℕ). IsNamed w forms (order_ref q k end.pair side u) (leads_form q p u (end_beside side end.pair) (is_beside side u))) end.end_is (order_named q owner w forms k u end.pair side frame limited end.pair_is u_in)));
         },
       ))
 

@@ -74,7 +74,7 @@ drop_past (e ∷ chosen) (suc k) h = drop_past chosen k (omega (arith, h))
 pub refuted_last : (q : Problem) (path : List (ℕ × ℕ)) (e : End) (w : Frame) (refuted : List Ref) → Lasts (AreRefuted q path e w refuted)
 refuted_last q path (Empty p) w refuted = λ forms more h. tt
 refuted_last q path (Whole name) w refuted = λ forms more h. tt
-refuted_last q path (Short vertices values) w refuted = λ forms more h. tt
+refuted_last q path (Short centre vertices values) w refuted = λ forms more h. tt
 refuted_last q path (Exhausted p values) w refuted = λ forms more h. are_named_later w forms more refuted (value_clauses q path p values) h
 
 -- ---- literals
@@ -223,16 +223,16 @@ module _ (q : Problem) (rows : List Row) (w : Frame) (names : ℕ → Ref) (path
   end_nogood owner name (Err x) old new forms frame nogood named h = tt
 
   -- The line of a set.
-  pub set_pushed : (e : End) (vertices values : List ℕ) (refuted : List Ref) (knows now : List Form → Type 0) (a b : Option (List Step))
-      (result : Result (Unit {0}) AllocError) (old new : List Ref) → e ≡ Short vertices values → Goes w a b knows (IsSetPushed q vertices values w old new now result)
+  pub set_pushed : (e : End) (centre : Option ℕ) (vertices values : List ℕ) (refuted : List Ref) (knows now : List Form → Type 0) (a b : Option (List Step))
+      (result : Result (Unit {0}) AllocError) (old new : List Ref) → e ≡ Short centre vertices values → Goes w a b knows (IsSetPushed q centre vertices values w old new now result)
       → Goes w a b (Knowing knows (IsBegun q rows w names path e refuted)) (IsEndPushed q rows path known e w old new now result)
-  set_pushed e vertices values refuted knows now a b result old new is goes =
+  set_pushed e centre vertices values refuted knows now a b result old new is goes =
       subst (λ (x : End). Goes w a b (Knowing knows (IsBegun q rows w names path x refuted)) (IsEndPushed q rows path known x w old new now result)) (sym is)
-      (goes_as w a b knows (IsSetPushed q vertices values w old new now result) (Knowing knows (IsBegun q rows w names path (Short vertices values) refuted)) (IsEndPushed q rows path known (Short vertices values) w old new now result)
+      (goes_as w a b knows (IsSetPushed q centre vertices values w old new now result) (Knowing knows (IsBegun q rows w names path (Short centre vertices values) refuted)) (IsEndPushed q rows path known (Short centre vertices values) w old new now result)
       (λ forms h. h.0) (λ forms h. by result forms h) goes)
     where
-      by : (result : Result (Unit {0}) AllocError) (forms : List Form) → IsSetPushed q vertices values w old new now result forms → IsEndPushed q rows path known (Short vertices values) w old new now result forms
-      by (Ok u) forms h = (h.0, record { ends = set_forms q vertices values; in_end = refl; adds = h.1 })
+      by : (result : Result (Unit {0}) AllocError) (forms : List Form) → IsSetPushed q centre vertices values w old new now result forms → IsEndPushed q rows path known (Short centre vertices values) w old new now result forms
+      by (Ok u) forms h = (h.0, record { ends = set_forms q centre vertices values; in_end = refl; adds = h.1 })
       by (Err x) forms h = tt
 
   -- After a refusal nothing is claimed.
@@ -251,8 +251,8 @@ choice_is q rows path cs chosen e needed (Err x) needs choice = tt
 pub failed_in : (q : Problem) (rows : List Row) (f : Failure) (short : Option CountedSet) → ends.IsEndIn q rows (end_of f short) → IsEndIn q rows (end_by (path_end.Failed f) short [])
 failed_in q rows (failure.Empty p) short h = h
 failed_in q rows (failure.Whole name) short h = h
-failed_in q rows (failure.Short n) (Some set) h = (h.0, h.1)
-failed_in q rows (failure.Short n) None h = (h.0, h.1)
+failed_in q rows (failure.Short n) (Some set) h = h.0
+failed_in q rows (failure.Short n) None h = h.0
 
 -- A line that is kept is the last one.
 pub last_kept : (owner : ℕ) (n : Name) (old new : Option (List Step)) (step : Step) → Keeps {E = AllocError} (Ok n) owner old new step → IsLastOf new n

@@ -1,5 +1,5 @@
 -- References to lines of the encoding: they are in range, name their forms, and a set's forms can be added up.
-use Rattle.std.proofs.Common.{◌≡◌, ℕ, ◌+◌, ◌-◌, ◌^◌, ◌<◌, ◌≤◌, ◌==◌, Bool, true, false, ◌||◌, not, ◌&&◌, is_some, List, [], ◌∷◌, ◌++◌, length, slice_index, refl, sym, ap, subst, ◌∙◌, arith, Option, Some, Result, Ok, Err, append-nil, ℤ, pos, negsuc, unsigned_abs}
+use Rattle.std.proofs.Common.{◌≡◌, ℕ, ◌+◌, ◌-◌, ◌^◌, ◌<◌, ◌≤◌, ◌==◌, Bool, true, false, ◌||◌, not, ◌&&◌, is_some, List, [], ◌∷◌, ◌++◌, length, slice_index, None, refl, sym, ap, subst, ◌∙◌, arith, Option, Some, Result, Ok, Err, append-nil, ℤ, pos, negsuc, unsigned_abs}
 use Rattle.std.specs.Prelude.{map, slice_get}
 use Rattle.std.proofs.lemmas.Bool.{and_parts, eq-eqb, ne_eqb}
 use Rattle.std.proofs.lemmas.Option.{slice_get_within}
@@ -17,24 +17,29 @@ use Rattle.log_theory.specs.declared.step.Ref.TheVariants.{Line, Made}
 use Rattle.log_theory.specs.LogText.{IsRef, AreRefs}
 use Rattle.log_theory.specs.Lookups.{is_among}
 use Rattle.encoding_theory.specs.Variables.{variable}
-use Rattle.encoding_theory.specs.Encoding.{encoding, every, terms_where, at_least, at_most, at_most_target, pair_form}
+use Rattle.graph_theory.specs.Embedding.{is_injective}
+use Rattle.graph_theory.specs.Blocks.{in_block, has_block_in, has_block}
+use Rattle.graph_theory.specs.declared.embedding.Maps.{Maps}
+use Rattle.graph_theory.specs.declared.embedding.Maps.TheVariants.{Injective, Local, Any}
+use Rattle.encoding_theory.specs.Encoding.{encoding, every, terms_where, at_least, at_most, at_most_in, leads_form, pair_form}
 use Rattle.encoding_theory.specs.Pairs.{is_linked, is_edge_pair, is_compatible}
-use Rattle.encoding_theory.specs.Places.{at_least_place, at_most_place, at_most_target_place, edge_place}
+use Rattle.encoding_theory.specs.Places.{at_least_place, at_most_place, at_most_place_in, edge_place, less_from_place, less_to_place}
 use Rattle.encoding_theory.proofs.PlaceProofs.{place_laws}
 use Rattle.pb_terms.proofs.Ruled.{size-sorted}
 use Rattle.pb_encoding.proofs.TermLists.{size-terms}
-use Rattle.pb_encoding.proofs.Counts.{starts}
-use Rattle.pb_encoding.proofs.Bounds.{few}
-use Rattle.pb_encoding.proofs.LineNumbers.{at_least_line, at_most_line, at_most_target_line}
-use Rattle.recorder.specs.Telling.{Joins}
+use Rattle.pb_encoding.proofs.Counts.{inside_of}
+use Rattle.pb_encoding.proofs.LineNumbers.{encoding_few, at_least_line, at_most_line}
+use Rattle.recorder.specs.declared.change.Side.{Side}
+use Rattle.recorder.specs.declared.change.Side.TheVariants.{Lesser, Greater}
+use Rattle.recorder.specs.Telling.{Joins, end_at, end_beside, is_beside}
 use Rattle.forcing_theory.specs.Sums.{sum_from, IsSmall, AreSmall}
 use Rattle.explanation_theory.specs.Reasons.{at_leasts, beside_forms, over_form}
 use Rattle.log_growth.specs.Frames.{Frame, IsFrameOf, IsNamed, AreNamed, IsAddable, Goes, Lasts, Named, AnyForms, IsKept}
 use Rattle.log_growth.proofs.Going.{goes_as, goes_beside}
 use Rattle.log_growth.proofs.Naming.{line_named, named_behind, named_count}
-use Rattle.dead_paths.specs.Lines.{at_least_ref, at_most_ref, at_most_target_ref, edge_ref, at_least_refs, beside_refs, set_refs, crowd_refs, AreVertices, AreValues, ArePairs, IsSetKept, IsCrowdKept}
+use Rattle.dead_paths.specs.Lines.{at_least_ref, at_most_ref, block_ref, edge_ref, order_ref, at_least_refs, beside_refs, set_refs, crowd_refs, AreVertices, AreValues, ArePairs, IsSetKept, IsCrowdKept}
 use Rattle.dead_paths.specs.Making.{GivesSet}
-use Rattle.dead_theory.specs.Changes.{set_forms, crowd_forms}
+use Rattle.dead_theory.specs.Changes.{set_forms, crowd_forms, IsSetIn}
 use Rattle.dead_paths.specs.Explaining.{IsLimited, Adds}
 use Rattle.dead_paths.proofs.Marking.{among_at}
 
@@ -61,8 +66,24 @@ at_least_fits q p few inside = let e = at_least_line q p in let l = few.pattern 
 pub at_most_fits : (q : Problem) (p : ℕ) → IsLimited q → p < size q.pattern → IsRef (at_most_ref q p)
 at_most_fits q p few inside = let e = at_most_line q p in let l = few.pattern in omega (arith, e, l, inside)
 
-pub at_most_target_fits : (q : Problem) (t : ℕ) → IsLimited q → t < size q.target → IsRef (at_most_target_ref q t)
-at_most_target_fits q t few inside = let e = at_most_target_line q (size q.pattern) t refl in let l = few.pattern in let m = few.target in omega (arith, e, l, m, inside)
+-- A place of the encoding gives a reference.
+place_fits : (q : Problem) (k : ℕ) (f : Form) → IsLimited q → slice_get (encoding q) k ≡ Some f → IsRef (Line (k + 1))
+place_fits q k f limited at =
+    let below : k < length (encoding q) = slice_get_within (encoding q) k f at in
+    let most = encoding_few q limited.pattern limited.target limited.order in
+    omega (arith, below, most)
+
+pub block_fits : (q : Problem) (b : Option ℕ) (t : ℕ) → IsLimited q → has_block q b ≡ true → t < size q.target → IsRef (block_ref q b t)
+block_fits q b t limited there inside = place_fits q (at_most_place_in q b t) (at_most_in q b t) limited ((place_laws q).at_most_in b t there inside)
+
+-- By injective maps the block of all vertices is there.
+whole_in : (k : Maps) (q : Problem) → q.maps ≡ k → is_injective k ≡ true → has_block q None ≡ true
+whole_in Injective q same is = ap (λ (j : Maps). has_block_in j q.pattern None) same
+whole_in Local q same is = absurd cc
+whole_in Any q same is = absurd cc
+
+pub whole_there : (q : Problem) → is_injective q.maps ≡ true → has_block q None ≡ true
+whole_there q is = whole_in q.maps q refl is
 
 -- Two vertices that an edge joins, in whichever direction, have a line.
 pub joins_pair : (q : Problem) (direction : Direction) (p r : ℕ) → Joins q direction p r → is_edge_pair q r p ≡ true
@@ -89,15 +110,7 @@ joins_out q direction p r joins =
 
 pub edge_fits : (q : Problem) (p r t : ℕ) → IsLimited q → p < size q.pattern → r < size q.pattern → t < size q.target → is_edge_pair q p r ≡ true → IsRef (edge_ref q p r t)
 edge_fits q p r t limited p_in r_in t_in is =
-    let below = slice_get_within (encoding q) (edge_place q p r t) (pair_form q p r t) ((place_laws q).edge p r t p_in r_in t_in is) in
-    let all = (starts q).all in
-    let most = few q limited.pattern limited.target in
-    let refused = most.refused in
-    let edges = most.edge_forms in
-    let non_edges = most.non_edge_forms in
-    let vertices = limited.pattern in
-    let targets = limited.target in
-    omega (arith, below, all, refused, edges, non_edges, vertices, targets)
+    place_fits q (edge_place q p r t) (pair_form q p r t) limited ((place_laws q).edge p r t p_in r_in t_in is)
 
 at_place : (q : Problem) (owner : ℕ) (w : Frame) (forms : List Form) (place : ℕ) (f : Form) → IsFrameOf q owner w → slice_get (encoding q) place ≡ Some f → IsNamed w forms (Line (place + 1)) f
 at_place q owner w forms place f frame at =
@@ -109,12 +122,32 @@ at_least_named q owner w forms p frame inside = at_place q owner w forms (at_lea
 pub at_most_named : (q : Problem) (owner : ℕ) (w : Frame) (forms : List Form) (p : ℕ) → IsFrameOf q owner w → p < size q.pattern → IsNamed w forms (at_most_ref q p) (at_most q p)
 at_most_named q owner w forms p frame inside = at_place q owner w forms (at_most_place q p) (at_most q p) frame ((place_laws q).at_most p inside)
 
-at_most_target_named : (q : Problem) (owner : ℕ) (w : Frame) (forms : List Form) (t : ℕ) → IsFrameOf q owner w → t < size q.target → IsNamed w forms (at_most_target_ref q t) (at_most_target q t)
-at_most_target_named q owner w forms t frame inside = at_place q owner w forms (at_most_target_place q t) (at_most_target q t) frame ((place_laws q).at_most_target t inside)
+block_named : (q : Problem) (owner : ℕ) (w : Frame) (forms : List Form) (b : Option ℕ) (t : ℕ) → IsFrameOf q owner w → has_block q b ≡ true → t < size q.target → IsNamed w forms (block_ref q b t) (at_most_in q b t)
+block_named q owner w forms b t frame there inside = at_place q owner w forms (at_most_place_in q b t) (at_most_in q b t) frame ((place_laws q).at_most_in b t there inside)
 
 pub edge_named : (q : Problem) (owner : ℕ) (w : Frame) (forms : List Form) (p r t : ℕ) → IsFrameOf q owner w → p < size q.pattern → r < size q.pattern → t < size q.target → is_edge_pair q p r ≡ true
     → IsNamed w forms (edge_ref q p r t) (pair_form q p r t)
 edge_named q owner w forms p r t frame p_in r_in t_in is = at_place q owner w forms (edge_place q p r t) (pair_form q p r t) frame ((place_laws q).edge p r t p_in r_in t_in is)
+
+-- The line of a pair that is to be in order.
+order_at : (q : Problem) (k t : ℕ) (x : ℕ × ℕ) (side : Side) → IsLimited q → slice_get q.less k ≡ Some x → t < size q.target
+    → (place : ℕ) × (order_ref q k x side t ≡ Line (place + 1)) × (slice_get (encoding q) place ≡ Some (leads_form q (end_at side x) t (end_beside side x) (is_beside side t)))
+order_at q k t x Lesser limited is t_in =
+    (less_from_place q k x t, refl, (place_laws q).less_from k x t (slice_get_within q.less k x is) is (inside_of q limited.order k x is) t_in)
+order_at q k t x Greater limited is t_in =
+    (less_to_place q k x t, refl, (place_laws q).less_to k x t (slice_get_within q.less k x is) is (inside_of q limited.order k x is) t_in)
+
+pub order_fits : (q : Problem) (k t : ℕ) (x : ℕ × ℕ) (side : Side) → IsLimited q → slice_get q.less k ≡ Some x → t < size q.target → IsRef (order_ref q k x side t)
+order_fits q k t x side limited is t_in =
+    let at = order_at q k t x side limited is t_in in
+    subst IsRef (sym at.1) (place_fits q at.0 (leads_form q (end_at side x) t (end_beside side x) (is_beside side t)) limited at.2)
+
+pub order_named : (q : Problem) (owner : ℕ) (w : Frame) (forms : List Form) (k t : ℕ) (x : ℕ × ℕ) (side : Side) → IsFrameOf q owner w → IsLimited q → slice_get q.less k ≡ Some x → t < size q.target
+    → IsNamed w forms (order_ref q k x side t) (leads_form q (end_at side x) t (end_beside side x) (is_beside side t))
+order_named q owner w forms k t x side frame limited is t_in =
+    let at = order_at q k t x side limited is t_in in
+    subst (λ (r : Ref). IsNamed w forms r (leads_form q (end_at side x) t (end_beside side x) (is_beside side t))) (sym at.1)
+    (at_place q owner w forms at.0 (leads_form q (end_at side x) t (end_beside side x) (is_beside side t)) frame at.2)
 
 -- ---- several
 
@@ -126,28 +159,29 @@ pub at_leasts_fit : (q : Problem) (vertices : List ℕ) → IsLimited q → AreV
 at_leasts_fit q [] few h = tt
 at_leasts_fit q (p ∷ ps) few h = (at_least_fits q p few (h p (among_first p ps)), at_leasts_fit q ps few (λ r among. h r (among_later r p ps among)))
 
-at_mosts_fit : (q : Problem) (values : List ℕ) → IsLimited q → AreValues q values → AreRefs (map (at_most_target_ref q) values)
-at_mosts_fit q [] few h = tt
-at_mosts_fit q (p ∷ ps) few h = (at_most_target_fits q p few (h p (among_first p ps)), at_mosts_fit q ps few (λ r among. h r (among_later r p ps among)))
+at_mosts_fit : (q : Problem) (b : Option ℕ) (values : List ℕ) → IsLimited q → has_block q b ≡ true → AreValues q values → AreRefs (map (block_ref q b) values)
+at_mosts_fit q b [] few there h = tt
+at_mosts_fit q b (p ∷ ps) few there h = (block_fits q b p few there (h p (among_first p ps)), at_mosts_fit q b ps few there (λ r among. h r (among_later r p ps among)))
 
-pub set_refs_fit : (q : Problem) (vertices values : List ℕ) → IsLimited q → AreVertices q vertices → AreValues q values → AreRefs (set_refs q vertices values)
-set_refs_fit q vertices values few vs us = refs_behind (at_least_refs q vertices) (map (at_most_target_ref q) values) (at_leasts_fit q vertices few vs) (at_mosts_fit q values few us)
+pub set_refs_fit : (q : Problem) (b : Option ℕ) (vertices values : List ℕ) → IsLimited q → IsSetIn q b vertices values → AreRefs (set_refs q b vertices values)
+set_refs_fit q b vertices values few set =
+    refs_behind (at_least_refs q vertices) (map (block_ref q b) values) (at_leasts_fit q vertices few set.vertices_in) (at_mosts_fit q b values few set.block set.values_in)
 
 pub at_leasts_named : (q : Problem) (owner : ℕ) (w : Frame) (forms : List Form) (vertices : List ℕ) → IsFrameOf q owner w → AreVertices q vertices → AreNamed w forms (at_least_refs q vertices) (at_leasts q vertices)
 at_leasts_named q owner w forms [] frame h = tt
 at_leasts_named q owner w forms (p ∷ ps) frame h =
     (at_least_named q owner w forms p frame (h p (among_first p ps)), at_leasts_named q owner w forms ps frame (λ r among. h r (among_later r p ps among)))
 
-at_mosts_named : (q : Problem) (owner : ℕ) (w : Frame) (forms : List Form) (values : List ℕ) → IsFrameOf q owner w → AreValues q values → AreNamed w forms (map (at_most_target_ref q) values) (map (at_most_target q) values)
-at_mosts_named q owner w forms [] frame h = tt
-at_mosts_named q owner w forms (p ∷ ps) frame h =
-    (at_most_target_named q owner w forms p frame (h p (among_first p ps)), at_mosts_named q owner w forms ps frame (λ r among. h r (among_later r p ps among)))
+at_mosts_named : (q : Problem) (owner : ℕ) (w : Frame) (forms : List Form) (b : Option ℕ) (values : List ℕ) → IsFrameOf q owner w → has_block q b ≡ true → AreValues q values → AreNamed w forms (map (block_ref q b) values) (map (at_most_in q b) values)
+at_mosts_named q owner w forms b [] frame there h = tt
+at_mosts_named q owner w forms b (p ∷ ps) frame there h =
+    (block_named q owner w forms b p frame there (h p (among_first p ps)), at_mosts_named q owner w forms b ps frame there (λ r among. h r (among_later r p ps among)))
 
-pub set_refs_named : (q : Problem) (owner : ℕ) (w : Frame) (forms : List Form) (p : ℕ) (rest values : List ℕ) → IsFrameOf q owner w → AreVertices q (p ∷ rest) → AreValues q values
-    → AreNamed w forms (set_refs q (p ∷ rest) values) (at_least q p ∷ (at_leasts q rest ++ map (at_most_target q) values))
-set_refs_named q owner w forms p rest values frame vs us =
-    named_behind w forms (at_least_refs q (p ∷ rest)) (at_leasts q (p ∷ rest)) (map (at_most_target_ref q) values) (map (at_most_target q) values)
-    (at_leasts_named q owner w forms (p ∷ rest) frame vs) (at_mosts_named q owner w forms values frame us)
+pub set_refs_named : (q : Problem) (owner : ℕ) (w : Frame) (forms : List Form) (b : Option ℕ) (p : ℕ) (rest values : List ℕ) → IsFrameOf q owner w → IsSetIn q b (p ∷ rest) values
+    → AreNamed w forms (set_refs q b (p ∷ rest) values) (at_least q p ∷ (at_leasts q rest ++ map (at_most_in q b) values))
+set_refs_named q owner w forms b p rest values frame set =
+    named_behind w forms (at_least_refs q (p ∷ rest)) (at_leasts q (p ∷ rest)) (map (block_ref q b) values) (map (at_most_in q b) values)
+    (at_leasts_named q owner w forms (p ∷ rest) frame set.vertices_in) (at_mosts_named q owner w forms b values frame set.block set.values_in)
 
 -- The same of lines beside p at t.
 pub besides_fit : (q : Problem) (p t : ℕ) (vertices : List ℕ) → IsLimited q → p < size q.pattern → t < size q.target → AreVertices q vertices → ArePairs q p vertices → AreRefs (beside_refs q p t vertices)
@@ -166,26 +200,26 @@ besides_named q owner w forms p t (r ∷ rs) frame p_in t_in vs ps = (
 )
 
 pub crowd_refs_fit : (q : Problem) (p t : ℕ) (vertices values : List ℕ) → IsLimited q → p < size q.pattern → t < size q.target → AreVertices q vertices → ArePairs q p vertices → AreValues q values
-    → AreRefs (crowd_refs q p t vertices values)
-crowd_refs_fit q p t vertices values few p_in t_in vs ps us =
-    refs_behind (beside_refs q p t vertices) (map (at_most_target_ref q) values) (besides_fit q p t vertices few p_in t_in vs ps) (at_mosts_fit q values few us)
+    → is_injective q.maps ≡ true → AreRefs (crowd_refs q p t vertices values)
+crowd_refs_fit q p t vertices values few p_in t_in vs ps us apart =
+    refs_behind (beside_refs q p t vertices) (map (block_ref q None) values) (besides_fit q p t vertices few p_in t_in vs ps) (at_mosts_fit q None values few (whole_there q apart) us)
 
 -- ---- sizes
 
-small_form : (c b : ℤ) (number : ℕ → ℕ) (n : ℕ) → n ≤ 8192 → unsigned_abs c ≤ 1 → unsigned_abs b ≤ 1 → IsSmall 8193 (form_of (terms_where c every number n) b)
-small_form c b number n few small low =
-    let s = size-terms c every number n small in
-    let t = size-sorted (terms_where c every number n) in
+small_form : (c b : ℤ) (test : ℕ → Bool) (number : ℕ → ℕ) (n : ℕ) → n ≤ 8192 → unsigned_abs c ≤ 1 → unsigned_abs b ≤ 1 → IsSmall 8193 (form_of (terms_where c test number n) b)
+small_form c b test number n few small low =
+    let s = size-terms c test number n small in
+    let t = size-sorted (terms_where c test number n) in
     record { bound_fits = omega (arith, low); sum_fits = omega (arith, s, t, few) }
 
 at_leasts_small : (q : Problem) (vertices : List ℕ) → IsLimited q → AreSmall 8193 (at_leasts q vertices)
 at_leasts_small q [] few = tt
-at_leasts_small q (p ∷ ps) few = (small_form (pos 1) (pos 1) (variable q p) (size q.target) few.target (omega arith) (omega arith), at_leasts_small q ps few)
+at_leasts_small q (p ∷ ps) few = (small_form (pos 1) (pos 1) every (variable q p) (size q.target) few.target (omega arith) (omega arith), at_leasts_small q ps few)
 
-at_mosts_small : (q : Problem) (values : List ℕ) → IsLimited q → AreSmall 8193 (map (at_most_target q) values)
-at_mosts_small q [] few = tt
-at_mosts_small q (t ∷ ts) few =
-    (let l = few.pattern in small_form (negsuc 0) (negsuc 0) (λ p. variable q p t) (size q.pattern) (omega (arith, l)) (omega arith) (omega arith), at_mosts_small q ts few)
+at_mosts_small : (q : Problem) (b : Option ℕ) (values : List ℕ) → IsLimited q → AreSmall 8193 (map (at_most_in q b) values)
+at_mosts_small q b [] few = tt
+at_mosts_small q b (t ∷ ts) few =
+    (let l = few.pattern in small_form (negsuc 0) (negsuc 0) (in_block q b) (λ p. variable q p t) (size q.pattern) (omega (arith, l)) (omega arith) (omega arith), at_mosts_small q b ts few)
 
 besides_small : (q : Problem) (p t : ℕ) (vertices : List ℕ) → IsLimited q → AreSmall 8193 (beside_forms q p t vertices)
 besides_small q p t [] few = tt
@@ -220,59 +254,59 @@ sum_goes owner w old new result refs f gs Claim named small short owner_is goes 
     goes_as w old new (Named w refs (f ∷ gs)) (IsKept w result (sum_from f gs)) AnyForms Claim (λ forms any. named forms) claim (goes w f gs owner_is (addable w refs (f ∷ gs) (named []) small short))
 
 -- A set's line.
-pub set_goes : (q : Problem) (owner : ℕ) (old new : Option (List Step)) (result : Result Name AllocError) (vertices values : List ℕ) (refs : List Ref) → IsLimited q → 0 < length vertices
-    → refs ≡ set_refs q vertices values → length refs < 2 ^ 64 → AreVertices q vertices → AreValues q values
+pub set_goes : (q : Problem) (owner : ℕ) (old new : Option (List Step)) (result : Result Name AllocError) (b : Option ℕ) (vertices values : List ℕ) (refs : List Ref) → IsLimited q → 0 < length vertices
+    → refs ≡ set_refs q b vertices values → length refs < 2 ^ 64 → IsSetIn q b vertices values
     → ((w : Frame) (f : Form) (gs : List Form) → w.owner ≡ owner → IsAddable (f ∷ gs) → Goes w old new (Named w refs (f ∷ gs)) (IsKept w result (sum_from f gs)))
-    → (w : Frame) → IsFrameOf q owner w → Goes w old new AnyForms (IsSetKept q vertices values w result)
-set_goes q owner old new result [] values refs few some is short vs us goes w frame = absurd (omega (arith, some))
-set_goes q owner old new result (p ∷ rest) values refs few some is short vs us goes w frame =
-    sum_goes owner w old new result refs (at_least q p) (at_leasts q rest ++ map (at_most_target q) values) (IsSetKept q (p ∷ rest) values w result)
-    (λ forms. subst (λ (rs : List Ref). AreNamed w forms rs (at_least q p ∷ (at_leasts q rest ++ map (at_most_target q) values))) (sym is) (set_refs_named q owner w forms p rest values frame vs us))
-    (small_behind 8193 (at_leasts q (p ∷ rest)) (map (at_most_target q) values) (at_leasts_small q (p ∷ rest) few) (at_mosts_small q values few)) short frame.owner_is goes (λ forms kept. kept)
+    → (w : Frame) → IsFrameOf q owner w → Goes w old new AnyForms (IsSetKept q b vertices values w result)
+set_goes q owner old new result b [] values refs few some is short set goes w frame = absurd (omega (arith, some))
+set_goes q owner old new result b (p ∷ rest) values refs few some is short set goes w frame =
+    sum_goes owner w old new result refs (at_least q p) (at_leasts q rest ++ map (at_most_in q b) values) (IsSetKept q b (p ∷ rest) values w result)
+    (λ forms. subst (λ (rs : List Ref). AreNamed w forms rs (at_least q p ∷ (at_leasts q rest ++ map (at_most_in q b) values))) (sym is) (set_refs_named q owner w forms b p rest values frame set))
+    (small_behind 8193 (at_leasts q (p ∷ rest)) (map (at_most_in q b) values) (at_leasts_small q (p ∷ rest) few) (at_mosts_small q b values few)) short frame.owner_is goes (λ forms kept. kept)
 
 -- A crowd's.
 pub crowd_goes : (q : Problem) (owner : ℕ) (old new : Option (List Step)) (result : Result Name AllocError) (p t : ℕ) (vertices values : List ℕ) (refs : List Ref) → IsLimited q → 0 < length vertices
     → refs ≡ crowd_refs q p t vertices values → length refs < 2 ^ 64 → p < size q.pattern → t < size q.target → AreVertices q vertices → ArePairs q p vertices → AreValues q values
-    → ((w : Frame) (f : Form) (gs : List Form) → w.owner ≡ owner → IsAddable (f ∷ gs) → Goes w old new (Named w refs (f ∷ gs)) (IsKept w result (sum_from f gs)))
+    → is_injective q.maps ≡ true → ((w : Frame) (f : Form) (gs : List Form) → w.owner ≡ owner → IsAddable (f ∷ gs) → Goes w old new (Named w refs (f ∷ gs)) (IsKept w result (sum_from f gs)))
     → (w : Frame) → IsFrameOf q owner w → Goes w old new AnyForms (IsCrowdKept q p t vertices values w result)
-crowd_goes q owner old new result p t [] values refs few some is short p_in t_in vs ps us goes w frame = absurd (omega (arith, some))
-crowd_goes q owner old new result p t (r ∷ rest) values refs few some is short p_in t_in vs ps us goes w frame =
-    sum_goes owner w old new result refs (pair_form q p r t) (beside_forms q p t rest ++ map (at_most_target q) values) (IsCrowdKept q p t (r ∷ rest) values w result)
-    (λ forms. subst (λ (rs : List Ref). AreNamed w forms rs (beside_forms q p t (r ∷ rest) ++ map (at_most_target q) values)) (sym is)
-    (named_behind w forms (beside_refs q p t (r ∷ rest)) (beside_forms q p t (r ∷ rest)) (map (at_most_target_ref q) values) (map (at_most_target q) values) (besides_named q owner w forms p t (r ∷ rest) frame p_in t_in vs ps)
-    (at_mosts_named q owner w forms values frame us)))
-    (small_behind 8193 (beside_forms q p t (r ∷ rest)) (map (at_most_target q) values) (besides_small q p t (r ∷ rest) few) (at_mosts_small q values few)) short frame.owner_is goes (λ forms kept. by result forms kept)
+crowd_goes q owner old new result p t [] values refs few some is short p_in t_in vs ps us apart goes w frame = absurd (omega (arith, some))
+crowd_goes q owner old new result p t (r ∷ rest) values refs few some is short p_in t_in vs ps us apart goes w frame =
+    sum_goes owner w old new result refs (pair_form q p r t) (beside_forms q p t rest ++ map (at_most_in q None) values) (IsCrowdKept q p t (r ∷ rest) values w result)
+    (λ forms. subst (λ (rs : List Ref). AreNamed w forms rs (beside_forms q p t (r ∷ rest) ++ map (at_most_in q None) values)) (sym is)
+    (named_behind w forms (beside_refs q p t (r ∷ rest)) (beside_forms q p t (r ∷ rest)) (map (block_ref q None) values) (map (at_most_in q None) values) (besides_named q owner w forms p t (r ∷ rest) frame p_in t_in vs ps)
+    (at_mosts_named q owner w forms None values frame (whole_there q apart) us)))
+    (small_behind 8193 (beside_forms q p t (r ∷ rest)) (map (at_most_in q None) values) (besides_small q p t (r ∷ rest) few) (at_mosts_small q None values few)) short frame.owner_is goes (λ forms kept. by result forms kept)
   where
     by : (result : Result Name AllocError) (forms : List Form) → IsKept w result (over_form q p t r rest values) forms → IsCrowdKept q p t (r ∷ rest) values w result forms
     by (Ok n) forms kept = (kept, tt)
     by (Err e) forms kept = tt
 
 -- After a refusal nothing is claimed.
-pub set_none : (q : Problem) (vertices values : List ℕ) (w : Frame) (e : AllocError) (forms : List Form) → 0 < length vertices → IsSetKept q vertices values w (Err e) forms
-set_none q [] values w e forms some = absurd (omega (arith, some))
-set_none q (p ∷ rest) values w e forms some = tt
+pub set_none : (q : Problem) (b : Option ℕ) (vertices values : List ℕ) (w : Frame) (e : AllocError) (forms : List Form) → 0 < length vertices → IsSetKept q b vertices values w (Err e) forms
+set_none q b [] values w e forms some = absurd (omega (arith, some))
+set_none q b (p ∷ rest) values w e forms some = tt
 
 -- Who makes a set's line gives it, where what is known beside it stays so.
-pub set_given : (q : Problem) (w : Frame) (vertices values : List ℕ) (result : Result Name AllocError) (old new : Option (List Step)) (knows : List Form → Type 0) → Lasts knows
-    → Goes w old new AnyForms (IsSetKept q vertices values w result) → Goes w old new knows (GivesSet q w vertices values result knows)
-set_given q w vertices values result old new knows lasts goes =
-    goes_as w old new (λ forms. AnyForms forms × knows forms) (λ forms. IsSetKept q vertices values w result forms × knows forms) knows (GivesSet q w vertices values result knows) (λ forms known. (tt, known))
-    (λ forms h. by result h.0 h.1) (goes_beside w old new AnyForms (IsSetKept q vertices values w result) knows lasts goes)
+pub set_given : (q : Problem) (w : Frame) (b : Option ℕ) (vertices values : List ℕ) (result : Result Name AllocError) (old new : Option (List Step)) (knows : List Form → Type 0) → Lasts knows
+    → Goes w old new AnyForms (IsSetKept q b vertices values w result) → Goes w old new knows (GivesSet q w b vertices values result knows)
+set_given q w b vertices values result old new knows lasts goes =
+    goes_as w old new (λ forms. AnyForms forms × knows forms) (λ forms. IsSetKept q b vertices values w result forms × knows forms) knows (GivesSet q w b vertices values result knows) (λ forms known. (tt, known))
+    (λ forms h. by result h.0 h.1) (goes_beside w old new AnyForms (IsSetKept q b vertices values w result) knows lasts goes)
   where
-    by : {forms : List Form} (result : Result Name AllocError) → IsSetKept q vertices values w result forms → knows forms → GivesSet q w vertices values result knows forms
+    by : {forms : List Form} (result : Result Name AllocError) → IsSetKept q b vertices values w result forms → knows forms → GivesSet q w b vertices values result knows forms
     by (Ok n) kept known = (known, kept)
     by (Err e) kept known = tt
 
 -- ---- the reference to a set's line
 
-pub set_pushed_none : (q : Problem) (vertices values : List ℕ) (w : Frame) (refs : List Ref) (forms : List Form) → length vertices ≡ 0 → Adds w refs refs (set_forms q vertices values) forms
-set_pushed_none q [] values w refs forms none = record { more = []; front = sym (append-nil refs); named = tt }
-set_pushed_none q (p ∷ rest) values w refs forms none = absurd (omega (arith, none))
+pub set_pushed_none : (q : Problem) (b : Option ℕ) (vertices values : List ℕ) (w : Frame) (refs : List Ref) (forms : List Form) → length vertices ≡ 0 → Adds w refs refs (set_forms q b vertices values) forms
+set_pushed_none q b [] values w refs forms none = record { more = []; front = sym (append-nil refs); named = tt }
+set_pushed_none q b (p ∷ rest) values w refs forms none = absurd (omega (arith, none))
 
-pub set_pushed_made : (q : Problem) (vertices values : List ℕ) (w : Frame) (n : Name) (old new : List Ref) (forms : List Form) → new ≡ old ++ Made n ∷ [] → IsSetKept q vertices values w (Ok n) forms
-    → Adds w old new (set_forms q vertices values) forms
-set_pushed_made q [] values w n old new forms pushed kept = absurd kept
-set_pushed_made q (p ∷ rest) values w n old new forms pushed kept = record { more = Made n ∷ []; front = pushed; named = (kept, tt) }
+pub set_pushed_made : (q : Problem) (b : Option ℕ) (vertices values : List ℕ) (w : Frame) (n : Name) (old new : List Ref) (forms : List Form) → new ≡ old ++ Made n ∷ [] → IsSetKept q b vertices values w (Ok n) forms
+    → Adds w old new (set_forms q b vertices values) forms
+set_pushed_made q b [] values w n old new forms pushed kept = absurd kept
+set_pushed_made q b (p ∷ rest) values w n old new forms pushed kept = record { more = Made n ∷ []; front = pushed; named = (kept, tt) }
 
 -- The reference to a crowd's.
 pub crowd_pushed_none : (q : Problem) (p t : ℕ) (vertices values : List ℕ) (w : Frame) (refs : List Ref) (forms : List Form) → length vertices ≡ 0 → Adds w refs refs (crowd_forms q p t vertices values) forms

@@ -1,12 +1,16 @@
 -- Needed values, and what one step back from a change leaves of them.
-use Rattle.std.proofs.Common.{◌≡◌, ℕ, zero, suc, ◌+◌, ◌*◌, ◌<◌, ◌≤◌, ◌||◌, ◌&&◌, not, nat_lt, is_some, ◌==◌, Bool, true, false, List, [], ◌∷◌, length, take, drop, get_or, slice_index, Some, None, Result, Ok, Err, refl, sym, ap, subst, ◌∙◌, arith, inl, inr, ◌⊎◌}
-use Rattle.std.specs.Prelude.{IfOk}
-use Rattle.std.proofs.lemmas.Bool.{cases_eq, ne_eqb, cases_lt, lt-ltb, ltb-true, true≢false}
+use Rattle.std.proofs.Common.{◌≡◌, ℕ, zero, suc, ◌+◌, ◌*◌, ◌<◌, ◌≤◌, ◌||◌, ◌&&◌, not, nat_lt, is_some, ◌==◌, Bool, true, false, List, [], ◌∷◌, length, take, drop, get_or, slice_index, Option, Some, None, Result, Ok, Err, refl, sym, ap, subst, ◌∙◌, arith, inl, inr, ◌⊎◌}
+use Rattle.std.specs.Prelude.{IfOk, slice_get}
+use Rattle.std.proofs.lemmas.Bool.{and_parts, and_from, cases_eq, ne_eqb, cases_lt, lt-ltb, le-ltb, ltb-true, true≢false}
 use Rattle.std.specs.declared.alloc.AllocError.{AllocError}
 use Rattle.graph_theory.specs.Graph.{size, edge}
 use Rattle.graph_theory.specs.Reversed.{turned}
 use Rattle.graph_theory.specs.declared.direction.Direction.{Direction}
 use Rattle.graph_theory.specs.Embedding.{Problem, Compatible}
+use Rattle.graph_theory.specs.Blocks.{in_block, has_near, has_block_in, has_block}
+use Rattle.graph_theory.specs.declared.embedding.Maps.{Maps}
+use Rattle.graph_theory.specs.declared.embedding.Maps.TheVariants.{Injective, Local, Any}
+use Rattle.graph_theory.proofs.BlockProofs.{near_in}
 use Rattle.search_theory.specs.Consistency.{AreConsistent}
 use Rattle.log_theory.specs.Lookups.{is_among}
 use Rattle.bit_rows.specs.BitRows.{has, words_for}
@@ -15,6 +19,8 @@ use Rattle.nogood_book.specs.Rows.{path_at}
 use Rattle.nogood_book.specs.Places.{IsNogoodRow}
 use Rattle.recorder.specs.declared.change.Cause.{Cause}
 use Rattle.recorder.specs.declared.change.Cause.TheVariants as cause
+use Rattle.recorder.specs.declared.change.Side.{Side}
+use Rattle.recorder.specs.Telling.{end_beside, is_beside}
 use Rattle.recorder.specs.declared.change.What.{What}
 use Rattle.recorder.specs.declared.change.What.TheVariants.{One}
 use Rattle.recorder.specs.Recording.{Change, LeftOne, LeftOthers, LeftOver, change_by}
@@ -24,7 +30,7 @@ use Rattle.dead_theory.specs.Changes.{MayTake, GoTogether, IsUpheld, AreUpheld}
 use Rattle.dead_theory.specs.Walks.{RestsOn, IsWithin}
 use Rattle.dead_paths.specs.declared.takes.Choice.{Choice}
 use Rattle.dead_paths.specs.declared.takes.Choice.TheVariants as choice
-use Rattle.dead_paths.specs.Choosing.{values_of, asked_of, IsStep, IsMade, AreLeft, AreLeftBut, AreInside}
+use Rattle.dead_paths.specs.Choosing.{values_of, asked_of, IsStep, IsMade, is_other, AreLeft, AreLeftBut, AreInside}
 use Rattle.dead_paths.proofs.Marking.{among_next}
 
 -- ---- needed values
@@ -104,6 +110,10 @@ each_more n k m m1 m2 d d1 d2 vertices set i v is below v_is each stays more sta
     on : StaysNeeded n (needs n m1 d1) (needs n m2 d2)
     on = subst (λ (w : ℕ). StaysNeeded w (needs w m1 d1) (needs w m2 d2)) is stays2
 
+not_true : (b : Bool) → not b ≡ true → b ≡ false
+not_true false h = refl
+not_true true h = absurd cc
+
 -- ---- steps of a set
 
 -- A row that lost no needed value has them all.
@@ -138,21 +148,40 @@ row_left n k m m1 d d1 r other spare left set is bits same cut put others s u u_
         on false out = inr (e, out)
 
 -- The same for one vertex more, of those that are none of the set.
-pub others_inside : (n : ℕ) (m m1 : List Bool) (d d1 : List ℕ) (vertices set : List ℕ) (k : ℕ) → ((r u : ℕ) → r < k → is_among r vertices ≡ false → u < n → needs n m d r u ≡ true → has set u ≡ true)
-    → StaysNeeded n (needs n m d) (needs n m1 d1) → (is_among k vertices ≡ false → (u : ℕ) → u < n → needs n m1 d1 k u ≡ true → has set u ≡ true)
-    → (r u : ℕ) → r < k + 1 → is_among r vertices ≡ false → u < n → needs n m d r u ≡ true → has set u ≡ true
-others_inside n m m1 d d1 vertices set k before stays here r u below off u_in h = elim (cases_lt r k) [
+pub others_inside : (n : ℕ) (m m1 : List Bool) (d d1 : List ℕ) (test : ℕ → Bool) (set : List ℕ) (k : ℕ) → ((r u : ℕ) → r < k → test r ≡ true → u < n → needs n m d r u ≡ true → has set u ≡ true)
+    → StaysNeeded n (needs n m d) (needs n m1 d1) → (test k ≡ true → (u : ℕ) → u < n → needs n m1 d1 k u ≡ true → has set u ≡ true)
+    → (r u : ℕ) → r < k + 1 → test r ≡ true → u < n → needs n m d r u ≡ true → has set u ≡ true
+others_inside n m m1 d d1 test set k before stays here r u below off u_in h = elim (cases_lt r k) [
   | inl less ↦ before r u less off u_in h
   | inr more ↦ (let same : r ≡ k = omega (arith, more, below) in
-      here (subst (λ (x : ℕ). is_among x vertices ≡ false) same off) u u_in (stays k u u_in (subst (λ (x : ℕ). needs n m d x u ≡ true) same h)))
+      here (subst (λ (x : ℕ). test x ≡ true) same off) u u_in (stays k u u_in (subst (λ (x : ℕ). needs n m d x u ≡ true) same h)))
 ]
 
-pub left_then : (n : ℕ) (vertices set : List ℕ) (f g h : ℕ → ℕ → Bool) → AreLeft n vertices set f g → AreLeft n vertices set g h → AreLeft n vertices set f h
-left_then n vertices set f g h first second r u u_in is = elim (first r u u_in is) [ inl now ↦ second r u u_in now | inr out ↦ inr out ]
+pub left_then : (n : ℕ) (test : ℕ → Bool) (set : List ℕ) (f g h : ℕ → ℕ → Bool) → AreLeft n test set f g → AreLeft n test set g h → AreLeft n test set f h
+left_then n test set f g h first second r u u_in is = elim (first r u u_in is) [ inl now ↦ second r u u_in now | inr out ↦ inr out ]
 
-pub all_inside : (n : ℕ) (m : List Bool) (d : List ℕ) (vertices set : List ℕ) (k : ℕ) → length m ≤ k → ((r u : ℕ) → r < k → is_among r vertices ≡ false → u < n → needs n m d r u ≡ true → has set u ≡ true)
-    → AreInside n vertices set (needs n m d)
-all_inside n m d vertices set k past before r u off u_in h = before r u (omega (arith, past, marked_in n m d r u h)) off u_in h
+pub all_inside : (n : ℕ) (m : List Bool) (d : List ℕ) (test : ℕ → Bool) (set : List ℕ) (k : ℕ) → length m ≤ k → ((r u : ℕ) → r < k → test r ≡ true → u < n → needs n m d r u ≡ true → has set u ≡ true)
+    → AreInside n test set (needs n m d)
+all_inside n m d test set k past before r u off u_in h = before r u (omega (arith, past, marked_in n m d r u h)) off u_in h
+
+-- ---- blocks and sides
+
+-- A centre is a vertex.
+pub centre_below : (q : Problem) (c : ℕ) → has_block q (Some c) ≡ true → c < size q.pattern
+centre_below q c there = near_in q.pattern c (by q.maps there)
+  where
+    by : (k : Maps) → has_block_in k q.pattern (Some c) ≡ true → has_near q.pattern c ≡ true
+    by Injective h = absurd cc
+    by Local h = h
+    by Any h = absurd cc
+
+-- What is past u stays where what is not is taken out of all.
+pub past_kept : (all low left : List ℕ) (u n k w : ℕ) → k ≡ n → ((v : ℕ) → has all v ≡ nat_lt v k) → ((v : ℕ) → has low v ≡ nat_lt v (u + 1)) → ((v : ℕ) → has left v ≡ (has all v && not (has low v)))
+    → w < n → nat_lt u w ≡ true → has left w ≡ true
+past_kept all low left u n k w is whole below cut w_in past =
+    let more : u < w = ltb-true u w past in
+    cut w ∙ and_from (has all w) (not (has low w)) (whole w ∙ ap (λ (j : ℕ). nat_lt w j) is ∙ lt-ltb w n w_in)
+    (ap not (below w ∙ le-ltb w (u + 1) (omega (arith, more))))
 
 -- ---- one value
 
@@ -322,6 +351,21 @@ module _ (q : Problem) (rows : List Row) (path : List (ℕ × ℕ)) where
     tt,
   )
 
+  -- A pair's that is to be in order.
+  pub step_order : (n k : ℕ) (m m1 m2 : List Bool) (d d1 d2 : List ℕ) (i u r from beside : ℕ) (side : Side) (set : List ℕ) → n ≡ size q.target → k ≡ n → AreLeftBut n r u (needs n m d) (needs n m1 d1)
+      → StaysNeeded k (needs k m1 d1) (needs k m2 d2) → ((x : ℕ × ℕ) → slice_get q.less i ≡ Some x → beside ≡ end_beside side x) → ((w : ℕ) → w < size q.target → is_beside side u w ≡ true → has set w ≡ true)
+      → ((w : ℕ) → w < k → has set w ≡ true → needs k m2 d2 beside w ≡ true) → IsStep true q rows path (LeftOne r (cause.Order i u side) from) (values_of n m d) (values_of n m2 d2)
+  step_order n k m m1 m2 d d1 d2 i u r from beside side set n_is is left stays beside_is fills needed = (
+    record {
+      suffices = λ v t t_in h same. tt;
+      carried = but_one n m m1 m2 d d1 d2 r u left (subst (λ (x : ℕ). StaysNeeded x (needs x m1 d1) (needs x m2 d2)) is stays);
+      needs = λ x x_is w w_in on_side. need_up n m2 d2 (end_beside side x) w
+          (λ w_n. subst (λ (p : ℕ). needs n m2 d2 p w ≡ true) (beside_is x x_is)
+          (subst (λ (y : ℕ). (v : ℕ) → v < y → has set v ≡ true → needs y m2 d2 beside v ≡ true) is needed w w_n (fills w w_in on_side)));
+    },
+    tt,
+  )
+
   pub step_crowd : (n : ℕ) (m m1 m2 : List Bool) (d d1 d2 : List ℕ) (p t from : ℕ) (direction : Direction) (vertices values set : List ℕ) → n ≡ size q.target → AreLeftBut n p t (needs n m d) (needs n m1 d1)
       → StaysNeeded n (needs n m1 d1) (needs n m2 d2)
       → ((u : ℕ) → u < size q.target → (t ≡ u → ⊥) → is_some (edge (turned direction q.target) t u) ≡ true → is_among u values ≡ false → has set u ≡ true)
@@ -343,17 +387,18 @@ module _ (q : Problem) (rows : List Row) (path : List (ℕ × ℕ)) where
   step_nogood f g r name from is more upheld = (record { suffices = λ v u u_in h same. tt; carried = λ v u h. inl (more v u h); needs = upheld }, is)
 
   -- A set whose values no other vertex needs.
-  pub pass_set : (n : ℕ) (m m' : List Bool) (d d' : List ℕ) (vertices values set : List ℕ) (from : ℕ) → n ≡ size q.target → ((u : ℕ) → is_among u values ≡ true → has set u ≡ false)
-      → AreInside n vertices set (needs n m d) → StaysNeeded n (needs n m d) (needs n m' d') → IsStep false q rows path (LeftOthers vertices values from) (values_of n m d) (values_of n m' d')
-  pass_set n m m' d d' vertices values set from n_is out inside stays = (
-    (λ v u u_in h takes. let u_n = subst (λ (w : ℕ). u < w) (sym n_is) u_in in true≢false (sym (inside v u takes.0 u_n (need_of n m d v u u_n h)) ∙ out u takes.1)),
+  pub pass_set : (n : ℕ) (m m' : List Bool) (d d' : List ℕ) (centre : Option ℕ) (vertices values set : List ℕ) (from : ℕ) → n ≡ size q.target → ((u : ℕ) → is_among u values ≡ true → has set u ≡ false)
+      → AreInside n (is_other q centre vertices) set (needs n m d) → StaysNeeded n (needs n m d) (needs n m' d') → IsStep false q rows path (LeftOthers centre vertices values from) (values_of n m d) (values_of n m' d')
+  pass_set n m m' d d' centre vertices values set from n_is out inside stays = (
+    (λ v u u_in h takes. let u_n = subst (λ (w : ℕ). u < w) (sym n_is) u_in in
+        true≢false (sym (inside v u (and_from (in_block q centre v) (not (is_among v vertices)) takes.0 (ap not takes.1)) u_n (need_of n m d v u u_n h)) ∙ out u takes.2)),
     within_of n n m m' d d' refl stays,
   )
 
-  pub step_set : (n : ℕ) (m m1 m2 : List Bool) (d d1 d2 : List ℕ) (vertices values set : List ℕ) (from : ℕ) → length m ≡ size q.pattern → ((u : ℕ) → u < n → is_among u values ≡ false → has set u ≡ true)
-      → AreLeft n vertices set (needs n m d) (needs n m1 d1) → StaysNeeded n (needs n m1 d1) (needs n m2 d2) → ((r u : ℕ) → is_among r vertices ≡ true → u < n → has set u ≡ true → needs n m2 d2 r u ≡ true)
-      → IsStep true q rows path (LeftOthers vertices values from) (values_of n m d) (values_of n m2 d2)
-  step_set n m m1 m2 d d1 d2 vertices values set from long rest left stays each = (
+  pub step_set : (n : ℕ) (m m1 m2 : List Bool) (d d1 d2 : List ℕ) (centre : Option ℕ) (vertices values set : List ℕ) (from : ℕ) → length m ≡ size q.pattern → ((u : ℕ) → u < n → is_among u values ≡ false → has set u ≡ true)
+      → AreLeft n (is_other q centre vertices) set (needs n m d) (needs n m1 d1) → StaysNeeded n (needs n m1 d1) (needs n m2 d2) → ((r u : ℕ) → is_among r vertices ≡ true → u < n → has set u ≡ true → needs n m2 d2 r u ≡ true)
+      → IsStep true q rows path (LeftOthers centre vertices values from) (values_of n m d) (values_of n m2 d2)
+  step_set n m m1 m2 d d1 d2 centre vertices values set from long rest left stays each = (
     record {
       suffices = λ r u u_in h. tt;
       carried = λ r u h. carried r u h (cases_lt u n);
@@ -362,16 +407,16 @@ module _ (q : Problem) (rows : List Row) (path : List (ℕ × ℕ)) where
     tt,
   )
     where
-      carried : (r u : ℕ) → values_of n m d r u ≡ true → (u < n) ⊎ (n ≤ u) → (values_of n m2 d2 r u ≡ true) ⊎ ((r < size q.pattern) × (is_among r vertices ≡ false) × (is_among u values ≡ true))
+      carried : (r u : ℕ) → values_of n m d r u ≡ true → (u < n) ⊎ (n ≤ u) → (values_of n m2 d2 r u ≡ true) ⊎ ((r < size q.pattern) × (in_block q centre r ≡ true) × (is_among r vertices ≡ false) × (is_among u values ≡ true))
       carried r u h (inr past) = inl (need_up n m2 d2 r u (λ u_in. absurd (omega (arith, past, u_in))))
       carried r u h (inl u_in) = by (left r u u_in (need_of n m d r u u_in h))
         where
-          by : (needs n m1 d1 r u ≡ true) ⊎ ((is_among r vertices ≡ false) × (has set u ≡ false)) → (values_of n m2 d2 r u ≡ true) ⊎ ((r < size q.pattern) × (is_among r vertices ≡ false) × (is_among u values ≡ true))
+          by : (needs n m1 d1 r u ≡ true) ⊎ ((is_other q centre vertices r ≡ true) × (has set u ≡ false)) → (values_of n m2 d2 r u ≡ true) ⊎ ((r < size q.pattern) × (in_block q centre r ≡ true) × (is_among r vertices ≡ false) × (is_among u values ≡ true))
           by (inl is) = inl (need_up n m2 d2 r u (λ v_in. stays r u u_in is))
           by (inr out) = on (is_among u values) refl
             where
-              on : (b : Bool) → is_among u values ≡ b → (values_of n m2 d2 r u ≡ true) ⊎ ((r < size q.pattern) × (is_among r vertices ≡ false) × (is_among u values ≡ true))
-              on true is = inr (subst (λ (w : ℕ). r < w) long (marked_in n m d r u (need_of n m d r u u_in h)), out.0, is)
+              on : (b : Bool) → is_among u values ≡ b → (values_of n m2 d2 r u ≡ true) ⊎ ((r < size q.pattern) × (in_block q centre r ≡ true) × (is_among r vertices ≡ false) × (is_among u values ≡ true))
+              on true is = inr (subst (λ (w : ℕ). r < w) long (marked_in n m d r u (need_of n m d r u u_in h)), (and_parts (in_block q centre r) (not (is_among r vertices)) out.0).0, not_true (is_among r vertices) (and_parts (in_block q centre r) (not (is_among r vertices)) out.0).1, is)
               on false is = absurd (true≢false (sym (rest u u_in is) ∙ out.1))
 
 -- What is chosen as it was told, if it is.

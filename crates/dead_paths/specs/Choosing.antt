@@ -1,7 +1,8 @@
 -- Walking back over changes that are kept as entries.
 
-use Rattle.std.specs.Prelude.{◌≡◌, ℕ, ◌<◌, ◌⊎◌, ◌||◌, not, nat_lt, Bool, true, false, List, [], ◌∷◌, map, length, slice_index}
+use Rattle.std.specs.Prelude.{◌≡◌, ℕ, ◌<◌, ◌⊎◌, ◌&&◌, ◌||◌, not, nat_lt, Bool, true, false, List, [], ◌∷◌, map, length, slice_index, Option}
 use Rattle.graph_theory.specs.Embedding.{Problem}
+use Rattle.graph_theory.specs.Blocks.{in_block}
 use Rattle.log_theory.specs.Lookups.{is_among}
 use Rattle.bit_rows.specs.BitRows.{has}
 use Rattle.needed_values.specs.Needed.{needs}
@@ -52,7 +53,8 @@ IsOfRow rows (LeftOne r cause.First from) = Unit {0}
 IsOfRow rows (LeftOne r (cause.Guess t) from) = Unit {0}
 IsOfRow rows (LeftOne r (cause.Vertex p t) from) = Unit {0}
 IsOfRow rows (LeftOne r (cause.Edge p u direction) from) = Unit {0}
-IsOfRow rows (LeftOthers vertices values from) = Unit {0}
+IsOfRow rows (LeftOne r (cause.Order k u side) from) = Unit {0}
+IsOfRow rows (LeftOthers centre vertices values from) = Unit {0}
 IsOfRow rows (LeftOver p t direction vertices values from) = Unit {0}
 
 -- Lines can be named for these changes.
@@ -76,10 +78,14 @@ IsMade choice.AsTold q rows path c old now = IsStep true q rows path c old now
 IsMade choice.ByEdges q rows path c old now =
     RestsOn q rows path (asked_of true c) old now × IsOfRow rows c
 
--- Of what was needed the rest is what a set takes from a vertex that is none of these: a value that its row has not.
-abbrev pub AreLeft : ℕ → List ℕ → List ℕ → (ℕ → ℕ → Bool) → (ℕ → ℕ → Bool) → Type 0
-AreLeft n vertices set old new =
-    (r u : ℕ) → u < n → old r u ≡ true → (new r u ≡ true) ⊎ ((is_among r vertices ≡ false)
+-- The vertex is in the block, and none of these.
+abbrev pub is_other : Problem → Option ℕ → List ℕ → ℕ → Bool
+is_other q b vertices r = in_block q b r && not (is_among r vertices)
+
+-- Of what was needed the rest is what a set takes from a vertex that passes the test: a value that its row has not.
+abbrev pub AreLeft : ℕ → (ℕ → Bool) → List ℕ → (ℕ → ℕ → Bool) → (ℕ → ℕ → Bool) → Type 0
+AreLeft n test set old new =
+    (r u : ℕ) → u < n → old r u ≡ true → (new r u ≡ true) ⊎ ((test r ≡ true)
     × (has set u ≡ false))
 
 -- Of what was needed the rest is one value of one vertex.
@@ -87,10 +93,10 @@ abbrev pub AreLeftBut : ℕ → ℕ → ℕ → (ℕ → ℕ → Bool) → (ℕ 
 AreLeftBut n p t old new = (r u : ℕ) → u < n → old r u ≡ true → (new r u ≡ true)
     ⊎ ((r ≡ p) × (u ≡ t))
 
--- Each needed value of a vertex that is none of these is in the row.
-abbrev pub AreInside : ℕ → List ℕ → List ℕ → (ℕ → ℕ → Bool) → Type 0
-AreInside n vertices set needed = (r u : ℕ) → is_among r vertices ≡ false → u < n
-    → needed r u ≡ true → has set u ≡ true
+-- Each needed value of a vertex that passes the test is in the row.
+abbrev pub AreInside : ℕ → (ℕ → Bool) → List ℕ → (ℕ → ℕ → Bool) → Type 0
+AreInside n test set needed = (r u : ℕ) → test r ≡ true → u < n → needed r u ≡ true
+    → has set u ≡ true
 
 -- The walk has come so far, and lines can be named for what it chose.
 pub record HasCome (q : Problem) (rows : List Row) (path : List (ℕ

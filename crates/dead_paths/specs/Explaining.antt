@@ -15,21 +15,23 @@ use Rattle.nogood_book.specs.Rows.{path_at}
 use Rattle.nogood_book.specs.declared.row.Row.{Row}
 use Rattle.nogood_book.specs.Places.{IsNogoodRow}
 use Rattle.recorder.specs.Recording.{Change, CountedSet}
-use Rattle.dead_theory.specs.Changes.{Chosen, IsOneOf, IsBorne, AreBorne, known_after, ExplainsChange, ExplainAll, set_forms, crowd_forms}
+use Rattle.graph_rows.specs.Orders.{IsOrder}
+use Rattle.dead_theory.specs.Changes.{Chosen, IsOneOf, IsBorne, AreBorne, known_after, ExplainsChange, ExplainAll, set_forms, crowd_forms, IsSetIn}
 use Rattle.dead_theory.specs.Ends.{End, Empty, Whole, Short, Exhausted, end_of, EndsIn, EndNeeds}
 use Rattle.dead_theory.specs.Walks.{IsChoice}
 use Rattle.log_growth.specs.Frames.{Frame, IsNamed, AreNamed}
 use Rattle.dead_paths.specs.declared.dead_line.PathEnd.{PathEnd}
 use Rattle.dead_paths.specs.declared.dead_line.PathEnd.TheVariants as path_end
-use Rattle.dead_paths.specs.Lines.{at_least_ref, at_least_refs, AreVertices, AreValues}
+use Rattle.dead_paths.specs.Lines.{at_least_ref, at_least_refs, AreVertices}
 use Rattle.dead_paths.specs.Making.{AreRowsNamed}
 
 -- ---- limits
 
--- The limits on the graphs.
+-- The limits on the graphs, and on the pairs of vertices whose images are to be in order.
 pub record IsLimited (q : Problem) : Type 0 where
   pub pattern : size q.pattern ≤ 1024
   pub target : size q.target ≤ 8192
+  pub order : IsOrder (size q.pattern) q.less
 
 -- ---- changes
 
@@ -61,7 +63,7 @@ end_by (path_end.Exhausted p) short values = Exhausted p values
 abbrev pub IsEndIn : Problem → List Row → End → Type 0
 IsEndIn q rows (Empty p) = p < size q.pattern
 IsEndIn q rows (Whole name) = IsNogoodRow rows name
-IsEndIn q rows (Short vertices values) = AreVertices q vertices × AreValues q values
+IsEndIn q rows (Short centre vertices values) = IsSetIn q centre vertices values
 IsEndIn q rows (Exhausted p values) = p < size q.pattern
 
 -- Of the changes these are chosen for some needed values, among them all that the end needs.
@@ -77,7 +79,7 @@ AreRefuted q path (Exhausted p values) w refs forms = AreNamed w forms refs
     (value_clauses q path p values)
 AreRefuted q path (Empty p) w refs forms = Unit {0}
 AreRefuted q path (Whole name) w refs forms = Unit {0}
-AreRefuted q path (Short vertices values) w refs forms = Unit {0}
+AreRefuted q path (Short centre vertices values) w refs forms = Unit {0}
 
 -- The references name forms that explain the changes, and then those that the end comes to.
 pub record EndExplained (q : Problem) (rows : List Row) (w : Frame) (path : List (ℕ
@@ -139,10 +141,10 @@ MayAdd q known p t old new = ((new ≡ old)
     × IsOneOf known (p, t)) ⊎ (new ≡ old ++ at_least_ref q p ∷ [])
 
 -- To the line of a set.
-abbrev pub IsSetPushed : Problem → List ℕ → List ℕ → Frame → List Ref → List Ref → (List Form
-    → Type 0) → Result (Unit {0}) AllocError → List Form → Type 0
-IsSetPushed q vertices values w old new knows result forms = OnOk result (knows forms
-    × Adds w old new (set_forms q vertices values) forms)
+abbrev pub IsSetPushed : Problem → Option ℕ → List ℕ → List ℕ → Frame → List Ref → List Ref
+    → (List Form → Type 0) → Result (Unit {0}) AllocError → List Form → Type 0
+IsSetPushed q b vertices values w old new knows result forms = OnOk result (knows forms
+    × Adds w old new (set_forms q b vertices values) forms)
 
 -- To the line of a crowd.
 abbrev pub IsCrowdPushed : Problem → ℕ → ℕ → List ℕ → List ℕ → Frame → List Ref → List Ref

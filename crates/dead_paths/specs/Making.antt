@@ -1,6 +1,6 @@
 -- Lines for first domains, for pairs of vertices and for sets, as those who make them answer.
 
-use Rattle.std.specs.Prelude.{ℕ, Bool, List, Result, Ok, Err}
+use Rattle.std.specs.Prelude.{Option, ℕ, Bool, List, Result, Ok, Err}
 use Rattle.std.specs.declared.alloc.AllocError.{AllocError}
 use Rattle.graph_theory.specs.Embedding.{Problem}
 use Rattle.proof_theory.specs.Forms.{Form}
@@ -42,11 +42,11 @@ GivesRow by_edges q w p t r (Ok ref) knows forms = knows forms
 GivesRow by_edges q w p t r (Err e) knows forms = Unit {0}
 
 -- The answer is the name of the set's form, and the maker knows what it is to know of the forms.
-abbrev pub GivesSet : Problem → Frame → List ℕ → List ℕ → Result Name AllocError → (List Form
+abbrev pub GivesSet : Problem → Frame → Option ℕ → List ℕ → List ℕ → Result Name AllocError → (List Form
     → Type 0) → List Form → Type 0
-GivesSet q w vertices values (Ok n) knows forms = knows forms
-    × IsSetKept q vertices values w (Ok n) forms
-GivesSet q w vertices values (Err e) knows forms = Unit {0}
+GivesSet q w b vertices values (Ok n) knows forms = knows forms
+    × IsSetKept q b vertices values w (Ok n) forms
+GivesSet q w b vertices values (Err e) knows forms = Unit {0}
 
 -- Each nogood row's reference names the clause of its path.
 abbrev pub AreRowsNamed : Problem → List Row → Frame → (ℕ → Ref) → List Form → Type 0

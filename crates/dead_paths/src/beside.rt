@@ -19,3 +19,11 @@ pub(crate) struct Crowd<'a> {
     pub(crate) vertices: &'a [u16],
     pub(crate) values: &'a [u16],
 }
+
+/// Vertices of the block of a centre, or of that of all vertices, and the values that they have together.
+#[derive(Clone, Copy)]
+pub struct BlockSet<'a> {
+    pub centre: Option<u16>,
+    pub vertices: &'a [u16],
+    pub values: &'a [u16],
+}

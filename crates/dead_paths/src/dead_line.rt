@@ -16,6 +16,7 @@ ghost use Rattle.dead_paths.specs.Making.{AreRowsNamed};
 ghost use Rattle.dead_paths.specs.Choosing.{values_of, AreAt, chosen_in, AreNameable};
 ghost use Rattle.dead_paths.specs.Explaining.{IsLimited, Knowing, AreChangesPushed, IsEndPushed, end_by, IsEndIn, IsChosenFor, IsBegun, AreGathered, IsDeadName, IsLastOf};
 
+use crate::beside::BlockSet;
 use crate::known::fill_at;
 use crate::lines::push_at_least;
 use crate::lookups::part;
@@ -50,8 +51,8 @@ pub struct DeadPath<'a> {
     pub entries: &'a [Entry],
     /// How it ended.
     pub end: PathEnd,
-    /// The set that was found short, where that is the end.
-    pub short: Option<Place>,
+    /// The set that was found short, with the centre of its block, where that is the end.
+    pub short: Option<(Option<u16>, Place)>,
     /// Names of the lines of the values that were refuted below the path, in their order.
     pub refuted: &'a [Ref],
 }
@@ -65,7 +66,7 @@ const NO_NAME: Name = Name {
 /// The values that the end rests on are needed.
 fn mark_end(
     walk: &Walk<'_>,
-    short: Option<Place>,
+    short: Option<(Option<u16>, Place)>,
     end: PathEnd,
     marked: &mut [bool],
     needed: &mut [u64],
@@ -100,7 +101,7 @@ fn mark_end(
                 &mut room.pairs,
             ),
             Failure::Short(_) => {
-                if let Some(place) = short {
+                if let Some((_, place)) = short {
                     need_out(
                         walk.q,
                         part(walk.numbers, place.start, place.middle),
@@ -199,13 +200,16 @@ fn push_end<M: LineMaker, N: RowNames, K: Keeper>(
             Failure::Empty(p) => push_at_least(basis.lines, &[p], refs),
             Failure::Whole(name) => push_nogood(basis, name, None, at, pairs, refs),
             Failure::Short(_) => match dead.short {
-                Some(place) => push_set(
+                Some((centre, place)) => push_set(
                     basis.alloc,
                     basis.lines,
                     maker,
                     keeper,
-                    part(basis.numbers, place.start, place.middle),
-                    part(basis.numbers, place.middle, place.end),
+                    &BlockSet {
+                        centre,
+                        vertices: part(basis.numbers, place.start, place.middle),
+                        values: part(basis.numbers, place.middle, place.end),
+                    },
                     refs,
                 ),
                 None => Ok(()),
@@ -242,6 +246,7 @@ fn size_of(q: &Problem) -> usize
     ensures limited { IsLimited q.now }
 {
     let _target = q.target();
+    let _less = q.less();
     usize::from(q.pattern().size())
 }
 
@@ -249,7 +254,7 @@ fn size_of(q: &Problem) -> usize
 fn choose_in(
     walk: &Walk<'_>,
     entries: &[Entry],
-    end: (PathEnd, Option<Place>),
+    end: (PathEnd, Option<(Option<u16>, Place)>),
     marked: &mut [bool],
     needed: &mut [u64],
     room: &mut Room,
@@ -282,7 +287,7 @@ fn choose_in(
 fn choose_for(
     walk: &Walk<'_>,
     entries: &[Entry],
-    end: (PathEnd, Option<Place>),
+    end: (PathEnd, Option<(Option<u16>, Place)>),
     marked: &mut Vec<bool>,
     needed: &mut Vec<u64>,
     room: &mut Room,

@@ -1,14 +1,18 @@
 //! What the lines of dead paths stand on: an encoding, and rows by which what a vertex at its value takes is quickly told.
 
-ghost use Rattle.std.specs.Prelude.{◌≡◌, ◌+◌, ◌-◌, ◌<◌, true, slice_get, Some};
+ghost use Rattle.std.specs.Prelude.{◌≡◌, ℕ, ◌+◌, ◌-◌, ◌<◌, true, length, slice_get, Some};
 ghost use Rattle.graph_theory.specs.Graph.{size};
 ghost use Rattle.encoding_theory.specs.Pairs.{is_edge_pair};
 ghost use Rattle.encoding_theory.specs.Encoding.{encoding as encoding_of, at_least as at_least_form};
-ghost use Rattle.encoding_theory.specs.Places.{at_least_place, at_most_place, at_most_target_place, edge_place};
+ghost use Rattle.graph_theory.specs.Blocks.{has_block};
+ghost use Rattle.encoding_theory.specs.Places.{at_least_place, at_most_place, at_most_place_in, edge_place};
+ghost use Rattle.dead_paths.specs.Lines.{order_ref};
 
 use graph_rows::Problem;
+use log_theory::Ref;
 use needed_values::Sharers;
 use pb_encoding::Encoding;
+use recorder::Side;
 use std::alloc::Global;
 use std::marker::Model;
 
@@ -84,13 +88,28 @@ impl<'a> Ground<'a> {
         self.encoding.at_most(p)
     }
 
-    /// The number of the line by which one vertex at most goes to a value.
+    /// The number of the line by which one vertex at most of a block goes to a value. Cost: constant, or logarithmic.
     #[inline(always)]
-    pub(crate) fn at_most_target(&self, t: u16) -> u64
-        requires { t < size self.now.target }
-        ensures line { result ≡ at_most_target_place self.now t + 1 }
+    pub(crate) fn at_most_in(&self, centre: Option<u16>, t: u16) -> u64
+        requires t_in { t < size self.now.target }
+        requires exists { has_block self.now centre ≡ true }
+        ensures line { result ≡ at_most_place_in self.now centre t + 1 }
     {
-        self.encoding.at_most_target(t)
+        self.encoding.at_most_in(centre, t)
+    }
+
+    /// The line by which, where the vertex at this end of pair `k` is at `t`, the other goes past `t`, or below it. Cost: constant.
+    pub(crate) fn order(&self, k: u16, side: Side, t: u16) -> Ref
+        requires k_in { k < length self.now.less }
+        requires t_in { t < size self.now.target }
+        ensures line { (x : ℕ × ℕ) → slice_get self.now.less k ≡ Some x
+            → result ≡ order_ref self.now k x side t }
+    {
+        let _less = self.problem().less();
+        match side {
+            Side::Lesser => Ref::Line(self.encoding.less_from(k + 1, t)),
+            Side::Greater => Ref::Line(self.encoding.less_to(k + 1, t)),
+        }
     }
 
     /// The number of the line by which, where `p` is at `t`, `r` goes where its edge leads. Cost: logarithmic.

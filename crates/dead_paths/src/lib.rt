@@ -27,7 +27,7 @@ mod shared;
 mod takes;
 mod walk;
 
-pub use beside::Beside;
+pub use beside::{Beside, BlockSet};
 pub use dead_line::{DeadPath, PathEnd, explain};
 pub use ground::Ground;
 pub use lines::keep_set;

@@ -1,15 +1,16 @@
 //! References to lines of the encoding, and the lines of sets and of crowds.
 
-ghost use Rattle.std.specs.Prelude.{◌≡◌, ◌<◌, ◌++◌, length, map, OnOk, IfOk};
+ghost use Rattle.std.specs.Prelude.{◌≡◌, ◌<◌, ◌++◌, true, length, map, OnOk, IfOk};
 ghost use Rattle.graph_theory.specs.Graph.{size};
 ghost use Rattle.log_theory.specs.LogText.{IsName};
 ghost use Rattle.recorder.specs.Recording.{LeftOver};
-ghost use Rattle.dead_theory.specs.Changes.{IsInProblem};
+ghost use Rattle.graph_theory.specs.Blocks.{has_block};
+ghost use Rattle.dead_theory.specs.Changes.{IsInProblem, IsSetIn};
 ghost use Rattle.log_growth.specs.Frames.{Frame, IsFrameOf, AnyForms, Goes};
-ghost use Rattle.dead_paths.specs.Lines.{at_least_refs, at_most_target_ref, beside_refs, AreVertices, AreValues, ArePairs, IsSetKept, IsCrowdKept};
+ghost use Rattle.dead_paths.specs.Lines.{at_least_refs, block_ref, beside_refs, AreVertices, AreValues, ArePairs, IsSetKept, IsCrowdKept};
 ghost use Rattle.dead_paths.specs.Explaining.{IsLimited};
 
-use crate::beside::Crowd;
+use crate::beside::{BlockSet, Crowd};
 use crate::ground::Ground;
 use journals::Keeper;
 use log_growth::keep_sum;
@@ -32,18 +33,20 @@ pub(crate) fn push_at_least(
     Ok(())
 }
 
-/// Puts references to the lines by which one vertex at most goes to each of these values.
+/// Puts references to the lines by which one vertex at most of a block goes to each of these values.
 pub(crate) fn push_at_most(
     lines: &Ground<'_>,
+    centre: Option<u16>,
     values: &[u16],
     refs: &mut Vec<Ref>,
 ) -> Result<(), AllocError>
-    requires { AreValues lines.now values.now }
-    ensures { OnOk result (refs.new.items ≡ refs.old.items ++ map (at_most_target_ref lines.now)
+    requires values { AreValues lines.now values.now }
+    requires exists { has_block lines.now centre ≡ true }
+    ensures { OnOk result (refs.new.items ≡ refs.old.items ++ map (block_ref lines.now centre)
         values.now) }
 {
     for t in values {
-        refs.push(Ref::Line(lines.at_most_target(*t)))?;
+        refs.push(Ref::Line(lines.at_most_in(centre, *t)))?;
     }
     Ok(())
 }
@@ -92,33 +95,32 @@ pub(crate) fn keep_crowd<K: Keeper>(
 {
     let mut refs = Vec::new(alloc);
     push_beside(lines, crowd.p, crowd.t, crowd.vertices, &mut refs)?;
-    push_at_most(lines, crowd.values, &mut refs)?;
+    push_at_most(lines, None, crowd.values, &mut refs)?;
     keep_sum(alloc, keeper, &refs)
 }
 
-/// Keeps the line of a set: that its vertices go somewhere and that one vertex at most goes to each of its values, summed. Cost: a reference
-/// for each vertex and value.
+/// Keeps the line of a set: that its vertices go somewhere and that one vertex at most of its block goes to each of its values, summed. Cost: a
+/// reference for each vertex and value.
 pub fn keep_set<K: Keeper>(
     alloc: Global,
     lines: &Ground<'_>,
     keeper: &mut K,
-    vertices: &[u16],
-    values: &[u16],
+    set: &BlockSet<'_>,
 ) -> Result<Name, AllocError>
     requires limited { IsLimited lines.now }
-    requires some { 0 < length vertices.now }
-    requires vertices { AreVertices lines.now vertices.now }
-    requires values { AreValues lines.now values.now }
+    requires some { 0 < length set.now.vertices.now }
+    requires in_problem { IsSetIn lines.now set.now.centre set.now.vertices.now
+        set.now.values.now }
     ensures goes { (w : Frame) → IsFrameOf lines.now (K.owner keeper.old) w
         → Goes w (K.kept keeper.old) (K.kept keeper.new) AnyForms
-        (IsSetKept lines.now vertices.now values.now w result) }
+        (IsSetKept lines.now set.now.centre set.now.vertices.now set.now.values.now w result) }
     ensures name { IfOk result IsName }
     ensures owner { K.owner keeper.new ≡ K.owner keeper.old }
     ensures notes { K.notes keeper.new ≡ K.notes keeper.old }
     ensures spare { K.spare keeper.new ≡ K.spare keeper.old }
 {
     let mut refs = Vec::new(alloc);
-    push_at_least(lines, vertices, &mut refs)?;
-    push_at_most(lines, values, &mut refs)?;
+    push_at_least(lines, set.vertices, &mut refs)?;
+    push_at_most(lines, set.centre, set.values, &mut refs)?;
     keep_sum(alloc, keeper, &refs)
 }

@@ -7,11 +7,11 @@ ghost use Rattle.proof_theory.specs.Forms.{Form};
 ghost use Rattle.log_theory.specs.LogText.{IsName, IsRef};
 ghost use Rattle.log_growth.specs.Frames.{Frame, IsFrameOf, Goes, Lasts};
 ghost use Rattle.log_growth.specs.Rows.{Widens};
-ghost use Rattle.dead_paths.specs.Lines.{AreVertices, AreValues};
+ghost use Rattle.dead_theory.specs.Changes.{IsSetIn};
 ghost use Rattle.dead_paths.specs.Making.{GivesFirst, GivesRow, GivesSet};
 ghost use Rattle.dead_paths.specs.Explaining.{IsLimited};
 
-use crate::beside::Beside;
+use crate::beside::{Beside, BlockSet};
 use crate::ground::Ground;
 use journals::Keeper;
 use log_theory::{Name, Ref};
@@ -71,23 +71,23 @@ pub trait LineMaker: Drop {
         ensures notes { K.notes keeper.new ≡ K.notes keeper.old }
         ensures spare { K.spare keeper.new ≡ K.spare keeper.old };
 
-    /// The line of a set: that its vertices go somewhere and that one vertex at most goes to each of its values, summed.
+    /// The line of a set: that its vertices go somewhere and that one vertex at most of its block goes to each of its values, summed.
     fn set<K: Keeper>(
         &mut self,
         alloc: Global,
         lines: &Ground<'_>,
         keeper: &mut K,
-        vertices: &[u16],
-        values: &[u16],
+        set: &BlockSet<'_>,
     ) -> Result<Name, AllocError>
         requires limited { IsLimited lines.now }
-        requires some { 0 < length vertices.now }
-        requires vertices { AreVertices lines.now vertices.now }
-        requires values { AreValues lines.now values.now }
+        requires some { 0 < length set.now.vertices.now }
+        requires in_problem { IsSetIn lines.now set.now.centre set.now.vertices.now
+            set.now.values.now }
         ensures goes { (w : Frame) → IsFrameOf lines.now (K.owner keeper.old) w
             → Goes w (K.kept keeper.old) (K.kept keeper.new)
             (knows self.old lines.now w)
-            (GivesSet lines.now w vertices.now values.now result (knows self.new lines.now w)) }
+            (GivesSet lines.now w set.now.centre set.now.vertices.now set.now.values.now result
+            (knows self.new lines.now w)) }
         ensures fits { IfOk result IsName }
         ensures owner { K.owner keeper.new ≡ K.owner keeper.old }
         ensures notes { K.notes keeper.new ≡ K.notes keeper.old }

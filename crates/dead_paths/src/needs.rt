@@ -1,6 +1,7 @@
 //! What is needed before a change, or at an end: all values of a vertex but the one it is at, or those that a set of vertices has not.
 
-ghost use Rattle.std.specs.Prelude.{◌≡◌, ℕ, ◌*◌, ◌<◌, ◌≤◌, true, false, List, length, is_some, OnOk};
+ghost use Rattle.std.specs.Prelude.{◌≡◌, ℕ, ◌*◌, ◌<◌, ◌≤◌, true, false, List, length, is_some, OnOk, slice_get, Some};
+ghost use Rattle.recorder.specs.Telling.{end_beside, is_beside};
 ghost use Rattle.graph_theory.specs.Graph.{size, edge};
 ghost use Rattle.graph_theory.specs.Reversed.{turned};
 ghost use Rattle.log_theory.specs.Lookups.{is_among};
@@ -14,14 +15,16 @@ ghost use Rattle.dead_theory.specs.Walks.{IsWithin};
 ghost use Rattle.dead_paths.specs.Choosing.{values_of, AreAt};
 
 use crate::known::{holds_at, is_left_out};
-use bit_rows::{and_into, fill_below, unset_bit};
+use bit_rows::{and_into, and_not_into, fill_below, unset_bit};
 use graph_rows::Problem;
 use graph_theory::direction::Direction;
 use needed_values::{Sharers, need_but, need_set};
 use nogood_book::{Row, push_path};
+use recorder::Side;
 use std::alloc::{AllocError, Global};
 
-/// What a walk back reads: the problem, its rows of values that share neighbours, the book's rows, the numbers of sets, and the path's values at their vertices.
+/// What a walk back reads: the problem, its rows of values that share neighbours, the book's rows, the numbers of sets, and the path's values at
+/// their vertices.
 #[derive(Clone, Copy)]
 pub(crate) struct Walk<'a> {
     pub(crate) alloc: Global,
@@ -132,6 +135,37 @@ pub(crate) fn fill_without(q: &Problem, values: &[u16], row: &mut [u64])
 {
     fill_below(row, count_values(q));
     take_out(values, row);
+}
+
+/// The row of all values past `u`, or below it: those that the other vertex of a pair that is to be in order may have with `u` at this end.
+pub(crate) fn fill_on_side(q: &Problem, side: Side, u: u16, row: &mut [u64], spare: &mut [u64])
+    requires u_in { u < size q.now.target }
+    requires long { length row.old ≡ words_for (size q.now.target) }
+    requires spare { length spare.old ≡ words_for (size q.now.target) }
+    ensures { (w : ℕ) → w < size q.now.target → is_beside side u w ≡ true
+        → has row.new w ≡ true }
+{
+    match side {
+        Side::Lesser => {
+            let _size = q.target().size();
+            fill_below(row, count_values(q));
+            fill_below(spare, usize::from(u) + 1);
+            and_not_into(row, spare);
+        }
+        Side::Greater => fill_below(row, usize::from(u)),
+    }
+}
+
+/// The vertex at the other end of pair `k`.
+pub(crate) fn end_beside_of(q: &Problem, k: u16, side: Side) -> u16
+    requires { k < length q.now.less }
+    ensures { (x : ℕ × ℕ) → slice_get q.now.less k ≡ Some x → result ≡ end_beside side x }
+{
+    let (lesser, greater) = q.less()[usize::from(k)];
+    match side {
+        Side::Lesser => greater,
+        Side::Greater => lesser,
+    }
 }
 
 /// The row of all values to which an edge leads from `t`, in the direction, `t` itself and these aside.

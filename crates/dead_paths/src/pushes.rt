@@ -6,14 +6,13 @@ ghost use Rattle.log_theory.specs.LogText.{IsRef, AreRefs};
 ghost use Rattle.nogood_book.specs.Rows.{Sound};
 ghost use Rattle.nogood_book.specs.Places.{IsNogoodRow};
 ghost use Rattle.recorder.specs.Recording.{LeftOver, change_of};
-ghost use Rattle.dead_theory.specs.Changes.{shown_of, IsInProblem};
+ghost use Rattle.dead_theory.specs.Changes.{shown_of, IsInProblem, IsSetIn};
 ghost use Rattle.log_growth.specs.Frames.{Frame, IsFrameOf, AnyForms, Goes};
-ghost use Rattle.dead_paths.specs.Lines.{AreVertices, AreValues};
 ghost use Rattle.dead_paths.specs.Making.{AreRowsNamed};
 ghost use Rattle.dead_paths.specs.Choosing.{AreAt, IsOfRow, chosen_of};
 ghost use Rattle.dead_paths.specs.Explaining.{IsLimited, Knowing, AddsNogood, IsSetPushed, IsCrowdPushed, IsChangePushed};
 
-use crate::beside::{Beside, Crowd};
+use crate::beside::{Beside, BlockSet, Crowd};
 use crate::ground::Ground;
 use crate::known::{push_bearing_all, push_decided};
 use crate::lines::keep_crowd;
@@ -59,27 +58,26 @@ pub(crate) fn push_set<M: LineMaker, K: Keeper>(
     lines: &Ground<'_>,
     maker: &mut M,
     keeper: &mut K,
-    vertices: &[u16],
-    values: &[u16],
+    set: &BlockSet<'_>,
     refs: &mut Vec<Ref>,
 ) -> Result<(), AllocError>
     requires limited { IsLimited lines.now }
-    requires vertices { AreVertices lines.now vertices.now }
-    requires values { AreValues lines.now values.now }
+    requires in_problem { IsSetIn lines.now set.now.centre set.now.vertices.now
+        set.now.values.now }
     requires fits { AreRefs refs.old.items }
     ensures goes { (w : Frame) → IsFrameOf lines.now (K.owner keeper.old) w
         → Goes w (K.kept keeper.old) (K.kept keeper.new) (M.knows maker.old lines.now w)
-        (IsSetPushed lines.now vertices.now values.now w refs.old.items refs.new.items
-        (M.knows maker.new lines.now w) result) }
+        (IsSetPushed lines.now set.now.centre set.now.vertices.now set.now.values.now w
+        refs.old.items refs.new.items (M.knows maker.new lines.now w) result) }
     ensures fits { OnOk result (AreRefs refs.new.items) }
     ensures owner { K.owner keeper.new ≡ K.owner keeper.old }
     ensures notes { K.notes keeper.new ≡ K.notes keeper.old }
     ensures spare { K.spare keeper.new ≡ K.spare keeper.old }
 {
-    if vertices.is_empty() {
+    if set.vertices.is_empty() {
         return Ok(());
     }
-    let name = maker.set(alloc, lines, keeper, vertices, values)?;
+    let name = maker.set(alloc, lines, keeper, set)?;
     refs.push(Ref::Made(name))?;
     Ok(())
 }
@@ -170,14 +168,21 @@ pub(crate) fn push_change<M: LineMaker, N: RowNames, K: Keeper>(
                 refs.push(Ref::Line(basis.lines.edge(r, p, u)))?;
                 Ok(())
             }
+            Cause::Order(k, u, side) => {
+                refs.push(basis.lines.order(k, side, u))?;
+                Ok(())
+            }
         },
-        What::Others(place) => push_set(
+        What::Others(centre, place) => push_set(
             basis.alloc,
             basis.lines,
             maker,
             keeper,
-            part(basis.numbers, place.start, place.middle),
-            part(basis.numbers, place.middle, place.end),
+            &BlockSet {
+                centre,
+                vertices: part(basis.numbers, place.start, place.middle),
+                values: part(basis.numbers, place.middle, place.end),
+            },
             refs,
         ),
         What::Over(p, t, direction, place) => push_crowd(

@@ -7,13 +7,16 @@ ghost use Rattle.bit_rows.specs.BitRows.{has, words_for};
 ghost use Rattle.nogood_book.specs.declared.row.Row.{Row as TheRow};
 ghost use Rattle.recorder.specs.Recording.{LeftOthers};
 ghost use Rattle.needed_values.specs.Needed.{needs, AreRows, StaysNeeded};
-ghost use Rattle.dead_theory.specs.Changes.{IsInProblem};
-ghost use Rattle.dead_paths.specs.Choosing.{values_of, IsStep, AreLeft, AreInside};
+ghost use Rattle.graph_theory.specs.Blocks.{in_block, has_block};
+ghost use Rattle.dead_theory.specs.Changes.{IsSetIn};
+ghost use Rattle.dead_paths.specs.Choosing.{values_of, IsStep, is_other, AreLeft, AreInside};
 
+use crate::beside::BlockSet;
 use crate::lookups::holds;
 use crate::needs::{count_values, fill_without, need_each};
 use bit_rows::and_into;
 use graph_rows::Problem;
+use graph_rows::near::is_near;
 use needed_values::{copy_needed, is_any_needed, put_needed};
 
 /// Whether two rows are the same.
@@ -62,15 +65,37 @@ fn take_row(
     true
 }
 
-/// Vertices that were counted together, and the row of all values but theirs.
+/// Vertices of a block that were counted together, and the row of all values but theirs.
 #[derive(Clone, Copy)]
 struct Apart<'a> {
     q: &'a Problem,
+    centre: Option<u16>,
     vertices: &'a [u16],
     row: &'a [u64],
 }
 
-/// The same, unless the vertex is one of these.
+/// Whether a vertex is in the block of a centre, or of all vertices. Cost: two words.
+fn is_member(q: &Problem, centre: Option<u16>, r: u16) -> bool
+    requires r_in { r < size q.now.pattern }
+    requires exists { has_block q.now centre ≡ true }
+    ensures { result ≡ in_block q.now centre r }
+{
+    match centre {
+        None => true,
+        Some(c) => is_near(q.pattern(), c, r),
+    }
+}
+
+/// Whether a vertex of the block is none of these.
+fn is_other_of(apart: &Apart<'_>, r: u16) -> bool
+    requires r_in { r < size apart.now.q.now.pattern }
+    requires exists { has_block apart.now.q.now apart.now.centre ≡ true }
+    ensures { result ≡ is_other apart.now.q.now apart.now.centre apart.now.vertices.now r }
+{
+    is_member(apart.q, apart.centre, r) && !holds(apart.vertices, usize::from(r))
+}
+
+/// The same, of a vertex of the block that is none of these.
 fn take_other(
     apart: &Apart<'_>,
     r: u16,
@@ -81,27 +106,31 @@ fn take_other(
 ) -> bool
     requires held { AreRows (size apart.now.q.now.target) marked.old needed.old }
     requires r_in { r < length marked.old }
+    requires size { length marked.old ≡ size apart.now.q.now.pattern }
+    requires exists { has_block apart.now.q.now apart.now.centre ≡ true }
     requires row { length apart.now.row.now ≡ words_for (size apart.now.q.now.target) }
     requires spare { length spare.old ≡ words_for (size apart.now.q.now.target) }
     requires other { length other.old ≡ words_for (size apart.now.q.now.target) }
-    ensures inside { result ≡ false → is_among r apart.now.vertices.now ≡ false → (u : ℕ)
+    ensures inside { result ≡ false
+        → is_other apart.now.q.now apart.now.centre apart.now.vertices.now r ≡ true → (u : ℕ)
         → u < size apart.now.q.now.target
         → needs (size apart.now.q.now.target) marked.old needed.old r u ≡ true
         → has apart.now.row.now u ≡ true }
     ensures stays { result ≡ false → StaysNeeded (size apart.now.q.now.target)
         (needs (size apart.now.q.now.target) marked.old needed.old)
         (needs (size apart.now.q.now.target) marked.new needed.new) }
-    ensures left { AreLeft (size apart.now.q.now.target) apart.now.vertices.now apart.now.row.now
+    ensures left { AreLeft (size apart.now.q.now.target)
+        (is_other apart.now.q.now apart.now.centre apart.now.vertices.now) apart.now.row.now
         (needs (size apart.now.q.now.target) marked.old needed.old)
         (needs (size apart.now.q.now.target) marked.new needed.new) }
 {
-    if holds(apart.vertices, usize::from(r)) {
+    if !is_other_of(apart, r) {
         return false;
     }
     take_row(apart.q, r, apart.row, marked, needed, spare, other)
 }
 
-/// Keeps of the needed values of all vertices but these those that the row has, and tells whether there were others.
+/// Keeps of the needed values of all vertices of the block but these those that the row has, and tells whether there were others.
 fn take_others(
     apart: &Apart<'_>,
     marked: &mut [bool],
@@ -110,16 +139,20 @@ fn take_others(
     other: &mut [u64],
 ) -> bool
     requires held { AreRows (size apart.now.q.now.target) marked.old needed.old }
+    requires size { length marked.old ≡ size apart.now.q.now.pattern }
+    requires exists { has_block apart.now.q.now apart.now.centre ≡ true }
     requires row { length apart.now.row.now ≡ words_for (size apart.now.q.now.target) }
     requires spare { length spare.old ≡ words_for (size apart.now.q.now.target) }
     requires other { length other.old ≡ words_for (size apart.now.q.now.target) }
     ensures inside { result ≡ false
-        → AreInside (size apart.now.q.now.target) apart.now.vertices.now apart.now.row.now
+        → AreInside (size apart.now.q.now.target)
+        (is_other apart.now.q.now apart.now.centre apart.now.vertices.now) apart.now.row.now
         (needs (size apart.now.q.now.target) marked.old needed.old) }
     ensures stays { result ≡ false → StaysNeeded (size apart.now.q.now.target)
         (needs (size apart.now.q.now.target) marked.old needed.old)
         (needs (size apart.now.q.now.target) marked.new needed.new) }
-    ensures left { AreLeft (size apart.now.q.now.target) apart.now.vertices.now apart.now.row.now
+    ensures left { AreLeft (size apart.now.q.now.target)
+        (is_other apart.now.q.now apart.now.centre apart.now.vertices.now) apart.now.row.now
         (needs (size apart.now.q.now.target) marked.old needed.old)
         (needs (size apart.now.q.now.target) marked.new needed.new) }
 {
@@ -131,10 +164,10 @@ fn take_others(
     taken
 }
 
-/// A set of vertices, the first of the two, takes its values, the second, from all others.
+/// A set of vertices of a block takes its values from all others of it.
 pub(crate) fn by_set(
     q: &Problem,
-    counted: (&[u16], &[u16]),
+    counted: &BlockSet<'_>,
     marked: &mut [bool],
     needed: &mut [u64],
     set: &mut [u64],
@@ -143,26 +176,27 @@ pub(crate) fn by_set(
 ) -> bool
     requires held { AreRows (size q.now.target) marked.old needed.old }
     requires size { length marked.old ≡ size q.now.pattern }
-    requires in_problem { IsInProblem q.now (LeftOthers counted.0.now counted.1.now 0) }
+    requires in_problem { IsSetIn q.now counted.now.centre counted.now.vertices.now
+        counted.now.values.now }
     requires set { length set.old ≡ words_for (size q.now.target) }
     requires spare { length spare.old ≡ words_for (size q.now.target) }
     requires other { length other.old ≡ words_for (size q.now.target) }
     ensures { (rows : List TheRow) (path : List (ℕ × ℕ)) (from : ℕ)
         → IsStep result q.now rows path
-        (LeftOthers counted.entry.0.now counted.entry.1.now from)
+        (LeftOthers counted.now.centre counted.now.vertices.now counted.now.values.now from)
         (values_of (size q.now.target) marked.old needed.old)
         (values_of (size q.now.target) marked.new needed.new) }
 {
-    let (vertices, values) = counted;
-    fill_without(q, values, set);
+    fill_without(q, counted.values, set);
     let apart = Apart {
         q,
-        vertices,
+        centre: counted.centre,
+        vertices: counted.vertices,
         row: set,
     };
     if !take_others(&apart, marked, needed, spare, other) {
         return false;
     }
-    need_each(q, vertices, set, marked, needed, spare);
+    need_each(q, counted.vertices, set, marked, needed, spare);
     true
 }

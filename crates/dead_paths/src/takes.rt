@@ -10,14 +10,16 @@ ghost use Rattle.recorder.specs.Recording.{LeftOne, LeftOver, change_of};
 ghost use Rattle.recorder.specs.Telling.{Joins};
 ghost use Rattle.needed_values.specs.Needed.{needs, AreRows, StaysNeeded};
 ghost use Rattle.needed_values.specs.Consistent.{Goes, AllConsistent};
-ghost use Rattle.dead_theory.specs.Changes.{IsInProblem};
+ghost use Rattle.dead_theory.specs.Changes.{IsInProblem, IsEndOf};
 ghost use Rattle.dead_paths.specs.Choosing.{values_of, AreAt, IsStep, IsMade, AreLeftBut};
 ghost use Rattle.dead_paths.specs.Rooms.{IsFit};
 ghost use Rattle.dead_paths.specs.declared.takes.Choice.TheVariants.{Passed, AsTold, ByEdges};
 
-use crate::beside::{Beside, Crowd};
+use crate::beside::{Beside, BlockSet, Crowd};
 use crate::lookups::{is_nogood_row, part};
-use crate::needs::{Walk, count_values, fill_beside, need_each, uphold, uphold_row};
+use crate::needs::{
+    Walk, count_values, end_beside_of, fill_beside, fill_on_side, need_each, uphold, uphold_row,
+};
 use crate::room::Room;
 use crate::sets::by_set;
 use bit_rows::unset_bit;
@@ -27,7 +29,7 @@ use needed_values::{
     are_all_consistent, copy_needed, is_any_needed, is_needed, keep_consistent, need_set,
     needed_row, part_compatible, put_needed, unmark,
 };
-use recorder::{Cause, Entry, What};
+use recorder::{Cause, Entry, Side, What};
 use std::alloc::AllocError;
 
 /// What comes of a step back from a change.
@@ -291,6 +293,47 @@ fn by_edge(
     true
 }
 
+/// A value of the vertex at this end of pair `k`, beside which the other vertex has none on its side.
+#[derive(Clone, Copy)]
+struct OutOfOrder {
+    k: u16,
+    r: u16,
+    u: u16,
+    side: Side,
+}
+
+/// A pair that is to be in order takes one value, since all on its side are gone for the other vertex: these are needed where it is.
+fn by_order(
+    q: &Problem,
+    lost: OutOfOrder,
+    marked: &mut [bool],
+    needed: &mut [u64],
+    set: &mut [u64],
+    spare: &mut [u64],
+    other: &mut [u64],
+) -> bool
+    requires held { AreRows (size q.now.target) marked.old needed.old }
+    requires size { length marked.old ≡ size q.now.pattern }
+    requires end { IsEndOf q.now lost.k lost.side lost.r }
+    requires u_in { lost.u < size q.now.target }
+    requires set { length set.old ≡ words_for (size q.now.target) }
+    requires spare { length spare.old ≡ words_for (size q.now.target) }
+    requires other { length other.old ≡ words_for (size q.now.target) }
+    ensures { (rows : List TheRow) (path : List (ℕ × ℕ)) (from : ℕ)
+        → IsStep result q.now rows path
+        (LeftOne lost.r (cause.Order lost.k lost.u lost.side) from)
+        (values_of (size q.now.target) marked.old needed.old)
+        (values_of (size q.now.target) marked.new needed.new) }
+{
+    if !take_value(q, (lost.r, lost.u), marked, needed, other) {
+        return false;
+    }
+    fill_on_side(q, lost.side, lost.u, set, spare);
+    let beside = end_beside_of(q, lost.k, lost.side);
+    need_set(marked, needed, count_values(q), beside, set, spare);
+    true
+}
+
 /// A crowd takes the value of its vertex: where that is needed, so are the other values of the crowd's vertices to which an edge leads from it.
 fn by_crowd(
     q: &Problem,
@@ -381,13 +424,23 @@ pub(crate) fn go_back(
                 &mut room.spare,
                 &mut room.other,
             ))),
+            Cause::Order(k, u, side) => Ok(told_if(by_order(
+                walk.q,
+                OutOfOrder { k, r, u, side },
+                marked,
+                needed,
+                &mut room.set,
+                &mut room.spare,
+                &mut room.other,
+            ))),
         },
-        What::Others(place) => Ok(told_if(by_set(
+        What::Others(centre, place) => Ok(told_if(by_set(
             walk.q,
-            (
-                part(walk.numbers, place.start, place.middle),
-                part(walk.numbers, place.middle, place.end),
-            ),
+            &BlockSet {
+                centre,
+                vertices: part(walk.numbers, place.start, place.middle),
+                values: part(walk.numbers, place.middle, place.end),
+            },
             marked,
             needed,
             &mut room.set,

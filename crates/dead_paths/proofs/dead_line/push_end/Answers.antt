@@ -1,4 +1,4 @@
-use Rattle.std.proofs.Common.{◌++◌, ◌∷◌, [], ◌<◌, refl, ap, ◌∙◌, subst, sym, append-nil, Option, Ok}
+use Rattle.std.proofs.Common.{◌++◌, ◌∷◌, [], ◌<◌, refl, ap, ◌∙◌, subst, sym, append-nil, ℕ, Option, None, Ok}
 use Rattle.std.proofs.lemmas.Result.{err_from_is_err_and}
 use Rattle.graph_theory.specs.Graph.{size}
 use Rattle.log_theory.specs.LogText.{AreRefs}
@@ -47,9 +47,9 @@ returns-in-Whole-clause-goes g c = λ w values known here frame.
 
 pub returns-in-None-clause-goes : goal.returns-in-None-clause-goes
 returns-in-None-clause-goes g c = λ w values known here frame.
-    let is = (ap (λ (y : PathEnd). end_by y (set_at c.args.basis.now.numbers.now c.args.dead.now.short) values) c.in-Failed.is ∙ ap (λ (f : Failure). end_of f (set_at c.args.basis.now.numbers.now c.args.dead.now.short)) c.in-Short.is) ∙ ap (λ (k : Option Place). end_of (failure.Short c.in-Short.field-0) (set_at c.args.basis.now.numbers.now k)) c.in-None.is in
-    end_pushed c.args.basis.now.lines.now c.args.basis.now.rows.now w (g.N.RowNames.names c.args.basis.now.names.now) c.args.dead.now.path.now known (end_by c.args.dead.now.end (set_at c.args.basis.now.numbers.now c.args.dead.now.short) values) (Short [] []) c.args.dead.now.refuted.now (g.M.LineMaker.knows c.args.maker.now c.args.basis.now.lines.now w) (g.K.Keeper.kept c.args.keeper.now) (Ok tt) c.args.refs.now.items c.args.refs.now.items is
-    (λ forms h. end_named c.args.basis.now.lines.now c.args.basis.now.rows.now w (g.N.RowNames.names c.args.basis.now.names.now) c.args.dead.now.path.now known (Short [] []) (Ok tt) c.args.refs.now.items c.args.refs.now.items [] [] forms refl (sym (append-nil c.args.refs.now.items)) tt)
+    let is = (ap (λ (y : PathEnd). end_by y (set_at c.args.basis.now.numbers.now c.args.dead.now.short) values) c.in-Failed.is ∙ ap (λ (f : Failure). end_of f (set_at c.args.basis.now.numbers.now c.args.dead.now.short)) c.in-Short.is) ∙ ap (λ (k : Option (Option ℕ × Place)). end_of (failure.Short c.in-Short.field-0) (set_at c.args.basis.now.numbers.now k)) c.in-None.is in
+    end_pushed c.args.basis.now.lines.now c.args.basis.now.rows.now w (g.N.RowNames.names c.args.basis.now.names.now) c.args.dead.now.path.now known (end_by c.args.dead.now.end (set_at c.args.basis.now.numbers.now c.args.dead.now.short) values) (Short None [] []) c.args.dead.now.refuted.now (g.M.LineMaker.knows c.args.maker.now c.args.basis.now.lines.now w) (g.K.Keeper.kept c.args.keeper.now) (Ok tt) c.args.refs.now.items c.args.refs.now.items is
+    (λ forms h. end_named c.args.basis.now.lines.now c.args.basis.now.rows.now w (g.N.RowNames.names c.args.basis.now.names.now) c.args.dead.now.path.now known (Short None [] []) (Ok tt) c.args.refs.now.items c.args.refs.now.items [] [] forms refl (sym (append-nil c.args.refs.now.items)) tt)
 
 pub returns-in_ok-extend_from_slice-in-Exhausted-clause-goes : goal.returns-in_ok-extend_from_slice-in-Exhausted-clause-goes
 returns-in_ok-extend_from_slice-in-Exhausted-clause-goes g c = λ w values known here frame.

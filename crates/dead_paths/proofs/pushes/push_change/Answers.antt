@@ -1,8 +1,9 @@
 use Rattle.std.proofs.Common.{◌≡◌, ◌∷◌, [], ℕ, ap, ◌∙◌, subst, sym, arith}
+use Rattle.std.proofs.lemmas.Option.{slice_get_within}
 use Rattle.std.proofs.lemmas.Result.{err_from_is_err_and}
 use Rattle.log_theory.specs.declared.step.Ref.{Ref}
 use Rattle.log_theory.specs.declared.step.Ref.TheVariants.{Line}
-use Rattle.log_theory.specs.LogText.{AreRefs}
+use Rattle.log_theory.specs.LogText.{IsRef, AreRefs}
 use Rattle.nogood_book.specs.Places.{IsNogoodRow}
 use Rattle.recorder.specs.declared.change.Cause.{Cause}
 use Rattle.recorder.specs.declared.change.Cause.TheVariants as cause
@@ -12,8 +13,8 @@ use Rattle.recorder.specs.Recording.{change_by}
 use Rattle.dead_theory.specs.Changes.{shown_of, IsInProblem}
 use Rattle.dead_paths.specs.Choosing.{AreAt, IsOfRow, chosen_of}
 use Rattle.dead_paths.specs.Lines.{at_most_ref, edge_ref}
-use Rattle.dead_paths.proofs.LineRefs.{refs_behind, at_most_fits, joins_pair, edge_fits}
-use Rattle.dead_paths.proofs.Causes.{first_goes, row_goes, guess_goes, edge_goes, nogood_goes, none_goes}
+use Rattle.dead_paths.proofs.LineRefs.{refs_behind, at_most_fits, joins_pair, edge_fits, order_fits}
+use Rattle.dead_paths.proofs.Causes.{first_goes, row_goes, guess_goes, edge_goes, order_goes, nogood_goes, none_goes}
 use Rattle.dead_paths.proofs.HeldPairs.{ok_still}
 use Rattle.dead_paths.proofs.pushes.push_change.Goals as goal
 
@@ -158,4 +159,42 @@ returns-in_ok-push-in-Edge-clause-fits g c =
 pub returns-in_ok-push-in-Edge-clause-shown : goal.returns-in_ok-push-in-Edge-clause-shown
 returns-in_ok-push-in-Edge-clause-shown g c = λ known here.
     let at : c.args.chosen.now.entry.what ≡ One c.in-One.r (cause.Edge c.in-Edge.p c.in-Edge.u c.in-Edge.field-2) = c.in-One.is ∙ ap (λ (y : Cause). let x : What = One c.in-One.r y in x) c.in-Edge.is in
+    subst (λ (x : What). AreAt c.args.at.now (shown_of (change_by c.args.basis.now.numbers.now x c.args.chosen.now.entry.from) known)) (sym at) here
+
+-- a pair that is to be in order
+
+pub order-requires-clause-k_in : goal.order-requires-clause-k_in
+order-requires-clause-k_in g c =
+    let at : c.args.chosen.now.entry.what ≡ One c.in-One.r (cause.Order c.in-Order.k c.in-Order.u c.in-Order.side) = c.in-One.is ∙ ap (λ (y : Cause). let x : What = One c.in-One.r y in x) c.in-Order.is in
+    let inside = subst (λ (x : What). IsInProblem c.args.basis.now.lines.now (change_by c.args.basis.now.numbers.now x c.args.chosen.now.entry.from)) at c.requires.in_problem in
+    slice_get_within c.args.basis.now.lines.now.less c.in-Order.k inside.0.pair inside.0.pair_is
+
+pub order-requires-clause-t_in : goal.order-requires-clause-t_in
+order-requires-clause-t_in g c =
+    let at : c.args.chosen.now.entry.what ≡ One c.in-One.r (cause.Order c.in-Order.k c.in-Order.u c.in-Order.side) = c.in-One.is ∙ ap (λ (y : Cause). let x : What = One c.in-One.r y in x) c.in-Order.is in
+    let inside = subst (λ (x : What). IsInProblem c.args.basis.now.lines.now (change_by c.args.basis.now.numbers.now x c.args.chosen.now.entry.from)) at c.requires.in_problem in
+    inside.1
+
+pub returns-in_err-push-in-Order-clause-goes : goal.returns-in_err-push-in-Order-clause-goes
+returns-in_err-push-in-Order-clause-goes g c = λ w known here frame.
+    let err = err_from_is_err_and c.from_residual-in_err-push-in-Order.result c.from_residual-in_err-push-in-Order.ensures.1 in
+    rw err.1 (none_goes c.args.basis.now.lines.now c.args.basis.now.rows.now known w (g.N.RowNames.names c.args.basis.now.names.now) (g.M.LineMaker.knows c.args.maker.now c.args.basis.now.lines.now w) (g.K.Keeper.kept c.args.keeper.now) c.args.basis.now.numbers.now c.args.chosen.now.entry.what c.args.chosen.now.entry.from c.args.chosen.now.by_edges (chosen_of c.args.basis.now.numbers.now c.args.chosen.now) c.args.refs.now.items c.push-in-Order.new.self.items err.0)
+
+pub returns-in_ok-push-in-Order-clause-goes : goal.returns-in_ok-push-in-Order-clause-goes
+returns-in_ok-push-in-Order-clause-goes g c = λ w known here frame.
+    let at : c.args.chosen.now.entry.what ≡ One c.in-One.r (cause.Order c.in-Order.k c.in-Order.u c.in-Order.side) = c.in-One.is ∙ ap (λ (y : Cause). let x : What = One c.in-One.r y in x) c.in-Order.is in
+    let inside = subst (λ (x : What). IsInProblem c.args.basis.now.lines.now (change_by c.args.basis.now.numbers.now x c.args.chosen.now.entry.from)) at c.requires.in_problem in
+    order_goes c.args.basis.now.lines.now c.args.basis.now.rows.now known w (g.N.RowNames.names c.args.basis.now.names.now) (g.M.LineMaker.knows c.args.maker.now c.args.basis.now.lines.now w) (g.K.Keeper.kept c.args.keeper.now) c.args.basis.now.numbers.now c.args.chosen.now.entry.what c.args.chosen.now.entry.from c.args.chosen.now.by_edges (g.K.Keeper.owner c.args.keeper.now) c.in-Order.k c.in-Order.u c.in-One.r c.in-Order.side c.in-One.cause c.args.refs.now.items c.push-in-Order.new.self.items c.order.result frame c.requires.limited inside.0 inside.1 c.in-One.is c.in-Order.is
+    c.order.ensures.line c.in_ok-push-in-Order.ensures.items
+
+pub returns-in_ok-push-in-Order-clause-fits : goal.returns-in_ok-push-in-Order-clause-fits
+returns-in_ok-push-in-Order-clause-fits g c =
+    let at : c.args.chosen.now.entry.what ≡ One c.in-One.r (cause.Order c.in-Order.k c.in-Order.u c.in-Order.side) = c.in-One.is ∙ ap (λ (y : Cause). let x : What = One c.in-One.r y in x) c.in-Order.is in
+    let inside = subst (λ (x : What). IsInProblem c.args.basis.now.lines.now (change_by c.args.basis.now.numbers.now x c.args.chosen.now.entry.from)) at c.requires.in_problem in
+    subst AreRefs (sym c.in_ok-push-in-Order.ensures.items) (refs_behind c.args.refs.now.items (c.order.result ∷ []) c.requires.fits
+    (subst IsRef (sym (c.order.ensures.line inside.0.pair inside.0.pair_is)) (order_fits c.args.basis.now.lines.now c.in-Order.k c.in-Order.u inside.0.pair c.in-Order.side c.requires.limited inside.0.pair_is inside.1), tt))
+
+pub returns-in_ok-push-in-Order-clause-shown : goal.returns-in_ok-push-in-Order-clause-shown
+returns-in_ok-push-in-Order-clause-shown g c = λ known here.
+    let at : c.args.chosen.now.entry.what ≡ One c.in-One.r (cause.Order c.in-Order.k c.in-Order.u c.in-Order.side) = c.in-One.is ∙ ap (λ (y : Cause). let x : What = One c.in-One.r y in x) c.in-Order.is in
     subst (λ (x : What). AreAt c.args.at.now (shown_of (change_by c.args.basis.now.numbers.now x c.args.chosen.now.entry.from) known)) (sym at) here

@@ -102,3 +102,17 @@ returns-in-Over-clause-fit c = record {
   set = kept_long c.args.room.now.set.len _ _ _ (c.by_crowd.auto.set ∙ c.deref_mut-in-Over.ensures.len) (c.args.room.now.set.ok.0 ∙ c.requires.fit.set);
   counts = c.requires.fit.counts;
 }
+
+pub returns-in-Order-clause-step : goal.returns-in-Order-clause-step
+returns-in-Order-clause-step c = λ path here.
+    told_made c.args.walk.now.q.now c.args.walk.now.rows.now path (change_of c.args.walk.now.numbers.now c.args.entry.now) (values_of (size c.args.walk.now.q.now.target) c.args.marked.now c.args.needed.now) (values_of (size c.args.walk.now.q.now.target) c.by_order.new.marked c.by_order.new.needed) c.by_order.result c.told_if-in-Order.result c.told_if-in-Order.ensures.yes c.told_if-in-Order.ensures.no
+    (step_one c.args.walk.now.q.now c.args.walk.now.rows.now path c.args.walk.now.numbers.now c.args.entry.now.what c.args.entry.now.from (values_of (size c.args.walk.now.q.now.target) c.args.marked.now c.args.needed.now) (values_of (size c.args.walk.now.q.now.target) c.by_order.new.marked c.by_order.new.needed)
+    c.by_order.result c.in-One.r c.in-One.cause (cause.Order c.in-Order.k c.in-Order.u c.in-Order.side) c.in-One.is c.in-Order.is (c.by_order.ensures c.args.walk.now.rows.now path c.args.entry.now.from))
+
+pub returns-in-Order-clause-fit : goal.returns-in-Order-clause-fit
+returns-in-Order-clause-fit c = record {
+  spare = kept_long c.args.room.now.spare.len _ _ _ (c.by_order.auto.spare ∙ c.deref_mut-in-Order-2.ensures.len) (c.args.room.now.spare.ok.0 ∙ c.requires.fit.spare);
+  other = kept_long c.args.room.now.other.len _ _ _ (c.by_order.auto.other ∙ c.deref_mut-in-Order-3.ensures.len) (c.args.room.now.other.ok.0 ∙ c.requires.fit.other);
+  set = kept_long c.args.room.now.set.len _ _ _ (c.by_order.auto.set ∙ c.deref_mut-in-Order.ensures.len) (c.args.room.now.set.ok.0 ∙ c.requires.fit.set);
+  counts = c.requires.fit.counts;
+}
