@@ -4,6 +4,7 @@ ghost use Rattle.std.specs.Prelude.{◌≡◌};
 
 use crate::file_tests::sink_of;
 use graph_rows::Problem;
+use graph_theory::embedding::Maps;
 use lad_reader::LadKind;
 use pb_encoding::{Encoding, is_edge_pair, is_non_edge_pair};
 use std::alloc::{AllocError, Global};
@@ -250,7 +251,7 @@ fn non_edge_of(encoding: &Encoding, q: &Problem, p: u16, r: u16, t: u16) -> Opti
     }
 }
 
-/// The numbers of the lines of `p` at `t`: at least, at most, at most for the target vertex, and the refusal.
+/// The numbers of the lines of `p` at `t` by injective maps: at least, at most, at most for the target vertex, and the refusal.
 fn lines_of(
     encoding: &Encoding,
     q: &Problem,
@@ -259,15 +260,20 @@ fn lines_of(
 ) -> Option<(u64, u64, u64, Option<u64>)>
     requires { encoding.now ≡ q.now }
 {
-    if p < q.pattern().size() && t < q.target().size() {
-        Some((
-            encoding.at_least(p),
-            encoding.at_most(p),
-            encoding.at_most_target(t),
-            encoding.refused(p, t),
-        ))
-    } else {
-        None
+    match q.maps() {
+        Maps::Injective => {
+            if p < q.pattern().size() && t < q.target().size() {
+                Some((
+                    encoding.at_least(p),
+                    encoding.at_most(p),
+                    encoding.at_most_in(None, t),
+                    encoding.refused(p, t),
+                ))
+            } else {
+                None
+            }
+        }
+        Maps::Local | Maps::Any => None,
     }
 }
 
