@@ -118,12 +118,12 @@ row_given by_edges q made_for w units firsts lines more_lines sets p t r (Ok ref
 -- ---- sets
 
 -- A set's name serves for the set in the order in which it came.
-pub set_given : (q made_for : Problem) (w : Frame) (units firsts : List (ℕ × Name)) (lines : PairLines) (sets more_sets : List (CountedSet × Name)) (vertices sorted values : List ℕ) (result : Result Name AllocError)
-    (forms more : List Form) → IsPermutation vertices sorted → IsMade q made_for w units firsts lines sets forms → IsKnownSet q w sorted values more_sets result (forms ++ more)
-    → GivesSet q w vertices values result (IsMade q made_for w units firsts lines more_sets) (forms ++ more)
-set_given q made_for w units firsts lines sets more_sets vertices sorted values (Ok n) forms more same h known =
+pub set_given : (q made_for : Problem) (w : Frame) (units firsts : List (ℕ × Name)) (lines : PairLines) (sets more_sets : List (CountedSet × Name)) (b : Option ℕ) (vertices sorted values : List ℕ) (result : Result Name AllocError)
+    (forms more : List Form) → IsPermutation vertices sorted → IsMade q made_for w units firsts lines sets forms → IsKnownSet q w b sorted values more_sets result (forms ++ more)
+    → GivesSet q w b vertices values result (IsMade q made_for w units firsts lines more_sets) (forms ++ more)
+set_given q made_for w units firsts lines sets more_sets b vertices sorted values (Ok n) forms more same h known =
     let old = made_last q made_for w units firsts lines sets forms more h in (
       record { problem_is = h.problem_is; units_are = old.units_are; firsts_are = old.firsts_are; rows_are = old.rows_are; sets_are = known.0 },
-      kept_same q w vertices sorted values n (forms ++ more) same known.1,
+      kept_same q w b vertices sorted values n (forms ++ more) same known.1,
     )
-set_given q made_for w units firsts lines sets more_sets vertices sorted values (Err e) forms more same h known = tt
+set_given q made_for w units firsts lines sets more_sets b vertices sorted values (Err e) forms more same h known = tt

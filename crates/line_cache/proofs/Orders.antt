@@ -1,5 +1,5 @@
 -- The form of a set is the same in whatever order its vertices come.
-use Rattle.std.proofs.Common.{◌≡◌, ℕ, true, List, [], ◌∷◌, ◌++◌, ℤ, ◌+ℤ◌, refl, sym, ap, ◌∙◌, arith}
+use Rattle.std.proofs.Common.{◌≡◌, ℕ, true, Option, List, [], ◌∷◌, ◌++◌, ℤ, ◌+ℤ◌, refl, sym, ap, ◌∙◌, arith}
 use Rattle.std.specs.Prelude.{map}
 use Rattle.std.specs.List.Sorted.{IsPermutation}
 use Rattle.std.proofs.lemmas.Int.{ints}
@@ -9,7 +9,7 @@ use Rattle.proof_theory.specs.Forms.{Form, coefficient, value, Rises, sorted}
 use Rattle.proof_theory.specs.Rules.{sum_of}
 use Rattle.proof_theory.proofs.Sorting.{value-sorted, coefficient-sorted, coefficient-append, Rises-sorted, same_terms}
 use Rattle.pb_terms.proofs.Ruled.{sorted_permuted, same_form}
-use Rattle.encoding_theory.specs.Encoding.{at_least, at_most_target}
+use Rattle.encoding_theory.specs.Encoding.{at_least, at_most_in}
 use Rattle.forcing_theory.specs.Sums.{sum_from}
 use Rattle.explanation_theory.specs.Reasons.{at_leasts, set_form}
 
@@ -58,7 +58,7 @@ sum_same f g fs gs rises also same =
     (λ v. coefficient_sum g gs v ∙ sum_permuted (at_variable v) (f ∷ fs) (g ∷ gs) same ∙ sym (coefficient_sum f fs v)))
     (bound_sum g gs ∙ sum_permuted (λ h. h.bound) (f ∷ fs) (g ∷ gs) same ∙ sym (bound_sum f fs))
 
-pub set_form_same : (q : Problem) (p r : ℕ) (rest others values : List ℕ) → IsPermutation (p ∷ rest) (r ∷ others) → set_form q r others values ≡ set_form q p rest values
-set_form_same q p r rest others values same =
-    sum_same (at_least q p) (at_least q r) (at_leasts q rest ++ map (at_most_target q) values) (at_leasts q others ++ map (at_most_target q) values) (Rises-sorted _) (Rises-sorted _)
-    (IsPermutation-append_left (map (at_most_target q) values) (at_leasts q (p ∷ rest)) (at_leasts q (r ∷ others)) (IsPermutation-map (at_least q) (p ∷ rest) (r ∷ others) same))
+pub set_form_same : (q : Problem) (b : Option ℕ) (p r : ℕ) (rest others values : List ℕ) → IsPermutation (p ∷ rest) (r ∷ others) → set_form q b r others values ≡ set_form q b p rest values
+set_form_same q b p r rest others values same =
+    sum_same (at_least q p) (at_least q r) (at_leasts q rest ++ map (at_most_in q b) values) (at_leasts q others ++ map (at_most_in q b) values) (Rises-sorted _) (Rises-sorted _)
+    (IsPermutation-append_left (map (at_most_in q b) values) (at_leasts q (p ∷ rest)) (at_leasts q (r ∷ others)) (IsPermutation-map (at_least q) (p ∷ rest) (r ∷ others) same))

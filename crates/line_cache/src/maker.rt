@@ -8,7 +8,7 @@ ghost use Rattle.line_cache.specs.Made.{IsMade, made_last, made_wider};
 
 use crate::set_lines::set_line;
 use crate::set_names::SetNames;
-use dead_paths::{Beside, Ground, LineMaker};
+use dead_paths::{Beside, BlockSet, Ground, LineMaker};
 use domain_lines::{DomainLines, Units};
 use graph_rows::Problem;
 use journals::Keeper;
@@ -115,12 +115,16 @@ impl<'a> LineMaker for LineCache<'a> {
         alloc: Global,
         lines: &Ground<'_>,
         keeper: &mut K,
-        vertices: &[u16],
-        values: &[u16],
+        set: &BlockSet<'_>,
     ) -> Result<Name, AllocError> {
-        let mut members = Vec::from_slice(alloc, vertices)?;
+        let mut members = Vec::from_slice(alloc, set.vertices)?;
         members.sort_unstable();
-        set_line(alloc, lines, &mut self.sets, keeper, &members, values)
+        let sorted = BlockSet {
+            centre: set.centre,
+            vertices: &members,
+            values: set.values,
+        };
+        set_line(alloc, lines, &mut self.sets, keeper, &sorted)
     }
 
     ghost lasts = { λ m q w forms more h. made_last q m.problem.now w m.units m.firsts m.rows

@@ -3,12 +3,12 @@
 ghost use Rattle.std.specs.Prelude.{◌≡◌, ◌<◌, length, IfOk};
 ghost use Rattle.log_theory.specs.LogText.{IsName};
 ghost use Rattle.log_growth.specs.Frames.{Frame, IsFrameOf, Goes};
-ghost use Rattle.dead_paths.specs.Lines.{AreVertices, AreValues};
+ghost use Rattle.dead_theory.specs.Changes.{IsSetIn};
 ghost use Rattle.dead_paths.specs.Explaining.{IsLimited};
 ghost use Rattle.line_cache.specs.Sets.{AreSets, IsKnownSet};
 
 use crate::set_names::SetNames;
-use dead_paths::{Ground, keep_set};
+use dead_paths::{BlockSet, Ground, keep_set};
 use journals::Keeper;
 use log_theory::Name;
 use std::alloc::{AllocError, Global};
@@ -19,26 +19,26 @@ pub(crate) fn set_line<K: Keeper>(
     lines: &Ground<'_>,
     sets: &mut SetNames,
     keeper: &mut K,
-    vertices: &[u16],
-    values: &[u16],
+    set: &BlockSet<'_>,
 ) -> Result<Name, AllocError>
     requires limited { IsLimited lines.now }
-    requires some { 0 < length vertices.now }
-    requires vertices { AreVertices lines.now vertices.now }
-    requires values { AreValues lines.now values.now }
+    requires some { 0 < length set.now.vertices.now }
+    requires in_problem { IsSetIn lines.now set.now.centre set.now.vertices.now
+        set.now.values.now }
     ensures goes { (w : Frame) → IsFrameOf lines.now (K.owner keeper.old) w
         → Goes w (K.kept keeper.old) (K.kept keeper.new)
         (AreSets lines.now w sets.old)
-        (IsKnownSet lines.now w vertices.now values.now sets.new result) }
+        (IsKnownSet lines.now w set.now.centre set.now.vertices.now set.now.values.now sets.new
+        result) }
     ensures fits { IfOk result IsName }
     ensures owner { K.owner keeper.new ≡ K.owner keeper.old }
     ensures notes { K.notes keeper.new ≡ K.notes keeper.old }
     ensures spare { K.spare keeper.new ≡ K.spare keeper.old }
 {
-    if let Some(name) = sets.find(vertices, values) {
+    if let Some(name) = sets.find(set) {
         return Ok(name);
     }
-    let name = keep_set(alloc, lines, keeper, vertices, values)?;
-    sets.add(vertices, values, name)?;
+    let name = keep_set(alloc, lines, keeper, set)?;
+    sets.add(set, name)?;
     Ok(name)
 }

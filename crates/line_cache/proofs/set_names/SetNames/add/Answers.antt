@@ -36,15 +36,15 @@ returns-in_err-push-clause-refused c =
 
 pub invariant_of-self-2 : goal.invariant_of-self-2
 invariant_of-self-2 c =
-    let seat : Seat = record { place = c.in_ok-place.place; name = c.args.name } in
+    let seat : Seat = record { centre = c.args.set.now.centre; place = c.in_ok-place.place; name = c.args.name } in
     subst (λ (seats : List Seat). AreSeated seats (length c.put_set.new.numbers.items)) (sym c.in_ok-push.ensures.items)
     (seated_with c.self.inside.seats.items seat (length c.put_set.new.numbers.items)
     (seated_added c.self.inside.numbers.items c.put_set.new.numbers.items c.self.inside.seats.items c.put_set.ensures.adds c.self.invariant) c.in_ok-place.ensures.placed.is_in c.requires)
 
 pub returns-clause-added : goal.returns-clause-added
 returns-clause-added c =
-    let seat : Seat = record { place = c.in_ok-place.place; name = c.args.name } in
-    let set : CountedSet = record { vertices = c.args.vertices.now; values = c.args.values.now } in
+    let seat : Seat = record { centre = c.args.set.now.centre; place = c.in_ok-place.place; name = c.args.name } in
+    let set : CountedSet = record { centre = c.args.set.now.centre; vertices = c.args.set.now.vertices.now; values = c.args.set.now.values.now } in
     ap (named_sets c.put_set.new.numbers.items) c.in_ok-push.ensures.items
-    ∙ sets_with c.self.inside.numbers.items c.put_set.new.numbers.items c.self.inside.seats.items seat c.args.vertices.now c.args.values.now c.put_set.ensures.adds c.self.invariant c.in_ok-place.ensures.placed
+    ∙ sets_with c.self.inside.numbers.items c.put_set.new.numbers.items c.self.inside.seats.items seat c.args.set.now.vertices.now c.args.set.now.values.now c.put_set.ensures.adds c.self.invariant c.in_ok-place.ensures.placed
     ∙ ap (λ (sets : List (CountedSet × Name)). with_set sets set c.args.name) c.self.view_is

@@ -13,9 +13,9 @@ is_there-requires c =
 
 pub returns-then-is_there-clause-name : goal.returns-then-is_there-clause-name
 returns-then-is_there-clause-name c =
-    let set : CountedSet = record { vertices = c.args.vertices.now; values = c.args.values.now } in
+    let set : CountedSet = record { centre = c.args.set.now.centre; vertices = c.args.set.now.vertices.now; values = c.args.set.now.values.now } in
     let below : c.in_ok-at.field-0.now < length c.self.inside.seats.items = omega (arith, c.if-at-len.false, c.len.ensures, c.self.inside.seats.ok) in
-    let found : counted_at c.self.inside.numbers.items c.index-seat.result.now.place ≡ set = subst (λ (xs : List ℕ). counted_at xs c.index-seat.result.now.place ≡ set) c.deref.ensures.value (c.is_there.ensures c.if-is_there.true) in
+    let found : counted_at c.self.inside.numbers.items c.index-seat.result.now.centre c.index-seat.result.now.place ≡ set = subst (λ (xs : List ℕ). counted_at xs c.index-seat.result.now.centre c.index-seat.result.now.place ≡ set) c.deref.ensures.value (c.is_there.ensures c.if-is_there.true) in
     subst (λ (sets : List (CountedSet × Name)). HasName sets set c.index-seat.result.now.name) c.self.view_is
     (name_is c.self.inside.numbers.items c.self.inside.seats.items c.in_ok-at.field-0.now c.index-seat.result.now set below c.index-seat.ensures found)
 
