@@ -171,11 +171,11 @@ told_end_in q rows cs short a (told.Exhausted p) e = e.ends.vertex_in
 told_end_in q rows cs short a (told.Failed (failure.Empty p)) e = e.ends.0
 told_end_in q rows cs short a (told.Failed (failure.Whole n)) e = told_laws_hold.end_in_problem q rows e.nogoods e.domains (Whole n) (told_laws_hold.names rows e.nogoods e.holds) e.ends
 told_end_in q rows cs (Some s) a (told.Failed (failure.Short n)) e =
-    let h = told_laws_hold.end_in_problem q rows e.nogoods e.domains (Short s.vertices s.values) (told_laws_hold.names rows e.nogoods e.holds) (told_laws_hold.failed q e.nogoods e.domains cs (Some s) (failure.Short n) e.ends) in
-    (h.0, h.1)
+    let h = told_laws_hold.end_in_problem q rows e.nogoods e.domains (Short s.centre s.vertices s.values) (told_laws_hold.names rows e.nogoods e.holds) (told_laws_hold.failed q e.nogoods e.domains cs (Some s) (failure.Short n) e.ends) in
+    h.0
 told_end_in q rows cs None a (told.Failed (failure.Short n)) e =
-    let h = told_laws_hold.end_in_problem q rows e.nogoods e.domains (Short [] []) (told_laws_hold.names rows e.nogoods e.holds) (told_laws_hold.failed q e.nogoods e.domains cs None (failure.Short n) e.ends) in
-    (h.0, h.1)
+    let h = told_laws_hold.end_in_problem q rows e.nogoods e.domains (Short None [] []) (told_laws_hold.names rows e.nogoods e.holds) (told_laws_hold.failed q e.nogoods e.domains cs None (failure.Short n) e.ends) in
+    h.0
 
 -- What was guessed is of the path.
 pub told_guessed : (xs : List (ℕ × ℕ)) (cs : List Change) → AreTold xs (Some cs) → AreGuessed xs cs
@@ -188,7 +188,8 @@ told_guessed xs (c ∷ cs) h = (one c (λ p t from e. h p t from (inl e)), told_
     one (LeftOne r (cause.Vertex p t) from) f = tt
     one (LeftOne r (cause.Nogood n) from) f = tt
     one (LeftOne r (cause.Edge p u direction) from) f = tt
-    one (LeftOthers vertices values from) f = tt
+    one (LeftOne r (cause.Order k u side) from) f = tt
+    one (LeftOthers centre vertices values from) f = tt
     one (LeftOver p t direction vertices values from) f = tt
 
 -- The same with what is kept.
