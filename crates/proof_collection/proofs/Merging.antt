@@ -6,8 +6,8 @@ use Rattle.graph_theory.specs.Embedding.{Problem}
 use Rattle.proof_theory.specs.Forms.{Form}
 use Rattle.encoding_theory.specs.Variables.{variables}
 use Rattle.encoding_theory.specs.Encoding.{encoding}
-use Rattle.pb_encoding.proofs.Bounds.{few}
-use Rattle.pb_encoding.proofs.Counts.{starts}
+use Rattle.graph_rows.specs.Orders.{IsOrder}
+use Rattle.pb_encoding.proofs.LineNumbers.{encoding_few}
 use Rattle.nogood_book.specs.declared.row.Row.{Row}
 use Rattle.journals.specs.Keeping.{Keeping}
 use Rattle.journal_theory.proofs.Placing.{get_some}
@@ -53,11 +53,8 @@ notes_rise : (xs : List (ℕ × ℕ)) → RowsRise xs → NotesRise xs
 notes_rise xs rise i k x y at to less = rows_order xs i k x y rise at to less
 
 -- The encoding has no more lines than can be numbered.
-lines_few : (q : Problem) → size q.pattern ≤ 1024 → size q.target ≤ 8192 → length (encoding q) < 2 ^ 63
-lines_few q ps ts =
-    let s = starts q in
-    let f = few q ps ts in
-    omega (arith, ps, ts, s.all, f.refused, f.edge_forms, f.non_edge_forms)
+lines_few : (q : Problem) → size q.pattern ≤ 1024 → size q.target ≤ 8192 → IsOrder (size q.pattern) q.less → length (encoding q) < 2 ^ 63
+lines_few q ps ts order = let f = encoding_few q ps ts order in omega (arith, f)
 
 no_forms : (forms : List Form) → 0 ≡ length forms → forms ≡ []
 no_forms [] e = refl
@@ -107,11 +104,11 @@ module _ (q : Problem) (l : Logged) (parts : ArePartsOf q l) where
       let e = (all_forms.fits l.finisher j.0 f.0 j.1 f.1).ends refl in
       record { journal = j.0; journal_is = j.1; forms = f.0; forms_are = f.1; last = e.last; last_is = e.last_is; plainly_false = e.plainly_false }
 
-  pub proven : size q.pattern ≤ 1024 → size q.target ≤ 8192 → MayMerge l.journals.items → IsProof q l
-  proven ps ts may = record {
+  pub proven : size q.pattern ≤ 1024 → size q.target ≤ 8192 → IsOrder (size q.pattern) q.less → MayMerge l.journals.items → IsProof q l
+  proven ps ts order may = record {
     few = parts.few;
     owners = parts.owners;
     notes = all_rise;
     rows_fit = parts.fit;
-    merged = may (variables q) l.finisher (encoding q) l.rows.items (row_clause q l.rows.items) all_forms.forms (lines_few q ps ts) parts.few parts.fit stand parts.workers root_is ends;
+    merged = may (variables q) l.finisher (encoding q) l.rows.items (row_clause q l.rows.items) all_forms.forms (lines_few q ps ts order) parts.few parts.fit stand parts.workers root_is ends;
   }

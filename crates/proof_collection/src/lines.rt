@@ -57,6 +57,7 @@ fn proof_of(problem: &Problem, parts: Logged) -> Proof
 {
     let _pattern = problem.pattern();
     let _target = problem.target();
+    let _less = problem.less();
     may_be_merged(&parts.journals);
     Proof::Logged(parts)
 }
