@@ -61,6 +61,7 @@ fn lines_of(q: &Problem, encoding: &Encoding) -> u64
     encodings_are_models();
     let _pattern = q.pattern();
     let _target = q.target();
+    let _less = q.less();
     encoding.len()
 }
 
