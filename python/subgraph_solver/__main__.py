@@ -4,10 +4,12 @@ from __future__ import annotations
 import argparse
 import os
 import sys
-from typing import Any, List, Optional
+from typing import Any, Dict, List, Optional
 
 from .draw import draw
 from .errors import SubgraphError, Undecided
+from .graph import Name, as_graph
+from .maps import MAPS
 from .questions import Proof, check, encode, find, trim, verify
 from .reading import read_graph
 
@@ -49,6 +51,10 @@ def _graphs(words: argparse.ArgumentParser, name: str) -> None:
         words.add_argument("out", help="the file to write")
     apart = "images of vertices without an edge have no edge either"
     words.add_argument("--induced", action="store_true", help=apart)
+    differ = "which images differ: of any two vertices (the default), of the neighbours of each vertex, or none has to"
+    words.add_argument("--map", choices=MAPS, default="injective", help=differ)
+    before = "the image of pattern vertex A comes before that of B; may be repeated"
+    words.add_argument("--less", action="append", nargs=2, metavar=("A", "B"), help=before)
     words.add_argument("--kind", help="the format of both files, whatever their endings say")
     shared = "an attribute that a vertex and its image share; may be repeated"
     words.add_argument("--label", action="append", metavar="NAME", help=shared)
@@ -65,12 +71,14 @@ def _graphs(words: argparse.ArgumentParser, name: str) -> None:
         words.add_argument("--draw", metavar="FILE", help="draw the answer")
 
 
+def _by_text(graph: Any) -> Dict[str, Name]:
+    """A graph's names by their texts."""
+    return {str(name): name for name in as_graph(graph).names}
+
+
 def _read_mapping(path: str, pattern: Any, target: Any) -> dict:
     """The mapping of lines ``NAME -> NAME``, by the texts of the graphs' names."""
-    from .graph import as_graph
-
-    of_pattern = {str(name): name for name in as_graph(pattern).names}
-    of_target = {str(name): name for name in as_graph(target).names}
+    of_pattern, of_target = _by_text(pattern), _by_text(target)
     mapping = {}
     with open(path, encoding="utf-8") as file:
         for line in file:
@@ -116,7 +124,10 @@ def _answer(asked: argparse.Namespace) -> int:
         return 0
     pattern = read_graph(asked.pattern, asked.kind, asked.directed)
     target = read_graph(asked.target, asked.kind, asked.directed)
-    how = {"induced": asked.induced, "node_label": _label(asked.label), "edge_label": _label(asked.edge_label)}
+    names = _by_text(pattern) if asked.less else {}
+    less = [(names.get(a, a), names.get(b, b)) for a, b in asked.less or ()]
+    labels = {"node_label": _label(asked.label), "edge_label": _label(asked.edge_label)}
+    how = {"induced": asked.induced, "map": asked.map, "less": less, **labels}
     if asked.command in ("find", "draw"):
         return _find(asked, how, pattern, target)
     if asked.command == "encode":

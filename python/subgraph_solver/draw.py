@@ -153,9 +153,10 @@ def _target_panel(pattern: Graph, graph: Graph, images: Mapping[int, int]) -> _P
     pairs = [(images[a], images[b]) for a, b in pattern.edges()] if images else []
     names = set(images.values()) if crowded else set(range(len(graph)))
     beside = _label_texts(graph)
-    for p, t in images.items():
-        mine = [str(pattern.names[p])] if not crowded and pattern.names[p] != graph.names[t] else []
-        beside[t] = " · ".join(mine + ([beside[t]] if t in beside else []))
+    for t in set(images.values()):
+        mine = [str(pattern.names[p]) for p in sorted(images) if images[p] == t]
+        shown = [] if crowded or mine == [str(graph.names[t])] else mine
+        beside[t] = " · ".join(shown + ([beside[t]] if t in beside else []))
     long = max((len(str(graph.names[t])) for t in names), default=0) > 4
     width = CROWDED_WIDTH if crowded or (long and len(graph) > 12) else TARGET_WIDTH
     bold = set(pairs) if graph.directed else {(min(it), max(it)) for it in pairs}

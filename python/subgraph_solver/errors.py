@@ -63,7 +63,9 @@ class NotACommand(SubgraphError, ValueError):
     """
 
     def __init__(self, line: str, words: Sequence[str]) -> None:
-        newer = [it for it in ("batch", "trim") if it in words[:1]] + [it for it in ("--threads", "--prove") if it in words]
+        newer = [it for it in ("batch", "trim") if it in words[:1]] + [
+            it for it in ("--threads", "--prove", "--map", "--less") if it in words
+        ]
         hint = f" (this build of the program may not know {' or '.join(newer)})" if newer else ""
         super().__init__(f"{line}: {' '.join(words)}{hint}", 3, line)
         self.words = list(words)
@@ -75,11 +77,12 @@ class TextRefused(SubgraphError, ValueError):
     Attributes
     ----------
     who : str
-        ``pattern``, ``target``, ``mapping``, ``encoding``, ``log`` or ``list``.
+        ``pattern``, ``less``, ``target``, ``mapping``, ``encoding``, ``log`` or ``list``.
     job : int or None
         The number of the question in a batch, from 1, if it is a graph of a batch.
     place : tuple of (str, int), or None
-        ``("word", number)`` or ``("line", number)`` of the first fault, from 1; ``None`` if the text is too long.
+        ``("word", number)``, ``("line", number)`` or ``("pair", number)`` of the first fault, from 1; ``None`` if the text
+        is too long.
     cause : str
         The fault's name, as ``TooMany``.
     """
@@ -89,7 +92,7 @@ class TextRefused(SubgraphError, ValueError):
         named = re.fullmatch(r"job (\d+) (.*)", line)
         self.job: Optional[int] = int(named[1]) if named else None
         self.who, _, rest = (named[2] if named else line).partition(": ")
-        found = re.fullmatch(r"(word|line) (\d+): (\w+)", rest)
+        found = re.fullmatch(r"(word|line|pair) (\d+): (\w+)", rest)
         self.place: Optional[Tuple[str, int]] = (found[1], int(found[2])) if found else None
         self.cause = found[3] if found else rest
 

@@ -8,10 +8,11 @@ import tempfile
 from contextlib import contextmanager
 from dataclasses import dataclass
 from pathlib import Path
-from typing import Any, Callable, Dict, Iterator, List, Literal, Mapping, Optional, Tuple, Union, overload
+from typing import Any, Callable, Dict, Iterable, Iterator, List, Literal, Mapping, Optional, Tuple, Union, overload
 
 from .errors import SubgraphError, Undecided, error_of
 from .graph import EdgeLabel, Graph, Name, NodeLabel, as_graph, edge_label_numbers, label_numbers, lad_format, lad_text
+from .maps import Map, Pair, map_options
 from .program import Progress, Teller, find_program, run
 
 StrPath = Union[str, "os.PathLike[str]"]
@@ -48,9 +49,9 @@ class Proof:
 
 
 class _Files:
-    """Two graphs as files of a folder, and the words that name them to the program."""
+    """Two graphs as files of a folder, and the words that name them to the program, with those of the map that is asked for."""
 
-    def __init__(self, folder: str, pattern: Graph, target: Graph, induced: bool) -> None:
+    def __init__(self, folder: str, pattern: Graph, target: Graph, asked: List[str]) -> None:
         self.folder = folder
         self.pattern = pattern
         self.target = target
@@ -62,10 +63,8 @@ class _Files:
             paths.append(os.path.join(folder, f"{name}.lad"))
             with open(paths[-1], "w", encoding="ascii", newline="\n") as file:
                 file.write(lad_text(graph, numbers, edge_numbers))
-        options = ["--induced"] * bool(induced)
-        if self.format != "lad":
-            options += ["--format", self.format]
-        self.words = [*options, *paths]
+        kind = [] if self.format == "lad" else ["--format", self.format]
+        self.words = [*asked, *kind, *paths]
 
     def _graphs(self) -> Tuple[Tuple[str, Graph], ...]:
         return ("pattern", self.pattern), ("target", self.target)
@@ -81,11 +80,17 @@ def same_directions(pattern: Graph, target: Graph) -> None:
 
 @contextmanager
 def _files(
-    pattern: Any, target: Any, induced: bool, node_label: NodeLabel, edge_label: EdgeLabel
+    pattern: Any,
+    target: Any,
+    labels: Tuple[NodeLabel, EdgeLabel],
+    induced: bool,
+    map: Map,
+    less: Iterable[Pair],
 ) -> Iterator[_Files]:
-    graphs = [as_graph(it, node_label, edge_label) for it in (pattern, target)]
+    graphs = [as_graph(it, *labels) for it in (pattern, target)]
+    asked = map_options(graphs[0], induced, map, less)
     with tempfile.TemporaryDirectory(prefix="subgraph-") as folder:
-        yield _Files(folder, graphs[0], graphs[1], induced)
+        yield _Files(folder, graphs[0], graphs[1], asked)
 
 
 def _images(files: _Files, out: str) -> Dict[Name, Name]:
@@ -110,6 +115,8 @@ def find(
     progress: Told = ...,
     program: Optional[StrPath] = ...,
     book: Optional[int] = ...,
+    map: Map = ...,
+    less: Iterable[Pair] = ...,
 ) -> Optional[Dict[Name, Name]]: ...
 
 
@@ -128,6 +135,8 @@ def find(
     progress: Told = ...,
     program: Optional[StrPath] = ...,
     book: Optional[int] = ...,
+    map: Map = ...,
+    less: Iterable[Pair] = ...,
 ) -> Union[Dict[Name, Name], Proof]: ...
 
 
@@ -144,6 +153,8 @@ def find(
     progress: Told = False,
     program: Optional[StrPath] = None,
     book: Optional[int] = None,
+    map: Map = "injective",
+    less: Iterable[Pair] = (),
 ) -> Union[Dict[Name, Name], None, Proof]:
     """Finds an embedding of the pattern in the target.
 
@@ -178,6 +189,12 @@ def find(
         How many rows of refuted paths the threads share, from 0 to 4,194,304. With more than one thread the default is
         1,048,576, with one thread the program's own, 65,536. Name more rows for a long search: once they are full,
         nothing more is learned. A row takes 24 bytes, and 16 more for each thread.
+    map : {"injective", "local", "any"}
+        Which images have to differ: those of any two vertices; those of the neighbours of each vertex, while others may
+        share an image; or none. An induced copy is ``"injective"``.
+    less : iterable of pairs of pattern vertices
+        Of each pair the image of the first comes before that of the second, in the order of the target's vertices. At
+        most 64 pairs.
 
     Returns
     -------
@@ -192,7 +209,7 @@ def find(
         Anything else; each status of the program has an exception of its own.
     """
     asked = find_program(program)
-    with _files(pattern, target, induced, node_label, edge_label) as files:
+    with _files(pattern, target, (node_label, edge_label), induced, map, less) as files:
         options = _options(seed=seed, threads=threads, book=_rows(book, threads))
         proof = _proof_paths(prove, files.folder)
         if proof is not None:
@@ -285,12 +302,14 @@ def verify(
     node_label: NodeLabel = None,
     edge_label: EdgeLabel = None,
     program: Optional[StrPath] = None,
+    map: Map = "injective",
+    less: Iterable[Pair] = (),
 ) -> bool:
     """Is the mapping an embedding of the pattern into the target?
 
     Parameters
     ----------
-    pattern, target, induced, node_label, edge_label, program
+    pattern, target, induced, node_label, edge_label, program, map, less
         As `find` has them.
     mapping : mapping from the pattern's names to the target's
         It may come from anywhere. One that leaves out a pattern vertex is no embedding.
@@ -301,7 +320,7 @@ def verify(
         The mapping names a vertex that the pattern or the target does not have.
     """
     asked = find_program(program)
-    with _files(pattern, target, induced, node_label, edge_label) as files:
+    with _files(pattern, target, (node_label, edge_label), induced, map, less) as files:
         for names, graph, which in ((mapping, files.pattern, "pattern"), (mapping.values(), files.target, "target")):
             strange = [name for name in names if name not in graph.number]
             if strange:
@@ -330,12 +349,14 @@ def encode(
     node_label: NodeLabel = None,
     edge_label: EdgeLabel = None,
     program: Optional[StrPath] = None,
+    map: Map = "injective",
+    less: Iterable[Pair] = (),
 ) -> Tuple[int, int]:
     """Writes the question as pseudo-Boolean constraints. Their solutions are the embeddings.
 
     Parameters
     ----------
-    pattern, target, induced, node_label, edge_label, program
+    pattern, target, induced, node_label, edge_label, program, map, less
         As `find` has them.
     path : path
         The file that gets the OPB text.
@@ -347,7 +368,7 @@ def encode(
         the order of the graphs' names.
     """
     asked = find_program(program)
-    with _files(pattern, target, induced, node_label, edge_label) as files:
+    with _files(pattern, target, (node_label, edge_label), induced, map, less) as files:
         words = ["encode", *files.words]
         with open(path, "wb") as file:
             status, _, line = run(asked, words, out=file)
