@@ -4,7 +4,7 @@
 usage: python3 bench/agree.py PROGRAM [--runs N] [--jobs J] [--seed S] [--hard PERCENT]
 
 PROGRAM is the built program (crates/subgraph/out/subgraph). A small problem (a pattern of at most 6 vertices, a target of at most 9,
-in any of the four formats, with loops and the induced kind among them) is decided by brute force too; a hard one (12 to 16 vertices into
+in any of the four formats, with loops, either kind of copy, each kind of map and images in order among them) is decided by brute force too; a hard one (12 to 16 vertices into
 24 to 36, near the point where half the patterns occur, so that searches restart and share what they have refuted; half of them with
 directions) is decided by one thread, whose answer all others must give. Each mapping that is printed is tested here. Ends with status 1 at
 the first disagreement, and tells it.
@@ -17,6 +17,7 @@ import subprocess
 import sys
 import tempfile
 
+from asked import differ, of_all
 
 #: For each format: whether edges have directions, whether vertices have labels, and whether edges have.
 FORMATS = {
@@ -56,37 +57,40 @@ def text_of(graph, kind):
     return "\n".join(lines) + "\n"
 
 
-def goes(pattern, target, induced, image, p, t):
+def goes(pattern, target, asked, image, p, t):
     """Whether t may stand for p beside the images of the vertices before it."""
-    if pattern[0][p] != target[0][t] or t in image:
+    images = image + [t]
+    if pattern[0][p] != target[0][t] or any(images[a] >= images[b] for a, b in asked.less if max(a, b) == p):
         return False
-    for q, u in enumerate(image + [t]):
+    for q, u in enumerate(images):
+        if u == t and q != p and differ(asked, pattern, p, q):
+            return False
         for one_way, its_image in (((p, q), (t, u)), ((q, p), (u, t))):
             there = pattern[1].get(one_way)
             here = target[1].get(its_image)
-            if there != here and (there is not None or induced):
+            if there != here and (there is not None or asked.induced):
                 return False
     return True
 
 
-def occurs(pattern, target, induced, image):
+def occurs(pattern, target, asked, image):
     """Brute force: whether the images so far can be completed."""
     p = len(image)
     if p == len(pattern[0]):
         return True
     return any(
-        goes(pattern, target, induced, image, p, t) and occurs(pattern, target, induced, image + [t])
+        goes(pattern, target, asked, image, p, t) and occurs(pattern, target, asked, image + [t])
         for t in range(len(target[0]))
     )
 
 
-def is_embedding(pattern, target, induced, image):
+def is_embedding(pattern, target, asked, image):
     return len(image) == len(pattern[0]) and all(
-        0 <= t < len(target[0]) and goes(pattern, target, induced, image[:p], p, t) for p, t in enumerate(image)
+        0 <= t < len(target[0]) and goes(pattern, target, asked, image[:p], p, t) for p, t in enumerate(image)
     )
 
 
-def solve(program, files, options, pattern, target, induced):
+def solve(program, files, options, pattern, target, asked):
     """The answer of one run: 'yes' with a mapping that was tested, or 'none'."""
     done = subprocess.run([program, "solve", *options, *files], capture_output=True, text=True, timeout=600)
     if done.returncode == 1 and done.stdout == "none\n":
@@ -95,7 +99,7 @@ def solve(program, files, options, pattern, target, induced):
         lines = done.stdout.splitlines()[1:]
         image = [int(line.split(" -> ")[1]) for line in lines]
         if [line.split(" -> ")[0] for line in lines] == [str(p) for p in range(len(lines))] and is_embedding(
-            pattern, target, induced, image
+            pattern, target, asked, image
         ):
             return "yes"
         return "a wrong mapping: " + done.stdout
@@ -105,7 +109,6 @@ def solve(program, files, options, pattern, target, induced):
 def one(program, seed, hard):
     """One problem: how many runs by several threads were held against its answer, and what disagreed; no number where it stayed undecided."""
     rng = random.Random(seed)
-    induced = rng.random() < 0.5
     kind = rng.choice(["lad", "directedlad"] if hard else list(FORMATS))
     labels = rng.choice([1, 2, 3])
     if hard:
@@ -117,28 +120,29 @@ def one(program, seed, hard):
         loops = rng.random() < 0.3
         target = random_graph(rng, rng.randint(0, 9), rng.random(), loops, labels, kind)
         pattern = random_graph(rng, rng.randint(0, 6), rng.random(), loops, labels, kind)
+    asked = of_all(rng, len(pattern[0]))
     with tempfile.TemporaryDirectory() as folder:
         files = [os.path.join(folder, name) for name in ("p.lad", "t.lad")]
         for name, graph in zip(files, (pattern, target)):
             with open(name, "w", encoding="ascii") as f:
                 f.write(text_of(graph, kind))
-        common = (["--induced"] if induced else []) + (["--format", kind] if kind != "lad" else [])
+        common = asked.options() + (["--format", kind] if kind != "lad" else [])
         if hard:
-            alone = solve(program, files, common + ["--budget", "20000"], pattern, target, induced)
+            alone = solve(program, files, common + ["--budget", "20000"], pattern, target, asked)
             if alone.startswith("status 2"):
                 return None, None
             wanted = alone
         else:
-            wanted = "yes" if occurs(pattern, target, induced, []) else "none"
-            alone = solve(program, files, common, pattern, target, induced)
+            wanted = "yes" if occurs(pattern, target, asked, []) else "none"
+            alone = solve(program, files, common, pattern, target, asked)
         runs = 0
         if alone != wanted or alone not in ("yes", "none"):
-            return runs, f"seed {seed}: one thread answers {alone}, wanted {wanted}"
+            return runs, f"seed {seed}: {' '.join(common)} answers {alone}, wanted {wanted}"
         for _ in range(3):
             options = common + ["--threads", str(rng.randint(2, 8)), "--seed", str(rng.randrange(2**64))]
             if rng.random() < 0.3:
                 options += ["--book", str(rng.choice([0, 1, 5, 100]))]
-            answer = solve(program, files, options, pattern, target, induced)
+            answer = solve(program, files, options, pattern, target, asked)
             runs += 1
             if answer != wanted:
                 return runs, f"seed {seed}: {' '.join(options)} answers {answer}, wanted {wanted}"

@@ -24,6 +24,7 @@ import sys
 import time
 
 from agree import is_embedding, text_of
+from asked import Asked
 from beside import SOURCES, compiled
 from molecules import of_rdkit
 from problems import graph_of, part
@@ -110,7 +111,7 @@ def wrong(name, text, known, asked):
     if "batch" in name:
         for line, (pattern, target) in zip(text.splitlines(), asked):
             _, answer, *images = line.split()
-            if answer == "yes" and not is_embedding(pattern, target, False, [int(it) for it in images]):
+            if answer == "yes" and not is_embedding(pattern, target, Asked(), [int(it) for it in images]):
                 return f"{name}: no embedding: {line}"
     return None
 

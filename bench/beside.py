@@ -5,8 +5,9 @@ usage: python3 bench/beside.py PROGRAM FOLDER [--families NAME,..] [--sizes S,M,
        python3 bench/beside.py PROGRAM FOLDER --test N
 
 FOLDER gets the pairs (`pairs.py`) and the other programs, compiled where they are not there: `reference`, LAD and VF2 of igraph, VF2 of Boost, and
-for molecules RDKit's substructure match; clasp and CaDiCaL get the program's encoding (`on_encoding.py`). What is not installed is told and left out
-(Debian: g++, libigraph-dev, libboost-graph-dev, clasp, cadical, and python3-rdkit with rdkit-data for its own Python). --also names programs more. `compare.py` runs them one after another; its status is this one's.
+for molecules RDKit's substructure match; clasp and CaDiCaL get the program's encoding (`on_encoding.py`), and Gecode a model of MiniZinc (`minizinc.py`).
+What is not installed is told and left out
+(Debian: g++, libigraph-dev, libboost-graph-dev, clasp, cadical, minizinc, flatzinc, and python3-rdkit with rdkit-data for its own Python). --also names programs more. `compare.py` runs them one after another; its status is this one's.
 With --test all of them answer N small random problems in all formats, with loops and labels, which brute force decides; the status is 1 where one is wrong.
 """
 import argparse
@@ -19,6 +20,7 @@ import subprocess
 import sys
 
 from agree import FORMATS, is_embedding, text_of
+from asked import of_copies
 from compare import NOT_TAKEN
 from problems import small
 
@@ -68,6 +70,10 @@ def programs(program, folder):
     """The other programs by name: each a command."""
     found = {name: compiled(folder, *how) for name, how in SOURCES.items()}
     found.update(on_encoding(program, folder))
+    if shutil.which("minizinc") and shutil.which("fzn-gecode"):
+        found["Gecode"] = f"{sys.executable} {os.path.join(HERE, 'minizinc.py')}"
+    else:
+        print("there is no minizinc or no fzn-gecode, and it is left out", file=sys.stderr)
     if importlib.util.find_spec("rdkit"):
         found["RDKit"] = f"{sys.executable} {os.path.join(HERE, 'rdkit_match.py')}"
     else:
@@ -77,12 +83,12 @@ def programs(program, folder):
 
 def is_right(command, files, problem):
     """Whether a program gives the right answer; nothing where it takes no such problem."""
-    words = [*command.split(), *files, "--format", problem.kind, *["--induced"] * problem.induced]
+    words = [*command.split(), *files, "--format", problem.kind, *problem.asked.options()]
     answer, *lines = subprocess.run(words, capture_output=True, text=True).stdout.splitlines() or [""]
     if answer == NOT_TAKEN:
         return None
     images = [int(line.split(" -> ")[1]) for line in lines]
-    return answer == problem.known and (answer == "none" or is_embedding(problem.pattern, problem.target, problem.induced, images))
+    return answer == problem.known and (answer == "none" or is_embedding(problem.pattern, problem.target, problem.asked, images))
 
 
 def test(found, count, folder):
@@ -91,7 +97,7 @@ def test(found, count, folder):
     files = [os.path.join(folder, name) for name in ("small.pattern", "small.target")]
     for seed in range(count):
         rng = random.Random(seed)
-        problem = small(rng, rng.choice(list(FORMATS)))
+        problem = small(rng, rng.choice(list(FORMATS)), of_copies)
         for file, graph in zip(files, (problem.pattern, problem.target)):
             with open(file, "w", encoding="ascii") as text:
                 text.write(text_of(graph, problem.kind))

@@ -3,7 +3,7 @@
 
     compare.py FOLDER NAME=COMMAND NAME=COMMAND .. [--limit SECONDS] [--only WORD,WORD] [--peers NAME,NAME] [--over-best] [--csv FILE]
 
-A command is called with the words `PATTERN TARGET [--induced] [--format F]` behind its own, and prints `yes`, `none` or `unknown`
+A command is called with the words `PATTERN TARGET [--induced] [--map M] [--less L] [--format F]` behind its own, and prints `yes`, `none` or `unknown`
 first; lines `p -> t` behind a `yes` are tested. One that prints `not taken` takes no such pairs, and is not held against them. Times are seconds
 of processor time, reading and starting included, but where a program prints a line `seconds N` on standard error, as one does that is a library of
 Python: these are its seconds then. A run over the limit counts as the limit. The table gives for each family and program how many pairs it decided,
@@ -23,6 +23,7 @@ import subprocess
 import sys
 
 from agree import FORMATS
+from asked import Asked
 
 LEAST = 0.002
 BEST = "best peer"
@@ -46,11 +47,28 @@ def read_graph(path, kind):
     return labels, near
 
 
+def asked_of(pair):
+    """What a row of a folder's list asks; one that was written before there were maps and orders asks for none of them."""
+    return Asked(pair["induced"], pair.get("map", "injective"), tuple(map(tuple, pair.get("less", ()))))
+
+
+def are_apart(asked, near, images):
+    """Whether the images differ that have to, and are in order; `near` are the ends of each vertex's edges."""
+    if any(images[a] >= images[b] for a, b in asked.less):
+        return False
+    around = [set(it) - {v} for v, it in enumerate(near)]
+    for v, it in enumerate(near):
+        for u in it:
+            around[u] |= {v} - {u}
+    blocks = {"injective": [range(len(near))], "local": around, "any": []}[asked.maps]
+    return all(len({images[v] for v in block}) == len(block) for block in blocks)
+
+
 def embeds(folder, pair, lines):
     labels, near = read_graph(os.path.join(folder, pair["pattern"]), pair["format"])
     target_labels, target_near = read_graph(os.path.join(folder, pair["target"]), pair["format"])
     images = [int(line.split(" -> ")[1]) for line in lines]
-    if len(images) != len(labels) or len(set(images)) != len(images):
+    if len(images) != len(labels) or not are_apart(asked_of(pair), near, images):
         return False
     for p, t in enumerate(images):
         if labels[p] != target_labels[t]:
@@ -65,7 +83,7 @@ def embeds(folder, pair, lines):
 def run(command, folder, pair, limit):
     """The answer, the lines behind it, and the seconds."""
     words = command.split() + [os.path.join(folder, pair["pattern"]), os.path.join(folder, pair["target"])]
-    words += ["--induced"] * pair["induced"]
+    words += asked_of(pair).options()
     words += ["--format", pair["format"]] if pair["format"] != "lad" else []
     before = resource.getrusage(resource.RUSAGE_CHILDREN)
 

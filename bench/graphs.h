@@ -11,6 +11,12 @@
 #include <utility>
 #include <vector>
 
+// Ends where a program does not take what is asked for.
+[[noreturn]] inline void not_taken() {
+    std::cout << "not taken\n";
+    std::exit(3);
+}
+
 // What a format tells beside each vertex's neighbours.
 struct Format {
     bool labels = false, directed = false, edge_labels = false;
@@ -94,6 +100,7 @@ struct Asked {
         for (int i = 1; i < count; i++) {
             std::string word = words[i];
             if (word == "--induced") induced = true;
+            else if (word == "--map" || word == "--less") not_taken();
             else if (word == "--list" && i + 1 < count) list = words[++i];
             else if (word == "--format" && i + 1 < count) format = Format::named(words[++i]);
             else if (word == "--seed" && i + 1 < count) seed = std::strtoull(words[++i], nullptr, 10);
@@ -106,12 +113,6 @@ struct Asked {
         }
     }
 };
-
-// Ends where a program does not take what is asked for.
-[[noreturn]] inline void not_taken() {
-    std::cout << "not taken\n";
-    std::exit(3);
-}
 
 // Prints the answer and the map, and gives the status.
 template <class Image> int told(bool found, size_t size, Image image) {

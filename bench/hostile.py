@@ -6,7 +6,7 @@ usage: python3 bench/hostile.py PROGRAM [--texts N | --all N] [--minutes M] [--k
 
 PROGRAM is the built program (crates/subgraph/out/subgraph). A hostile text is a good one after one to three edits at random (`edits.py`): a
 graph for `solve` or `encode`, in the formats with directions also for `verify`; a `mapping` for `verify`, over graphs in each of the four; for `check`
-an `encoding`, a `log`, or one without hints (`plainlog`). The other files of a question are good. Status, output and the error stream are compared
+an `encoding`, a `log`, or one without hints (`plainlog`). For `words` the graphs are good and those of `--map` and `--less` are not. The other files of a question are good. Status, output and the error stream are compared
 with what `plain.py` and `tools/plain_check.py` say; where several maps are right any of them will do. A run that ends by a signal or takes longer than
 --seconds differs too. The kind `limit` is a few fixed texts at the limits of sizes, and `large` are a few of --megabytes each, spoilt in one
 place: graphs, mappings, encodings and logs. Each text is made from the seed, its kind and its place, so that a
@@ -31,6 +31,7 @@ from typing import Callable, List
 
 import plain
 from agree import random_graph
+from asked import Asked, of_all
 from check_logs import check_cases, mutant, random_pair
 from edits import hostile
 from plain import FORMATS, Answer
@@ -88,29 +89,30 @@ def planted(rng, kind):
     return (labels, edges), target, images
 
 
-def options(kind, induced):
-    return ["--format", kind] * (kind != "lad") + ["--induced"] * induced
+def options(kind, asked):
+    return ["--format", kind] * (kind != "lad") + asked.options()
 
 
 def graph_question(rng, kind):
     """About half of the patterns occur, and brute force can tell."""
-    induced, at = rng.random() < 0.5, rng.randrange(2)
-    texts = [text_in(rng, kind, random_in(rng, kind, rng.randint(0, most))) for most in (6, 9)]
+    graphs, at = [random_in(rng, kind, rng.randint(0, most)) for most in (6, 9)], rng.randrange(2)
+    asked = of_all(rng, len(graphs[0][0]))
+    texts = [text_in(rng, kind, it) for it in graphs]
     texts[at] = hostile(rng, texts[at])
     if rng.random() < 0.25:
-        return Question(["encode", *options(kind, induced)], texts, at, lambda it, _: plain.encode(it, kind, induced))
-    words = ["solve", *options(kind, induced), "--threads", rng.choice("113")]
-    return Question(words, texts, at, lambda it, found: plain.solve(it, kind, induced, found))
+        return Question(["encode", *options(kind, asked)], texts, at, lambda it, _: plain.encode(it, kind, asked))
+    words = ["solve", *options(kind, asked), "--threads", rng.choice("113")]
+    return Question(words, texts, at, lambda it, found: plain.solve(it, kind, asked, found))
 
 
 def mapping_question(rng, kind, at):
     """A graph is hostile where `at` is 0 or 1, the mapping where it is 2."""
-    induced = rng.random() < 0.5
     pattern, target, images = planted(rng, kind)
+    asked = of_all(rng, len(pattern[0]))
     mapping = "yes\n" + "".join(f"{p} -> {t}\n" for p, t in enumerate(images))
     texts = [text_in(rng, kind, pattern), text_in(rng, kind, target), mapping.encode()]
     texts[at] = hostile(rng, texts[at])
-    return Question(["verify", *options(kind, induced)], texts, at, lambda it, _: plain.verify(it[:2], it[2], kind, induced))
+    return Question(["verify", *options(kind, asked)], texts, at, lambda it, _: plain.verify(it[:2], it[2], kind, asked))
 
 
 def proof_question(rng, at, hinted):
@@ -121,6 +123,31 @@ def proof_question(rng, at, hinted):
         texts[1] = check_cases.without_hints(texts[1])
     texts[at] = (mutant if rng.random() < 0.3 else hostile)(rng, texts[at])
     return Question(["check"], texts, at, lambda it, _: plain.check(*it))
+
+
+def spoilt(rng, word):
+    """A word with a few characters of pairs put in, left out or changed."""
+    for _ in range(rng.randint(0, 2)):
+        at = rng.randint(0, len(word))
+        word = word[:at] + rng.choice(["", *"0123456789,,::+ x"]) + word[at + rng.randint(0, 1) :]
+    return word
+
+
+def words_question(rng, kind):
+    """Good graphs, and hostile words for the kind of map and the order of images."""
+    texts = [text_in(rng, kind, random_in(rng, kind, rng.randint(0, most))) for most in (4, 6)]
+    induced, maps = rng.random() < 0.2, rng.choice([None, None, "injective", "local", "any", "any", "any", "all", "Local", ""])
+    number = [0, 0, 0, 1, 1, 1, 2, 2, 3, 4, 2**32 - 1, 2**32, 10**10, "00", "0000000001", "00000000001"]
+    pairs = [f"{rng.choice(number)},{rng.choice(number)}" for _ in range(rng.choice([1, 1, 1, 2, 3, 63, 64, 65]))]
+    less = rng.choice([None, "0,1", "1,2:2,3", ":".join(pairs), spoilt(rng, "0,1:1,2"), spoilt(rng, ":".join(pairs[:3]))])
+    words = ["solve", "--format", kind] + ["--induced"] * induced
+    words += ([] if maps is None else ["--map", maps]) + ([] if less is None else ["--less", less])
+    asked = plain.asked_by(induced, maps, less)
+
+    def wanted(it, found):
+        return Answer(3, b"", b"words: not a command\n") if asked is None else plain.solve(it, kind, asked, found)
+
+    return Question(words, texts, 0, wanted)
 
 
 def directed_question(rng, kind):
@@ -137,6 +164,7 @@ KINDS = {
     "encoding": lambda rng: proof_question(rng, 0, rng.random() < 0.7),
     "log": lambda rng: proof_question(rng, 1, True),
     "plainlog": lambda rng: proof_question(rng, 1, False),
+    "words": lambda rng: words_question(rng, rng.choice(list(FORMATS))),
 }
 
 
@@ -215,7 +243,7 @@ def large(megabytes, seed):
             rng, text = random.Random(f"{seed} large {k}"), texts[at]
             place = rng.randrange(len(text) - WINDOW)
             texts[at] = text[:place] + hostile(rng, text[place : place + WINDOW]) + text[place + WINDOW :]
-        wanted = (lambda it, _: plain.check(*it)) if command == "check" else (lambda it, _: plain.verify(it[:2], it[2], "lad", False))
+        wanted = (lambda it, _: plain.check(*it)) if command == "check" else (lambda it, _: plain.verify(it[:2], it[2], "lad", Asked()))
         yield Question([command], texts, at, wanted)
 
 

@@ -3,7 +3,7 @@
 
     pairs.py FOLDER [--sizes S,M,L] [--families a,b] [--seed N]
 
-FOLDER/index.json lists the pairs: name, family, pattern, target, induced, format and, where the way they are made tells it, the
+FOLDER/index.json lists the pairs: name, family, pattern, target, induced, map, less, format and, where the way they are made tells it, the
 answer. Standard library only, but for `molecules`, which are left out where RDKit and its data (Debian's python3-rdkit and rdkit-data) are
 not there; `made_molecules` are of that shape, and made at random.
 """
@@ -14,6 +14,7 @@ import os
 import random
 import sys
 
+from asked import Asked
 from molecules import made, of_rdkit
 
 
@@ -141,7 +142,7 @@ def choices(target, pattern):
     return sum(math.log(target - i) for i in range(pattern))
 
 
-# Each family gives (pattern, target, induced, answer if known); S, M and L are its sizes.
+# Each family gives (pattern, target, induced, answer if known), or in place of `induced` all that is asked; S, M and L are its sizes.
 
 def planted(source, size):
     pattern, target, density = {"S": (15, 80, 0.3), "M": (45, 200, 0.3), "L": (60, 400, 0.3)}[size]
@@ -314,8 +315,60 @@ def made_molecules(source, size):
     yield from pieces_in_libraries(source, size, [made(source) for _ in range(1000)])
 
 
+def colourings(source, size):
+    """Random graphs into cliques by any maps: colourings with as many colours, near the point where half of the graphs have one."""
+    count = {"S": 60, "M": 120, "L": 240}[size]
+    for colours, degree in ((3, 4.6), (4, 8.4), (5, 12.7)):
+        for factor in (0.92, 1.08):
+            yield random_graph(source, count, min(1, factor * degree / count)), clique(colours), Asked(maps="any"), None
+
+
+def local_colourings(source, size):
+    """Graphs into cliques by local maps: colourings in which neighbours of a vertex differ too. A mesh has one with five colours, and not with four."""
+    side, count = {"S": (8, 50), "M": (16, 150), "L": (30, 500)}[size]
+    yield mesh(side, side).shuffled(source), clique(5), Asked(maps="local"), "yes"
+    yield mesh(side, side).shuffled(source), clique(4), Asked(maps="local"), "none"
+    for colours in (6, 7):
+        yield sparse_graph(source, count, 4), clique(colours), Asked(maps="local"), None
+
+
+def lift(source, graph, times):
+    """So many copies of a graph, each of whose edges leads to the copies by an order of its own: it goes to the graph by a local map."""
+    lifted = Graph(graph.size * times)
+    for a, b in graph.edges():
+        for copy, other in enumerate(source.sample(range(times), times)):
+            lifted.join(a * times + copy, b * times + other)
+    return lifted
+
+
+def lifts(source, size):
+    """Lifts of sparse graphs, as they are and with two edges crossed, into these graphs by local maps."""
+    count, degree, times = {"S": (12, 4, 4), "M": (40, 4, 6), "L": (150, 5, 6)}[size]
+    for _ in range(2):
+        graph = sparse_graph(source, count, degree)
+        whole = lift(source, graph, times)
+        yield whole.shuffled(source), graph.shuffled(source), Asked(maps="local"), "yes"
+        (a, b), (c, d) = source.sample(whole.edges(), 2)
+        crossed = Graph(whole.size, [e for e in whole.edges() if e not in ((a, b), (c, d))] + [(a, d), (b, c)])
+        yield crossed.shuffled(source), graph.shuffled(source), Asked(maps="local"), None
+
+
+def in_order(source, size):
+    """Cliques and even cycles whose copies are met once: images in order along a clique, and a cycle's first image the least."""
+    target, count = {"S": (60, 8), "M": (100, 9), "L": (200, 11)}[size]
+    graph = random_graph(source, target, 0.5)
+    for more in (-2, 2):
+        rising = tuple((v, v + 1) for v in range(count + more - 1))
+        yield clique(count + more), graph, Asked(less=rising), None
+    half = target // 2
+    sides = Graph(target, [(a, b) for a in range(half) for b in range(half, target) if source.random() < 0.3])
+    least = tuple((0, v) for v in range(1, count | 1)) + ((1, (count | 1) - 1),)
+    yield cycle(count | 1), sides.shuffled(source), Asked(less=least), "none"
+    yield cycle(count | 1), graph.shuffled(source), Asked(less=least), None
+
+
 FAMILIES = [planted, dense_none, phase, phase_induced, cliques, odd_cycles, meshes, sparse, scale_free_parts, labelled]
-FAMILIES += [directed_planted, directed_none, molecules, made_molecules]
+FAMILIES += [directed_planted, directed_none, molecules, made_molecules, colourings, local_colourings, lifts, in_order]
 
 
 def main():
@@ -332,14 +385,15 @@ def main():
             continue
         for size in asked.sizes.split(","):
             source = random.Random(f"{family.__name__} {size} {asked.seed}")
-            for number, (pattern, target, induced, answer) in enumerate(family(source, size)):
+            for number, (pattern, target, how, answer) in enumerate(family(source, size)):
+                what = how if isinstance(how, Asked) else Asked(how)
                 name = f"{family.__name__}-{size}-{number}"
                 for role, graph in (("pattern", pattern), ("target", target)):
                     with open(os.path.join(asked.folder, f"{name}.{role}"), "w") as file:
                         file.write(graph.text())
                 listed.append({
-                    "name": name, "family": family.__name__, "size": size, "induced": induced, "answer": answer,
-                    "format": pattern.format(),
+                    "name": name, "family": family.__name__, "size": size, "answer": answer,
+                    "induced": what.induced, "map": what.maps, "less": what.less, "format": pattern.format(),
                     "pattern": f"{name}.pattern", "target": f"{name}.target",
                     "vertices": [pattern.size, target.size],
                 })

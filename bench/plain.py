@@ -9,6 +9,7 @@ import sys
 from dataclasses import dataclass
 
 from agree import occurs
+from asked import MAPS, Asked, differ, is_near
 
 sys.path.insert(0, os.path.join(os.path.dirname(os.path.dirname(os.path.abspath(__file__))), "tools"))
 
@@ -16,6 +17,7 @@ import plain_check  # noqa: E402
 
 MOST_BYTES = 67108864
 MOST_VERTICES = {"pattern": 1024, "target": 8192}
+MOST_PAIRS = 64
 
 
 @dataclass(frozen=True)
@@ -103,20 +105,37 @@ def read_graph(who, text, kind):
     return labels, edges
 
 
-def read_graphs(texts, kind):
-    """The pattern and the target; the pattern is read first, and so refused first."""
-    return [read_graph(who, text, kind) for who, text in zip(("pattern", "target"), texts)]
+def asked_by(induced, maps, less):
+    """What the words of these options ask, nothing where they are no command. An option that is not there is None."""
+    pairs = [re.fullmatch(r"([0-9]{1,10}),([0-9]{1,10})", it) for it in less.split(":")] if less is not None else []
+    if None in pairs or len(pairs) > MOST_PAIRS or maps not in (None, *MAPS):
+        return None
+    numbers = tuple((int(it[1]), int(it[2])) for it in pairs)
+    if any(a == b or max(a, b) >= 2**32 for a, b in numbers) or induced and maps not in (None, "injective"):
+        return None
+    return Asked(induced, maps or "injective", numbers)
 
 
-def embeds(pattern, target, induced, images):
+def read_graphs(texts, kind, asked):
+    """The pattern and the target. The pattern is read first, and so refused first; then come the pairs that are to be in order."""
+    pattern = read_graph("pattern", texts[0], kind)
+    for k, pair in enumerate(asked.less, 1):
+        if max(pair) >= len(pattern[0]):
+            raise Refused(f"less: pair {k}: NoSuchVertex")
+    return pattern, read_graph("target", texts[1], kind)
+
+
+def embeds(pattern, target, asked, images):
     """Whether the images are an embedding, pair by pair."""
     vertices = range(len(pattern[0]))
-    if len(images) != len(vertices) or len(set(images)) != len(vertices) or any(t >= len(target[0]) for t in images):
+    if len(images) != len(vertices) or any(t >= len(target[0]) for t in images):
         return False
-    if any(pattern[0][p] != target[0][images[p]] for p in vertices):
+    if any(images[p] == images[q] and differ(asked, pattern, p, q) for p in vertices for q in range(p)):
+        return False
+    if any(images[a] >= images[b] for a, b in asked.less) or any(pattern[0][p] != target[0][images[p]] for p in vertices):
         return False
     pairs = [(pattern[1].get((p, q)), target[1].get((images[p], images[q]))) for p in vertices for q in vertices]
-    return all(here == there or here is None and not induced for here, there in pairs)
+    return all(here == there or here is None and not asked.induced for here, there in pairs)
 
 
 def read_mapping(text):
@@ -136,34 +155,43 @@ def read_mapping(text):
     return images
 
 
-def solve(texts, kind, induced, found):
+def solve(texts, kind, asked, found):
     """The right answer; where several maps are right and `found` tells one of them, `found`."""
     try:
-        pattern, target = read_graphs(texts, kind)
+        pattern, target = read_graphs(texts, kind, asked)
     except Refused as fault:
         return fault.answer()
-    if not occurs(pattern, target, induced, []):
+    if not occurs(pattern, target, asked, []):
         return Answer(1, b"none\n")
     try:
         images = read_mapping(found.out)
     except Refused:
         images = []
-    right = (found.status, found.err) == (0, b"") and embeds(pattern, target, induced, images)
+    right = (found.status, found.err) == (0, b"") and embeds(pattern, target, asked, images)
     return found if right and found.out.startswith(b"yes\n") else Answer(0, b"yes\n..")
 
 
-def verify(texts, mapping, kind, induced):
+def verify(texts, mapping, kind, asked):
     try:
-        pattern, target = read_graphs(texts, kind)
+        pattern, target = read_graphs(texts, kind, asked)
         images = read_mapping(mapping)
     except Refused as fault:
         return fault.answer()
-    if embeds(pattern, target, induced, images):
+    if embeds(pattern, target, asked, images):
         return Answer(0, b"embedding\n")
     return Answer(7, b"", b"mapping: not an embedding\n")
 
 
-def constraints(pattern, target, induced):
+def blocks(pattern, asked):
+    """The sets of vertices of which any two have to have two images: all, or those around each vertex with two neighbours, or none."""
+    vertices = range(len(pattern[0]))
+    if asked.maps == "injective":
+        return [vertices]
+    around = [[q for q in vertices if is_near(pattern, c, q)] for c in vertices]
+    return [near for near in around if len(near) > 1] if asked.maps == "local" else []
+
+
+def constraints(pattern, target, asked):
     """Each constraint of the encoding: the terms, by their variables, and the bound."""
     vertices, values = range(len(pattern[0])), range(len(target[0]))
 
@@ -173,34 +201,41 @@ def constraints(pattern, target, induced):
     def right(p, q, t, u):
         """Whether what leads from t to u is as what leads from p to q asks."""
         here, there = pattern[1].get((p, q)), target[1].get((t, u))
-        return here == there or here is None and not induced
+        return here == there or here is None and not asked.induced
 
     for p in vertices:
         yield {x(p, t): 1 for t in values}, 1
         yield {x(p, t): -1 for t in values}, -1
-    for t in values:
-        yield {x(p, t): -1 for p in vertices}, -1
+    for block in blocks(pattern, asked):
+        for t in values:
+            yield {x(p, t): -1 for p in block}, -1
     for p in vertices:
         for t in values:
             if pattern[0][p] != target[0][t] or not right(p, p, t, t):
                 yield {x(p, t): -1}, 0
-    for is_edge in (True, False) if induced else (True,):
+    for is_edge in (True, False) if asked.induced else (True,):
         for p in vertices:
             for q in vertices:
                 if p != q and ((p, q) in pattern[1] or (q, p) in pattern[1]) == is_edge:
                     for t in values:
-                        near = {x(q, u): 1 for u in values if u != t and right(p, q, t, u) and right(q, p, u, t)}
+                        others = [u for u in values if u != t or asked.maps != "injective"]
+                        near = {x(q, u): 1 for u in others if right(p, q, t, u) and right(q, p, u, t)}
                         yield {x(p, t): -1, **near}, 0
+    for a, b in asked.less:
+        for t in values:
+            yield {x(a, t): -1, **{x(b, u): 1 for u in values if u > t}}, 0
+        for t in values:
+            yield {x(b, t): -1, **{x(a, u): 1 for u in values if u < t}}, 0
 
 
-def encode(texts, kind, induced):
+def encode(texts, kind, asked):
     try:
-        pattern, target = read_graphs(texts, kind)
+        pattern, target = read_graphs(texts, kind, asked)
     except Refused as fault:
         return fault.answer()
     lines = [
         "".join(f"{a:+} x{v} " for v, a in sorted(terms.items())) + f">= {bound} ;"
-        for terms, bound in constraints(pattern, target, induced)
+        for terms, bound in constraints(pattern, target, asked)
     ]
     head = f"* #variable= {len(pattern[0]) * len(target[0])} #constraint= {len(lines)}"
     return Answer(0, "\n".join([head, *lines, ""]).encode())

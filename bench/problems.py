@@ -2,10 +2,11 @@
 
 A graph is the labels of its vertices and, for each ordered pair with an edge, this edge's label, as in `agree.py`.
 """
-from dataclasses import dataclass
+from dataclasses import dataclass, replace
 from typing import Optional, Tuple
 
 from agree import FORMATS, occurs, random_graph
+from asked import Asked, of_all, pairs_of
 from molecules import made
 
 #: The formats with labels of vertices.
@@ -18,7 +19,7 @@ class Problem:
 
     what: str
     kind: str
-    induced: bool
+    asked: Asked
     pattern: Tuple[list, dict]
     target: Tuple[list, dict]
     known: Optional[str] = None
@@ -48,12 +49,13 @@ def part(graph, vertices):
     return [labels[v] for v in vertices], {(place[a], place[b]): it for (a, b), it in edges.items() if a in place and b in place}
 
 
-def small(rng, kind):
-    """At most 6 vertices into at most 9, with loops and labels, which brute force decides."""
-    loops, labels, induced = rng.random() < 0.3, rng.choice([1, 2, 3]), rng.random() < 0.5
+def small(rng, kind, ask=of_all):
+    """At most 6 vertices into at most 9, with loops and labels, which brute force decides. What is asked of maps is drawn by `ask`."""
+    loops, labels = rng.random() < 0.3, rng.choice([1, 2, 3])
     target = random_graph(rng, rng.randint(0, 9), rng.random(), loops, labels, kind)
     pattern = random_graph(rng, rng.randint(0, 6), rng.random(), loops, labels, kind)
-    return Problem("small", kind, induced, pattern, target, "yes" if occurs(pattern, target, induced, []) else "none")
+    asked = ask(rng, len(pattern[0]))
+    return Problem("small", kind, asked, pattern, target, "yes" if occurs(pattern, target, asked, []) else "none")
 
 
 def hard(rng, kind):
@@ -63,14 +65,14 @@ def hard(rng, kind):
     labels = 2 if kind in LABELS and rng.random() < 0.3 else 1
     target = random_graph(rng, rng.randint(20, 30), rng.uniform(most / 2, most), False, labels, kind)
     pattern = random_graph(rng, rng.randint(least_size, most_size), rng.uniform(most / 2, most), False, labels, kind)
-    return Problem("hard", kind, rng.random() < 0.5, pattern, target)
+    return Problem("hard", kind, Asked(rng.random() < 0.5), pattern, target)
 
 
 def clique(rng, kind):
     """Of four to six vertices, in a random graph."""
     size = rng.randint(4, 6)
     edges = [(a, b) for a in range(size) for b in range(size) if a != b]
-    return Problem("clique", kind, rng.random() < 0.3, graph_of(kind, size, edges), random_graph(rng, rng.randint(10, 18), 0.6, False, 1, kind))
+    return Problem("clique", kind, Asked(rng.random() < 0.3), graph_of(kind, size, edges), random_graph(rng, rng.randint(10, 18), 0.6, False, 1, kind))
 
 
 def two_sides(rng, kind):
@@ -79,7 +81,7 @@ def two_sides(rng, kind):
     ring = [(v, (v + 1) % size) for v in range(size)]
     edges = [pair for a in range(half) for b in range(half, 2 * half) for pair in ((a, b), (b, a)) if rng.random() < 0.5]
     target = moved(rng, graph_of(kind, 2 * half, edges))
-    return Problem("two sides", kind, False, graph_of(kind, size, ring), target, "none")
+    return Problem("two sides", kind, Asked(), graph_of(kind, size, ring), target, "none")
 
 
 def crowded(rng, kind):
@@ -88,7 +90,7 @@ def crowded(rng, kind):
     edges = [(a, few + b) for a in range(few) for b in range(few)]
     left, right = few + rng.randint(-1, 2), few + rng.randint(0, 3)
     wider = [(a, left + b) for a in range(left) for b in range(right) if rng.random() < 0.85]
-    return Problem("crowded", kind, rng.random() < 0.3, graph_of(kind, 2 * few, edges), moved(rng, graph_of(kind, left + right, wider)))
+    return Problem("crowded", kind, Asked(rng.random() < 0.3), graph_of(kind, 2 * few, edges), moved(rng, graph_of(kind, left + right, wider)))
 
 
 def grid_of(kind, width, height):
@@ -102,7 +104,7 @@ def grid(rng, kind):
     labels, edges = grid_of(kind, rng.randint(3, 5), rng.randint(3, 5))
     gone = {(min(pair), max(pair)) for pair in edges if rng.random() < 0.05}
     edges = {(a, b): it for (a, b), it in edges.items() if (min(a, b), max(a, b)) not in gone}
-    return Problem("grid", kind, rng.random() < 0.5, moved(rng, pattern), moved(rng, (labels, edges)))
+    return Problem("grid", kind, Asked(rng.random() < 0.5), moved(rng, pattern), moved(rng, (labels, edges)))
 
 
 def order(rng, kind):
@@ -110,7 +112,7 @@ def order(rng, kind):
     size, count = rng.randint(3, 4), rng.randint(8, 12)
     ring = [(v, (v + 1) % size) for v in range(size)][: size - (rng.random() < 0.3)]
     upwards = [(a, b) for a in range(count) for b in range(a + 1, min(count, a + 4)) if rng.random() < 0.7]
-    return Problem("order", kind, rng.random() < 0.3, graph_of(kind, size, ring), moved(rng, graph_of(kind, count, upwards)))
+    return Problem("order", kind, Asked(rng.random() < 0.3), graph_of(kind, size, ring), moved(rng, graph_of(kind, count, upwards)))
 
 
 def molecule(rng, kind):
@@ -130,8 +132,8 @@ def molecule(rng, kind):
             labels[a] = rng.choice([6, 7, 8, 16])
         else:
             edges[len(piece) - 1, 0] = edges[0, len(piece) - 1] = 0
-        return Problem("molecule", kind, rng.random() < 0.3, (labels, edges), moved(rng, target))
-    return Problem("molecule", kind, rng.random() < 0.5, (labels, edges), moved(rng, target), "yes")
+        return Problem("molecule", kind, Asked(rng.random() < 0.3), (labels, edges), moved(rng, target))
+    return Problem("molecule", kind, Asked(rng.random() < 0.5), (labels, edges), moved(rng, target), "yes")
 
 
 def wide(rng, kind):
@@ -141,7 +143,7 @@ def wide(rng, kind):
     both = [(a, half + rng.randrange(half)) for a in range(half) for _edge in range(rng.randint(1, 3))]
     edges = [pair for a, b in both for pair in ((a, b), (b, a))]
     target = moved(rng, graph_of(kind, 2 * half, edges))
-    return Problem("wide", kind, False, graph_of(kind, size, ring), target, "none" if size % 2 else None)
+    return Problem("wide", kind, Asked(), graph_of(kind, size, ring), target, "none" if size % 2 else None)
 
 
 STRUCTURED = [clique, two_sides, crowded, grid, order, molecule]
@@ -149,3 +151,14 @@ STRUCTURED = [clique, two_sides, crowded, grid, order, molecule]
 
 def structured(rng, kind):
     return rng.choice(STRUCTURED)(rng, kind)
+
+
+def varied(rng, problem):
+    """The same of another kind of map, of images in order, or both. No map at all is there where the answer is known to be none."""
+    asked = problem.asked
+    if not asked.induced:
+        asked = replace(asked, maps=rng.choice(["injective", "local", "any"]))
+    if asked.maps == "injective" or rng.random() < 0.3:
+        asked = replace(asked, less=pairs_of(rng, len(problem.pattern[0])))
+    known = None if asked.less and problem.known == "yes" else problem.known
+    return replace(problem, asked=asked, known=known)

@@ -5,7 +5,7 @@ usage: python3 bench/proved.py PROGRAM [--runs N] [--jobs J] [--seed S] [--hard 
 
 PROGRAM is the built program (crates/subgraph/out/subgraph). The problems are those of `problems.py`: small ones, whose answer brute force
 knows; structured ones (cliques, two sides, grids, orders, molecules); hard ones, whose searches restart and share what they have refuted; and a few
-wide ones, with targets of more than 512 vertices. Each is
+wide ones, with targets of more than 512 vertices. Half of these are asked of each kind of map, of images in order, or both. Each is
 run by one thread and twice by several, with hints or without, some with a small book or budget. The formats are all that the program takes beside
 --prove, which it is asked first, or those that --formats names.
 
@@ -28,7 +28,7 @@ import time
 import plain
 from agree import FORMATS, is_embedding, text_of
 from check_logs import check_cases
-from problems import hard, small, structured, wide
+from problems import hard, small, structured, varied, wide
 
 TOP = os.path.dirname(os.path.dirname(os.path.abspath(__file__)))
 SHOWN = {"yes": "accepted satisfiable\n", "none": "accepted unsatisfiable\n", "unknown": "accepted undecided\n"}
@@ -62,7 +62,7 @@ def answer_of(done, problem):
         lines = [line.split(" -> ") for line in done.stdout.splitlines()[1:]]
         image = [int(line[1]) for line in lines]
         in_order = [line[0] for line in lines] == [str(p) for p in range(len(lines))]
-        if in_order and is_embedding(problem.pattern, problem.target, problem.induced, image):
+        if in_order and is_embedding(problem.pattern, problem.target, problem.asked, image):
             return "yes"
     return f"status {done.returncode}: {done.stdout}{done.stderr}"
 
@@ -78,8 +78,8 @@ class Runs:
         for name, text in zip(self.files, texts):
             with open(name, "wb") as file:
                 file.write(text)
-        self.options = (["--induced"] if problem.induced else []) + ["--format", problem.kind]
-        self.right = plain.encode(texts, problem.kind, problem.induced).out
+        self.options = [*problem.asked.options(), "--format", problem.kind]
+        self.right = plain.encode(texts, problem.kind, problem.asked).out
         self.model = plain.plain_check.read_encoding(self.right)
         self.answer = problem.known
         self.told = None
@@ -141,7 +141,9 @@ def one(words, seed, folder):
             break
         drawn -= percent
     problem = make(rng, rng.choice(words.formats))
-    counts = collections.Counter({f"of {problem.what}": 3, f"in {problem.kind}": 3, "problems": 1})
+    if make is not small and rng.random() < 0.5:
+        problem = varied(rng, problem)
+    counts = collections.Counter({f"of {problem.what}": 3, f"in {problem.kind}": 3, f"by {problem.asked.what()}": 3, "problems": 1})
     runs = Runs(words.program, folder, problem)
     wrong = runs.encodes()
     for options, plainly in all_options(rng, make is hard):
@@ -157,6 +159,7 @@ def one(words, seed, folder):
                 wrong = "the log without hints is not the one with hints, cut"
         counts["log bytes"] += len(texts[1])
         counts[answer] += 1
+        counts[f"{answer} by {problem.asked.what()}"] += 1
     return counts, wrong and f"seed {seed}, {problem.what}: {runs.told}: {wrong}"
 
 
@@ -197,7 +200,8 @@ def figures(totals):
         f" {totals['unknown']} times unknown; both checkers accepted each log for its answer, and {totals['without hints']} more without hints;"
         f" {totals['log bytes']} bytes of logs"
     )
-    print("; ".join(f"{count} runs {what}" for what, count in sorted(totals.items()) if what[:3] in ("of ", "in ")))
+    print("; ".join(f"{count} runs {what}" for what, count in sorted(totals.items()) if what[:3] in ("of ", "in ", "by ")))
+    print("; ".join(f"{count} times {what}" for what, count in sorted(totals.items()) if " by " in what))
 
 
 def main():

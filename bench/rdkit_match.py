@@ -54,7 +54,7 @@ def main():
         return answer_list(words[1])
     files = [it for it in words[:2] if not it.startswith("-")]
     molecules = []
-    if len(files) == 2 and "labelledlad" in words and "--induced" not in words:
+    if len(files) == 2 and "labelledlad" in words and not {"--induced", "--map", "--less"} & set(words):
         from rdkit import Chem
 
         molecules = [build(Chem, it) for it in files]

@@ -25,6 +25,7 @@ from typing import List, Optional
 
 import plain
 from agree import text_of
+from asked import Asked
 from check_logs import check_cases
 from plain import Answer
 
@@ -42,6 +43,7 @@ class Case:
     words: List[str]
     answer: Optional[Answer] = None
     proves: bool = False
+    asked: Asked = Asked()
 
 
 def ring(size):
@@ -69,7 +71,7 @@ def write_files(folder, seed):
         "there": "yes\n0 -> 0\n1 -> 1\n",
     }
     texts = {name: text.encode() for name, text in texts.items()}
-    texts["opb"] = plain.encode([texts["triangle"], texts["square"]], "lad", False).out
+    texts["opb"] = plain.encode([texts["triangle"], texts["square"]], "lad", Asked()).out
     for name, file in (("proof", "triangle-in-four-cycle.proof"), ("gap", "step-left-out.proof")):
         with open(os.path.join(FORMATS, file), "rb") as f:
             texts[name] = f.read()
@@ -85,27 +87,34 @@ def cases(texts, threads):
     """The short commands, and those that search by each number of threads."""
     square = [texts["square"]] * 2
     yield Case("no command", ["solve", "square"], Answer(3, b"", b"words: not a command\n"))
+    yield Case("a pair refused", ["encode", "square", "square", "--less", "0,4"], Answer(4, b"", b"less: pair 1: NoSuchVertex\n"))
     yield Case("a text refused", ["solve", "cut", "square"], Answer(4, b"", b"pattern: word 4: EndsEarly\n"))
     yield Case("encode", ["encode", "triangle", "square"], Answer(0, texts["opb"]))
-    yield Case("encode, induced", ["encode", "--induced", "square", "square"], plain.encode(square, "lad", True))
+    yield Case("encode, induced", ["encode", "--induced", "square", "square"], plain.encode(square, "lad", Asked(True)))
     yield Case("verify", ["verify", "square", "square", "map"], Answer(0, b"embedding\n"))
     yield Case("verify, no embedding", ["verify", "square", "square", "wrong"], Answer(7, b"", b"mapping: not an embedding\n"))
     yield Case("verify, labels of edges", ["verify", "--format", "labelledlad", "one way", "one way", "there"], Answer(0, b"embedding\n"))
+    local = Asked(False, "local", ((0, 1), (2, 1)))
+    yield Case("encode, local and in order", ["encode", "square", "square", *local.options()], plain.encode(square, "lad", local))
+    yield Case("verify, any", ["verify", "square", "square", "wrong", "--map", "any"], plain.verify(square, texts["wrong"], "lad", Asked(False, "any")))
     for hints in ("", " without hints"):
         yield Case(f"check{hints}", ["check", "opb", f"proof{hints}"], Answer(0, b"accepted unsatisfiable\n"))
         yield Case(f"check{hints}, refused", ["check", "opb", f"gap{hints}"], Answer(7, b"", b"log: line 5: NoConflict\n"))
     none, unknown = Answer(1, b"none\n"), Answer(2, b"unknown\n")
     for count in threads:
         by = ["--threads", str(count)]
-        for asked, answer in (
-            (["triangle", "square"], none),
-            (["square", "sides"], None),
-            (["pentagon", "sides"], none),
-            (["pentagon", "sides", "--budget", "40"], unknown),
+        for question, answer, asked in (
+            (["triangle", "square"], none, Asked()),
+            (["square", "sides"], None, Asked()),
+            (["pentagon", "sides"], none, Asked()),
+            (["pentagon", "sides", "--budget", "40"], unknown, Asked()),
+            (["square", "triangle"], none, Asked(False, "local")),
+            (["square", "triangle"], None, Asked(False, "any", ((0, 1), (0, 3)))),
+            (["square", "square"], none, Asked(less=((0, 1), (1, 2), (2, 0)))),
         ):
             for prove in ([], ["--prove", "e", "--log", "l"], ["--prove", "e", "--log", "l", "--profile", "2"]):
-                words = ["solve", *asked, *by, *prove]
-                yield Case(" ".join(words), words, answer, bool(prove))
+                words = ["solve", *question, *asked.options(), *by, *prove]
+                yield Case(" ".join(words), words, answer, bool(prove), asked)
         yield Case(f"demo, {count} threads", ["demo", "7", *by], Answer(0, b"planted yes\ncycle none\nlog accepted\n"))
 
 
@@ -150,7 +159,7 @@ class Runs:
 
     def wanted(self, case, found):
         graphs = [self.texts.get(name) for name in case.words[1:3]]
-        return case.answer or plain.solve(graphs, "lad", False, found)
+        return case.answer or plain.solve(graphs, "lad", case.asked, found)
 
     def wrong(self, case, found):
         """What is wrong with an answer and with what it left; None where nothing is."""
@@ -164,7 +173,7 @@ class Runs:
 
     def wrong_proof(self, case, found):
         encoding, log = self.read("e"), self.read("l")
-        right = plain.encode([self.texts[name] for name in case.words[1:3]], "lad", False).out
+        right = plain.encode([self.texts[name] for name in case.words[1:3]], "lad", case.asked).out
         if found.status == REFUSED.status:
             if not right.startswith(encoding or b"") or log is not None and encoding != right:
                 return "memory was refused, and the proof's files hold something else"

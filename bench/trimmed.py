@@ -27,7 +27,8 @@ import tempfile
 
 from agree import FORMATS, text_of
 from check_logs import mutant, random_pair
-from problems import hard, small, structured
+from compare import asked_of
+from problems import hard, small, structured, varied
 
 TOP = os.path.dirname(os.path.dirname(os.path.abspath(__file__)))
 sys.path.insert(0, os.path.join(TOP, "tools"))
@@ -182,11 +183,13 @@ def proved(program, rng, folder):
     """The encoding and the log of a problem, and what kind of log it is."""
     make = rng.choice([small, hard, structured, structured])
     problem = make(rng, rng.choice(list(FORMATS)))
+    if make is not small and rng.random() < 0.5:
+        problem = varied(rng, problem)
     files = [os.path.join(folder, name) for name in ("pattern", "target", "e.opb", "l.proof")]
     for path, graph in zip(files, (problem.pattern, problem.target)):
         put(path, text_of(graph, problem.kind).encode())
     threads, profile = rng.choice(["1", "4"]), rng.choice(["1", "1", "2"])
-    words = [program, "solve", *["--induced"] * problem.induced, "--format", problem.kind, "--threads", threads, "--profile", profile]
+    words = [program, "solve", *problem.asked.options(), "--format", problem.kind, "--threads", threads, "--profile", profile]
     words += ["--seed", str(rng.randrange(2**64)), "--budget", str(rng.choice([1, 10, 300, 300, 300])), *files[:2]]
     if rng.random() < 0.3:
         words += ["--book", str(rng.choice([0, 1, 5, 100]))]
@@ -266,7 +269,7 @@ def measure(asked):
         for pair in pairs:
             graphs = [os.path.join(asked.measure, pair[it]) for it in ("pattern", "target")]
             for threads in asked.threads.split(","):
-                words = ["solve", "--format", pair["format"], *["--induced"] * pair["induced"], "--threads", threads, "--book", "4194304"]
+                words = ["solve", "--format", pair["format"], *asked_of(pair).options(), "--threads", threads, "--book", "4194304"]
                 said = measured([asked.program, *words, *graphs, "--prove", opb, "--log", proof], asked.limit)
                 if said[0] != "none":
                     print(f"{pair['name']}: {said[0] or 'stopped'}", file=sys.stderr)
