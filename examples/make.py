@@ -3,7 +3,7 @@
 
     examples/make.py [FOLDER ..]
 
-Sources are SMILES (`.smi`), netlists (`.net`) and call graphs (`.calls`); the ball of the mesh is made by truncating an
+Sources are SMILES (`.smi`), netlists (`.net`), call graphs (`.calls`) and lists of edges (`.edges`); the ball of the mesh is made by truncating an
 icosahedron. The pictures ask the program. It wants python3-networkx, and python3-rdkit for the folder `drug`.
 """
 from __future__ import annotations
@@ -126,7 +126,7 @@ def write(graph: Graph, folder: Path, name: str) -> None:
     labels = set(graph.labels or ())
     numbers = None if graph.labels is None else {it: NUMBERS.get(it, it) for it in labels}
     (folder / f"{name}.lad").write_text(lad_text(graph, numbers))
-    if graph.source is None:
+    if graph.source is None and not (folder / f"{name}.edges").exists():
         write_gml(graph, folder / f"{name}.gml")
 
 
@@ -141,6 +141,7 @@ def main(asked: List[str]) -> None:
         "drug": lambda at: {it.stem: as_graph(read_graph(str(it))) for it in at.glob("*.smi")},
         "circuit": lambda at: {it.stem: of_netlist(it) for it in at.glob("*.net")},
         "calls": lambda at: {it.stem: of_calls(it) for it in at.glob("*.calls")},
+        "colouring": lambda at: {it.stem: read_graph(str(it)) for it in at.glob("*.edges")},
         "mesh": lambda at: {"ball": ball(), "flower": flower(5), "two-pentagons": two_pentagons()},
     }
     shown = {
@@ -155,7 +156,8 @@ def main(asked: List[str]) -> None:
         graphs = make(HERE / name)
         for stem, graph in sorted(graphs.items()):
             write(graph, HERE / name, stem)
-        picture(HERE / name, *shown[name], graphs)
+        if name in shown:
+            picture(HERE / name, *shown[name], graphs)
         for path in sorted((HERE / name).glob("*.calls")):
             (HERE / name / f"{path.stem}-directed.lad").write_text(directed_text(path))
 
