@@ -23,27 +23,37 @@ PAGE = TOP / "docs" / "subgraph.1"
 SYNOPSIS = """\
 subgraph solve [OPTION]... PATTERN TARGET
 subgraph batch [--format F] [--threads N] [--seed N] [--budget N] [--book N] LIST
-subgraph verify [--format F] [--induced] PATTERN TARGET MAPPING
-subgraph encode [--format F] [--induced] PATTERN TARGET
+subgraph verify [--format F] [--induced] [--map M] [--less L] PATTERN TARGET MAPPING
+subgraph encode [--format F] [--induced] [--map M] [--less L] PATTERN TARGET
 subgraph check ENCODING LOG
 subgraph trim ENCODING LOG OUT
 subgraph demo [--threads N] [--budget N] SEED
 """
 DESCRIPTION = """\
-An embedding maps each vertex of PATTERN to a vertex of TARGET of its own, and keeps labels and edges. `solve` finds one, or
-tells that none exists, or that its budget is spent. `batch` does so for each line of LIST: the names of a pattern and a target,
-and perhaps `induced`, with one blank between. It writes a line for each. `verify` tests the mapping of a file. `encode` writes the question as
-pseudo-Boolean constraints, whose solutions are the embeddings. `check` judges a proof log over such constraints. `trim` writes
-to OUT the steps of a log that its end rests on, each deleted behind its last use. OUT is neither of the other files by name.
-`demo` makes two problems from SEED and decides them: a planted pattern, and a cycle that does not embed.
+An embedding maps each vertex of PATTERN to a vertex of TARGET, and keeps labels and edges. Unless `--map` says so, no two vertices have one image.
+`solve` finds an embedding, or tells that none exists, or that its budget is spent. `batch` does so for each line of LIST, and writes a line for it: the names of a pattern
+and a target, and perhaps `induced`, with one blank between. `verify` tests the mapping of a file. `encode` writes the question as pseudo-Boolean constraints,
+whose solutions are the embeddings. `check` judges a proof log over such constraints. `trim` writes to OUT the steps of a log that its end rests on, each deleted behind its
+last use. OUT is neither of the other files by name. `demo` makes two problems from SEED and decides them: a planted pattern, and a cycle that does not embed.
 Options stand after the command's word, each at most once. After `--` every word is a name.
 """
 OPTIONS: List[Tuple[str, str]] = [
-    ("--format lad", "The default: the number of vertices, then for each vertex how many neighbours it lists, and these, from 0."),
-    ("--format vertexlabelledlad", "The same, with each vertex's label before the number of its neighbours."),
-    ("--format directedlad", "As `lad`, but a listed neighbour is an edge in one direction."),
-    ("--format labelledlad", "Directed, with labels of vertices, and after each neighbour the label of the edge to it."),
-    ("--induced", "Images of vertices without an edge have no edge either."),
+    (
+        "--format F",
+        "`lad`, the default: the number of vertices, then for each vertex how many neighbours it lists, and these, from 0. `vertexlabelledlad`: the same, with each "
+        "vertex's label before the number of its neighbours. `directedlad`: as `lad`, but a listed neighbour is an edge in one direction. `labelledlad`: directed, "
+        "with labels of vertices, and after each neighbour the label of the edge to it.",
+    ),
+    ("--induced", "Images of vertices without an edge have no edge either. Not with `--map local` or `--map any`."),
+    (
+        "--map M",
+        "`injective`, the default: any two vertices have two images. `local`: neighbours of one vertex have, in either direction of edges. `any`: none need have. "
+        "Vertices with an edge between them share one at a loop alone.",
+    ),
+    (
+        "--less L",
+        "L is `a,b`, or up to 64 such pairs with `:` between. Vertex a of PATTERN has an image of a lesser number than vertex b.",
+    ),
     ("--threads N", "From 1, the default, to 64 searches share the work. In `batch` each question has one search, and N go on at a time. What is decided does not depend on N."),
     ("--budget N", "At most N failed guesses of each thread, in `batch` of each question, from 1 to 9,223,372,036,854,775,807, the default."),
     (
@@ -67,8 +77,13 @@ $ printf '3\\n2 1 2\\n2 0 2\\n2 0 1\\n' > triangle.lad
 $ printf '4\\n2 1 3\\n2 0 2\\n2 1 3\\n2 0 2\\n' > four-cycle.lad
 $ subgraph solve triangle.lad four-cycle.lad
 none
-$ subgraph solve --budget 3 triangle.lad four-cycle.lad
-unknown
+$ subgraph solve --map local four-cycle.lad triangle.lad
+none
+$ subgraph solve --less 0,1:1,2 triangle.lad triangle.lad
+yes
+0 -> 0
+1 -> 1
+2 -> 2
 $ subgraph solve --threads 4 --book 1048576 triangle.lad four-cycle.lad
 none
 $ printf 'triangle.lad triangle.lad induced\\ntriangle.lad four-cycle.lad\\n' > list
@@ -84,8 +99,6 @@ $ subgraph check question.opb proof.log
 accepted unsatisfiable
 $ subgraph trim question.opb proof.log trimmed.log
 kept 9 of 9
-$ subgraph check question.opb trimmed.log
-accepted unsatisfiable
 """
 
 

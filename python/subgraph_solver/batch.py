@@ -82,7 +82,7 @@ def batch(
     """Finds an embedding for each of many questions.
 
     The program is started once for 1,000 questions, not once for each, or more often if their graphs take more than 1 GiB
-    together. Nothing is answered before all are decided.
+    together. Nothing is answered before all are decided. All maps are injective, and none are in order: `find` has others.
 
     Parameters
     ----------
