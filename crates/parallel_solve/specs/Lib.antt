@@ -2,3 +2,4 @@ pub mod Jobs
 pub mod Solving
 pub mod Teaming
 pub mod Gathering
+pub mod Teams

@@ -1,13 +1,22 @@
 -- What several workers decide together.
 
-use Rattle.std.specs.Prelude.{◌≡◌, ℕ, ◌<◌, Bool, List, length, All}
+use Rattle.std.specs.Prelude.{◌≡◌, ℕ, ◌<◌, ◌≤◌, ◌^◌, Bool, List, length, All}
 use Rattle.graph_theory.specs.Graph.{size}
 use Rattle.graph_theory.specs.Embedding.{Problem, Embeds, HasNone}
 use Rattle.search_theory.specs.Bounds.{enough}
 use Rattle.search_theory.specs.Account.{Account, Spends}
 use Rattle.proof_collection.specs.Proofs.{IsProven}
+use Rattle.parallel_solve.specs.declared.answers.Settings.{Settings}
 use Rattle.parallel_solve.specs.declared.answers.Solved.{Solved}
 use Rattle.parallel_solve.specs.declared.answers.Solved.TheVariants.{Yes, NoEmbedding, Unknown, NoMemory}
+
+-- One worker is asked for in both, and a log in both or in neither.
+pub record IsShortOf (short s : Settings) : Type 0 where
+  pub one : s.threads ≡ 1
+  pub threads : short.threads ≡ 1
+  pub prove : short.prove ≡ s.prove
+  pub budget : short.budget < 2 ^ 63
+  pub rows : short.rows ≤ 4194304
 
 -- So many workers spent their budget, which is less than enough, each where a guess was due: these are their accounts.
 pub record AreSpent (q : Problem) (workers budget : ℕ) (accounts : List Account) : Type 0 where

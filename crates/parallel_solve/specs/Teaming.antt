@@ -5,7 +5,7 @@ use Rattle.std.specs.List.{Any}
 use Rattle.graph_theory.specs.Graph.{size}
 use Rattle.graph_theory.specs.Embedding.{Problem, Embeds, HasNone}
 use Rattle.search_theory.specs.Bounds.{enough}
-use Rattle.search_theory.specs.Account.{Account, Spends}
+use Rattle.search_theory.specs.Account.{Account, Honest, Spends}
 use Rattle.nogood_book.specs.declared.row.Row.{Row}
 use Rattle.nogood_book.specs.Seats.{BookName, SeatName, IsSeatOf, facts_of}
 use Rattle.proof_logger.specs.Logging.{GrowsBeside}
@@ -43,6 +43,7 @@ pub record HasRun {K : Type 0} (owner : K → ℕ) (steps refutes : K → Proble
   pub budget_is : w.account.budget ≡ budget
   pub owner_is : owner w.log ≡ w.number
   pub ends : Ends o q w.account
+  pub honest : Honest q w.account
   pub stage_is : w.stage ≡ stage_after o
   pub steps_of : steps w.log q w.facts.seen
   pub refutes_of : IfRefuted o (refutes w.log q w.facts.seen)

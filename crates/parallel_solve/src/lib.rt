@@ -3,9 +3,9 @@
 //! The crate propagates the root once. Then 1 to 64 searches run in parallel and share what they refute in one book. They end
 //! when one of them has an answer, or when all have spent their budgets.
 //!
-//! It keeps nothing between calls. If a log is asked for, the answer carries it. It offers `solve`, and `solve_with`, in
-//! which each worker passes a gate. What an answer means is the same for every number of workers. Which embedding is found
-//! can differ.
+//! It keeps nothing between calls. If a log is asked for, the answer carries it. It offers `solve`; `solve_with`, in
+//! which each worker passes a gate; and `solve_alone`, one search that needs no leave to make threads. What an answer means
+//! is the same for every number of workers. Which embedding is found can differ.
 //!
 //! Workers that differ in their random choices and share nogoods at restarts are those of Archibald et al. (2019). Each
 //! worker takes memory for its domains, its nogoods, 16 bytes for each row of the book, and its part of 64 MiB of rows. A log
@@ -14,10 +14,11 @@
 
 pub mod answers;
 pub mod job;
+mod running;
 pub mod solving;
 mod tally;
 mod team;
 
 pub use answers::{Settings, Solved};
 pub use proof_collection::{Logged, Proof};
-pub use solving::{solve, solve_with};
+pub use solving::{solve, solve_alone, solve_with};

@@ -1,33 +1,28 @@
-//! Deciding a problem by several workers.
+//! Deciding a problem by several workers, or by one alone.
 
-ghost use Rattle.std.specs.Prelude.{◌≡◌, [], ◌≤◌, ◌<◌, ◌+◌, ◌^◌, true, None, IsTrue, length, All, IfOk, vec_capacity};
+ghost use Rattle.std.specs.Prelude.{◌≡◌, [], ◌≤◌, ◌<◌, ◌^◌, false, true, None, IfErr, IfOk, IfSome};
 ghost use Rattle.graph_theory.specs.Graph.{size};
 ghost use Rattle.graph_theory.specs.Embedding.{HasNone};
 ghost use Rattle.domain_bits.specs.Removals.{full};
-ghost use Rattle.recorder.specs.Telling.{IsOf, Tells};
-ghost use Rattle.nogood_book.specs.Seats.{IsSeatOf};
-ghost use Rattle.restart_search.specs.Logging.{IsTold};
-ghost use Rattle.restart_search.specs.Searching.{AtRest, RootFails};
-ghost use Rattle.proof_collection.specs.Making.{AreOfOwners};
+ghost use Rattle.recorder.specs.Telling.{Tells};
+ghost use Rattle.restart_search.specs.Searching.{RootFails};
 ghost use Rattle.proof_collection.specs.Proofs.{IsProven};
-ghost use Rattle.parallel_solve.specs.Gathering.{HasMade};
-ghost use Rattle.parallel_solve.specs.Solving.{IsSolved};
-ghost use Rattle.parallel_solve.specs.Teaming.{IsJob};
+ghost use Rattle.parallel_solve.specs.Solving.{IsShortOf, IsSolved};
+ghost use Rattle.parallel_solve.specs.Teams.{IsTeam};
 
 use crate::answers::{Settings, Solved};
+use crate::running::{run_beside, run_in_turn};
 use crate::tally::conclude;
-use crate::team::{Root, make_team, run_team};
+use crate::team::{Root, Team, make_team};
 use dead_paths::Ground;
-use domain_bits::{Domains, WordTrail};
+use domain_bits::WordTrail;
 use fail_account::Account;
 use graph_rows::Problem;
-use nogood_book::{BookSeat, RowBook};
 use pair_supports::{MOST_WORDS, PairKinds};
 use pb_encoding::Encoding;
 use proof_collection::{KeepsLines, KeepsNothing, OwnerLog, Proof, ProofMaker};
 use proof_logger::{DeadEnd, ProofLogger, Unlogged};
 use recorder::{Causes, Failure, Silent};
-use restart_search::Worker;
 use restart_search::root::{Rooted, root as take_root};
 use std::alloc::{AllocError, Global};
 use std::thread::Threads;
@@ -45,6 +40,20 @@ fn is_small(q: &Problem) -> bool {
     u32::from(q.pattern().size()) * u32::from(q.target().size()) <= SMALL
 }
 
+/// The settings of the short search with which one worker begins at a small problem.
+fn short_of(q: &Problem, s: &Settings) -> Option<Settings>
+    ensures { IfSome result (λ short. IsShortOf short s.now) }
+{
+    if s.threads != 1 || s.budget <= SHORT_BUDGET || !is_small(q) {
+        return None;
+    }
+    Some(Settings {
+        budget: SHORT_BUDGET,
+        rows: 0,
+        ..*s
+    })
+}
+
 /// Decides a problem by the workers that the settings ask for, which search beside each other and share what they refute. One worker alone
 /// begins at a small problem with a search of 64 fails, for which no book is made. Memory: beside the target's own, for each
 /// worker its domains, the watches of its nogoods, 16 bytes for each row of the book, and its part of 64 MiB for rows of pairs;
@@ -56,18 +65,35 @@ pub fn solve<R: Threads + Sync>(rt: &R, alloc: Global, q: &Problem, s: &Settings
     requires rows { s.now.rows ≤ 4194304 }
     ensures { IsSolved result q.now s.now.threads s.now.budget s.now.prove }
 {
-    if s.threads == 1 && s.budget > SHORT_BUDGET && is_small(q) {
-        let short = Settings {
-            budget: SHORT_BUDGET,
-            rows: 0,
-            ..*s
-        };
+    if let Some(short) = short_of(q, s) {
         match solve_with(rt, alloc, q, &short, &OpenGate) {
             Solved::Unknown(_) => (),
             decided => return decided,
         }
     }
     solve_with(rt, alloc, q, s, &OpenGate)
+}
+
+/// Decides a problem as `solve` does by one worker without a log. It needs no leave to make threads.
+pub fn solve_alone(alloc: Global, q: &Problem, seed: u64, budget: u64, rows: u32) -> Solved
+    requires budget { budget < 2 ^ 63 }
+    requires rows { rows ≤ 4194304 }
+    ensures { IsSolved result q.now 1 budget false }
+{
+    let s = Settings {
+        threads: 1,
+        seed,
+        budget,
+        rows,
+        prove: false,
+    };
+    if let Some(short) = short_of(q, &s) {
+        match search_alone(alloc, q, &short) {
+            Solved::Unknown(_) => (),
+            decided => return decided,
+        }
+    }
+    search_alone(alloc, q, &s)
 }
 
 /// The same, where each worker comes to the gate at its start, before each guess and at each restart.
@@ -85,14 +111,14 @@ pub fn solve_with<R: Threads + Sync, G: Gate + Sync>(
     ensures { IsSolved result q.now s.now.threads s.now.budget s.now.prove }
 {
     if s.prove {
-        return solve_with_log(rt, alloc, q, s, gate);
+        return solve_with_proof(rt, alloc, q, s, gate);
     }
     let maker = KeepsNothing::new(q);
-    share_kinds::<R, G, Unlogged, KeepsNothing>(rt, alloc, q, s, gate, &maker, Silent)
+    search_beside::<R, G, Unlogged, KeepsNothing>(rt, alloc, q, s, gate, &maker, Silent)
 }
 
-/// The same, with a log of what a refutation rests on.
-fn solve_with_log<R: Threads + Sync, G: Gate + Sync>(
+/// The same, with a proof where no embedding exists.
+fn solve_with_proof<R: Threads + Sync, G: Gate + Sync>(
     rt: &R,
     alloc: Global,
     q: &Problem,
@@ -111,12 +137,12 @@ fn solve_with_log<R: Threads + Sync, G: Gate + Sync>(
     let ground = Ground::new(alloc, &lines);
     let maker = KeepsLines::new(q, &ground);
     let told = Causes::new(alloc);
-    share_kinds::<R, G, OwnerLog, KeepsLines>(rt, alloc, q, s, gate, &maker, told)
+    search_beside::<R, G, OwnerLog, KeepsLines>(rt, alloc, q, s, gate, &maker, told)
 }
 
-/// Makes the kinds of pairs, which all workers share, and decides the problem from its root, with loggers and a proof by this maker, and a
-/// recorder that was told nothing.
-fn share_kinds<R: Threads + Sync, G: Gate + Sync, L: ProofLogger + Send, M: ProofMaker<L>>(
+/// Has the workers search beside each other, with loggers and a proof by this maker, and a recorder that was told nothing. All of them
+/// share the kinds of pairs.
+fn search_beside<R: Threads + Sync, G: Gate + Sync, L: ProofLogger + Send, M: ProofMaker<L>>(
     rt: &R,
     alloc: Global,
     q: &Problem,
@@ -146,18 +172,43 @@ where
         maker,
         settings: s,
     };
-    decide_root(rt, &root, told, gate)
+    match team_of(&root, told) {
+        Ok(team) => decide_beside(rt, &root, team, gate),
+        Err(answer) => answer,
+    }
 }
 
-/// Takes the root, with a recorder that was told nothing, and decides the problem from there.
-fn decide_root<'a, R: Threads + Sync, G: Gate + Sync, L: ProofLogger + Send, M: ProofMaker<L>>(
-    rt: &R,
+/// Has one worker search, without a log.
+fn search_alone(alloc: Global, q: &Problem, s: &Settings) -> Solved
+    requires one { s.now.threads ≡ 1 }
+    requires unlogged { s.now.prove ≡ false }
+    requires budget { s.now.budget < 2 ^ 63 }
+    requires rows { s.now.rows ≤ 4194304 }
+    ensures { IsSolved result q.now 1 s.now.budget false }
+{
+    let maker = KeepsNothing::new(q);
+    let Ok(kinds) = PairKinds::new(alloc, q) else {
+        return Solved::NoMemory;
+    };
+    let root = Root {
+        alloc,
+        q,
+        kinds: &kinds,
+        maker: &maker,
+        settings: s,
+    };
+    match team_of::<Unlogged, KeepsNothing>(&root, Silent) {
+        Ok(team) => decide_in_turn(&root, team),
+        Err(answer) => answer,
+    }
+}
+
+/// The team that is to search below the root, with a recorder that was told nothing; or the answer, where the root gives it or memory was
+/// refused.
+fn team_of<'a, L: ProofLogger, M: ProofMaker<L>>(
     root: &Root<'_, 'a, M>,
     told: L::Told,
-    gate: &G,
-) -> Solved
-where
-    L::Told: Send,
+) -> Result<Team<'a, L>, Solved>
     requires kinds { root.now.kinds.now.problem ≡ root.now.q.now }
     requires maker { M.problem root.now.maker.now ≡ root.now.q.now }
     requires told { Tells root.now.q.now None
@@ -166,13 +217,18 @@ where
     requires few { root.now.settings.now.threads ≤ 64 }
     requires budget { root.now.settings.now.budget < 2 ^ 63 }
     requires rows { root.now.settings.now.rows ≤ 4194304 }
-    ensures { IsSolved result root.now.q.now root.now.settings.now.threads
-        root.now.settings.now.budget (M.logged root.now.maker.now) }
+    ensures team { IfOk result (IsTeam L.owner root.now.q.now root.now.settings.now.threads
+        root.now.settings.now.budget) }
+    ensures answer { IfErr result (λ answer. IsSolved answer root.now.q.now
+        root.now.settings.now.threads root.now.settings.now.budget (M.logged root.now.maker.now)) }
 {
     match take_root::<WordTrail, L::Told>(root.alloc, root.q, root.kinds, MOST_WORDS, told) {
-        Rooted::Quiet(domains, told) => search_below_root(rt, root, domains, told, gate),
-        Rooted::Failed(failure, told) => answer_of_root(root, &told, failure),
-        Rooted::NoMemory => Solved::NoMemory,
+        Rooted::Quiet(domains, told) => match make_team(root, domains, told) {
+            Ok(team) => Ok(team),
+            Err(_) => Err(Solved::NoMemory),
+        },
+        Rooted::Failed(failure, told) => Err(answer_of_root(root, &told, failure)),
+        Rooted::NoMemory => Err(Solved::NoMemory),
     }
 }
 
@@ -213,54 +269,11 @@ fn root_proof<L: ProofLogger, M: ProofMaker<L>>(
     maker.of_root(alloc, log)
 }
 
-/// Makes the book and the workers, and has them search from the domains of the root, with what was told of them.
-fn search_below_root<
-    'a,
-    R: Threads + Sync,
-    G: Gate + Sync,
-    L: ProofLogger + Send,
-    M: ProofMaker<L>,
->(rt: &R, root: &Root<'_, 'a, M>, domains: Domains<WordTrail>, told: L::Told, gate: &G) -> Solved
-where
-    L::Told: Send,
-    requires kinds { root.now.kinds.now.problem ≡ root.now.q.now }
-    requires is_of { IsOf root.now.q.now domains }
-    requires rest { AtRest root.now.q.now [] domains }
-    requires told { IsTold root.now.q.now None domains [] [] (L.Told.changes told) }
-    requires maker { M.problem root.now.maker.now ≡ root.now.q.now }
-    requires some { 1 ≤ root.now.settings.now.threads }
-    requires few { root.now.settings.now.threads ≤ 64 }
-    requires budget { root.now.settings.now.budget < 2 ^ 63 }
-    requires rows { root.now.settings.now.rows ≤ 4194304 }
-    ensures { IsSolved result root.now.q.now root.now.settings.now.threads
-        root.now.settings.now.budget (M.logged root.now.maker.now) }
-{
-    let Ok((book, mut first)) = RowBook::new(root.alloc, root.q, root.settings.rows) else {
-        return Solved::NoMemory;
-    };
-    match make_team(root, domains, told, &book, &mut first) {
-        Ok(jobs) => search_by_team(rt, root, &book, &mut first, jobs, gate),
-        Err(_) => Solved::NoMemory,
-    }
-}
-
-/// Room for an account and a log of each of so many workers.
-fn rooms<L: ProofLogger>(alloc: Global, threads: u32) -> Result<(Vec<Account>, Vec<L>), AllocError>
-    ensures accounts { IfOk result (λ r. (r.0.items ≡ []) × (threads ≤ vec_capacity r.0)) }
-    ensures logs { IfOk result (λ r. (r.1.items ≡ []) × (threads ≤ vec_capacity r.1)) }
-{
-    let accounts = Vec::with_capacity(alloc, threads as usize)?;
-    let logs = Vec::with_capacity(alloc, threads as usize)?;
-    Ok((accounts, logs))
-}
-
-/// Runs the workers, and answers what they say together.
-fn search_by_team<'a, R: Threads + Sync, G: Gate + Sync, L: ProofLogger + Send, M: ProofMaker<L>>(
+/// Runs the workers of a team beside each other, and answers what they say together.
+fn decide_beside<'a, R: Threads + Sync, G: Gate + Sync, L: ProofLogger + Send, M: ProofMaker<L>>(
     rt: &R,
     root: &Root<'_, 'a, M>,
-    book: &RowBook,
-    first: &mut BookSeat,
-    jobs: Vec<Worker<'a, BookSeat, WordTrail, L>>,
+    team: Team<'a, L>,
     gate: &G,
 ) -> Solved
 where
@@ -268,21 +281,47 @@ where
     requires maker { M.problem root.now.maker.now ≡ root.now.q.now }
     requires some { 1 ≤ root.now.settings.now.threads }
     requires few { root.now.settings.now.threads ≤ 64 }
-    requires jobs { All
-        (λ w. IsJob L.owner book.now root.now.q.now root.now.settings.now.budget w) jobs.items }
-    requires numbers { AreOfOwners (λ w. w.number) jobs.items }
-    requires count { length jobs.items ≡ root.now.settings.now.threads }
-    requires of { IsSeatOf book.now first.old }
-    requires made { HasMade (root.now.settings.now.threads + 1) first.old.view }
+    requires team { IsTeam L.owner root.now.q.now root.now.settings.now.threads
+        root.now.settings.now.budget team }
     ensures { IsSolved result root.now.q.now root.now.settings.now.threads
         root.now.settings.now.budget (M.logged root.now.maker.now) }
 {
-    let Ok((accounts, logs)) = rooms(root.alloc, root.settings.threads) else {
-        return Solved::NoMemory;
-    };
+    let Team {
+        book,
+        mut first,
+        jobs,
+        accounts,
+        logs,
+    } = team;
     let budget = root.settings.budget;
-    match run_team(rt, root.alloc, root.q, budget, book, gate, jobs) {
-        Ok(done) => conclude(root, book, first, accounts, logs, done),
+    match run_beside(rt, root.alloc, root.q, budget, &book, gate, jobs) {
+        Ok(done) => conclude(root, &book, &mut first, accounts, logs, done),
+        Err(_) => Solved::NoMemory,
+    }
+}
+
+/// Runs the workers of a team in turn, and answers what they say together.
+fn decide_in_turn<'a, L: ProofLogger, M: ProofMaker<L>>(
+    root: &Root<'_, 'a, M>,
+    team: Team<'a, L>,
+) -> Solved
+    requires maker { M.problem root.now.maker.now ≡ root.now.q.now }
+    requires some { 1 ≤ root.now.settings.now.threads }
+    requires few { root.now.settings.now.threads ≤ 64 }
+    requires team { IsTeam L.owner root.now.q.now root.now.settings.now.threads
+        root.now.settings.now.budget team }
+    ensures { IsSolved result root.now.q.now root.now.settings.now.threads
+        root.now.settings.now.budget (M.logged root.now.maker.now) }
+{
+    let Team {
+        book,
+        mut first,
+        jobs,
+        accounts,
+        logs,
+    } = team;
+    match run_in_turn(root.alloc, root.q, root.settings.budget, &book, jobs) {
+        Ok(done) => conclude(root, &book, &mut first, accounts, logs, done),
         Err(_) => Solved::NoMemory,
     }
 }

@@ -9,7 +9,8 @@ ghost use Rattle.parallel_solve.specs.Solving.{IsSolved};
 ghost use Rattle.parallel_solve.specs.Teaming.{HasRun, IsRefuter, IsTally, refuted_by, StaysBeside};
 
 use crate::answers::Solved;
-use crate::team::{Done, Root};
+use crate::running::Done;
+use crate::team::Root;
 use fail_account::account::Account;
 use graph_rows::Problem;
 use nogood_book::{BookSeat, Row, RowBook, RowSeat};

@@ -1,20 +1,20 @@
-//! The workers of one solve: their making, their runs beside each other, and the runs of those that were stopped.
+//! The workers of one solve, and what they share, as they are before they run.
 
-ghost use Rattle.std.specs.Prelude.{◌≡◌, [], ◌≤◌, ◌<◌, ◌^◌, ◌+◌, true, false, None, length, All, IfOk, OnOk};
-ghost use Rattle.std.specs.List.{Any};
+ghost use Rattle.std.specs.Prelude.{◌≡◌, [], ◌≤◌, ◌<◌, ◌^◌, ◌+◌, None, length, All, IfOk, OnOk, vec_capacity};
 ghost use Rattle.graph_theory.specs.Graph.{size};
 ghost use Rattle.search_theory.specs.Account.{fresh};
 ghost use Rattle.recorder.specs.Telling.{IsOf};
 ghost use Rattle.nogood_book.specs.Seats.{IsSeatOf};
-ghost use Rattle.restart_search.specs.Searching.{AtRest, IsNotStopped};
+ghost use Rattle.restart_search.specs.Searching.{AtRest};
 ghost use Rattle.restart_search.specs.Logging.{IsTold};
 ghost use Rattle.proof_collection.specs.Making.{AreOfOwners};
 ghost use Rattle.parallel_solve.specs.Gathering.{HasMade};
-ghost use Rattle.parallel_solve.specs.Teaming.{IsJob, HasRun, Decides, AreSettled};
+ghost use Rattle.parallel_solve.specs.Teaming.{IsJob};
+ghost use Rattle.parallel_solve.specs.Teams.{IsTeam};
 
 use crate::answers::Settings;
-use crate::job::{Job, run_all};
 use domain_bits::{Domains, WordTrail};
+use fail_account::Account;
 use graph_rows::Problem;
 use nogood_book::{BookSeat, RowBook};
 use pair_supports::{MOST_WORDS, PairKinds};
@@ -22,45 +22,8 @@ use proof_collection::ProofMaker;
 use proof_logger::ProofLogger;
 use propagation::Filters;
 use recorder::Recorder;
-use restart_search::{Equipment, Outcome, Worker, WorkerSettings};
+use restart_search::{Equipment, Worker, WorkerSettings};
 use std::alloc::{AllocError, Global};
-use std::thread::Threads;
-use worker_gate::{AnswerCell, Gate};
-
-/// What all workers of a solve read.
-#[derive(Drop)]
-struct Shared<'r, 'a, G: Gate> {
-    alloc: Global,
-    book: &'r RowBook,
-    cell: &'r AnswerCell<'a>,
-    gate: &'r G,
-    problem: &'a Problem,
-    budget: u64,
-}
-
-/// A worker that has run, and how its run ended.
-#[derive(Drop)]
-pub(crate) struct Done<'a, L: ProofLogger> {
-    pub(crate) worker: Worker<'a, BookSeat, WordTrail, L>,
-    pub(crate) outcome: Outcome<'a>,
-}
-
-impl<'r, 'a, G: Gate, L: ProofLogger> Job<Shared<'r, 'a, G>>
-    for Worker<'a, BookSeat, WordTrail, L> {
-    type Done = Done<'a, L>;
-
-    ghost ready = { λ c w. IsJob L.owner c.book.now c.problem.now c.budget w };
-
-    ghost ran = { λ c w d. HasRun L.owner L.steps L.refutes c.book.now c.problem.now c.budget
-        d.worker d.outcome
-        × (d.worker.number ≡ w.number) };
-
-    fn go(self, shared: &Shared<'r, 'a, G>) -> Done<'a, L> {
-        let mut worker = self;
-        let outcome = worker.run(shared.alloc, shared.book, Some(shared.cell), shared.gate);
-        Done { worker, outcome }
-    }
-}
 
 /// What a solve reads from its root on: the problem with the kinds of its pairs, the maker of logs, and what was asked for.
 #[derive(Drop)]
@@ -70,6 +33,16 @@ pub(crate) struct Root<'r, 'a, M> {
     pub(crate) kinds: &'a PairKinds<'a>,
     pub(crate) maker: &'r M,
     pub(crate) settings: &'r Settings,
+}
+
+/// The workers of a solve before they run, the book that they share with its first seat, and room for the account and the log of each.
+#[derive(Drop)]
+pub(crate) struct Team<'a, L: ProofLogger> {
+    pub(crate) book: RowBook,
+    pub(crate) first: BookSeat,
+    pub(crate) jobs: Vec<Worker<'a, BookSeat, WordTrail, L>>,
+    pub(crate) accounts: Vec<Account>,
+    pub(crate) logs: Vec<L>,
 }
 
 /// What the worker of this number works with: domains and a record of what was told of its own, and its part of the room for rows of pairs.
@@ -180,14 +153,22 @@ fn make_jobs<'a, L: ProofLogger, M: ProofMaker<L>>(
     Ok(())
 }
 
-/// The workers of a solve, from the domains of the root, with what was told of them: each takes a copy, and they are dropped.
+/// Room for an account and a log of each of so many workers.
+fn rooms<L: ProofLogger>(alloc: Global, threads: u32) -> Result<(Vec<Account>, Vec<L>), AllocError>
+    ensures accounts { IfOk result (λ r. (r.0.items ≡ []) × (threads ≤ vec_capacity r.0)) }
+    ensures logs { IfOk result (λ r. (r.1.items ≡ []) × (threads ≤ vec_capacity r.1)) }
+{
+    let accounts = Vec::with_capacity(alloc, threads as usize)?;
+    let logs = Vec::with_capacity(alloc, threads as usize)?;
+    Ok((accounts, logs))
+}
+
+/// The team of a solve, from the domains of the root, with what was told of them: each worker takes a copy, and they are dropped.
 pub(crate) fn make_team<'a, L: ProofLogger, M: ProofMaker<L>>(
     root: &Root<'_, 'a, M>,
     domains: Domains<WordTrail>,
     told: L::Told,
-    book: &RowBook,
-    first: &mut BookSeat,
-) -> Result<Vec<Worker<'a, BookSeat, WordTrail, L>>, AllocError>
+) -> Result<Team<'a, L>, AllocError>
     requires kinds { root.now.kinds.now.problem ≡ root.now.q.now }
     requires is_of { IsOf root.now.q.now domains }
     requires rest { AtRest root.now.q.now [] domains }
@@ -196,137 +177,19 @@ pub(crate) fn make_team<'a, L: ProofLogger, M: ProofMaker<L>>(
     requires some { 1 ≤ root.now.settings.now.threads }
     requires few { root.now.settings.now.threads ≤ 64 }
     requires budget { root.now.settings.now.budget < 2 ^ 63 }
-    requires book { book.now.problem ≡ root.now.q.now }
-    requires of { IsSeatOf book.now first.old }
-    requires made { HasMade 1 first.old.view }
-    requires unseen { first.old.view.seen ≡ [] }
-    ensures jobs { IfOk result (λ v. All
-        (λ w. IsJob L.owner book.now root.now.q.now root.now.settings.now.budget w) v.items) }
-    ensures numbers { IfOk result (λ v. AreOfOwners (λ w. w.number) v.items) }
-    ensures count { IfOk result (λ v. length v.items ≡ root.now.settings.now.threads) }
-    ensures of { IsSeatOf book.now first.new }
-    ensures made { OnOk result (HasMade (root.now.settings.now.threads + 1) first.new.view) }
+    requires rows { root.now.settings.now.rows ≤ 4194304 }
+    ensures { IfOk result (IsTeam L.owner root.now.q.now root.now.settings.now.threads
+        root.now.settings.now.budget) }
 {
+    let (accounts, logs) = rooms(root.alloc, root.settings.threads)?;
+    let (book, mut first) = RowBook::new(root.alloc, root.q, root.settings.rows)?;
     let mut jobs = Vec::new(root.alloc);
-    make_jobs(root, &domains, &told, book, first, &mut jobs)?;
-    Ok(jobs)
-}
-
-/// Whether the outcome decides the problem.
-fn decides(outcome: &Outcome) -> bool
-    ensures yes { result ≡ true → Decides outcome.now }
-    ensures no { result ≡ false → Decides outcome.now → ⊥ }
-{
-    match outcome {
-        Outcome::Found(_) => true,
-        Outcome::Refuted => true,
-        Outcome::Spent => false,
-        Outcome::Stopped(_) => false,
-        Outcome::NoMemory => false,
-    }
-}
-
-/// Whether one of the workers decides the problem.
-fn is_decided<'a, L: ProofLogger>(done: &[Done<'a, L>]) -> bool
-    ensures { result ≡ true → Any (λ d. Decides d.outcome) done.now }
-{
-    for place in 0..done.len() {
-        if decides(&done[place].outcome) {
-            return true;
-        }
-    }
-    false
-}
-
-/// Runs a stopped worker again, without a cell, and says whether it decides the problem.
-fn go_on<'a, G: Gate, L: ProofLogger>(
-    alloc: Global,
-    q: &Problem,
-    budget: u64,
-    book: &RowBook,
-    gate: &G,
-    one: &mut Done<'a, L>,
-) -> bool
-    requires { HasRun L.owner L.steps L.refutes book.now q.now budget one.old.worker
-        one.old.outcome }
-    ensures ran { HasRun L.owner L.steps L.refutes book.now q.now budget one.new.worker
-        one.new.outcome }
-    ensures number { one.new.worker.number ≡ one.old.worker.number }
-    ensures alone { IsNotStopped one.new.outcome }
-    ensures decided { result ≡ true → Decides one.new.outcome }
-{
-    match &one.outcome {
-        Outcome::Stopped(_) => (),
-        Outcome::Found(_) => return false,
-        Outcome::Refuted => return false,
-        Outcome::Spent => return false,
-        Outcome::NoMemory => return false,
-    }
-    one.outcome = one.worker.run(alloc, book, None, gate);
-    decides(&one.outcome)
-}
-
-/// Where no worker has decided the problem, runs those that were stopped again, in their order, until one decides.
-fn finish<'a, G: Gate, L: ProofLogger>(
-    alloc: Global,
-    q: &Problem,
-    budget: u64,
-    book: &RowBook,
-    gate: &G,
-    done: &mut Vec<Done<'a, L>>,
-)
-    requires ran { All
-        (λ d. HasRun L.owner L.steps L.refutes book.now q.now budget d.worker d.outcome)
-        done.old.items }
-    requires numbers { AreOfOwners (λ d. d.worker.number) done.old.items }
-    ensures ran { All
-        (λ d. HasRun L.owner L.steps L.refutes book.now q.now budget d.worker d.outcome)
-        done.new.items }
-    ensures numbers { AreOfOwners (λ d. d.worker.number) done.new.items }
-    ensures count { length done.new.items ≡ length done.old.items }
-    ensures settled { AreSettled (λ d. d.outcome) done.new.items }
-{
-    if is_decided(done) {
-        return;
-    }
-    for place in 0..done.len() {
-        if go_on(alloc, q, budget, book, gate, &mut done[place]) {
-            return;
-        }
-    }
-}
-
-/// Runs all workers beside each other; where none of them has decided the problem, then those that were stopped, one after another.
-pub(crate) fn run_team<'a, R: Threads + Sync, G: Gate + Sync, L: ProofLogger + Send>(
-    rt: &R,
-    alloc: Global,
-    q: &'a Problem,
-    budget: u64,
-    book: &RowBook,
-    gate: &G,
-    jobs: Vec<Worker<'a, BookSeat, WordTrail, L>>,
-) -> Result<Vec<Done<'a, L>>, AllocError>
-where
-    L::Told: Send,
-    requires jobs { All (λ w. IsJob L.owner book.now q.now budget w) jobs.items }
-    requires numbers { AreOfOwners (λ w. w.number) jobs.items }
-    ensures ran { IfOk result (λ v. All
-        (λ d. HasRun L.owner L.steps L.refutes book.now q.entry.now budget d.worker d.outcome)
-        v.items) }
-    ensures numbers { IfOk result (λ v. AreOfOwners (λ d. d.worker.number) v.items) }
-    ensures count { IfOk result (λ v. length v.items ≡ length jobs.entry.items) }
-    ensures settled { IfOk result (λ v. AreSettled (λ d. d.outcome) v.items) }
-{
-    let cell = AnswerCell::new(alloc);
-    let shared = Shared {
-        alloc,
+    make_jobs(root, &domains, &told, &book, &mut first, &mut jobs)?;
+    Ok(Team {
         book,
-        cell: &cell,
-        gate,
-        problem: q,
-        budget,
-    };
-    let mut done = run_all(rt, &shared, jobs)?;
-    finish(alloc, q, budget, book, gate, &mut done);
-    Ok(done)
+        first,
+        jobs,
+        accounts,
+        logs,
+    })
 }

@@ -3,7 +3,7 @@ use Rattle.std.specs.Prelude.{All, IfSome}
 use Rattle.std.proofs.lemmas.List.{length-map}
 use Rattle.nogood_book.specs.declared.row.Row.{Row}
 use Rattle.proof_collection.specs.Making.{AreBy, AreOfOwners}
-use Rattle.parallel_solve.specs.declared.team.Done.{Done}
+use Rattle.parallel_solve.specs.declared.running.Done.{Done}
 use Rattle.parallel_solve.specs.Teaming.{IsRefuter, StaysBeside}
 use Rattle.parallel_solve.proofs.Runs.{owners_made}
 use Rattle.parallel_solve.proofs.Growth.{says_more, all_say, refuter_among}

@@ -2,7 +2,7 @@ use Rattle.std.proofs.Common.{◌≡◌, ℕ, ◌∷◌, [], ◌++◌, List, len
 use Rattle.std.specs.Prelude.{All, IfSome, slice_index_or}
 use Rattle.std.specs.Vec.Iter.{into_iter_items}
 use Rattle.std.proofs.lemmas.List.Elements.{All-push}
-use Rattle.parallel_solve.specs.declared.team.Done.{Done}
+use Rattle.parallel_solve.specs.declared.running.Done.{Done}
 use Rattle.parallel_solve.specs.Gathering.{TookIn}
 use Rattle.parallel_solve.specs.Teaming.{HasRun, IsRefuter}
 use Rattle.parallel_solve.proofs.Gathering.{authors, rows_came}

@@ -1,7 +1,7 @@
 use Rattle.std.proofs.Common.{sym, subst}
-use Rattle.parallel_solve.specs.declared.team.Done.{Done}
+use Rattle.parallel_solve.specs.declared.running.Done.{Done}
 use Rattle.parallel_solve.specs.Teaming.{Decides}
-use Rattle.parallel_solve.proofs.team.is_decided.Goals as goal
+use Rattle.parallel_solve.proofs.running.is_decided.Goals as goal
 
 pub returns-then-decides : goal.returns-then-decides
 returns-then-decides g c =

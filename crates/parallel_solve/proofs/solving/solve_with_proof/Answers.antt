@@ -3,9 +3,9 @@ use Rattle.graph_theory.specs.Graph.{size}
 use Rattle.domain_bits.specs.Removals.{full}
 use Rattle.recorder.specs.Recording.{Change, Recorded}
 use Rattle.recorder.specs.Telling.{Tells, begins}
-use Rattle.parallel_solve.proofs.solving.solve_with_log.Goals as goal
+use Rattle.parallel_solve.proofs.solving.solve_with_proof.Goals as goal
 
-pub share_kinds-requires-clause-told : goal.share_kinds-requires-clause-told
-share_kinds-requires-clause-told g c κs within =
+pub search_beside-requires-clause-told : goal.search_beside-requires-clause-told
+search_beside-requires-clause-told g c κs within =
     subst (λ (told : Option (List Change)). Tells c.args.q.now None (full (size c.args.q.now.pattern) (size c.args.q.now.target)) told)
     (sym (ap (λ (r : Recorded). r.changes) c.new-told.ensures)) (begins (size c.args.q.now.pattern) (size c.args.q.now.target))

@@ -1,10 +1,10 @@
 use Rattle.std.proofs.Common.{◌≡◌, ◌∙◌}
 use Rattle.nogood_book.specs.Seats.{SeatName}
 use Rattle.restart_search.specs.Searching.{Search}
-use Rattle.parallel_solve.specs.declared.team.Done.{Done}
+use Rattle.parallel_solve.specs.declared.running.Done.{Done}
 use Rattle.parallel_solve.specs.Teaming.{HasRun}
 use Rattle.parallel_solve.proofs.Runs.{all_run, numbers_run}
-use Rattle.parallel_solve.proofs.team.run_team.Goals as goal
+use Rattle.parallel_solve.proofs.running.run_beside.Goals as goal
 
 pub finish-requires-clause-ran : goal.finish-requires-clause-ran
 finish-requires-clause-ran g c =

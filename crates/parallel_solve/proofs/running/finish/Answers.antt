@@ -4,10 +4,10 @@ use Rattle.std.proofs.lemmas.List.{length-set}
 use Rattle.std.proofs.lemmas.List.Elements.{All-set}
 use Rattle.std.proofs.lemmas.List.Quantifiers.{any-set}
 use Rattle.restart_search.specs.Searching.{IsNotStopped}
-use Rattle.parallel_solve.specs.declared.team.Done.{Done}
+use Rattle.parallel_solve.specs.declared.running.Done.{Done}
 use Rattle.parallel_solve.specs.Teaming.{HasRun, Decides}
 use Rattle.parallel_solve.proofs.Runs.{numbers_set, all_taken, taken_set}
-use Rattle.parallel_solve.proofs.team.finish.Goals as goal
+use Rattle.parallel_solve.proofs.running.finish.Goals as goal
 
 pub go_on-requires : goal.go_on-requires
 go_on-requires g c =

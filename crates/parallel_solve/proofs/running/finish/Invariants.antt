@@ -2,7 +2,7 @@ use Rattle.std.specs.Prelude.{◌≡◌, length, take, All}
 use Rattle.restart_search.specs.Searching.{IsNotStopped}
 use Rattle.proof_collection.specs.Making.{AreOfOwners}
 use Rattle.parallel_solve.specs.Teaming.{HasRun}
-use Rattle.parallel_solve.proofs.team.finish.Given as goal
+use Rattle.parallel_solve.proofs.running.finish.Given as goal
 
 abbrev pub invariant-loop-place : goal.invariant-loop-place
 invariant-loop-place g l = record {
