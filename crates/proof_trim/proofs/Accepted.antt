@@ -1,6 +1,5 @@
 -- From the steps of an accepted log to its trimmed text.
-use Rattle.std.proofs.Common.{◌⊎◌, inl, inr, ◌≡◌, ◌≢◌, ℕ, zero, suc, ◌+◌, ◌<◌, ◌^◌, Bool, true, false, cond, List, [], ◌∷◌, ◌++◌, length, map, Option, Some, Result, Ok, refl, sym, ap, ◌∙◌, subst, arith}
-use Rattle.std.specs.Prelude.{slice_get}
+use Rattle.std.proofs.Common.{inl, inr, ◌≡◌, ◌≢◌, ℕ, suc, ◌+◌, ◌<◌, ◌^◌, Bool, true, List, [], ◌∷◌, length, map, Some, Result, Ok, refl, sym, ap, ◌∙◌, subst, arith}
 use Rattle.log_theory.specs.declared.profile.Profile.{Profile}
 use Rattle.log_theory.specs.declared.profile.Profile.TheVariants.{Hinted, Plain}
 use Rattle.log_theory.specs.declared.step.Cause.{Cause}
@@ -13,28 +12,26 @@ use Rattle.log_theory.specs.declared.step.Verdict.{Verdict}
 use Rattle.proof_theory.specs.Forms.{Form}
 use Rattle.proof_theory.specs.Propagation.{IsAmong}
 use Rattle.log_theory.specs.Steps.{◌>>=◌, or_fault}
-use Rattle.log_theory.specs.LogText.{IsStep}
-use Rattle.log_theory.specs.Profiles.{told_in, IsStepIn}
+use Rattle.log_theory.specs.Profiles.{told_in}
 use Rattle.log_theory.specs.Tables.{Table, empty_table, find, step_in}
 use Rattle.log_theory.specs.declared.step.Verdict.TheVariants.{Unsatisfiable, Satisfiable, Undecided, Refused, NoMemory as Unanswered}
-use Rattle.log_theory.specs.Verdicts.{IsClaim, Proving, Progress, Goes, Ends, progress_of}
+use Rattle.log_theory.specs.Verdicts.{IsClaim, Proving, Goes, Ends, progress_of}
 use Rattle.log_theory.specs.Acceptance.{lines_text, Accepts}
 use Rattle.log_theory.proofs.LogSound.{bind_ok, or_fault_ok}
 use Rattle.journal_theory.specs.Referring.{step_refs}
 use Rattle.journal_theory.specs.Journals.{IsMaking}
-use Rattle.journal_theory.specs.Stepping.{step_line, IsWritten, AreWritten}
+use Rattle.journal_theory.specs.Stepping.{step_line, LinesLaw}
 use Rattle.trim_theory.specs.Trimming.{StepsIn, made_names, HintsStand, Trims}
-use Rattle.trim_theory.specs.Logs.{AreSteps, ended_log, TrimsText}
-use Rattle.trim_theory.specs.Marking.{made_lines, place_at, keeps, marked_log, new_ref, new_last, IsLast, Marked, MarkLaw}
+use Rattle.trim_theory.specs.Logs.{AreSteps, ended_log}
+use Rattle.trim_theory.specs.Marking.{made_lines, keeps, marked_log, new_ref, new_last, IsLast, Marked, MarkLaw}
 use Rattle.trim_theory.proofs.Distinct.{names_distinct}
 use Rattle.trim_theory.proofs.Marking.{ground}
 use Rattle.trim_theory.proofs.Placed.{Placed, all_placed}
 use Rattle.trim_theory.proofs.Telling.{Told, steps_told}
-use Rattle.trim_theory.proofs.Writing.{AreInRange, hinted_written, trimmed_written}
 use Rattle.proof_trim.specs.Ranks.{mark_at}
 use Rattle.proof_trim.specs.Reading.{AreStepsIn, IsReadLog}
 use Rattle.proof_trim.specs.Trimmed.{AreHinted}
-use Rattle.proof_trim.specs.Trimmed.{IsRenewed, IsTrimmed}
+use Rattle.proof_trim.specs.Trimmed.{IsRenewed, IsRenewedText, IsTrimmed}
 use Rattle.proof_trim.proofs.Renewing.{marked_all}
 
 -- ---- the last line
@@ -115,10 +112,6 @@ long_map : (profile : Profile) (xs : List Step) → length (map (told_in profile
 long_map profile [] = refl
 long_map profile (x ∷ xs) = ap suc (long_map profile xs)
 
-parted : (n : ℕ) (ss : List Step) (s : Step) → AreWritten n (ss ++ s ∷ []) → AreSteps ss × IsStep s
-parted n [] s w = (tt, w.0.is_step)
-parted n (u ∷ ss) s w = let r = parted n ss s w.1 in ((w.0.is_step, r.0), r.1)
-
 -- What the parts of a trimmer know of an accepted log.
 pub record Parts (n : ℕ) (model : List Form) (log : List ℕ) (claim : Verdict) (profile : Profile) (steps : List Step) (last : Step) (hinted lines : List Step) (end : Step) (made : ℕ) : Type 0 where
   pub accepts : Accepts n model log claim
@@ -166,18 +159,6 @@ module _ (mark_law : MarkLaw) (n : ℕ) (model : List Form) (log : List ℕ) (cl
   in_range : AreSteps trims.0.hinted
   in_range = subst AreSteps (sym trims.1) parts.hints.in_range
 
-  range : AreInRange n (map (told_in profile) trims.0.hinted)
-  range = subst (AreInRange n) (sym trims.0.told) told.variables
-
-  written : AreWritten n (ended_log model lines end)
-  written = subst (λ (ss : List Step). AreWritten n (ended_log model ss end)) (sym trims.0.deleted)
-      (trimmed_written n model trims.0.keep trims.0.hinted trims.0.lines last end parts.model_few (let l = parts.few in omega (arith, l, ap (λ (ss : List Step). length ss) trims.1))
-      (hinted_written n profile trims.0.hinted in_range range) (record { is_step = parts.read.last_in_range; variables = told.last_variables }) trims.0.renamed trims.0.ends)
-
-  -- Its lines can be written.
-  pub lines_fit : AreSteps lines × IsStep end
-  lines_fit = parted n lines end written.1.1
-
   -- What is written is the trimmed log.
   pub trimmed_text : (text : List ℕ) (kept : ℕ) → text ≡ lines_text (map step_line (ended_log model lines end)) → kept ≡ length (made_lines lines) → IsTrimmed model log text made kept
   trimmed_text text kept text_is kept_is = record {
@@ -198,18 +179,12 @@ module _ (mark_law : MarkLaw) (n : ℕ) (model : List Form) (log : List ℕ) (cl
     kept_is = kept_is;
   }
 
--- The parts, as the code has them.
-pub parts_of : (n : ℕ) (model fs : List Form) (log : List ℕ) (claim : Verdict) (profile q : Profile) (steps us : List Step) (last u : Step) (hinted lines : List Step) (end : Step) (made : ℕ) → fs ≡ model → q ≡ profile → us ≡ steps → u ≡ last
-    → Accepts n model log claim → IsReadLog q log us u → AreHinted profile fs steps hinted → IsRenewed hinted last lines end made → length hinted < 2 ^ 63 → length model < 2 ^ 63
-    → Parts n model log claim profile steps last hinted lines end made
-parts_of n model fs log claim profile q steps us last u hinted lines end made same a b e accepts read hints renewed few model_few = record {
-  accepts = accepts;
-  read = subst (λ (x : Profile). IsReadLog x log steps last) a (subst (λ (xs : List Step). IsReadLog q log xs last) b (subst (λ (x : Step). IsReadLog q log us x) e read));
-  hints = subst (λ (gs : List Form). AreHinted profile gs steps hinted) same hints;
-  renewed = renewed;
-  few = few;
-  model_few = model_few;
-}
+-- What was read, got hints, was renewed and put is the trimmed log.
+pub trimmed_by : MarkLaw → LinesLaw → (n : ℕ) (model : List Form) (log : List ℕ) (claim : Verdict) (profile : Profile) (steps : List Step) (last : Step) (hinted : List Step) (text : List ℕ) (made kept : ℕ) → Accepts n model log claim → length model < 2 ^ 63
+    → IsReadLog profile log steps last → AreHinted profile model steps hinted → length hinted < 2 ^ 63 → IsRenewedText (length model) hinted last text made kept → IsTrimmed model log text made kept
+trimmed_by mark_law lines_law n model log claim profile steps last hinted text made kept accepts model_few read hints few put =
+    trimmed_text mark_law n model log claim profile steps last hinted put.lines put.end made
+    (record { accepts = accepts; read = read; hints = hints; renewed = put.renewed; few = few; model_few = model_few }) text kept (put.text_is ∙ sym (lines_law (ended_log model put.lines put.end))) put.kept_is
 
 -- A verdict that is no refusal, and no want of memory, is a claim.
 pub claim_is : (v : Verdict) → ((line : ℕ) (cause : Cause) → v ≡ Refused line cause → ⊥) → (v ≡ Unanswered → ⊥) → IsClaim v

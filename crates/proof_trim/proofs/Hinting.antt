@@ -1,5 +1,5 @@
 -- Hints for lines that have none: how references come to refute, and how a replay goes on.
-use Rattle.std.proofs.Common.{◌⊎◌, inl, inr, ◌≡◌, ◌≢◌, ℕ, zero, suc, ◌+◌, ◌<◌, Bool, true, false, cond, ◌||◌, List, [], ◌∷◌, ◌++◌, length, map, Option, Some, None, Result, Ok, Err, refl, sym, ap, ◌∙◌, subst, arith}
+use Rattle.std.proofs.Common.{◌≡◌, ℕ, Bool, true, false, ◌||◌, List, [], ◌∷◌, ◌++◌, map, Option, Some, Result, Ok, refl, sym, ap, ◌∙◌, subst}
 use Rattle.std.proofs.lemmas.List.{append_assoc}
 use Rattle.proof_theory.specs.declared.literal.Literal.{Literal}
 use Rattle.log_theory.specs.declared.profile.Profile.{Profile}
@@ -19,7 +19,7 @@ use Rattle.log_theory.specs.LogText.{IsRef, AreRefs, IsStep}
 use Rattle.log_theory.specs.Profiles.{told_in, IsStepIn}
 use Rattle.log_theory.specs.Lookups.{Lookup, find_all, makes, closed_clause, are_distinct, variables_of}
 use Rattle.log_theory.specs.Tables.{Table, empty_table, find, step_in, fresh_name, with_made, all_forms}
-use Rattle.log_theory.proofs.LogSound.{bind_ok, or_fault_ok}
+use Rattle.log_theory.proofs.LogSound.{bind_ok}
 use Rattle.pb_propagation.proofs.Propagation.{same_refutes, refutes_more}
 use Rattle.trim_theory.specs.Trimming.{StepsIn, LineStands, HintsStand}
 use Rattle.trim_theory.specs.Logs.{AreSteps}

@@ -1,12 +1,12 @@
 -- The lines of a text, one after the other, as steps.
-use Rattle.std.proofs.Common.{◌≡◌, ◌≢◌, ℕ, zero, suc, ◌+◌, ◌<◌, length, get_or, take, drop, arith, List, [], ◌∷◌, ◌++◌, Option, Some, refl, sym, ap, ◌∙◌, subst}
+use Rattle.std.proofs.Common.{◌≡◌, ◌≢◌, ℕ, zero, suc, ◌+◌, ◌<◌, length, get_or, take, drop, arith, List, [], ◌∷◌, ◌++◌, Some, refl, sym, ap, ◌∙◌, subst}
 use Rattle.std.proofs.lemmas.List.{append_assoc}
 use Rattle.log_theory.specs.declared.profile.Profile.{Profile}
 use Rattle.log_theory.specs.declared.step.Step.{Step}
 use Rattle.log_theory.specs.LogText.{IsStep}
 use Rattle.log_theory.specs.Profiles.{read_in, profile_of, IsStepIn}
 use Rattle.log_theory.specs.Acceptance.{NoFeed, AreLines, lines_text}
-use Rattle.trim_theory.specs.Logs.{AreRead, IsLogOf}
+use Rattle.trim_theory.specs.Logs.{AreRead}
 use Rattle.proof_trim.specs.Reading.{AreStepsIn, ReadsAs, IsReadLog}
 
 lines_more : (ls : List (List ℕ)) (l : List ℕ) → AreLines ls → NoFeed l → AreLines (ls ++ l ∷ [])

@@ -1,6 +1,9 @@
 -- From marks over an index to the trimmed log.
-use Rattle.std.proofs.Common.{◌⊎◌, inl, inr, ◌≡◌, ◌≢◌, ℕ, zero, suc, ◌+◌, ◌-◌, ◌^◌, ◌<◌, ◌≤◌, ◌==◌, Bool, true, false, cond, List, [], ◌∷◌, ◌++◌, length, map, get_or, Option, Some, None, Result, Ok, refl, sym, ap, ◌∙◌, subst, arith}
+use Rattle.std.proofs.Common.{inl, inr, ◌≡◌, ◌≢◌, ℕ, zero, suc, ◌+◌, ◌^◌, ◌<◌, ◌≤◌, ◌==◌, Bool, true, false, cond, List, [], ◌∷◌, ◌++◌, length, map, get_or, Option, Some, None, refl, sym, ap, ◌∙◌, subst, arith}
 use Rattle.std.specs.Prelude.{slice_get}
+use Rattle.std.proofs.lemmas.Grind.{flat_map-append}
+use Rattle.std.proofs.lemmas.List.{append-nil}
+use Rattle.std.proofs.lemmas.List.Concat.{flat_map-cons}
 use Rattle.std.proofs.lemmas.Option.{slice_get_within}
 use Rattle.log_theory.specs.declared.step.Name.{Name}
 use Rattle.log_theory.specs.declared.step.Op.{Op}
@@ -10,18 +13,22 @@ use Rattle.log_theory.specs.declared.step.Ref.TheVariants.{Line, Made, Shared}
 use Rattle.log_theory.specs.declared.step.Step.{Step}
 use Rattle.log_theory.specs.declared.step.Step.TheVariants.{Head, Model, P, U, N, D, E, Y, Q}
 use Rattle.proof_theory.specs.Propagation.{IsAmong}
+use Rattle.log_theory.specs.Words.{line_text}
+use Rattle.log_theory.specs.LogText.{step_words}
 use Rattle.journal_theory.specs.Referring.{step_refs}
 use Rattle.journal_theory.specs.Journals.{own_name}
 use Rattle.trim_theory.specs.Trimming.{made_names, row_name}
-use Rattle.trim_theory.specs.Marking.{made_lines, place_of, place_of_row, place_at, Marked, rank, ref_to, new_ref, new_op, new_line, new_last, marked_deletions, marked_log, IsLast}
+use Rattle.trim_theory.specs.Marking.{made_lines, place_of_row, place_at, Marked, rank, ref_to, new_ref, new_op, new_line, new_last, marked_deletions, marked_log, IsLast}
 use Rattle.trim_theory.proofs.Placed.{place_is, Placed}
 use Rattle.proof_trim.specs.declared.index.Index.{Index}
-use Rattle.proof_trim.specs.Places.{name_place, place_by, place_in, IsIndexOf}
+use Rattle.proof_trim.specs.Places.{place_by, place_in, IsIndexOf}
 use Rattle.proof_trim.specs.Marks.{IsMarked}
 use Rattle.trim_theory.proofs.Writing.{kept_few}
 use Rattle.proof_trim.specs.Ranks.{mark_at, AreRanks, renamed}
-use Rattle.proof_trim.specs.Trimmed.{IsRenewed}
+use Rattle.proof_trim.specs.Texts.{steps_text}
+use Rattle.proof_trim.specs.Trimmed.{IsRenewed, IsRenewedText}
 use Rattle.proof_trim.proofs.Indexing.{names_long}
+use Rattle.proof_trim.proofs.Advancing.{left_count}
 
 -- ---- what an index knows
 
@@ -148,6 +155,19 @@ marked_all log last marks m grounds = record {
   from = λ i j is. (m.from i j is).1;
 }
 
+-- ---- what is put
+
+text_whole : (count : ℕ) (steps : List Step) (end : Step) (head lines text : List ℕ) → head ≡ steps_text (Head ∷ Model count ∷ []) → lines ≡ head ++ steps_text steps → text ≡ lines ++ line_text (step_words end)
+    → text ≡ steps_text (Head ∷ Model count ∷ (steps ++ end ∷ []))
+text_whole count steps end head lines text head_is lines_are text_is =
+    text_is
+    ∙ ap (λ (xs : List ℕ). xs ++ line_text (step_words end)) (lines_are ∙ ap (λ (xs : List ℕ). xs ++ steps_text steps) head_is ∙ sym (flat_map-append put (Head ∷ Model count ∷ []) steps))
+    ∙ ap (λ (xs : List ℕ). steps_text (Head ∷ Model count ∷ steps) ++ xs) (sym (append-nil (line_text (step_words end))) ∙ sym (flat_map-cons put end []))
+    ∙ sym (flat_map-append put (Head ∷ Model count ∷ steps) (end ∷ []))
+  where
+    put : Step → List ℕ
+    put s = line_text (step_words s)
+
 -- ---- what the parts give together
 
 pub renewed : (index : Index) (hinted : List Step) (last : Step) (marks : List ℕ) (lines : List Step) (end : Step) (made : ℕ) → IsIndexOf index hinted → IsMarked (place_in index) (made_lines hinted) last 0 marks
@@ -193,7 +213,7 @@ module _ (index : Index) (hinted : List Step) (last : Step) (made : List Step) (
   marks_long = ap (λ (ns : List ℕ). length ns) same ∙ f.marked.long
 
   -- What a renaming asks for.
-  pub ready : length hinted < 2 ^ 63 → r ≡ ranks → AreRanks n r × (length n < 2 ^ 64 - 1) × ((q : Ref) (i : ℕ) → place_in index q ≡ Some i → i < length n)
+  pub ready : length hinted < 2 ^ 63 → r ≡ ranks → AreRanks n r × (length n < 2 ^ 63) × ((q : Ref) (i : ℕ) → place_in index q ≡ Some i → i < length n)
   ready few alike = (
     subst (λ (rs : List ℕ). AreRanks n rs) (sym alike) (subst (λ (ns : List ℕ). AreRanks ns ranks) (sym same) f.ranked),
     (let l = kept_few (λ name. true) hinted in let e = long in omega (arith, few, l, e)),
@@ -214,3 +234,21 @@ module _ (index : Index) (hinted : List Step) (last : Step) (made : List Step) (
       renewed index hinted last marks lines end count f.known (subst (λ (ss : List Step). IsMarked (place_in index) ss last 0 marks) f.made_is f.marked)
       (lines_are ∙ ap (λ (ns : List ℕ). marked_log (renamed index ns) (mark_at ns) 0 m) same ∙ ap (marked_log (renamed index marks) (mark_at marks) 0) (there ∙ f.made_is))
       (λ l. end_is l ∙ ap (λ (ns : List ℕ). new_last (renamed index ns) last) same) (count_is ∙ ap (λ (ss : List Step). length ss) f.made_is)
+
+  -- The text of the lines and the last one.
+  pub all_text : (m : List Step) (end : Step) (constraints count kept : ℕ) (k head lines text : List ℕ) → m ≡ made → (IsLast last → end ≡ new_last (renamed index n) last) → count ≡ length made
+      → head ≡ steps_text (Head ∷ Model constraints ∷ []) → lines ≡ head ++ steps_text (marked_log (renamed index n) (mark_at n) 0 m) → text ≡ lines ++ line_text (step_words end) → k ≡ n → kept ≡ rank (mark_at k) (length k)
+      → IsRenewedText constraints hinted last text count kept
+  all_text m end constraints count kept k head lines text there end_is count_is head_is lines_are text_is alike kept_is = record {
+    lines = marked_log (renamed index n) (mark_at n) 0 m;
+    end = end;
+    renewed = all_renewed m (marked_log (renamed index n) (mark_at n) 0 m) end count there refl end_is count_is;
+    text_is = text_whole constraints (marked_log (renamed index n) (mark_at n) 0 m) end head lines text head_is lines_are text_is;
+    kept_is =
+        kept_is
+        ∙ ap (λ (ns : List ℕ). rank (mark_at ns) (length ns)) alike
+        ∙ ap (rank (mark_at n)) (long ∙ (let e : length (made_lines hinted) ≡ 0 + length (made_lines hinted) = omega arith in e))
+        ∙ sym (left_count (renamed index n) (mark_at n) 0 hinted)
+        ∙ (let e : length (made_lines (marked_log (renamed index n) (mark_at n) 0 (made_lines hinted))) + 0 ≡ length (made_lines (marked_log (renamed index n) (mark_at n) 0 (made_lines hinted))) = omega arith in e)
+        ∙ ap (λ (ss : List Step). length (made_lines (marked_log (renamed index n) (mark_at n) 0 ss))) (sym (there ∙ f.made_is));
+  }

@@ -1,12 +1,16 @@
-//! The needed lines under their new names, each with its deletions behind it.
+//! The needed lines under their new names, each with its deletions behind it, as text.
 
-ghost use Rattle.std.specs.Prelude.{◌≡◌, ◌≢◌, ℕ, ◌+◌, ◌<◌, ◌≤◌, ◌-◌, ◌^◌, ◌++◌, ◌∷◌, List, [], length, map, get_or, replicate, IfOk, OnOk};
-ghost use Rattle.log_theory.specs.declared.step.Step.{Step as TheStep};
+ghost use Rattle.std.specs.Prelude.{◌≡◌, ◌≢◌, ℕ, ◌+◌, ◌<◌, ◌≤◌, ◌++◌, ◌∷◌, List, [], length, map, get_or, replicate, IfOk, OnOk};
+ghost use Rattle.log_theory.specs.LogText.{IsStep};
+ghost use Rattle.trim_theory.specs.Logs.{AreSteps};
 ghost use Rattle.trim_theory.specs.Marking.{rank, new_line, marked_deletions, marked_log};
 ghost use Rattle.proof_trim.specs.Ranks.{mark_at, renamed, places_with, AreListed};
+ghost use Rattle.proof_trim.specs.Texts.{steps_text, next_lines};
 
 use crate::renaming::Renaming;
+use crate::text::put_step;
 use log_theory::Step;
+use outer_io::TextBuffer;
 use std::alloc::{AllocError, Global};
 
 /// So many lists, all without an item.
@@ -32,24 +36,26 @@ fn put_place(lists: &mut Vec<Vec<usize>>, mark: usize, place: usize) -> Result<(
     Ok(())
 }
 
-/// Puts a needed line and its deletions behind other lines.
+/// Puts a needed line and its deletions.
 fn put_line(
     alloc: Global,
     renaming: &Renaming,
-    out: &mut Vec<Step>,
+    text: &mut TextBuffer,
     place: usize,
     step: &Step,
     named: &[usize],
 ) -> Result<(), AllocError>
     requires within { place < length renaming.now.marks.now }
+    requires fits { IsStep step.now }
     requires named { named.now ≡ places_with (mark_at renaming.now.marks.now) (place + 1) place }
-    ensures { OnOk result (out.new.items ≡ out.old.items
-        ++ (new_line (renamed renaming.now.index.now renaming.now.marks.now)
+    ensures { OnOk result (text.new.bytes ≡ text.old.bytes ++ steps_text
+        (new_line (renamed renaming.now.index.now renaming.now.marks.now)
         (rank (mark_at renaming.now.marks.now) place) step.now
         ∷ marked_deletions (mark_at renaming.now.marks.now) (place + 1) place)) }
 {
-    out.push(renaming.new_line(alloc, place, step)?)?;
-    renaming.put_deletions(out, named)?;
+    let line = renaming.new_line(alloc, place, step)?;
+    put_step(text, &line)?;
+    renaming.put_deletions(text, named)?;
     Ok(())
 }
 
@@ -57,50 +63,50 @@ fn put_line(
 fn put_next(
     alloc: Global,
     renaming: &Renaming,
-    out: &mut Vec<Step>,
+    text: &mut TextBuffer,
     lists: &mut Vec<Vec<usize>>,
     place: usize,
     step: &Step,
 ) -> Result<(), AllocError>
     requires within { place < length renaming.now.marks.now }
+    requires fits { IsStep step.now }
     requires next { place + 1 < length lists.old.items }
     requires low { get_or renaming.now.marks.now place 0 < length lists.old.items }
     requires listed { AreListed renaming.now.marks.now place (map (λ v. v.items) lists.old.items) }
-    ensures put { OnOk result ((rest : List TheStep) → out.new.items
-        ++ marked_log (renamed renaming.now.index.now renaming.now.marks.now)
-        (mark_at renaming.now.marks.now) (place + 1) rest ≡ out.old.items
-        ++ marked_log (renamed renaming.now.index.now renaming.now.marks.now)
-        (mark_at renaming.now.marks.now) place (step.now ∷ rest)) }
+    ensures put { OnOk result (text.new.bytes ≡ text.old.bytes ++ steps_text
+        (next_lines (renamed renaming.now.index.now renaming.now.marks.now)
+        (mark_at renaming.now.marks.now) place step.now)) }
     ensures listed { OnOk result
         (AreListed renaming.now.marks.now (place + 1) (map (λ v. v.items) lists.new.items)) }
     ensures long { length lists.new.items ≡ length lists.old.items }
 {
     let mark = renaming.marks[place];
     if mark != 0 {
-        put_line(alloc, renaming, out, place, step, &lists[place + 1])?;
+        put_line(alloc, renaming, text, place, step, &lists[place + 1])?;
         put_place(lists, mark, place)?;
     }
     Ok(())
 }
 
-/// All needed lines, in order. Some 30 bytes for each line that makes a constraint, beside what is given.
-pub(crate) fn kept_of(
+/// Puts all needed lines, in order. Some 30 bytes for each line that makes a constraint, beside what is given.
+pub(crate) fn put_kept(
     alloc: Global,
     renaming: &Renaming,
+    text: &mut TextBuffer,
     made: &[Step],
-) -> Result<Vec<Step>, AllocError>
+) -> Result<(), AllocError>
     requires long { length renaming.now.marks.now ≡ length made.now }
     requires low { (i : ℕ) → get_or renaming.now.marks.now i 0 ≤ length made.now + 1 }
-    ensures { IfOk result (λ out. out.items
-        ≡ marked_log (renamed renaming.now.index.now renaming.now.marks.now)
-        (mark_at renaming.now.marks.now) 0 made.now) }
+    requires fits { AreSteps made.now }
+    ensures { OnOk result (text.new.bytes ≡ text.old.bytes ++ steps_text
+        (marked_log (renamed renaming.now.index.now renaming.now.marks.now)
+        (mark_at renaming.now.marks.now) 0 made.now)) }
 {
     let mut lists = no_lists(alloc, made.len() + 2)?;
-    let mut out = Vec::new(alloc);
     let mut place = 0;
     while place < made.len() {
-        put_next(alloc, renaming, &mut out, &mut lists, place, &made[place])?;
+        put_next(alloc, renaming, text, &mut lists, place, &made[place])?;
         place += 1;
     }
-    Ok(out)
+    Ok(())
 }

@@ -1,6 +1,6 @@
 //! The lines of a log that make a constraint.
 
-ghost use Rattle.std.specs.Prelude.{◌≡◌, ◌++◌, ◌∷◌, [], length, IfOk, OnOk};
+ghost use Rattle.std.specs.Prelude.{◌≡◌, ◌++◌, ◌∷◌, [], IfOk, OnOk};
 ghost use Rattle.trim_theory.specs.Marking.{made_lines};
 
 use log_theory::Step;
@@ -26,19 +26,4 @@ pub(crate) fn made_of(alloc: Global, steps: Vec<Step>) -> Result<Vec<Step>, Allo
         put_made(&mut made, step)?;
     }
     Ok(made)
-}
-
-/// How many of them there are.
-pub(crate) fn count_made(steps: &[Step]) -> usize
-    ensures { result ≡ length (made_lines steps.now) }
-{
-    let mut count = 0;
-    for step in steps {
-        match step {
-            Step::P { .. } => count += 1,
-            Step::U { .. } => count += 1,
-            _ => (),
-        }
-    }
-    count
 }

@@ -20,3 +20,16 @@ pub(crate) fn ranks_of(alloc: Global, marks: &[usize]) -> Result<Vec<usize>, All
     }
     Ok(ranks)
 }
+
+/// How many places are marked. One pass.
+pub(crate) fn count_marked(marks: &[usize]) -> usize
+    ensures { result ≡ rank (mark_at marks.now) (length marks.now) }
+{
+    let mut count = 0;
+    for mark in marks {
+        if *mark != 0 {
+            count += 1;
+        }
+    }
+    count
+}

@@ -4,13 +4,17 @@ ghost use Rattle.std.specs.Prelude.{◌≡◌, ◌≢◌, ℕ, ◌<◌, ◌-◌,
 ghost use Rattle.log_theory.specs.declared.step.Ref.{Ref as TheRef};
 ghost use Rattle.log_theory.specs.declared.step.Ref.TheVariants.{Made};
 ghost use Rattle.log_theory.specs.declared.step.Step.TheVariants.{D};
+ghost use Rattle.log_theory.specs.LogText.{IsStep};
 ghost use Rattle.journal_theory.specs.Journals.{own_name, IsMaking};
 ghost use Rattle.trim_theory.specs.Marking.{IsLast, new_op, new_line, new_last, rank, marked_deletions};
 ghost use Rattle.proof_trim.specs.Places.{place_in};
 ghost use Rattle.proof_trim.specs.Ranks.{mark_at, AreRanks, renamed, AreBelow};
+ghost use Rattle.proof_trim.specs.Texts.{steps_text};
 
 use crate::index::Index;
+use crate::text::put_step;
 use log_theory::{Clause, Name, Op, Ops, Ref, Refs, Step};
+use outer_io::TextBuffer;
 use proof_log::plain;
 use std::alloc::{AllocError, Global};
 
@@ -32,7 +36,7 @@ pub(crate) struct Renaming<'a> {
     pub(crate) marks: &'a [usize],
     pub(crate) ranks: &'a [usize],
     ghost ranked: { AreRanks marks.now ranks.now },
-    ghost few: { length marks.now < 2 ^ 64 - 1 },
+    ghost few: { length marks.now < 2 ^ 63 },
     ghost within: { (q : TheRef) (i : ℕ) → place_in index.now q ≡ Some i → i < length marks.now },
 }
 
@@ -88,6 +92,7 @@ impl<'a> Renaming<'a> {
         }
         Ok(Refs::new(out))
     }
+
     /// What a line that makes a constraint becomes; another stays.
     pub(crate) fn new_line(
         &self,
@@ -120,8 +125,9 @@ impl<'a> Renaming<'a> {
 
     /// What the last line becomes.
     pub(crate) fn new_last(&self, alloc: Global, last: &Step) -> Result<Step, AllocError>
-        ensures { IfOk result (λ s. IsLast last.now
+        ensures renamed { IfOk result (λ s. IsLast last.now
             → s ≡ new_last (renamed self.now.index.now self.now.marks.now) last.now) }
+        ensures fits { IfOk result (λ s. IsStep last.now → IsStep s) }
     {
         match last {
             Step::E { at } => Ok(Step::E {
@@ -141,18 +147,18 @@ impl<'a> Renaming<'a> {
         }
     }
 
-    /// Puts the deletions of the lines at places behind other lines.
+    /// Puts the deletions of the lines at places.
     pub(crate) fn put_deletions(
         &self,
-        out: &mut Vec<Step>,
+        text: &mut TextBuffer,
         places: &[usize],
     ) -> Result<(), AllocError>
         requires { AreBelow (length self.now.marks.now) places.now }
-        ensures { OnOk result (out.new.items ≡ out.old.items
-            ++ map (λ i. D (Made (own_name 0 (rank (mark_at self.now.marks.now) i)))) places.now) }
+        ensures { OnOk result (text.new.bytes ≡ text.old.bytes ++ steps_text
+            (map (λ i. D (Made (own_name 0 (rank (mark_at self.now.marks.now) i)))) places.now)) }
     {
         for place in places {
-            out.push(self.deletion(*place))?;
+            put_step(text, &self.deletion(*place))?;
         }
         Ok(())
     }

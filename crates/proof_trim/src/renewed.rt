@@ -1,30 +1,42 @@
 //! A log with hints renewed.
 
 ghost use Rattle.std.specs.Prelude.{◌<◌, ◌^◌, length, IfOk};
-ghost use Rattle.proof_trim.specs.Trimmed.{IsRenewed};
+ghost use Rattle.log_theory.specs.LogText.{IsStep};
+ghost use Rattle.trim_theory.specs.Logs.{AreSteps};
+ghost use Rattle.proof_trim.specs.Trimmed.{IsRenewedText};
 
-use crate::forward::kept_of;
+use crate::forward::put_kept;
 use crate::index::Index;
 use crate::made::made_of;
 use crate::marks::marks_of;
-use crate::ranks::ranks_of;
+use crate::ranks::{count_marked, ranks_of};
 use crate::renaming::Renaming;
+use crate::text::{head_text, put_step};
 use log_theory::Step;
+use outer_io::TextBuffer;
 use std::alloc::{AllocError, Global};
 
-/// The needed lines under their new names, the last line, and how many lines make a constraint.
+/// The text of what is left, how many lines make a constraint, and how many of them are left.
 #[derive(Drop)]
 pub(crate) struct Renewed {
-    pub(crate) lines: Vec<Step>,
-    pub(crate) end: Step,
+    pub(crate) text: TextBuffer,
     pub(crate) made: usize,
+    pub(crate) kept: usize,
 }
 
-/// The needed lines of a log with hints, renamed, with their deletions.
-pub(crate) fn renew(alloc: Global, hinted: Vec<Step>, last: &Step) -> Result<Renewed, AllocError>
-    requires { length hinted.items < 2 ^ 63 }
-    ensures { IfOk result
-        (λ r. IsRenewed hinted.items last.now r.lines.items r.end r.made) }
+/// The needed lines of a log with hints over so many constraints, renamed, with their deletions, as text.
+pub(crate) fn renew(
+    alloc: Global,
+    constraints: u64,
+    hinted: Vec<Step>,
+    last: &Step,
+) -> Result<Renewed, AllocError>
+    requires constraints { constraints < 2 ^ 63 }
+    requires few { length hinted.items < 2 ^ 63 }
+    requires lines { AreSteps hinted.items }
+    requires last { IsStep last.now }
+    ensures { IfOk result (λ r.
+        IsRenewedText constraints hinted.items last.now r.text.bytes r.made r.kept) }
 {
     let index = Index::of(alloc, &hinted)?;
     let made = made_of(alloc, hinted)?;
@@ -35,11 +47,13 @@ pub(crate) fn renew(alloc: Global, hinted: Vec<Step>, last: &Step) -> Result<Ren
         marks: &marks,
         ranks: &ranks,
     };
-    let lines = kept_of(alloc, &renaming, &made)?;
     let end = renaming.new_last(alloc, last)?;
+    let mut text = head_text(alloc, constraints)?;
+    put_kept(alloc, &renaming, &mut text, &made)?;
+    put_step(&mut text, &end)?;
     Ok(Renewed {
-        lines,
-        end,
+        text,
         made: made.len(),
+        kept: count_marked(&marks),
     })
 }

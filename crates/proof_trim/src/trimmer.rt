@@ -8,10 +8,9 @@ ghost use Rattle.proof_trim.specs.Trimmed.{IsTrimmed};
 ghost use Rattle.proof_trim.specs.Says.{TrimSays};
 
 use crate::hints::with_hints;
-use crate::made::count_made;
 use crate::reading::{Log, read_log};
-use crate::renewed::renew;
-use crate::text::text_of;
+use crate::renewed::{Renewed, renew};
+use journal_theory::line_laws;
 use log_theory::{Cause, Verdict};
 use opb_text::Model;
 use outer_io::TextBuffer;
@@ -49,6 +48,7 @@ fn trim_accepted(alloc: Global, model: &Model, log: &[u8]) -> Result<Kept, Alloc
         (λ k. IsTrimmed model.now.constraints log.now k.text.bytes k.made k.kept) }
 {
     code_laws();
+    line_laws();
     let constraints = model.constraints();
     let Log {
         profile,
@@ -59,19 +59,8 @@ fn trim_accepted(alloc: Global, model: &Model, log: &[u8]) -> Result<Kept, Alloc
     if hinted.len() >= 1 << 63 {
         return Err(AllocError);
     }
-    let renewed = renew(alloc, hinted, &last)?;
-    let kept = count_made(&renewed.lines);
-    let text = text_of(
-        alloc,
-        constraints.len() as u64,
-        &renewed.lines,
-        &renewed.end,
-    )?;
-    Ok(Kept {
-        text,
-        made: renewed.made,
-        kept,
-    })
+    let Renewed { text, made, kept } = renew(alloc, constraints.len() as u64, hinted, &last)?;
+    Ok(Kept { text, made, kept })
 }
 
 /// What is left of a log that is accepted, or that memory was refused.

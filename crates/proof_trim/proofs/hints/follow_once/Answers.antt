@@ -1,4 +1,4 @@
-use Rattle.std.proofs.Common.{◌≤◌, length, ap, arith}
+use Rattle.std.proofs.Common.{length, ap, arith}
 use Rattle.std.proofs.lemmas.Bool.{le-ltb}
 use Rattle.proof_theory.specs.Slack.{setting}
 use Rattle.pb_propagation.proofs.Propagation.{reaches_wider}

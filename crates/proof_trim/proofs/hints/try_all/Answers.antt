@@ -1,4 +1,4 @@
-use Rattle.std.proofs.Common.{Bool, sym, subst}
+use Rattle.std.proofs.Common.{Bool, subst}
 use Rattle.std.proofs.lemmas.List.{drop_more}
 use Rattle.log_theory.specs.declared.step.Ref.TheVariants.{Line}
 use Rattle.log_theory.specs.LogText.{AreRefs}

@@ -1,4 +1,3 @@
-use Rattle.std.proofs.Common.{◌≡◌, length}
 use Rattle.log_theory.specs.LogText.{AreRefs}
 use Rattle.proof_theory.specs.Slack.{Setting, setting}
 use Rattle.log_theory.specs.Tables.{find}

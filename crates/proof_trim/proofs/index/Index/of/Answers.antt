@@ -1,7 +1,6 @@
-use Rattle.std.proofs.Common.{◌+◌, ◌++◌, ◌∷◌, [], length, List, take, get_or, sym, ap, ◌∙◌, subst, length-append, arith}
+use Rattle.std.proofs.Common.{◌+◌, ◌++◌, ◌∷◌, [], List, take, sym, ap, ◌∙◌, subst, arith}
 use Rattle.std.proofs.lemmas.List.{take_more}
 use Rattle.log_theory.specs.declared.step.Step.{Step}
-use Rattle.trim_theory.specs.Marking.{made_lines}
 use Rattle.proof_trim.specs.Places.{IsIndexWith}
 use Rattle.proof_trim.proofs.Indexing.{counted_most}
 use Rattle.proof_trim.proofs.index.Index.of.Goals as goal

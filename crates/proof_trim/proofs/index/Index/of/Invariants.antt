@@ -1,5 +1,4 @@
-use Rattle.std.proofs.Common.{◌≡◌, ◌≤◌, take, length}
-use Rattle.trim_theory.specs.Marking.{made_lines}
+use Rattle.std.proofs.Common.{◌≤◌, take}
 use Rattle.proof_trim.specs.Places.{IsIndexWith}
 use Rattle.proof_trim.proofs.index.Index.of.Given as goal
 

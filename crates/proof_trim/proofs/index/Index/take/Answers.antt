@@ -1,6 +1,6 @@
-use Rattle.std.proofs.Common.{◌+◌, List, [], ◌∷◌, ◌++◌, refl, sym, subst}
+use Rattle.std.proofs.Common.{◌+◌, [], ◌∷◌, ◌++◌, refl, sym, subst}
 use Rattle.log_theory.specs.declared.step.Step.{Step}
-use Rattle.log_theory.specs.declared.step.Step.TheVariants.{P, U, N}
+use Rattle.log_theory.specs.declared.step.Step.TheVariants.{P, U}
 use Rattle.proof_trim.specs.Places.{IsIndexWith}
 use Rattle.proof_trim.proofs.Indexing.{index_made, index_shared, index_other, other_step}
 use Rattle.proof_trim.proofs.index.Index.take.Goals as goal
