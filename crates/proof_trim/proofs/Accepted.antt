@@ -1,5 +1,5 @@
 -- From the steps of an accepted log to its trimmed text.
-use Rattle.std.proofs.Common.{inl, inr, ◌≡◌, ◌≢◌, ℕ, suc, ◌+◌, ◌<◌, ◌^◌, Bool, true, List, [], ◌∷◌, length, map, Some, Result, Ok, refl, sym, ap, ◌∙◌, subst, arith}
+use Rattle.std.proofs.Common.{inl, inr, ◌≡◌, ◌≢◌, ℕ, suc, ◌+◌, ◌<◌, ◌^◌, Bool, true, List, [], ◌∷◌, ◌++◌, length, map, Some, Result, Ok, refl, sym, ap, ◌∙◌, subst, arith}
 use Rattle.log_theory.specs.declared.profile.Profile.{Profile}
 use Rattle.log_theory.specs.declared.profile.Profile.TheVariants.{Hinted, Plain}
 use Rattle.log_theory.specs.declared.step.Cause.{Cause}
@@ -12,7 +12,8 @@ use Rattle.log_theory.specs.declared.step.Verdict.{Verdict}
 use Rattle.proof_theory.specs.Forms.{Form}
 use Rattle.proof_theory.specs.Propagation.{IsAmong}
 use Rattle.log_theory.specs.Steps.{◌>>=◌, or_fault}
-use Rattle.log_theory.specs.Profiles.{told_in}
+use Rattle.log_theory.specs.LogText.{IsStep}
+use Rattle.log_theory.specs.Profiles.{told_in, read_in}
 use Rattle.log_theory.specs.Tables.{Table, empty_table, find, step_in}
 use Rattle.log_theory.specs.declared.step.Verdict.TheVariants.{Unsatisfiable, Satisfiable, Undecided, Refused, NoMemory as Unanswered}
 use Rattle.log_theory.specs.Verdicts.{IsClaim, Proving, Goes, Ends, progress_of}
@@ -20,7 +21,7 @@ use Rattle.log_theory.specs.Acceptance.{lines_text, Accepts}
 use Rattle.log_theory.proofs.LogSound.{bind_ok, or_fault_ok}
 use Rattle.journal_theory.specs.Referring.{step_refs}
 use Rattle.journal_theory.specs.Journals.{IsMaking}
-use Rattle.journal_theory.specs.Stepping.{step_line, LinesLaw}
+use Rattle.journal_theory.specs.Stepping.{step_line, NoFeedLaw, LinesLaw}
 use Rattle.trim_theory.specs.Trimming.{StepsIn, made_names, HintsStand, Trims}
 use Rattle.trim_theory.specs.Logs.{AreSteps, ended_log}
 use Rattle.trim_theory.specs.Marking.{made_lines, keeps, marked_log, new_ref, new_last, IsLast, Marked, MarkLaw}
@@ -29,9 +30,10 @@ use Rattle.trim_theory.proofs.Marking.{ground}
 use Rattle.trim_theory.proofs.Placed.{Placed, all_placed}
 use Rattle.trim_theory.proofs.Telling.{Told, steps_told}
 use Rattle.proof_trim.specs.Ranks.{mark_at}
-use Rattle.proof_trim.specs.Reading.{AreStepsIn, IsReadLog}
-use Rattle.proof_trim.specs.Trimmed.{AreHinted}
-use Rattle.proof_trim.specs.Trimmed.{IsRenewed, IsRenewedText, IsTrimmed}
+use Rattle.proof_trim.specs.Reading.{AreStepsIn, IsOpened, IsReadLog}
+use Rattle.proof_trim.specs.Trimmed.{AreHinted, IsRenewed, IsRenewedText, IsTrimmed}
+use Rattle.proof_trim.specs.Lined.{IsReplayedText, IsRenewedFrom}
+use Rattle.proof_trim.proofs.LinesRead.{log_read, reads_one, snoc_same, written_reads}
 use Rattle.proof_trim.proofs.Renewing.{marked_all}
 
 -- ---- the last line
@@ -185,6 +187,33 @@ pub trimmed_by : MarkLaw → LinesLaw → (n : ℕ) (model : List Form) (log : L
 trimmed_by mark_law lines_law n model log claim profile steps last hinted text made kept accepts model_few read hints few put =
     trimmed_text mark_law n model log claim profile steps last hinted put.lines put.end made
     (record { accepts = accepts; read = read; hints = hints; renewed = put.renewed; few = few; model_few = model_few }) text kept (put.text_is ∙ sym (lines_law (ended_log model put.lines put.end))) put.kept_is
+
+-- Of a log with hints.
+pub trimmed_hinted : MarkLaw → LinesLaw → (n : ℕ) (model : List Form) (log lines : List ℕ) (claim : Verdict) (text : List ℕ) (made kept : ℕ) → Accepts n model log claim → length model < 2 ^ 63 → IsOpened Hinted log lines
+    → IsRenewedFrom (length model) lines text made kept → IsTrimmed model log text made kept
+trimmed_hinted mark_law lines_law n model log lines claim text made kept accepts model_few opened from =
+    let read = log_read Hinted log lines from.hinted from.last opened from.reads in
+    trimmed_by mark_law lines_law n model log claim Hinted from.hinted from.last from.hinted text made kept accepts model_few read (hinted_already model from.hinted read.in_range) from.few from.renewed
+
+-- Of one without.
+pub trimmed_plain : MarkLaw → LinesLaw → NoFeedLaw → ((s : Step) → IsStep s → read_in Hinted (step_line s) ≡ Some s) → (n : ℕ) (model : List Form) (log lines : List ℕ) (claim : Verdict) (hinted text : List ℕ) (made kept : ℕ) → Accepts n model log claim
+    → length model < 2 ^ 63 → IsOpened Plain log lines → IsReplayedText model lines hinted → IsRenewedFrom (length model) hinted text made kept → IsTrimmed model log text made kept
+trimmed_plain mark_law lines_law no_feed read_again n model log lines claim hinted text made kept accepts model_few opened replayed from =
+    trimmed_by mark_law lines_law n model log claim Plain replayed.steps replayed.last replayed.hinted text made kept accepts model_few read replayed.hints (subst (λ (ss : List Step). length ss < 2 ^ 63) same.0 from.few)
+    (subst (λ (s : Step). IsRenewedText (length model) replayed.hinted s text made kept) same.1 (subst (λ (ss : List Step). IsRenewedText (length model) ss from.last text made kept) same.0 from.renewed))
+  where
+    read : IsReadLog Plain log replayed.steps replayed.last
+    read = log_read Plain log lines replayed.steps replayed.last opened replayed.reads
+
+    fit : (ss : List Step) → AreSteps ss → IsStep replayed.last → AreSteps (ss ++ replayed.last ∷ [])
+    fit [] h k = (k, tt)
+    fit (s ∷ ss) h k = (h.0, fit ss h.1 k)
+
+    same : (from.hinted ≡ replayed.hinted) × (from.last ≡ replayed.last)
+    same =
+        snoc_same from.hinted replayed.hinted from.last replayed.last
+        (reads_one Hinted hinted (from.hinted ++ from.last ∷ []) (replayed.hinted ++ replayed.last ∷ []) from.reads
+        (written_reads read_again no_feed lines_law (replayed.hinted ++ replayed.last ∷ []) hinted (fit replayed.hinted replayed.hints.in_range read.last_in_range) replayed.out_is))
 
 -- A verdict that is no refusal, and no want of memory, is a claim.
 pub claim_is : (v : Verdict) → ((line : ℕ) (cause : Cause) → v ≡ Refused line cause → ⊥) → (v ≡ Unanswered → ⊥) → IsClaim v

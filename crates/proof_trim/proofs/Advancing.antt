@@ -1,5 +1,8 @@
 -- Needed lines one after the other, and the places that bear each mark.
-use Rattle.std.proofs.Common.{◌⊎◌, inl, inr, ◌≡◌, ◌≢◌, ℕ, zero, suc, ◌+◌, ◌<◌, ◌≤◌, ◌==◌, Bool, true, false, cond, List, [], ◌∷◌, ◌++◌, length, map, get_or, set, replicate, drop, refl, sym, ap, ◌∙◌, arith}
+use Rattle.std.proofs.Common.{◌⊎◌, inl, inr, ◌≡◌, ◌≢◌, ℕ, zero, suc, ◌+◌, ◌<◌, ◌≤◌, ◌==◌, Bool, true, false, cond, List, [], ◌∷◌, ◌++◌, length, map, get_or, set, replicate, drop, Some, refl, sym, ap, ◌∙◌, arith}
+use Rattle.std.specs.Prelude.{slice_get}
+use Rattle.std.proofs.Math.Seq.{drop-length}
+use Rattle.std.proofs.lemmas.Option.{slice_get-get_or}
 use Rattle.std.proofs.lemmas.Bool.{cases_eq, eq-eqb, ne_eqb}
 use Rattle.std.proofs.lemmas.Grind.{flat_map-append}
 use Rattle.std.proofs.lemmas.List.Concat.{flat_map-cons}
@@ -9,12 +12,15 @@ use Rattle.log_theory.specs.declared.step.Ref.TheVariants.{Made}
 use Rattle.log_theory.specs.declared.step.Step.{Step}
 use Rattle.log_theory.specs.declared.step.Step.TheVariants.{Head, Model, P, U, N, D, E, Y, Q}
 use Rattle.journal_theory.specs.Journals.{own_name}
+use Rattle.journal_theory.proofs.Placing.{some_same}
 use Rattle.log_theory.specs.Words.{line_text}
 use Rattle.log_theory.specs.LogText.{step_words}
 use Rattle.trim_theory.specs.Marking.{made_lines, rank, new_line, marked_deletions, marked_log}
 use Rattle.proof_trim.specs.Ranks.{mark_at, AreBelow, places_with, AreListed}
 use Rattle.proof_trim.specs.Texts.{steps_text, next_lines}
+use Rattle.proof_trim.specs.Lined.{AreAt}
 use Rattle.proof_trim.proofs.Indexing.{lines_on}
+use Rattle.proof_trim.proofs.LinesRead.{at_long, line_at}
 
 -- The deletions of places.
 pub deleted : (mark : ℕ → ℕ) (m n : ℕ) → map (λ i. D (Made (own_name 0 (rank mark i)))) (places_with mark m n) ≡ marked_deletions mark m n
@@ -180,3 +186,21 @@ left_count new mark place (D at ∷ ss) = left_count new mark place ss
 left_count new mark place (E at ∷ ss) = left_count new mark place ss
 left_count new mark place (Y ones ∷ ss) = left_count new mark place ss
 left_count new mark place (Q ∷ ss) = left_count new mark place ss
+
+-- ---- over lines of a text
+
+-- The line at a place is put.
+pub written_at : (new : Ref → Ref) (marks text ps : List ℕ) (made : List Step) (place : ℕ) (start old out : List ℕ) → place < length ps → AreAt text ps made
+    → ((s : Step) → slice_get made place ≡ Some s → out ≡ old ++ steps_text (next_lines new (mark_at marks) place s)) → IsWrittenTo new marks made place start old → IsWrittenTo new marks made (place + 1) start out
+written_at new marks text ps made place start old out within at put before =
+    let l = line_at text ps made place at within in
+    let long = at_long text ps made at in
+    written_on new marks made place l.0 start old out (omega (arith, within, long)) (some_same l.0 (get_or made place l.0) (sym l.1 ∙ slice_get-get_or made place l.0 (omega (arith, within, long)))) (put l.0 l.1) before
+
+-- All of them are.
+pub written_all : (new : Ref → Ref) (marks text ps : List ℕ) (made : List Step) (place : ℕ) (start out : List ℕ) → place ≡ length ps → AreAt text ps made → IsWrittenTo new marks made place start out
+    → out ≡ start ++ steps_text (marked_log new (mark_at marks) 0 made)
+written_all new marks text ps made place start out end at before =
+    sym (append-nil out)
+    ∙ ap (λ (ss : List Step). out ++ steps_text (marked_log new (mark_at marks) place ss)) (sym (drop-length made) ∙ ap (λ (n : ℕ). drop n made) (sym (end ∙ at_long text ps made at)))
+    ∙ before

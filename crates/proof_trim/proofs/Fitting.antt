@@ -1,5 +1,5 @@
 -- The numbers of renamed lines are in their ranges.
-use Rattle.std.proofs.Common.{◌≡◌, ℕ, zero, suc, ◌+◌, ◌==◌, ◌<◌, ◌≤◌, ◌^◌, false, true, Bool, cond, List, [], ◌∷◌, length, map, get_or, Option, Some, None, refl, sym, subst, arith}
+use Rattle.std.proofs.Common.{◌≡◌, ℕ, zero, suc, ◌+◌, ◌==◌, ◌<◌, ◌≤◌, ◌^◌, false, true, Bool, cond, List, [], ◌∷◌, length, map, Option, Some, None, refl, arith}
 use Rattle.log_theory.specs.declared.step.Op.{Op}
 use Rattle.log_theory.specs.declared.step.Op.TheVariants.{Push, Axiom, Add, Times, Divide, Saturate}
 use Rattle.log_theory.specs.declared.step.Ref.{Ref}
@@ -9,8 +9,7 @@ use Rattle.log_theory.specs.declared.step.Step.TheVariants.{Head, Model, P, U, N
 use Rattle.log_theory.specs.LogText.{IsName, IsRef, AreRefs, AreOps, IsStep}
 use Rattle.log_theory.specs.Profiles.{plain}
 use Rattle.journal_theory.specs.Journals.{own_name}
-use Rattle.trim_theory.specs.Logs.{AreSteps}
-use Rattle.trim_theory.specs.Marking.{made_lines, rank, ref_to, new_op, new_line}
+use Rattle.trim_theory.specs.Marking.{rank, ref_to, new_op, new_line}
 use Rattle.proof_trim.specs.declared.index.Index.{Index}
 use Rattle.proof_trim.specs.Places.{place_in}
 use Rattle.proof_trim.specs.Ranks.{mark_at, renamed}
@@ -75,21 +74,3 @@ plain_fits Q h = h
 -- The deletion of a place is.
 pub deletion_fits : (mark : ℕ → ℕ) (i n : ℕ) → i < n → n < 2 ^ 63 → IsStep (D (Made (own_name 0 (rank mark i))))
 deletion_fits mark i n within few = (name_fits mark i n within few, refl)
-
--- Of lines that are in their ranges, those that make a constraint are.
-pub made_fit : (ss : List Step) → AreSteps ss → AreSteps (made_lines ss)
-made_fit [] h = tt
-made_fit (P name ops ∷ ss) h = (h.0, made_fit ss h.1)
-made_fit (U name lits refs ∷ ss) h = (h.0, made_fit ss h.1)
-made_fit (Head ∷ ss) h = made_fit ss h.1
-made_fit (Model m ∷ ss) h = made_fit ss h.1
-made_fit (N row name ∷ ss) h = made_fit ss h.1
-made_fit (D at ∷ ss) h = made_fit ss h.1
-made_fit (E at ∷ ss) h = made_fit ss h.1
-made_fit (Y ones ∷ ss) h = made_fit ss h.1
-made_fit (Q ∷ ss) h = made_fit ss h.1
-
-pub step_fits : (ss : List Step) (i : ℕ) (s : Step) → AreSteps ss → i < length ss → s ≡ get_or ss i s → IsStep s
-step_fits [] i s h l e = absurd (omega (arith, l))
-step_fits (u ∷ us) zero s h l e = subst IsStep (sym e) h.0
-step_fits (u ∷ us) (suc i) s h l e = step_fits us i s h.1 (omega (arith, l)) e

@@ -2,7 +2,6 @@
 use Rattle.std.proofs.Common.{◌≡◌, ℕ, Bool, true, false, ◌||◌, List, [], ◌∷◌, ◌++◌, map, Option, Some, Result, Ok, refl, sym, ap, ◌∙◌, subst}
 use Rattle.std.proofs.lemmas.List.{append_assoc}
 use Rattle.proof_theory.specs.declared.literal.Literal.{Literal}
-use Rattle.log_theory.specs.declared.profile.Profile.{Profile}
 use Rattle.log_theory.specs.declared.profile.Profile.TheVariants.{Plain}
 use Rattle.log_theory.specs.declared.step.Cause.{Cause}
 use Rattle.log_theory.specs.declared.step.Cause.TheVariants.{NoSuchName, Twice, NoConflict}
@@ -15,17 +14,21 @@ use Rattle.proof_theory.specs.Forms.{Form}
 use Rattle.proof_theory.specs.Slack.{Setting, conflict, after, refutes, negations, clause_form, or_else, forced_at, slack}
 use Rattle.proof_theory.specs.Propagation.{Extends, closes}
 use Rattle.log_theory.specs.Steps.{◌>>=◌, unless, or_fault}
-use Rattle.log_theory.specs.LogText.{IsRef, AreRefs, IsStep}
-use Rattle.log_theory.specs.Profiles.{told_in, IsStepIn}
+use Rattle.log_theory.specs.Words.{line_text}
+use Rattle.log_theory.specs.LogText.{IsRef, AreRefs, IsStep, step_words}
+use Rattle.log_theory.specs.Profiles.{told_in, read_in, IsStepIn}
+use Rattle.log_theory.specs.Acceptance.{NoFeed}
 use Rattle.log_theory.specs.Lookups.{Lookup, find_all, makes, closed_clause, are_distinct, variables_of}
 use Rattle.log_theory.specs.Tables.{Table, empty_table, find, step_in, fresh_name, with_made, all_forms}
 use Rattle.log_theory.proofs.LogSound.{bind_ok}
 use Rattle.pb_propagation.proofs.Propagation.{same_refutes, refutes_more}
 use Rattle.trim_theory.specs.Trimming.{StepsIn, LineStands, HintsStand}
 use Rattle.trim_theory.specs.Logs.{AreSteps}
-use Rattle.proof_trim.specs.Reading.{AreStepsIn}
 use Rattle.proof_trim.specs.Hints.{LeadsTo, IsRefuted, IsReplayed}
+use Rattle.proof_trim.specs.Texts.{steps_text}
 use Rattle.proof_trim.specs.Trimmed.{AreHinted}
+use Rattle.proof_trim.specs.Lined.{IsReplayedText}
+use Rattle.proof_trim.proofs.LinesRead.{ReadTo, read_start, read_line_more, read_all, text_snoc}
 
 -- ---- references that lead on
 
@@ -137,11 +140,41 @@ replay_more model steps hinted old new step s to line = record {
 pub replay_all : (model : List Form) (steps hinted : List Step) (table : Table) → ReplayedTo model steps hinted table → AreHinted Plain model steps hinted
 replay_all model steps hinted table to = record { told = to.told; hints = to.hints; in_range = to.in_range }
 
--- ---- the next of steps
+-- ---- a text replayed
 
-pub next_in : (profile : Profile) (front : List Step) (s : Step) (rest : List Step) → AreStepsIn profile (front ++ s ∷ rest) → IsStepIn profile s
-next_in profile [] s rest h = h.0
-next_in profile (x ∷ front) s rest h = next_in profile front s rest h.1
+-- How far a text is replayed, and what is written so far.
+pub record ReplayedFrom (model : List Form) (text left out : List ℕ) (table : Table) : Type 0 where
+  pub steps : List Step
+  pub hinted : List Step
+  pub to : ReadTo Plain text left steps
+  pub replayed : ReplayedTo model steps hinted table
+  pub out_is : out ≡ steps_text hinted
+
+pub text_start : (model : List Form) (text out : List ℕ) (table : Table) → out ≡ [] → table ≡ empty_table → ReplayedFrom model text text out table
+text_start model text out table none is = record { steps = []; hinted = []; to = read_start Plain text; replayed = replay_start model table is; out_is = none }
+
+-- One more line.
+pub text_replayed : (model : List Form) (text left line behind out more : List ℕ) (old new : Table) (step s : Step) → left ≡ line ++ 10 ∷ behind → NoFeed line → read_in Plain line ≡ Some step → IsStepIn Plain step → IsReplayed model old step s new
+    → more ≡ out ++ line_text (step_words s) → ReplayedFrom model text left out old → ReplayedFrom model text behind more new
+text_replayed model text left line behind out more old new step s cut no_feed read fits by put before = record {
+  steps = before.steps ++ step ∷ [];
+  hinted = before.hinted ++ s ∷ [];
+  to = read_line_more Plain text left line behind before.steps step cut no_feed read fits before.to;
+  replayed = replay_more model before.steps before.hinted old new step s before.replayed by;
+  out_is = put ∙ ap (λ (t : List ℕ). t ++ line_text (step_words s)) before.out_is ∙ text_snoc before.hinted s;
+}
+
+-- The last line.
+pub text_ended : (model : List Form) (text left line behind out more : List ℕ) (table : Table) (step : Step) → left ≡ line ++ 10 ∷ behind → NoFeed line → read_in Plain line ≡ Some step → IsStepIn Plain step → behind ≡ []
+    → more ≡ out ++ line_text (step_words step) → ReplayedFrom model text left out table → IsReplayedText model text more
+text_ended model text left line behind out more table step cut no_feed read fits none put before = record {
+  steps = before.steps;
+  last = step;
+  hinted = before.hinted;
+  reads = read_all Plain text behind (before.steps ++ step ∷ []) none (read_line_more Plain text left line behind before.steps step cut no_feed read fits before.to);
+  hints = replay_all model before.steps before.hinted table before.replayed;
+  out_is = put ∙ ap (λ (t : List ℕ). t ++ line_text (step_words step)) before.out_is ∙ text_snoc before.hinted step;
+}
 
 -- ---- a line with its hints
 

@@ -1,10 +1,9 @@
 -- From marks over an index to the trimmed log.
-use Rattle.std.proofs.Common.{inl, inr, ◌≡◌, ◌≢◌, ℕ, zero, suc, ◌+◌, ◌^◌, ◌<◌, ◌≤◌, ◌==◌, Bool, true, false, cond, List, [], ◌∷◌, ◌++◌, length, map, get_or, Option, Some, None, refl, sym, ap, ◌∙◌, subst, arith}
+use Rattle.std.proofs.Common.{inl, inr, ◌≡◌, ◌≢◌, ℕ, zero, suc, ◌+◌, ◌^◌, ◌<◌, ◌≤◌, ◌==◌, Bool, true, false, cond, List, [], ◌∷◌, ◌++◌, length, length-append, map, get_or, Option, Some, None, refl, sym, ap, ◌∙◌, subst, arith}
 use Rattle.std.specs.Prelude.{slice_get}
 use Rattle.std.proofs.lemmas.Grind.{flat_map-append}
-use Rattle.std.proofs.lemmas.List.{append-nil}
-use Rattle.std.proofs.lemmas.List.Concat.{flat_map-cons}
 use Rattle.std.proofs.lemmas.Option.{slice_get_within}
+use Rattle.log_theory.specs.declared.profile.Profile.TheVariants.{Hinted}
 use Rattle.log_theory.specs.declared.step.Name.{Name}
 use Rattle.log_theory.specs.declared.step.Op.{Op}
 use Rattle.log_theory.specs.declared.step.Op.TheVariants.{Push, Axiom, Add, Times, Divide, Saturate}
@@ -27,8 +26,10 @@ use Rattle.trim_theory.proofs.Writing.{kept_few}
 use Rattle.proof_trim.specs.Ranks.{mark_at, AreRanks, renamed}
 use Rattle.proof_trim.specs.Texts.{steps_text}
 use Rattle.proof_trim.specs.Trimmed.{IsRenewed, IsRenewedText}
+use Rattle.proof_trim.specs.Lined.{IsScanned}
 use Rattle.proof_trim.proofs.Indexing.{names_long}
 use Rattle.proof_trim.proofs.Advancing.{left_count}
+use Rattle.proof_trim.proofs.LinesRead.{text_snoc, reads_few, at_long}
 
 -- ---- what an index knows
 
@@ -161,12 +162,8 @@ text_whole : (count : ℕ) (steps : List Step) (end : Step) (head lines text : L
     → text ≡ steps_text (Head ∷ Model count ∷ (steps ++ end ∷ []))
 text_whole count steps end head lines text head_is lines_are text_is =
     text_is
-    ∙ ap (λ (xs : List ℕ). xs ++ line_text (step_words end)) (lines_are ∙ ap (λ (xs : List ℕ). xs ++ steps_text steps) head_is ∙ sym (flat_map-append put (Head ∷ Model count ∷ []) steps))
-    ∙ ap (λ (xs : List ℕ). steps_text (Head ∷ Model count ∷ steps) ++ xs) (sym (append-nil (line_text (step_words end))) ∙ sym (flat_map-cons put end []))
-    ∙ sym (flat_map-append put (Head ∷ Model count ∷ steps) (end ∷ []))
-  where
-    put : Step → List ℕ
-    put s = line_text (step_words s)
+    ∙ ap (λ (xs : List ℕ). xs ++ line_text (step_words end)) (lines_are ∙ ap (λ (xs : List ℕ). xs ++ steps_text steps) head_is ∙ sym (flat_map-append (λ (s : Step). line_text (step_words s)) (Head ∷ Model count ∷ []) steps))
+    ∙ text_snoc (Head ∷ Model count ∷ steps) end
 
 -- ---- what the parts give together
 
@@ -185,6 +182,15 @@ renewed index hinted last marks lines end made known marked lines_are end_is mad
 
     news : (q : Ref) → renamed index marks q ≡ new_ref hinted (mark_at marks) q
     news q = ap (ref_to (mark_at marks) q) (places q)
+
+-- There are no more steps than bytes, nor more places.
+pub scanned_few : (text : List ℕ) (index : Index) (places : List ℕ) (last : Step) (k : IsScanned text index places last) → length text < 2 ^ 63 → (length k.steps < 2 ^ 63) × (length places < 2 ^ 63) × (length places ≡ length (made_lines k.steps))
+scanned_few text index places last k few =
+    let a = reads_few Hinted text (k.steps ++ last ∷ []) k.reads in
+    let b = length-append k.steps (last ∷ []) in
+    let c = at_long text places (made_lines k.steps) k.at in
+    let d = kept_few (λ name. true) k.steps in
+    (omega (arith, a, b, few), omega (arith, a, b, c, d, few), c)
 
 -- What the parts of a renewal have found: where each name stands, the lines that make a constraint, their marks, and how many needed ones
 -- stand before each.

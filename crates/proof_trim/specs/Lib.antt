@@ -5,4 +5,5 @@ pub mod Texts
 pub mod Reading
 pub mod Trimmed
 pub mod Hints
+pub mod Lined
 pub mod Says

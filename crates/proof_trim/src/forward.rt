@@ -1,12 +1,14 @@
 //! The needed lines under their new names, each with its deletions behind it, as text.
 
-ghost use Rattle.std.specs.Prelude.{◌≡◌, ◌≢◌, ℕ, ◌+◌, ◌<◌, ◌≤◌, ◌++◌, ◌∷◌, List, [], length, map, get_or, replicate, IfOk, OnOk};
+ghost use Rattle.std.specs.Prelude.{◌≡◌, ◌≢◌, ℕ, ◌+◌, ◌<◌, ◌≤◌, ◌^◌, ◌++◌, ◌∷◌, List, [], length, map, get_or, replicate, Some, slice_get, IfOk, OnOk};
+ghost use Rattle.log_theory.specs.declared.step.Step.{Step as TheStep};
 ghost use Rattle.log_theory.specs.LogText.{IsStep};
-ghost use Rattle.trim_theory.specs.Logs.{AreSteps};
 ghost use Rattle.trim_theory.specs.Marking.{rank, new_line, marked_deletions, marked_log};
+ghost use Rattle.proof_trim.specs.Lined.{AreAt};
 ghost use Rattle.proof_trim.specs.Ranks.{mark_at, renamed, places_with, AreListed};
 ghost use Rattle.proof_trim.specs.Texts.{steps_text, next_lines};
 
+use crate::lines::Lines;
 use crate::renaming::Renaming;
 use crate::text::put_step;
 use log_theory::Step;
@@ -65,24 +67,27 @@ fn put_next(
     renaming: &Renaming,
     text: &mut TextBuffer,
     lists: &mut Vec<Vec<usize>>,
+    lines: &Lines,
     place: usize,
-    step: &Step,
 ) -> Result<(), AllocError>
-    requires within { place < length renaming.now.marks.now }
-    requires fits { IsStep step.now }
-    requires next { place + 1 < length lists.old.items }
+    requires within { place < length lines.now.places.items }
+    requires long { length renaming.now.marks.now ≡ length lines.now.places.items }
+    requires next { length lists.old.items ≡ length lines.now.places.items + 2 }
     requires low { get_or renaming.now.marks.now place 0 < length lists.old.items }
     requires listed { AreListed renaming.now.marks.now place (map (λ v. v.items) lists.old.items) }
-    ensures put { OnOk result (text.new.bytes ≡ text.old.bytes ++ steps_text
+    ensures put { OnOk result ((made : List TheStep)
+        → AreAt lines.now.text.now lines.now.places.items made → (s : TheStep)
+        → slice_get made place ≡ Some s → text.new.bytes ≡ text.old.bytes ++ steps_text
         (next_lines (renamed renaming.now.index.now renaming.now.marks.now)
-        (mark_at renaming.now.marks.now) place step.now)) }
+        (mark_at renaming.now.marks.now) place s)) }
     ensures listed { OnOk result
         (AreListed renaming.now.marks.now (place + 1) (map (λ v. v.items) lists.new.items)) }
     ensures long { length lists.new.items ≡ length lists.old.items }
 {
     let mark = renaming.marks[place];
     if mark != 0 {
-        put_line(alloc, renaming, text, place, step, &lists[place + 1])?;
+        let step = lines.step_at(alloc, place)?;
+        put_line(alloc, renaming, text, place, &step, &lists[place + 1])?;
         put_place(lists, mark, place)?;
     }
     Ok(())
@@ -93,19 +98,22 @@ pub(crate) fn put_kept(
     alloc: Global,
     renaming: &Renaming,
     text: &mut TextBuffer,
-    made: &[Step],
+    lines: &Lines,
 ) -> Result<(), AllocError>
-    requires long { length renaming.now.marks.now ≡ length made.now }
-    requires low { (i : ℕ) → get_or renaming.now.marks.now i 0 ≤ length made.now + 1 }
-    requires fits { AreSteps made.now }
-    ensures { OnOk result (text.new.bytes ≡ text.old.bytes ++ steps_text
+    requires few { length lines.now.places.items < 2 ^ 63 }
+    requires long { length renaming.now.marks.now ≡ length lines.now.places.items }
+    requires low { (i : ℕ)
+        → get_or renaming.now.marks.now i 0 ≤ length lines.now.places.items + 1 }
+    ensures { OnOk result ((made : List TheStep)
+        → AreAt lines.now.text.now lines.now.places.items made
+        → text.new.bytes ≡ text.old.bytes ++ steps_text
         (marked_log (renamed renaming.now.index.now renaming.now.marks.now)
-        (mark_at renaming.now.marks.now) 0 made.now)) }
+        (mark_at renaming.now.marks.now) 0 made)) }
 {
-    let mut lists = no_lists(alloc, made.len() + 2)?;
+    let mut lists = no_lists(alloc, lines.len() + 2)?;
     let mut place = 0;
-    while place < made.len() {
-        put_next(alloc, renaming, text, &mut lists, place, &made[place])?;
+    while place < lines.len() {
+        put_next(alloc, renaming, text, &mut lists, lines, place)?;
         place += 1;
     }
     Ok(())

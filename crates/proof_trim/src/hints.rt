@@ -12,11 +12,13 @@ ghost use Rattle.log_theory.specs.LogText.{IsName, IsRef, AreRefs};
 ghost use Rattle.log_theory.specs.Profiles.{IsStepIn};
 ghost use Rattle.log_theory.specs.Lookups.{makes};
 ghost use Rattle.log_theory.specs.Tables.{Table as TheTable, empty_table, find, step_in};
-ghost use Rattle.proof_trim.specs.Reading.{AreStepsIn};
 ghost use Rattle.proof_trim.specs.Hints.{FollowsOnce, LeadsTo, LeadsOn, IsRefuted, IsReplayed};
-ghost use Rattle.proof_trim.specs.Trimmed.{AreHinted};
+ghost use Rattle.proof_trim.specs.Lined.{IsReplayedText};
 
+use crate::reading::{first_line, step_in};
+use crate::text::put_step;
 use log_theory::{Name, Op, Profile, Ref, Refs, Step};
+use outer_io::TextBuffer;
 use packed_terms::PackedConstraint;
 use pb_propagation::reach::reach;
 use pb_propagation::{Table, above, clause, clear, follow, negate_all};
@@ -339,11 +341,43 @@ fn lines_known(alloc: Global, constraints: u64) -> Result<Vec<Ref>, AllocError>
     Ok(refs)
 }
 
-/// The lines of a log without hints, each with hints where it asks for some.
-fn replayed(alloc: Global, model: &[Constraint], steps: Vec<Step>) -> Result<Vec<Step>, AllocError>
-    requires few { length model.now < 2 ^ 63 }
-    requires steps { AreStepsIn Plain steps.items }
-    ensures { IfOk result (λ hinted. AreHinted Plain model.now steps.items hinted.items) }
+/// Puts all lines of a text, each with hints where it asks for some.
+fn replay_text(
+    alloc: Global,
+    model: &[PackedConstraint],
+    replay: &mut Replay,
+    out: &mut TextBuffer,
+    text: &[u8],
+) -> Result<(), AllocError>
+    requires start { (replay.old.table ≡ empty_table) × (out.old.bytes ≡ []) }
+    requires known { AreRefs replay.old.known.items }
+    ensures { OnOk result (IsReplayedText model.now text.now out.new.bytes) }
+{
+    let mut left = text;
+    while !left.is_empty() {
+        let Some((line, behind)) = first_line(left) else {
+            return Err(AllocError);
+        };
+        let told = step_in(alloc, Profile::Plain, line)?;
+        if behind.is_empty() {
+            put_step(out, &told)?;
+            return Ok(());
+        }
+        let step = replay.take(alloc, model, told)?;
+        put_step(out, &step)?;
+        left = behind;
+    }
+    Err(AllocError)
+}
+
+/// The text of a log without hints behind its head, with hints where it asks for some. What the replay keeps is what stands, and the text.
+pub(crate) fn replayed(
+    alloc: Global,
+    model: &[Constraint],
+    text: &[u8],
+) -> Result<TextBuffer, AllocError>
+    requires { length model.now < 2 ^ 63 }
+    ensures { IfOk result (λ out. IsReplayedText model.now text.now out.bytes) }
 {
     let model = packed(alloc, model)?;
     let mut replay = Replay {
@@ -351,26 +385,7 @@ fn replayed(alloc: Global, model: &[Constraint], steps: Vec<Step>) -> Result<Vec
         known: lines_known(alloc, model.len() as u64)?,
         set: Literals::new(alloc, 0)?,
     };
-    let mut hinted = Vec::new(alloc);
-    for step in steps {
-        hinted.push(replay.take(alloc, &model, step)?)?;
-    }
-    Ok(hinted)
-}
-
-/// The lines of an accepted log with hints: their own, or those that propagation finds.
-pub(crate) fn with_hints(
-    alloc: Global,
-    profile: Profile,
-    model: &[Constraint],
-    steps: Vec<Step>,
-) -> Result<Vec<Step>, AllocError>
-    requires few { length model.now < 2 ^ 63 }
-    requires steps { AreStepsIn profile steps.items }
-    ensures { IfOk result (λ hinted. AreHinted profile model.now steps.items hinted.items) }
-{
-    match profile {
-        Profile::Hinted => Ok(steps),
-        Profile::Plain => replayed(alloc, model, steps),
-    }
+    let mut out = TextBuffer::new(alloc);
+    replay_text(alloc, &model, &mut replay, &mut out, text)?;
+    Ok(out)
 }

@@ -20,7 +20,7 @@ pub(crate) struct Index {
 
 impl Index {
     /// No line yet.
-    fn new(alloc: Global) -> Index
+    pub(crate) fn new(alloc: Global) -> Index
         ensures { IsIndexOf result [] }
     {
         Index {
@@ -57,7 +57,7 @@ impl Index {
     }
 
     /// Takes the next line of a log, behind so many that make a constraint, and tells how many do then.
-    fn take(&mut self, step: &Step, count: usize) -> Result<usize, AllocError>
+    pub(crate) fn take(&mut self, step: &Step, count: usize) -> Result<usize, AllocError>
         requires { count < 2 ^ 64 - 1 }
         ensures { IfOk result (λ next. (log : List TheStep) → IsIndexOf self.old log
             → count ≡ length (made_lines log) → IsIndexWith self.new (log ++ step.now ∷ []) next) }
@@ -81,19 +81,6 @@ impl Index {
             }
             _ => Ok(count),
         }
-    }
-
-    /// The index of a log. One pass.
-    pub(crate) fn of(alloc: Global, steps: &[Step]) -> Result<Index, AllocError>
-        ensures { IfOk result (λ index. IsIndexOf index steps.now) }
-    {
-        let mut index = Index::new(alloc);
-        let mut count = 0;
-        let _lines = steps.len();
-        for step in steps {
-            count = index.take(step, count)?;
-        }
-        Ok(index)
     }
 
     /// The place of a name.

@@ -1,12 +1,14 @@
 //! Marks: which line names the line of each place last, of all that are needed.
 
-ghost use Rattle.std.specs.Prelude.{◌≡◌, ◌≢◌, ℕ, ◌+◌, ◌-◌, ◌^◌, ◌<◌, ◌≤◌, length, replicate, IfOk, OnOk};
+ghost use Rattle.std.specs.Prelude.{◌≡◌, ◌≢◌, ℕ, ◌+◌, ◌-◌, ◌^◌, ◌<◌, ◌≤◌, List, length, replicate, IfOk, OnOk};
 ghost use Rattle.log_theory.specs.declared.step.Step.{Step as TheStep};
 ghost use Rattle.journal_theory.specs.Referring.{step_refs};
 ghost use Rattle.proof_trim.specs.Places.{place_in};
+ghost use Rattle.proof_trim.specs.Lined.{AreAt};
 ghost use Rattle.proof_trim.specs.Marks.{MarksOne, MarksRefs, IsMarked};
 
 use crate::index::Index;
+use crate::lines::Lines;
 use crate::references::take_refs;
 use log_theory::{Ref, Step};
 use std::alloc::{AllocError, Global};
@@ -36,21 +38,24 @@ fn mark_refs(index: &Index, marks: &mut Vec<usize>, refs: &[Ref], limit: usize, 
 
 /// Marks what the line at a place names, where it is needed itself.
 fn mark_line(
+    alloc: Global,
     index: &Index,
     marks: &mut Vec<usize>,
     refs: &mut Vec<Ref>,
-    made: &[Step],
+    lines: &Lines,
     at: usize,
 ) -> Result<(), AllocError>
-    requires within { at < length made.now }
-    requires long { length marks.old.items ≡ length made.now }
-    ensures marked { OnOk result ((last : TheStep)
-        → IsMarked (place_in index.now) made.now last (at + 1) marks.old.items
-        → IsMarked (place_in index.now) made.now last at marks.new.items) }
+    requires within { at < length lines.now.places.items }
+    requires long { length marks.old.items ≡ length lines.now.places.items }
+    ensures marked { OnOk result ((made : List TheStep) (last : TheStep)
+        → AreAt lines.now.text.now lines.now.places.items made
+        → IsMarked (place_in index.now) made last (at + 1) marks.old.items
+        → IsMarked (place_in index.now) made last at marks.new.items) }
     ensures long { length marks.new.items ≡ length marks.old.items }
 {
     if marks[at] != 0 {
-        take_refs(refs, &made[at])?;
+        let step = lines.step_at(alloc, at)?;
+        take_refs(refs, &step)?;
         mark_refs(index, marks, refs, at, at + 1);
     }
     Ok(())
@@ -75,24 +80,25 @@ fn first_marks(
     Ok(marks)
 }
 
-/// The marks of all lines that make a constraint, by going back from the last line of the log. Cost: one step for each reference of a line that
-/// is needed.
+/// The marks of all lines that make a constraint, by going back from the last line of the log. Cost: the bytes of each line that is needed,
+/// and one step for each of its references.
 pub(crate) fn marks_of(
     alloc: Global,
     index: &Index,
-    made: &[Step],
+    lines: &Lines,
     last: &Step,
 ) -> Result<Vec<usize>, AllocError>
-    requires { length made.now < 2 ^ 64 - 1 }
-    ensures { IfOk result
-        (λ marks. IsMarked (place_in index.now) made.now last.now 0 marks.items) }
+    requires { length lines.now.places.items < 2 ^ 64 - 1 }
+    ensures { IfOk result (λ marks. (made : List TheStep)
+        → AreAt lines.now.text.now lines.now.places.items made
+        → IsMarked (place_in index.now) made last.now 0 marks.items) }
 {
     let mut refs = Vec::new(alloc);
-    let mut marks = first_marks(alloc, index, &mut refs, made.len(), last)?;
-    let mut at = made.len();
+    let mut marks = first_marks(alloc, index, &mut refs, lines.len(), last)?;
+    let mut at = lines.len();
     while at > 0 {
         at -= 1;
-        mark_line(index, &mut marks, &mut refs, made, at)?;
+        mark_line(alloc, index, &mut marks, &mut refs, lines, at)?;
     }
     Ok(marks)
 }

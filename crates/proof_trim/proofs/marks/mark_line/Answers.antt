@@ -1,8 +1,6 @@
-use Rattle.std.proofs.Common.{◌≡◌, ℕ, ◌+◌, ◌<◌, length, get_or, arith, List, Option, Some, ap, sym, ◌∙◌, subst}
+use Rattle.std.proofs.Common.{◌≡◌, ℕ, ◌+◌, ◌<◌, List, length, get_or, arith, sym, ◌∙◌, subst}
 use Rattle.std.proofs.lemmas.List.{get_or_read}
-use Rattle.std.proofs.lemmas.Option.{slice_get-get_or}
 use Rattle.log_theory.specs.declared.step.Ref.{Ref}
-use Rattle.log_theory.specs.declared.step.Step.{Step}
 use Rattle.proof_trim.specs.Places.{place_in}
 use Rattle.proof_trim.specs.Marks.{MarksRefs}
 use Rattle.proof_trim.proofs.Marking.{marked_left, marked_kept}
@@ -13,11 +11,11 @@ read : (marks : List ℕ) (at x : ℕ) {n : ℕ} → at < n → length marks ≡
 read marks at x within long is = get_or_read marks at x (omega (arith, within, long)) is 0
 
 pub returns-in_ok-take_refs-clause-marked : goal.returns-in_ok-take_refs-clause-marked
-returns-in_ok-take_refs-clause-marked c = λ last before.
-    marked_kept (place_in c.args.index.now) c.args.made.now last c.index-made-at.result c.args.at c.args.marks.now.items c.mark_refs.new.marks.items
-    (slice_get-get_or c.args.made.now c.args.at c.index-made-at.result c.requires.within ∙ ap (λ (s : Step). let o : Option Step = Some s in o) (sym c.index-made-at.is)) (λ e. c.if-index-ne0.true (read c.args.marks.now.items c.args.at c.index.result.now c.requires.within c.requires.long c.index.ensures ∙ e))
+returns-in_ok-take_refs-clause-marked c = λ made last at before.
+    marked_kept (place_in c.args.index.now) made last c.in_ok-step.step c.args.at c.args.marks.now.items c.mark_refs.new.marks.items
+    (c.in_ok-step.ensures.told made at) (λ e. c.if-index-ne0.true (read c.args.marks.now.items c.args.at c.index.result.now c.requires.within c.requires.long c.index.ensures ∙ e))
     (subst (λ (rs : List Ref). MarksRefs (place_in c.args.index.now) rs c.args.at (c.args.at + 1) c.args.marks.now.items c.mark_refs.new.marks.items) (c.deref.ensures.value ∙ c.in_ok-take_refs.ensures) c.mark_refs.ensures)
     before
 
 pub returns-else-index-ne0-clause-marked : goal.returns-else-index-ne0-clause-marked
-returns-else-index-ne0-clause-marked c = λ last before. marked_left (place_in c.args.index.now) c.args.made.now last c.args.at c.args.marks.now.items (sym (read c.args.marks.now.items c.args.at c.index.result.now c.requires.within c.requires.long c.index.ensures) ∙ c.if-index-ne0.false) before
+returns-else-index-ne0-clause-marked c = λ made last at before. marked_left (place_in c.args.index.now) made last c.args.at c.args.marks.now.items (sym (read c.args.marks.now.items c.args.at c.index.result.now c.requires.within c.requires.long c.index.ensures) ∙ c.if-index-ne0.false) before

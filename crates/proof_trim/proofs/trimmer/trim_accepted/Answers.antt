@@ -1,17 +1,29 @@
-use Rattle.std.proofs.Common.{List, length, subst, arith}
+use Rattle.std.proofs.Common.{List, length, subst}
+use Rattle.log_theory.specs.declared.profile.Profile.{Profile}
+use Rattle.log_theory.specs.declared.profile.Profile.TheVariants.{Hinted}
 use Rattle.proof_theory.specs.Forms.{Form}
-use Rattle.proof_trim.specs.Trimmed.{AreHinted, IsRenewedText}
-use Rattle.proof_trim.proofs.Accepted.{trimmed_by}
+use Rattle.proof_trim.specs.Reading.{IsOpened}
+use Rattle.proof_trim.specs.Lined.{IsReplayedText, IsRenewedFrom}
+use Rattle.proof_trim.proofs.Accepted.{trimmed_hinted, trimmed_plain}
 use Rattle.proof_trim.proofs.trimmer.trim_accepted.Goals as goal
 
-pub returns : goal.returns
-returns c =
+pub returns-in_ok-trim_hinted-in-Hinted : goal.returns-in_ok-trim_hinted-in-Hinted
+returns-in_ok-trim_hinted-in-Hinted c =
     let n = c.args.model.now.variables in
     let model = c.args.model.now.constraints in
-    let p = c.in_ok-profile in
-    let r = c.in_ok-text.field-0 in
-    let l = c.len.ensures in
-    let o = c.in_ok-hinted.hinted.ok in
-    trimmed_by c.code_laws.ensures.mark c.line_laws.ensures.lines n model c.args.log.now c.requires.0 p.field-0.profile p.field-0.steps.items p.field-0.last c.in_ok-hinted.hinted.items r.text.bytes r.made r.kept c.requires.1
-    c.constraints-constraints.ensures.within.constraints_fit p.ensures (subst (λ (fs : List Form). AreHinted p.field-0.profile fs p.field-0.steps.items c.in_ok-hinted.hinted.items) c.constraints-constraints.ensures.exact c.in_ok-hinted.ensures)
-    (let f = c.if-len.false in omega (arith, f, l, o)) (subst (λ (fs : List Form). IsRenewedText (length fs) c.in_ok-hinted.hinted.items p.field-0.last r.text.bytes r.made r.kept) c.constraints-constraints.ensures.exact c.in_ok-text.ensures)
+    let same = c.constraints-constraints.ensures.exact in
+    let k = c.in_ok-trim_hinted-in-Hinted.field-0 in
+    trimmed_hinted c.code_laws.ensures.mark c.line_laws.ensures.lines n model c.args.log.now c.in-Some.lines.now c.requires.0 k.text.bytes k.made k.kept c.requires.1 c.constraints-constraints.ensures.within.constraints_fit
+    (subst (λ (p : Profile). IsOpened p c.args.log.now c.in-Some.lines.now) c.in-Hinted.is c.in-Some.ensures)
+    (subst (λ (fs : List Form). IsRenewedFrom (length fs) c.in-Some.lines.now k.text.bytes k.made k.kept) same c.in_ok-trim_hinted-in-Hinted.ensures)
+
+pub returns-in_ok-trim_plain-in-Plain : goal.returns-in_ok-trim_plain-in-Plain
+returns-in_ok-trim_plain-in-Plain c =
+    let n = c.args.model.now.variables in
+    let model = c.args.model.now.constraints in
+    let same = c.constraints-constraints.ensures.exact in
+    let k = c.in_ok-trim_plain-in-Plain.field-0 in
+    let e = c.in_ok-trim_plain-in-Plain.ensures in
+    trimmed_plain c.code_laws.ensures.mark c.line_laws.ensures.lines c.line_laws.ensures.no_feed (c.profile_laws.ensures.read Hinted) n model c.args.log.now c.in-Some.lines.now c.requires.0 e.0 k.text.bytes k.made k.kept c.requires.1
+    c.constraints-constraints.ensures.within.constraints_fit (subst (λ (p : Profile). IsOpened p c.args.log.now c.in-Some.lines.now) c.in-Plain.is c.in-Some.ensures)
+    (subst (λ (fs : List Form). IsReplayedText fs c.in-Some.lines.now e.0) same e.1) (subst (λ (fs : List Form). IsRenewedFrom (length fs) e.0 k.text.bytes k.made k.kept) same e.2)
