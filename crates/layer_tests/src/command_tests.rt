@@ -1,6 +1,7 @@
 //! That `command_of` gives what it should with ample memory, from words to what a command tells.
 
-use command_line::{Command, ProveWords, Refusal, SolveWords, command_of};
+use command_line::{AskWords, Command, ProveWords, Refusal, SolveWords, command_of};
+use graph_theory::embedding::Maps;
 use std::alloc::{AllocError, Global};
 use std::test::Fail;
 use test_support::{Example, all_hold};
@@ -27,15 +28,38 @@ fn told_proof(alloc: Global, prove: &Option<ProveWords>) -> Result<String, Alloc
     }
 }
 
+/// What tells of maps that are not injective.
+fn told_maps(maps: Maps) -> &'static str {
+    match maps {
+        Maps::Injective => "",
+        Maps::Local => " local",
+        Maps::Any => " any",
+    }
+}
+
+/// What is asked of a map, as text.
+fn told_ask(alloc: Global, ask: &AskWords) -> Result<String, AllocError> {
+    let mut text = format!(in alloc;
+        "{} {:?}{}",
+        ask.induced(),
+        ask.format(),
+        told_maps(ask.maps())
+    )?;
+    for (a, b) in ask.less() {
+        text.push_str(format!(in alloc; " {a},{b}")?.as_str())?;
+    }
+    Ok(text)
+}
+
 /// What a solve tells, as text.
 fn told_solve(alloc: Global, words: &SolveWords) -> Result<String, AllocError> {
     let proof = told_proof(alloc, &words.prove)?;
+    let ask = told_ask(alloc, &words.ask)?;
     format!(in alloc;
-        "solve {} {} {} {:?} {} {} {} {} {}",
+        "solve {} {} {} {} {} {} {} {}",
         words.pattern.as_str(),
         words.target.as_str(),
-        words.induced,
-        words.format,
+        ask.as_str(),
         words.threads,
         words.seed,
         words.budget,
@@ -49,12 +73,11 @@ fn told(alloc: Global, command: &Command) -> Result<String, AllocError> {
     match command {
         Command::Solve(words) => told_solve(alloc, words),
         Command::Verify(words) => format!(in alloc;
-            "verify {} {} {} {} {:?}",
+            "verify {} {} {} {}",
             words.pattern.as_str(),
             words.target.as_str(),
             words.mapping.as_str(),
-            words.induced,
-            words.format
+            told_ask(alloc, &words.ask)?.as_str()
         ),
         Command::Check(words) => format!(in alloc;
             "check {} {}",
@@ -72,11 +95,10 @@ fn told(alloc: Global, command: &Command) -> Result<String, AllocError> {
             words.seed, words.threads, words.budget
         ),
         Command::Encode(words) => format!(in alloc;
-            "encode {} {} {} {:?}",
+            "encode {} {} {}",
             words.pattern.as_str(),
             words.target.as_str(),
-            words.induced,
-            words.format
+            told_ask(alloc, &words.ask)?.as_str()
         ),
     }
 }
@@ -102,7 +124,7 @@ impl<R> Example<R> for Says {
     }
 }
 
-static SAYS: [Says; 26] = [
+static SAYS: [Says; 30] = [
     Says {
         line: "subgraph solve p t",
         told: "solve p t false Lad 1 0 9223372036854775807 65536 unproved",
@@ -192,6 +214,22 @@ static SAYS: [Says; 26] = [
         told: "encode p t true LabelledLad",
     },
     Says {
+        line: "subgraph solve p t --map local --less 0,1:2,0",
+        told: "solve p t false Lad local 0,1 2,0 1 0 9223372036854775807 65536 unproved",
+    },
+    Says {
+        line: "subgraph verify p t m --map any --format directedlad",
+        told: "verify p t m false DirectedLad any",
+    },
+    Says {
+        line: "subgraph encode p t --induced --map injective --less 1,0",
+        told: "encode p t true Lad 1,0",
+    },
+    Says {
+        line: "subgraph encode --less=0000000007,4294967295 p t",
+        told: "encode p t false Lad 7,4294967295",
+    },
+    Says {
         line: "subgraph check e l",
         told: "check e l",
     },
@@ -222,7 +260,7 @@ impl<R> Example<R> for Refused {
     }
 }
 
-static REFUSED: [Refused; 46] = [
+static REFUSED: [Refused; 54] = [
     Refused(""),
     Refused("subgraph solve p"),
     Refused("subgraph solve p t m"),
@@ -261,6 +299,14 @@ static REFUSED: [Refused; 46] = [
     Refused("subgraph solve p t --profile 2"),
     Refused("subgraph solve p t --prove e --log l --profile 3"),
     Refused("subgraph solve p t --prove e --log l --profile 0"),
+    Refused("subgraph solve p t --map homomorphism"),
+    Refused("subgraph solve p t --map local --induced"),
+    Refused("subgraph batch l --map any"),
+    Refused("subgraph solve p t --less 0"),
+    Refused("subgraph solve p t --less 00,0"),
+    Refused("subgraph solve p t --less 0,1:"),
+    Refused("subgraph solve p t --less 0,4294967296"),
+    Refused("subgraph solve p t --less 0,1 --less 1,2"),
     Refused("subgraph solve p t --bud 4"),
     Refused("subgraph sol p t"),
     Refused("subgraph --help"),

@@ -1,5 +1,8 @@
 //! Whole searches for maps that need not be injective, and for images in order.
 
+ghost use Rattle.std.specs.Prelude.{◌≡◌, true, IfOk};
+ghost use Rattle.graph_rows.specs.Orders.{IsOrder};
+
 use crate::search_tests::{End, search_for};
 use graph_rows::Problem;
 use graph_theory::embedding::Maps;
@@ -25,13 +28,33 @@ const FIVE_CLIQUE: &[u8] = b"5 4 1 2 3 4 4 0 2 3 4 4 0 1 3 4 4 0 1 2 4 4 0 1 2 3
 const FOUR_PAIRS: &[u8] =
     b"8 6 2 3 4 5 6 7 6 2 3 4 5 6 7 6 0 1 4 5 6 7 6 0 1 4 5 6 7 6 0 1 2 3 6 7 6 0 1 2 3 6 7 6 0 1 2 3 4 5 6 0 1 2 3 4 5";
 
-/// These pairs, in memory of their own.
-fn pairs_of(alloc: Global, pairs: &[(u16, u16)]) -> Result<Vec<(u16, u16)>, AllocError> {
-    let mut made = Vec::new(alloc);
-    for (a, b) in pairs {
-        made.push((*a, *b))?;
+/// Whether a problem of so many pattern vertices may ask that the images of these pairs be in order.
+fn is_order(pairs: &[(u16, u16)], vertices: u16) -> bool
+    ensures { result ≡ true → IsOrder vertices pairs.now }
+{
+    if pairs.len() > 64 {
+        return false;
     }
-    Ok(made)
+    for x in pairs {
+        if x.0 >= vertices || x.1 >= vertices || x.0 == x.1 {
+            return false;
+        }
+    }
+    true
+}
+
+/// Such pairs, in memory of their own.
+fn order_of(
+    alloc: Global,
+    pairs: &[(u16, u16)],
+    vertices: u16,
+) -> Result<Vec<(u16, u16)>, AllocError>
+    ensures { IfOk result (λ order. IsOrder vertices order.items) }
+{
+    if !is_order(pairs, vertices) {
+        return Err(AllocError);
+    }
+    Vec::from_slice(alloc, pairs)
 }
 
 /// A search: its pattern and target, which images have to differ, which pairs of vertices are to have theirs in order, and how the run ends.
@@ -51,7 +74,7 @@ impl<R> Example<R> for Mapped {
         let Some(target) = graph(alloc, self.1) else {
             return Ok(false);
         };
-        let less = pairs_of(alloc, self.3)?;
+        let less = order_of(alloc, self.3, pattern.size())?;
         let q = Problem::mapped(pattern, target, self.2).with_less(less);
         Ok(search_for(alloc, &q, 100000, 64)? == self.4)
     }
