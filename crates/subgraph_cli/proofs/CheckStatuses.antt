@@ -22,7 +22,7 @@ use Rattle.subgraph_cli.specs.Stops.{SparesOutput, IsOfFiles, HasCause}
 use Rattle.subgraph_cli.specs.Solving.{IsOrStops}
 use Rattle.subgraph_cli.specs.Checking.{HoldsModel, HoldsNoModel, HoldsLog, HoldsNoLog, Holds, IsFirstOfCheck, IsAccepted, IsRefusedLog, CheckSays, TellsChecked, CheckStatus, check_status, verdict_of_claim, claim_text, ModelSays, JudgedSays, VerdictSays, ClaimHolds, TellsVerdict, ToldSays}
 use Rattle.subgraph_cli.specs.declared.stop.Role.{Role}
-use Rattle.subgraph_cli.specs.declared.stop.Role.TheVariants.{Pattern, Target, Mapping, Encoding, Log, JobList, JobPattern, JobTarget}
+use Rattle.subgraph_cli.specs.declared.stop.Role.TheVariants.{Pattern, Less, Target, Mapping, Encoding, Log, JobList, JobPattern, JobTarget}
 use Rattle.subgraph_cli.specs.declared.stop.TextFault.{TextFault}
 use Rattle.subgraph_cli.specs.declared.stop.TextFault.TheVariants.{TooLong, Opb}
 use Rattle.subgraph_cli.specs.declared.stop.Stop.{Stop}
@@ -178,6 +178,7 @@ model_stops (Refused JobList fault) e l out of_files says = let x : JobList ≡ 
 model_stops (Refused (JobPattern n) fault) e l out of_files says = let x : JobPattern n ≡ Encoding = says.0 in cc
 model_stops (Refused (JobTarget n) fault) e l out of_files says = let x : JobTarget n ≡ Encoding = says.0 in cc
 model_stops (Refused Pattern fault) e l out of_files says = let x : Pattern ≡ Encoding = says.0 in cc
+model_stops (Refused Less fault) e l out of_files says = let x : Less ≡ Encoding = says.0 in cc
 model_stops (Refused Target fault) e l out of_files says = let x : Target ≡ Encoding = says.0 in cc
 model_stops (Refused Mapping fault) e l out of_files says = let x : Mapping ≡ Encoding = says.0 in cc
 
@@ -192,6 +193,7 @@ log_stops (Refused (JobPattern n) fault) m e l out of_files says held = let x : 
 log_stops (Refused (JobTarget n) fault) m e l out of_files says held = let x : JobTarget n ≡ Log = says.0 in cc
 log_stops (Refused Encoding fault) m e l out of_files says held = let x : Encoding ≡ Log = says.0 in cc
 log_stops (Refused Pattern fault) m e l out of_files says held = let x : Pattern ≡ Log = says.0 in cc
+log_stops (Refused Less fault) m e l out of_files says held = let x : Less ≡ Log = says.0 in cc
 log_stops (Refused Target fault) m e l out of_files says held = let x : Target ≡ Log = says.0 in cc
 log_stops (Refused Mapping fault) m e l out of_files says held = let x : Mapping ≡ Log = says.0 in cc
 

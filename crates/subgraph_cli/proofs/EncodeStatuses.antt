@@ -29,7 +29,7 @@ loading_spares_parts NoMemory out of_files kept = tt
 
 -- What writing the encoding of the problem that the files ask says is what an encode says.
 pub writing_says : (r : Result Unit Stop) (q : Problem) (w : EncodeWords) (p t : Option (List ℕ)) (out : Stream)
-    → WritingSays r q out → Asks p t w.format w.induced q → EncodeSays r w p t out
+    → WritingSays r q out → Asks p t w.ask q → EncodeSays r w p t out
 writing_says (Ok done) q w p t out says asks = record { problem = q; asks = asks; written = says }
 writing_says (Err OutputFault) q w p t out says asks = record { problem = q; asks = asks; front = says }
 writing_says (Err NoMemory) q w p t out (inl says) asks = inl says
@@ -49,7 +49,7 @@ encoded_says (Err NoMemory) w p t out says e = absurd (omega arith)
 -- Status 4 is that of a refused text, of which the error stream is told.
 refused_says : (r : Result Unit Stop) (w : EncodeWords) (p t : Option (List ℕ)) (out err : Stream)
     → EncodeSays r w p t out → TellsStop r err → encode_status r ≡ 4
-    → (role : Role) × (fault : TextFault) × IsFirstRefused p t w.format role fault × Tells err (refusal_text role fault)
+    → (role : Role) × (fault : TextFault) × IsFirstRefused p t w.ask role fault × Tells err (refusal_text role fault)
 refused_says (Err (Refused role fault)) w p t out err says line e = (role, fault, says, line)
 refused_says (Ok done) w p t out err says line e = absurd (omega arith)
 refused_says (Err FilesFault) w p t out err says line e = absurd (omega arith)
@@ -77,17 +77,17 @@ no_memory_says (Err (Refused role fault)) w p t out says e = absurd (omega arith
 
 -- Files that ask a problem lead to its encoding.
 encoded_leads : TextLaws → (r : Result Unit Stop) (w : EncodeWords) (p t : Option (List ℕ)) (out : Stream)
-    → EncodeSays r w p t out → (q : Problem) → Asks p t w.format w.induced q → IsOrStops 0 (encode_status r)
+    → EncodeSays r w p t out → (q : Problem) → Asks p t w.ask q → IsOrStops 0 (encode_status r)
 encoded_leads laws (Ok done) w p t out says q asks = inl refl
-encoded_leads laws (Err (Refused role fault)) w p t out says q asks = absurd (asks_not_refused laws p t w.format w.induced q role fault asks says)
+encoded_leads laws (Err (Refused role fault)) w p t out says q asks = absurd (asks_not_refused laws p t w.ask q role fault asks says)
 encoded_leads laws (Err FilesFault) w p t out says q asks = inr (inl refl)
 encoded_leads laws (Err OutputFault) w p t out says q asks = inr (inl refl)
 encoded_leads laws (Err NoMemory) w p t out says q asks = inr (inr refl)
 
 -- Where a text is refused that is told.
 refused_leads : TextLaws → (r : Result Unit Stop) (w : EncodeWords) (p t : Option (List ℕ)) (out : Stream)
-    → EncodeSays r w p t out → (role : Role) (fault : TextFault) → IsFirstRefused p t w.format role fault → IsOrStops 4 (encode_status r)
-refused_leads laws (Ok done) w p t out says role fault refused = absurd (asks_not_refused laws p t w.format w.induced says.problem role fault says.asks refused)
+    → EncodeSays r w p t out → (role : Role) (fault : TextFault) → IsFirstRefused p t w.ask role fault → IsOrStops 4 (encode_status r)
+refused_leads laws (Ok done) w p t out says role fault refused = absurd (asks_not_refused laws p t w.ask says.problem role fault says.asks refused)
 refused_leads laws (Err (Refused who why)) w p t out says role fault refused = inl refl
 refused_leads laws (Err FilesFault) w p t out says role fault refused = inr (inl refl)
 refused_leads laws (Err OutputFault) w p t out says role fault refused = inr (inl refl)

@@ -1,5 +1,6 @@
 pub mod Cutting
 pub mod OneProblem
+pub mod Asking
 pub mod Proofs
 pub mod Told
 pub mod SolveStatuses

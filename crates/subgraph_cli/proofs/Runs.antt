@@ -128,7 +128,7 @@ encode_stops w OutputFault = inr (inr (inl refl))
 encode_stops w NoMemory = inr (inr (inr refl))
 
 encode_ends : (r : Result Unit Stop) (w : EncodeWords) (accounts : List Account) (d : Disk) (out err : Stream)
-    → IfErr r (λ (s : Stop). HasCause s (IsFaultOfTwo w.pattern w.target w.format) d) → IfErr r (λ (s : Stop). SparesInParts s out)
+    → IfErr r (λ (s : Stop). HasCause s (IsFaultOfTwo w.pattern w.target w.ask) d) → IfErr r (λ (s : Stop). SparesInParts s out)
     → (IsErrOf r FilesFault ⊎ (d.faults_after ≡ d.faults_before)) → (IsErrOf r OutputFault ⊎ (out.faults_after ≡ out.faults_before))
     → TellsStop r err → IsEndOf (Encode w) (outcome (encode_status r) accounts d out err)
 encode_ends (Ok done) w accounts d out err cause spares files output line =
@@ -139,7 +139,7 @@ encode_ends (Err s) w accounts d out err cause spares files output line =
 -- A run of `encode`.
 pub encode_ran : TextLaws → (r : Result Unit Stop) (w : EncodeWords) (accounts : List Account) (d : Disk) (out err : Stream) (status : ℕ)
     → (IsTrue d.tells → EncodeSays r w (d.content w.pattern) (d.content w.target) out)
-    → IfErr r (λ (s : Stop). HasCause s (IsFaultOfTwo w.pattern w.target w.format) d) → IfErr r (λ (s : Stop). SparesInParts s out)
+    → IfErr r (λ (s : Stop). HasCause s (IsFaultOfTwo w.pattern w.target w.ask) d) → IfErr r (λ (s : Stop). SparesInParts s out)
     → (IsErrOf r FilesFault ⊎ (d.faults_after ≡ d.faults_before)) → (IsErrOf r OutputFault ⊎ (out.faults_after ≡ out.faults_before))
     → TellsStop r err → status ≡ encode_status r → Ran (Encode w) (outcome status accounts d out err)
 encode_ran laws r w accounts d out err status says cause spares files output line is =

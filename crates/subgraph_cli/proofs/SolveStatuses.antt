@@ -130,7 +130,7 @@ proof_says (Err NoMemory) w p t accounts d out err names says asked =
 -- Status 4 is that of a refused text, of which the error stream is told.
 refused_says : (r : Result Decision Stop) (w : SolveWords) (p t : Option (List ℕ)) (accounts : List Account) (d : Disk) (out err : Stream)
     → SolveSays r w p t accounts d out → TellsStop r err → solve_status r ≡ 4
-    → (role : Role) × (fault : TextFault) × IsFirstRefused p t w.format role fault × Tells err (refusal_text role fault) × IsUntouched d
+    → (role : Role) × (fault : TextFault) × IsFirstRefused p t w.ask role fault × Tells err (refusal_text role fault) × IsUntouched d
 refused_says (Err (Refused role fault)) w p t accounts d out err says line e = (role, fault, says.0, line, says.1)
 refused_says (Ok Yes) w p t accounts d out err says line e = absurd (omega arith)
 refused_says (Ok Nothing) w p t accounts d out err says line e = absurd (omega arith)
@@ -164,38 +164,38 @@ memory_says (Err OutputFault) w p t accounts d out says e = absurd (omega arith)
 
 -- A problem is answered.
 answered_leads : TextLaws → (r : Result Decision Stop) (w : SolveWords) (p t : Option (List ℕ)) (accounts : List Account) (d : Disk) (out : Stream)
-    → SolveSays r w p t accounts d out → (q : Problem) → Asks p t w.format w.induced q
+    → SolveSays r w p t accounts d out → (q : Problem) → Asks p t w.ask q
     → (solve_status r ≡ 0) ⊎ ((solve_status r ≡ 1) ⊎ IsOrStops 2 (solve_status r))
 answered_leads laws (Ok Yes) w p t accounts d out says q asks = inl refl
 answered_leads laws (Ok Nothing) w p t accounts d out says q asks = inr (inl refl)
 answered_leads laws (Ok Unknown) w p t accounts d out says q asks = inr (inr (inl refl))
-answered_leads laws (Err (Refused role fault)) w p t accounts d out says q asks = absurd (asks_not_refused laws p t w.format w.induced q role fault asks says.0)
+answered_leads laws (Err (Refused role fault)) w p t accounts d out says q asks = absurd (asks_not_refused laws p t w.ask q role fault asks says.0)
 answered_leads laws (Err FilesFault) w p t accounts d out says q asks = inr (inr (inr (inl refl)))
 answered_leads laws (Err OutputFault) w p t accounts d out says q asks = inr (inr (inr (inl refl)))
 answered_leads laws (Err NoMemory) w p t accounts d out says q asks = inr (inr (inr (inr refl)))
 
 -- A problem that was answered is the one that is asked.
 same_problem : TextLaws → (k : Decision) (w : SolveWords) (p t : Option (List ℕ)) (accounts : List Account) (d : Disk) (out : Stream)
-    → (says : IsWritten k w p t accounts d out) → (q : Problem) → Asks p t w.format w.induced q → q ≡ says.answers.problem
-same_problem laws k w p t accounts d out says q asks = one_problem laws p t w.format w.induced q says.answers.problem asks says.answers.asks
+    → (says : IsWritten k w p t accounts d out) → (q : Problem) → Asks p t w.ask q → q ≡ says.answers.problem
+same_problem laws k w p t accounts d out says q asks = one_problem laws p t w.ask q says.answers.problem asks says.answers.asks
 
 -- Where an embedding exists `none` is not told.
 found_leads : TextLaws → (r : Result Decision Stop) (w : SolveWords) (p t : Option (List ℕ)) (accounts : List Account) (d : Disk) (out : Stream)
-    → SolveSays r w p t accounts d out → (q : Problem) (m : List ℕ) → Asks p t w.format w.induced q → Embeds q m
+    → SolveSays r w p t accounts d out → (q : Problem) (m : List ℕ) → Asks p t w.ask q → Embeds q m
     → (solve_status r ≡ 0) ⊎ IsOrStops 2 (solve_status r)
 found_leads laws (Ok Yes) w p t accounts d out says q m asks embeds = inl refl
 found_leads laws (Ok Nothing) w p t accounts d out says q m asks embeds =
     let same = same_problem laws Nothing w p t accounts d out says q asks in
     absurd (says.answers.is_answer.0 m (subst (λ (s : Problem). Embeds s m) same embeds))
 found_leads laws (Ok Unknown) w p t accounts d out says q m asks embeds = inr (inl refl)
-found_leads laws (Err (Refused role fault)) w p t accounts d out says q m asks embeds = absurd (asks_not_refused laws p t w.format w.induced q role fault asks says.0)
+found_leads laws (Err (Refused role fault)) w p t accounts d out says q m asks embeds = absurd (asks_not_refused laws p t w.ask q role fault asks says.0)
 found_leads laws (Err FilesFault) w p t accounts d out says q m asks embeds = inr (inr (inl refl))
 found_leads laws (Err OutputFault) w p t accounts d out says q m asks embeds = inr (inr (inl refl))
 found_leads laws (Err NoMemory) w p t accounts d out says q m asks embeds = inr (inr (inr refl))
 
 -- Where none exists `yes` is not told.
 refuted_leads : TextLaws → (r : Result Decision Stop) (w : SolveWords) (p t : Option (List ℕ)) (accounts : List Account) (d : Disk) (out : Stream)
-    → SolveSays r w p t accounts d out → (q : Problem) → Asks p t w.format w.induced q → HasNone q
+    → SolveSays r w p t accounts d out → (q : Problem) → Asks p t w.ask q → HasNone q
     → (solve_status r ≡ 1) ⊎ IsOrStops 2 (solve_status r)
 refuted_leads laws (Ok Yes) w p t accounts d out says q asks none =
     let same = same_problem laws Yes w p t accounts d out says q asks in
@@ -203,27 +203,27 @@ refuted_leads laws (Ok Yes) w p t accounts d out says q asks none =
     absurd (none answer.0 (subst (λ (s : Problem). Embeds s answer.0) (sym same) answer.1))
 refuted_leads laws (Ok Nothing) w p t accounts d out says q asks none = inl refl
 refuted_leads laws (Ok Unknown) w p t accounts d out says q asks none = inr (inl refl)
-refuted_leads laws (Err (Refused role fault)) w p t accounts d out says q asks none = absurd (asks_not_refused laws p t w.format w.induced q role fault asks says.0)
+refuted_leads laws (Err (Refused role fault)) w p t accounts d out says q asks none = absurd (asks_not_refused laws p t w.ask q role fault asks says.0)
 refuted_leads laws (Err FilesFault) w p t accounts d out says q asks none = inr (inr (inl refl))
 refuted_leads laws (Err OutputFault) w p t accounts d out says q asks none = inr (inr (inl refl))
 refuted_leads laws (Err NoMemory) w p t accounts d out says q asks none = inr (inr (inr refl))
 
 -- Where the budget is enough `unknown` is not told.
 enough_leads : TextLaws → (r : Result Decision Stop) (w : SolveWords) (p t : Option (List ℕ)) (accounts : List Account) (d : Disk) (out : Stream)
-    → SolveSays r w p t accounts d out → (q : Problem) → Asks p t w.format w.induced q
+    → SolveSays r w p t accounts d out → (q : Problem) → Asks p t w.ask q
     → enough (size q.pattern) (size q.target) ≤ w.budget → solve_status r ≡ 2 → ⊥
 enough_leads laws r w p t accounts d out says q asks most e =
     let unknown = unknown_says r w p t accounts d out says e in
-    let same = one_problem laws p t w.format w.induced q unknown.problem asks unknown.asks in
+    let same = one_problem laws p t w.ask q unknown.problem asks unknown.asks in
     let less : w.budget < enough (size q.pattern) (size q.target) =
     subst (λ (s : Problem). w.budget < enough (size s.pattern) (size s.target)) (sym same) unknown.spent.not_enough in
     omega arith
 
 -- Where a text is refused that is told.
 refused_leads : TextLaws → (r : Result Decision Stop) (w : SolveWords) (p t : Option (List ℕ)) (accounts : List Account) (d : Disk) (out : Stream)
-    → SolveSays r w p t accounts d out → (role : Role) (fault : TextFault) → IsFirstRefused p t w.format role fault → IsOrStops 4 (solve_status r)
+    → SolveSays r w p t accounts d out → (role : Role) (fault : TextFault) → IsFirstRefused p t w.ask role fault → IsOrStops 4 (solve_status r)
 refused_leads laws (Ok k) w p t accounts d out says role fault refused =
-    absurd (asks_not_refused laws p t w.format w.induced says.answers.problem role fault says.answers.asks refused)
+    absurd (asks_not_refused laws p t w.ask says.answers.problem role fault says.answers.asks refused)
 refused_leads laws (Err (Refused who why)) w p t accounts d out says role fault refused = inl refl
 refused_leads laws (Err FilesFault) w p t accounts d out says role fault refused = inr (inl refl)
 refused_leads laws (Err OutputFault) w p t accounts d out says role fault refused = inr (inl refl)

@@ -17,7 +17,7 @@ use Rattle.subgraph_cli.specs.Solving.{IsAnswer, IsWritten, SolveSays}
 use Rattle.subgraph_cli.specs.Verifying.{HoldsMapping, MappingSays, IsFaultOfThree, IsGood, IsBad, VerifySays}
 use Rattle.subgraph_cli.specs.declared.deciding.Answer.{Answer}
 use Rattle.subgraph_cli.specs.declared.deciding.Answer.TheVariants as answer
-use Rattle.subgraph_cli.specs.declared.stop.Role.TheVariants.{Pattern, Target, Mapping, Encoding, Log, JobList, JobPattern, JobTarget}
+use Rattle.subgraph_cli.specs.declared.stop.Role.TheVariants.{Pattern, Less, Target, Mapping, Encoding, Log, JobList, JobPattern, JobTarget}
 use Rattle.subgraph_cli.specs.declared.stop.Stop.{Stop}
 use Rattle.subgraph_cli.specs.declared.stop.Stop.TheVariants.{Refused, FilesFault, OutputFault, NoMemory}
 use Rattle.subgraph_cli.specs.declared.solve.Decision.{Decision}
@@ -66,7 +66,7 @@ keeps_but tells content faults written a b x = record { told = x.told; others = 
 
 -- A stop while loading, where no file was written.
 pub loading_says : (s : Stop) (w : SolveWords) (p t : Option (List ℕ)) (accounts : List Account) (d : Disk) (out : Stream)
-    → IsOfFiles s → AskSays (Err s) p t w.format w.induced → HasCause s (IsFaultOfTwo w.pattern w.target w.format) d → IsUntouched d
+    → IsOfFiles s → AskSays (Err s) p t w.ask → HasCause s (IsFaultOfTwo w.pattern w.target w.ask) d → IsUntouched d
     → SolveSays (Err s) w p t accounts d out
 loading_says FilesFault w p t accounts d out of_files says cause kept = inl (cause.of_one, kept)
 loading_says OutputFault w p t accounts d out of_files says cause kept = absurd of_files
@@ -81,7 +81,7 @@ reached_by answer.Unknown q w accounts kept = kept
 
 -- A stop where the proof is written, of the answer to the problem that the files ask.
 pub leaving_says : (s : Stop) (a : Answer) (q : Problem) (w : SolveWords) (p t : Option (List ℕ)) (accounts : List Account) (d : Disk) (out : Stream)
-    → LeavingSays (Err s) a q w.prove d → Asks p t w.format w.induced q → AreKept a q w accounts → SolveSays (Err s) w p t accounts d out
+    → LeavingSays (Err s) a q w.prove d → Asks p t w.ask q → AreKept a q w accounts → SolveSays (Err s) w p t accounts d out
 leaving_says FilesFault a q w p t accounts d out says asks kept = inr record {
   names = says.names;
   asked = says.asked;
@@ -115,7 +115,7 @@ writing_spares (Refused role fault) out of_writing kept = absurd of_writing
 writing_spares NoMemory out of_writing kept = kept
 
 -- A cause of reading is one of a solve.
-pub reading_cause : (s : Stop) (w : SolveWords) (d : Disk) → HasCause s (IsFaultOfTwo w.pattern w.target w.format) d → HasCause s (IsFaultOfSolve w) d
+pub reading_cause : (s : Stop) (w : SolveWords) (d : Disk) → HasCause s (IsFaultOfTwo w.pattern w.target w.ask) d → HasCause s (IsFaultOfSolve w) d
 reading_cause FilesFault w d cause = record { rose = cause.rose; of_one = inl cause.of_one }
 reading_cause OutputFault w d cause = tt
 reading_cause (Refused role fault) w d cause = tt
@@ -123,7 +123,7 @@ reading_cause NoMemory w d cause = tt
 
 -- So is one of writing the proof, where the files ask a problem.
 pub writing_cause : (s : Stop) (w : SolveWords) (d : Disk) → HasCause s (IsWritingOfProof w.prove) d
-    → (IsTrue d.tells → (q : Problem) × Asks (d.content w.pattern) (d.content w.target) w.format w.induced q) → HasCause s (IsFaultOfSolve w) d
+    → (IsTrue d.tells → (q : Problem) × Asks (d.content w.pattern) (d.content w.target) w.ask q) → HasCause s (IsFaultOfSolve w) d
 writing_cause FilesFault w d cause asks = record { rose = cause.rose; of_one = inr (cause.of_one, asks) }
 writing_cause OutputFault w d cause asks = tt
 writing_cause (Refused role fault) w d cause asks = tt
@@ -147,7 +147,7 @@ answers_with answer.Unknown q w accounts held logged right kept shows = (kept, r
 
 -- What telling the answer to the problem that the files ask says.
 pub telling_says : (r : Result Decision Stop) (a : Answer) (q : Problem) (w : SolveWords) (p t : Option (List ℕ)) (accounts : List Account) (d : Disk) (out : Stream) (logged : Bool)
-    → TellingSays r a out → Asks p t w.format w.induced q → IsRight a q logged → AreKept a q w accounts → Shows a w.prove d.after q
+    → TellingSays r a out → Asks p t w.ask q → IsRight a q logged → AreKept a q w accounts → Shows a w.prove d.after q
     → SolveSays r w p t accounts d out
 telling_says (Ok decision) a q w p t accounts d out logged says asks right kept shows = subst (λ (e : Decision). IsWritten e w p t accounts d out) (sym says.0) record {
   text = answer_text a;
@@ -166,12 +166,13 @@ telling_says (Err (Refused role fault)) a q w p t accounts d out logged says ask
 
 -- A mapping that is not loaded stops a verify of a problem that is asked.
 pub mapping_stops : (s : Stop) (q : Problem) (w : VerifyWords) (p t m : Option (List ℕ)) (out : Stream)
-    → IsOfFiles s → MappingSays (Err s) m → Asks p t w.format w.induced q → VerifySays (Err s) w p t m out
+    → IsOfFiles s → MappingSays (Err s) m → Asks p t w.ask q → VerifySays (Err s) w p t m out
 mapping_stops FilesFault q w p t m out of_files says asks = tt
 mapping_stops OutputFault q w p t m out of_files says asks = absurd of_files
 mapping_stops NoMemory q w p t m out of_files says asks = tt
 mapping_stops (Refused Mapping fault) q w p t m out of_files says asks = record { problem = q; asks = asks; is = says.1 }
 mapping_stops (Refused Pattern fault) q w p t m out of_files says asks = let e : Pattern ≡ Mapping = says.0 in cc
+mapping_stops (Refused Less fault) q w p t m out of_files says asks = let e : Less ≡ Mapping = says.0 in cc
 mapping_stops (Refused Target fault) q w p t m out of_files says asks = let e : Target ≡ Mapping = says.0 in cc
 mapping_stops (Refused Encoding fault) q w p t m out of_files says asks = let e : Encoding ≡ Mapping = says.0 in cc
 mapping_stops (Refused Log fault) q w p t m out of_files says asks = let e : Log ≡ Mapping = says.0 in cc
@@ -181,7 +182,7 @@ mapping_stops (Refused (JobTarget n) fault) q w p t m out of_files says asks = l
 
 -- A cause of reading the mapping is one of a verify, where the graphs' files ask a problem.
 pub mapping_cause : (s : Stop) (w : VerifyWords) (d : Disk) → HasCause s (IsReadingOf w.mapping) d
-    → (IsTrue d.tells → (q : Problem) × Asks (d.content w.pattern) (d.content w.target) w.format w.induced q) → HasCause s (IsFaultOfThree w) d
+    → (IsTrue d.tells → (q : Problem) × Asks (d.content w.pattern) (d.content w.target) w.ask q) → HasCause s (IsFaultOfThree w) d
 mapping_cause FilesFault w d cause asks = record { rose = cause.rose; of_one = inr (cause.of_one, asks) }
 mapping_cause OutputFault w d cause asks = tt
 mapping_cause (Refused role fault) w d cause asks = tt
@@ -192,19 +193,19 @@ pub mapping_held : (held before : Option (List ℕ)) (m : List ℕ) → held ≡
 mapping_held held before m same holds = subst (λ (o : Option (List ℕ)). HoldsMapping o m) same holds
 
 -- A mapping that is no embedding is bad.
-pub is_bad : (q : Problem) (m : List ℕ) (w : VerifyWords) (p t c : Option (List ℕ)) → Asks p t w.format w.induced q → HoldsMapping c m → (Embeds q m → ⊥) → IsBad w p t c
+pub is_bad : (q : Problem) (m : List ℕ) (w : VerifyWords) (p t c : Option (List ℕ)) → Asks p t w.ask q → HoldsMapping c m → (Embeds q m → ⊥) → IsBad w p t c
 is_bad q m w p t c asks holds none = record { problem = q; map = m; asks = record { problem_is = asks; mapping_is = holds }; no_embedding = none }
 
 -- A mapping that is an embedding is good.
-pub is_good : (q : Problem) (m : List ℕ) (w : VerifyWords) (p t c : Option (List ℕ)) → Asks p t w.format w.induced q → HoldsMapping c m → Embeds q m → IsGood w p t c
+pub is_good : (q : Problem) (m : List ℕ) (w : VerifyWords) (p t c : Option (List ℕ)) → Asks p t w.ask q → HoldsMapping c m → Embeds q m → IsGood w p t c
 is_good q m w p t c asks holds embeds = record { problem = q; map = m; asks = record { problem_is = asks; mapping_is = holds }; embeds = embeds }
 
 -- Files that hold the same ask the same problem.
 pub asks_on : (before after : List ℕ → Option (List ℕ)) (w : SolveWords) (q : Problem) → ((file : List ℕ) → after file ≡ before file)
-    → Asks (before w.pattern) (before w.target) w.format w.induced q → Asks (after w.pattern) (after w.target) w.format w.induced q
+    → Asks (before w.pattern) (before w.target) w.ask q → Asks (after w.pattern) (after w.target) w.ask q
 asks_on before after w q same asks =
-    subst (λ (p : Option (List ℕ)). Asks p (after w.target) w.format w.induced q) (sym (same w.pattern))
-    (subst (λ (t : Option (List ℕ)). Asks (before w.pattern) t w.format w.induced q) (sym (same w.target)) asks)
+    subst (λ (p : Option (List ℕ)). Asks p (after w.target) w.ask q) (sym (same w.pattern))
+    (subst (λ (t : Option (List ℕ)). Asks (before w.pattern) t w.ask q) (sym (same w.target)) asks)
 
 -- And a solve says the same of them.
 pub solve_says_on : (before after : List ℕ → Option (List ℕ)) (r : Result Decision Stop) (w : SolveWords) (accounts : List Account) (d e : Disk) (out : Stream) → ((file : List ℕ) → after file ≡ before file) → d ≡ e

@@ -78,7 +78,7 @@ tested_leads texts maps (Err NoMemory) w p t m out says q map asks = inr (inr (i
 same_asked : TextLaws → MappingLaws → (w : VerifyWords) (p t m : Option (List ℕ)) (q s : Problem) (map other : List ℕ)
     → AsksOf w p t m q map → AsksOf w p t m s other → Embeds q map → Embeds s other
 same_asked texts maps w p t m q s map other x y embeds =
-    let problems = one_problem texts p t w.format w.induced q s x.problem_is y.problem_is in
+    let problems = one_problem texts p t w.ask q s x.problem_is y.problem_is in
     let lists = one_mapping maps m map other x.mapping_is y.mapping_is in
     subst (λ (n : List ℕ). Embeds s n) lists (subst (λ (u : Problem). Embeds u map) problems embeds)
 

@@ -16,6 +16,7 @@ use Rattle.subgraph_cli.specs.declared.check.Claim.{Claim}
 abbrev pub ProofsAreAccepted : Type 0
 ProofsAreAccepted = (p : ProveWords) (held : List ℕ → Option (List ℕ)) (q : Problem)
     (log : List ℕ) (claim : Claim) (o : Outcome) → size q.pattern ≤ 1024 → size q.target ≤ 8192
+    → length q.less ≤ 64
     → HoldProof p held q log (verdict_of_claim claim)
     → length (encoding_text q) ≤ 2 ^ 40 → length (in_profile p.profile log) ≤ 2 ^ 40
     → CheckStatus o (held p.encoding) (held p.log) → IsOrStops 0 o.status

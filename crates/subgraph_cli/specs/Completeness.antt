@@ -35,11 +35,11 @@ IsOrNoMemory due status = (status ≡ due) ⊎ (status ≡ 6)
 
 -- A solve whose files ask a problem answers yes, none or unknown, and within a budget that is enough it answers yes where an embedding exists and none where none does.
 pub record IsSolved (status : ℕ) (w : SolveWords) (pattern target : Option (List ℕ)) : Type 0 where
-  pub answered : (q : Problem) → Asks pattern target w.format w.induced q → (status ≡ 0)
+  pub answered : (q : Problem) → Asks pattern target w.ask q → (status ≡ 0)
       ⊎ ((status ≡ 1) ⊎ IsOrNoMemory 2 status)
-  pub found : (q : Problem) (m : List ℕ) → Asks pattern target w.format w.induced q
+  pub found : (q : Problem) (m : List ℕ) → Asks pattern target w.ask q
       → enough (size q.pattern) (size q.target) ≤ w.budget → Embeds q m → IsOrNoMemory 0 status
-  pub refuted : (q : Problem) → Asks pattern target w.format w.induced q
+  pub refuted : (q : Problem) → Asks pattern target w.ask q
       → enough (size q.pattern) (size q.target) ≤ w.budget → HasNone q → IsOrNoMemory 1 status
 
 -- A verify whose files ask a problem and hold a mapping tells whether it embeds.
@@ -52,7 +52,7 @@ pub record IsVerified (status : ℕ) (w : VerifyWords)
 
 -- An encode whose files ask a problem encodes it.
 abbrev pub IsEncodedWhole : ℕ → EncodeWords → Option (List ℕ) → Option (List ℕ) → Type 0
-IsEncodedWhole status w pattern target = (q : Problem) → Asks pattern target w.format w.induced q
+IsEncodedWhole status w pattern target = (q : Problem) → Asks pattern target w.ask q
     → IsOrNoMemory 0 status
 
 -- A check whose files hold a model and a log tells the log's verdict.

@@ -18,14 +18,14 @@ use Rattle.subgraph_cli.specs.declared.stop.Stop.TheVariants.{Refused, FilesFaul
 pub record IsEncoded (w : EncodeWords) (pattern target : Option (List ℕ))
     (out : Stream) : Type 0 where
   pub problem : Problem
-  pub asks : Asks pattern target w.format w.induced problem
+  pub asks : Asks pattern target w.ask problem
   pub written : Got out (encoding_text problem)
 
 -- The files ask a problem, and the output holds a front part of the text of its encoding.
 pub record StopsInEncoding (w : EncodeWords) (pattern target : Option (List ℕ))
     (out : Stream) : Type 0 where
   pub problem : Problem
-  pub asks : Asks pattern target w.format w.induced problem
+  pub asks : Asks pattern target w.ask problem
   pub front : GotFront out (encoding_text problem)
 
 -- The text of a problem's encoding was written, or the output holds what came before a fault or want of memory.
@@ -41,7 +41,7 @@ abbrev pub EncodeSays : Result Unit Stop → EncodeWords → Option (List ℕ) �
     → Type 0
 EncodeSays (Ok done) w pattern target out = IsEncoded w pattern target out
 EncodeSays (Err (Refused role fault)) w pattern target out =
-    IsFirstRefused pattern target w.format role fault
+    IsFirstRefused pattern target w.ask role fault
 EncodeSays (Err OutputFault) w pattern target out = StopsInEncoding w pattern target out
 EncodeSays (Err NoMemory) w pattern target out =
     IsAsBefore out ⊎ StopsInEncoding w pattern target out
@@ -55,16 +55,16 @@ encode_status (Err stop) = stop_status stop
 -- What the files lead to: the encoding where they ask a problem, and a refusal where one of them is not good.
 pub record EncodeLeads (status : ℕ) (w : EncodeWords)
     (pattern target : Option (List ℕ)) : Type 0 where
-  pub encoded : (q : Problem) → Asks pattern target w.format w.induced q → IsOrStops 0 status
+  pub encoded : (q : Problem) → Asks pattern target w.ask q → IsOrStops 0 status
   pub refused : (role : Role) (fault : TextFault)
-      → IsFirstRefused pattern target w.format role fault → IsOrStops 4 status
+      → IsFirstRefused pattern target w.ask role fault → IsOrStops 4 status
 
 -- What the status of an encode says, where the files tell their contents.
 pub record EncodeStatus (o : Outcome) (w : EncodeWords)
     (pattern target : Option (List ℕ)) : Type 0 where
   pub encoded : o.status ≡ 0 → IsEncoded w pattern target o.out
   pub refused : o.status ≡ 4 → (role : Role) × (fault : TextFault)
-      × IsFirstRefused pattern target w.format role fault × Tells o.err (refusal_text role fault)
+      × IsFirstRefused pattern target w.ask role fault × Tells o.err (refusal_text role fault)
   pub fault : o.status ≡ 5 → IsAsBefore o.out ⊎ StopsInEncoding w pattern target o.out
   pub no_memory : o.status ≡ 6 → IsAsBefore o.out ⊎ StopsInEncoding w pattern target o.out
   pub leads : EncodeLeads o.status w pattern target

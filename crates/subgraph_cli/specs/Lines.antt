@@ -11,9 +11,9 @@ use Rattle.log_theory.specs.declared.step.Cause.TheVariants as log
 use Rattle.job_list.specs.declared.fault.ListCause.{ListCause}
 use Rattle.job_list.specs.declared.fault.ListCause.TheVariants as jobs
 use Rattle.subgraph_cli.specs.declared.stop.Role.{Role}
-use Rattle.subgraph_cli.specs.declared.stop.Role.TheVariants.{Pattern, Target, Mapping, Encoding, Log, JobList, JobPattern, JobTarget}
+use Rattle.subgraph_cli.specs.declared.stop.Role.TheVariants.{Pattern, Less, Target, Mapping, Encoding, Log, JobList, JobPattern, JobTarget}
 use Rattle.subgraph_cli.specs.declared.stop.TextFault.{TextFault}
-use Rattle.subgraph_cli.specs.declared.stop.TextFault.TheVariants.{TooLong, Word, Line, Opb, Listed}
+use Rattle.subgraph_cli.specs.declared.stop.TextFault.TheVariants.{TooLong, Word, Pair, Line, Opb, Listed}
 use Rattle.subgraph_cli.specs.declared.stop.Stop.{Stop}
 use Rattle.subgraph_cli.specs.declared.stop.Stop.TheVariants.{Refused, FilesFault, OutputFault, NoMemory}
 
@@ -51,9 +51,10 @@ no_memory_text = line_of (codes "memory: refused")
 abbrev pub job_text : ℕ → List ℕ → List ℕ
 job_text job part = codes "job " ++ decimal job ++ part
 
--- What a file is called after its role.
+-- What a text is called after its role.
 abbrev pub role_text : Role → List ℕ
 role_text Pattern = codes "pattern"
+role_text Less = codes "less"
 role_text Target = codes "target"
 role_text Mapping = codes "mapping"
 role_text Encoding = codes "encoding"
@@ -111,6 +112,7 @@ log_text line cause =
 abbrev pub fault_text : TextFault → List ℕ
 fault_text TooLong = codes ": too long" ++ 10 ∷ []
 fault_text (Word w cause) = codes ": word " ++ decimal w ++ codes ": " ++ cause_text cause ++ 10 ∷ []
+fault_text (Pair n) = codes ": pair " ++ decimal n ++ codes ": NoSuchVertex" ++ 10 ∷ []
 fault_text (Line n) = codes ": line " ++ decimal n ++ codes ": Form" ++ 10 ∷ []
 fault_text (Opb n cause) =
     codes ": line " ++ decimal n ++ codes ": " ++ opb_cause_text cause ++ 10 ∷ []

@@ -87,7 +87,7 @@ pub record StopsInProof (stops : TwoFiles → Texts → Type 0) (w : SolveWords)
   pub names : ProveWords
   pub asked : w.prove ≡ Some names
   pub problem : Problem
-  pub asks : Asks pattern target w.format w.induced problem
+  pub asks : Asks pattern target w.ask problem
   pub decision : Decision
   pub reached : IsReached decision problem w accounts
   pub log : List ℕ
@@ -103,6 +103,6 @@ IsWritingOfProof prove d = IsSomeAnd prove (λ p. IsWritingOf p.encoding (files_
 -- The last fault was one of reading the two graphs, or of writing the proof where the graphs' files ask a problem.
 abbrev pub IsFaultOfSolve : SolveWords → Disk → Type 0
 IsFaultOfSolve w d =
-    IsFaultOfTwo w.pattern w.target w.format d ⊎ (IsWritingOfProof w.prove d
+    IsFaultOfTwo w.pattern w.target w.ask d ⊎ (IsWritingOfProof w.prove d
     × (IsTrue d.tells → (q : Problem)
-    × Asks (d.content w.pattern) (d.content w.target) w.format w.induced q))
+    × Asks (d.content w.pattern) (d.content w.target) w.ask q))

@@ -23,7 +23,7 @@ use Rattle.subgraph_cli.specs.Completeness.{HasNoFault, IsComplete}
 abbrev pub IsFaultOf : Command → Disk → Type 0
 IsFaultOf (Solve w) d = IsFaultOfSolve w d
 IsFaultOf (Verify w) d = IsFaultOfThree w d
-IsFaultOf (Encode w) d = IsFaultOfTwo w.pattern w.target w.format d
+IsFaultOf (Encode w) d = IsFaultOfTwo w.pattern w.target w.ask d
 IsFaultOf (Check w) d = IsFaultOfCheck w d
 IsFaultOf (Trim w) d = IsFaultOfTrim w d
 IsFaultOf (Demo w) d = ⊥

@@ -32,7 +32,7 @@ pub record YesWritten (w : SolveWords) (pattern target : Option (List ℕ))
     (out : Stream) : Type 0 where
   pub problem : Problem
   pub map : List ℕ
-  pub asks : Asks pattern target w.format w.induced problem
+  pub asks : Asks pattern target w.ask problem
   pub embeds : Embeds problem map
   pub written : Got out (yes_text map)
 
@@ -40,7 +40,7 @@ pub record YesWritten (w : SolveWords) (pattern target : Option (List ℕ))
 pub record NoneWritten (w : SolveWords) (pattern target : Option (List ℕ))
     (out : Stream) : Type 0 where
   pub problem : Problem
-  pub asks : Asks pattern target w.format w.induced problem
+  pub asks : Asks pattern target w.ask problem
   pub has_none : HasNone problem
   pub written : Got out none_text
 
@@ -48,7 +48,7 @@ pub record NoneWritten (w : SolveWords) (pattern target : Option (List ℕ))
 pub record UnknownWritten (w : SolveWords) (pattern target : Option (List ℕ))
     (accounts : List Account) (out : Stream) : Type 0 where
   pub problem : Problem
-  pub asks : Asks pattern target w.format w.induced problem
+  pub asks : Asks pattern target w.ask problem
   pub spent : AreSpent problem w.threads w.budget accounts
   pub written : Got out unknown_text
 
@@ -66,7 +66,7 @@ IsAnswer Unknown q w accounts held text =
 pub record Answers (decision : Decision) (w : SolveWords) (pattern target : Option (List ℕ))
     (accounts : List Account) (d : Disk) (text : List ℕ) : Type 0 where
   pub problem : Problem
-  pub asks : Asks pattern target w.format w.induced problem
+  pub asks : Asks pattern target w.ask problem
   pub is_answer : IsAnswer decision problem w accounts d.after text
 
 -- The decision is right, and its text was written.
@@ -87,7 +87,7 @@ pub record StopsInAnswer (w : SolveWords) (pattern target : Option (List ℕ))
 -- A call on the files failed: where the graphs are read, and no file was written, or where the proof of what was decided is.
 abbrev pub StopsAtFiles : SolveWords → Option (List ℕ) → Option (List ℕ) → List Account → Disk
     → Type 0
-StopsAtFiles w pattern target accounts d = (IsFaultOfTwo w.pattern w.target w.format d × IsUntouched d)
+StopsAtFiles w pattern target accounts d = (IsFaultOfTwo w.pattern w.target w.ask d × IsUntouched d)
     ⊎ StopsInProof FailsInWriting w pattern target accounts d
 
 -- Memory was refused: before any file was written, as wherever nothing was decided, or where the encoding of what was decided is.
@@ -102,7 +102,7 @@ abbrev pub SolveSays : Result Decision Stop → SolveWords → Option (List ℕ)
 SolveSays (Ok decision) w pattern target accounts d out =
     IsWritten decision w pattern target accounts d out
 SolveSays (Err (Refused role fault)) w pattern target accounts d out =
-    IsFirstRefused pattern target w.format role fault × IsUntouched d
+    IsFirstRefused pattern target w.ask role fault × IsUntouched d
 SolveSays (Err OutputFault) w pattern target accounts d out =
     StopsInAnswer w pattern target accounts d out
 SolveSays (Err FilesFault) w pattern target accounts d out = StopsAtFiles w pattern target accounts d
@@ -125,28 +125,28 @@ IsOrStops due status = (status ≡ due) ⊎ ((status ≡ 5) ⊎ (status ≡ 6))
 -- What the files lead to: an answer where they ask a problem, the right one where the budget is enough, and a refusal where one of them is not good.
 pub record SolveLeads (status : ℕ) (w : SolveWords)
     (pattern target : Option (List ℕ)) : Type 0 where
-  pub answered : (q : Problem) → Asks pattern target w.format w.induced q
+  pub answered : (q : Problem) → Asks pattern target w.ask q
       → (status ≡ 0) ⊎ ((status ≡ 1) ⊎ IsOrStops 2 status)
-  pub found : (q : Problem) (m : List ℕ) → Asks pattern target w.format w.induced q → Embeds q m
+  pub found : (q : Problem) (m : List ℕ) → Asks pattern target w.ask q → Embeds q m
       → (status ≡ 0) ⊎ IsOrStops 2 status
-  pub refuted : (q : Problem) → Asks pattern target w.format w.induced q → HasNone q
+  pub refuted : (q : Problem) → Asks pattern target w.ask q → HasNone q
       → (status ≡ 1) ⊎ IsOrStops 2 status
-  pub enough : (q : Problem) → Asks pattern target w.format w.induced q
+  pub enough : (q : Problem) → Asks pattern target w.ask q
       → enough (size q.pattern) (size q.target) ≤ w.budget → (status ≡ 2) → ⊥
   pub refused : (role : Role) (fault : TextFault)
-      → IsFirstRefused pattern target w.format role fault → IsOrStops 4 status
+      → IsFirstRefused pattern target w.ask role fault → IsOrStops 4 status
 
 -- What the two files of a proof hold at each answer: the encoding of the problem that the graphs' files ask, and a log in the profile that is asked for and accepted over it, that of the map which was written, a refutation, or one that claims nothing.
 pub record SolveProof (o : Outcome) (w : SolveWords) (p : ProveWords)
     (pattern target : Option (List ℕ)) : Type 0 where
   pub yes : o.status ≡ 0 → (q : Problem) × (m : List ℕ)
-      × Asks pattern target w.format w.induced q × Got o.out (yes_text m)
+      × Asks pattern target w.ask q × Got o.out (yes_text m)
       × HoldProof p o.disk.after q (map_log q m) Satisfiable
   pub none : o.status ≡ 1 → (q : Problem) × (log : List ℕ)
-      × Asks pattern target w.format w.induced q
+      × Asks pattern target w.ask q
       × Accepts (variables q) (encoding q) log Unsatisfiable
       × HoldProof p o.disk.after q log Unsatisfiable
-  pub unknown : o.status ≡ 2 → (q : Problem) × Asks pattern target w.format w.induced q
+  pub unknown : o.status ≡ 2 → (q : Problem) × Asks pattern target w.ask q
       × HoldProof p o.disk.after q (open_log q) Undecided
 
 -- What the status of a solve says, where the files tell their contents.
@@ -157,7 +157,7 @@ pub record SolveStatus (o : Outcome) (w : SolveWords)
   pub unknown : o.status ≡ 2 → UnknownWritten w pattern target o.accounts o.out
   pub proof : (p : ProveWords) → w.prove ≡ Some p → SolveProof o w p pattern target
   pub refused : o.status ≡ 4 → (role : Role) × (fault : TextFault)
-      × IsFirstRefused pattern target w.format role fault × Tells o.err (refusal_text role fault)
+      × IsFirstRefused pattern target w.ask role fault × Tells o.err (refusal_text role fault)
       × IsUntouched o.disk
   pub fault : o.status ≡ 5 → (IsAsBefore o.out × StopsAtFiles w pattern target o.accounts o.disk)
       ⊎ StopsInAnswer w pattern target o.accounts o.disk o.out
@@ -171,6 +171,6 @@ IsDecided status = (status ≡ 0) ⊎ (status ≡ 1)
 -- Two runs over the same files with the same options that choose the problem, whatever their threads, seeds, budgets, books and proofs: where both decide, they decide alike.
 abbrev pub OneVerdict : Type 0
 OneVerdict = (v w : SolveWords) (pattern target : Option (List ℕ)) (o u : Outcome)
-    → v.format ≡ w.format → v.induced ≡ w.induced
+    → v.ask ≡ w.ask
     → SolveStatus o v pattern target → SolveStatus u w pattern target
     → IsDecided o.status → IsDecided u.status → o.status ≡ u.status

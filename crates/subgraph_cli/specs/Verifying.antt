@@ -12,7 +12,7 @@ use Rattle.subgraph_cli.specs.Solving.{IsOrStops}
 use Rattle.subgraph_cli.specs.Questions.{Asks, IsFirstRefused, IsFaultOfTwo}
 use Rattle.subgraph_cli.specs.Disk.{Disk, IsReadingOf}
 use Rattle.subgraph_cli.specs.declared.stop.Role.{Role}
-use Rattle.subgraph_cli.specs.declared.stop.Role.TheVariants.{Pattern, Target, Mapping}
+use Rattle.subgraph_cli.specs.declared.stop.Role.TheVariants.{Pattern, Less, Target, Mapping}
 use Rattle.subgraph_cli.specs.declared.stop.TextFault.{TextFault}
 use Rattle.subgraph_cli.specs.declared.stop.TextFault.TheVariants.{TooLong, Line}
 use Rattle.subgraph_cli.specs.declared.stop.Stop.{Stop}
@@ -42,31 +42,33 @@ pub record HoldsNoMapping (content : Option (List ℕ)) (fault : TextFault) : Ty
 -- The files ask this problem and hold this mapping.
 pub record AsksOf (w : VerifyWords) (pattern target mapping : Option (List ℕ)) (q : Problem)
     (m : List ℕ) : Type 0 where
-  pub problem_is : Asks pattern target w.format w.induced q
+  pub problem_is : Asks pattern target w.ask q
   pub mapping_is : HoldsMapping mapping m
 
 -- The files ask a problem, and the third holds no mapping, for this fault.
 pub record AsksNone (w : VerifyWords) (pattern target mapping : Option (List ℕ))
     (fault : TextFault) : Type 0 where
   pub problem : Problem
-  pub asks : Asks pattern target w.format w.induced problem
+  pub asks : Asks pattern target w.ask problem
   pub is : HoldsNoMapping mapping fault
 
--- The first of the three files that is not good is this one, for this fault; the mapping is looked at last.
+-- The first text that is not good is this one, for this fault; the mapping is looked at last.
 abbrev pub IsFirstOfThree : VerifyWords → Option (List ℕ) → Option (List ℕ) → Option (List ℕ)
     → Role → TextFault → Type 0
 IsFirstOfThree w pattern target mapping Pattern fault =
-    IsFirstRefused pattern target w.format Pattern fault
+    IsFirstRefused pattern target w.ask Pattern fault
+IsFirstOfThree w pattern target mapping Less fault =
+    IsFirstRefused pattern target w.ask Less fault
 IsFirstOfThree w pattern target mapping Target fault =
-    IsFirstRefused pattern target w.format Target fault
+    IsFirstRefused pattern target w.ask Target fault
 IsFirstOfThree w pattern target mapping Mapping fault = AsksNone w pattern target mapping fault
 IsFirstOfThree w pattern target mapping _ fault = ⊥
 
 -- The last fault was one of reading the graphs' files, or of reading the mapping's where these ask a problem.
 abbrev pub IsFaultOfThree : VerifyWords → Disk → Type 0
-IsFaultOfThree w d = IsFaultOfTwo w.pattern w.target w.format d
+IsFaultOfThree w d = IsFaultOfTwo w.pattern w.target w.ask d
     ⊎ (IsReadingOf w.mapping d × (IsTrue d.tells → (q : Problem)
-    × Asks (d.content w.pattern) (d.content w.target) w.format w.induced q))
+    × Asks (d.content w.pattern) (d.content w.target) w.ask q))
 
 -- The mapping that the third file holds is an embedding for the problem of the first two.
 pub record IsGood (w : VerifyWords) (pattern target mapping : Option (List ℕ)) : Type 0 where

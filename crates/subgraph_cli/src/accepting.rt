@@ -43,6 +43,7 @@ fn model(alloc: Global, q: &Problem, encoding: &Encoding) -> Result<Model, Alloc
     encodings_are_models();
     let _pattern = q.pattern();
     let _target = q.target();
+    let _less = q.less();
     let constraints = constraints_of(alloc, encoding)?;
     Ok(Model::new(encoding.variables(), constraints))
 }

@@ -47,7 +47,7 @@ pub fn encode<F: Files, O: Sink>(
         → EncodeSays result words.now (F.content files.old words.now.pattern)
         (F.content files.old words.now.target) (stream O.spot O.contents O.faults out.old out.new) }
     ensures cause { IfErr result (λ stop. HasCause stop
-        (IsFaultOfTwo words.now.pattern words.now.target words.now.format)
+        (IsFaultOfTwo words.now.pattern words.now.target words.now.ask)
         (disk F.tells F.content F.faults F.fault_at files.old files.new)) }
     ensures spares { IfErr result (λ stop. SparesInParts stop
         (stream O.spot O.contents O.faults out.old out.new)) }
@@ -59,9 +59,8 @@ pub fn encode<F: Files, O: Sink>(
     let EncodeWords {
         pattern,
         target,
-        induced,
-        format,
+        ask,
     } = words;
-    let q = load_problem(alloc, files, pattern, target, *format, *induced)?;
+    let q = load_problem(alloc, files, pattern, target, ask)?;
     write_encoding(alloc, &q, out)
 }

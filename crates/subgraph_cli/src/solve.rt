@@ -68,7 +68,7 @@ fn solve_problem<R: Threads + Sync, F: Files, O: Sink>(
     requires empty { spent.old.items ≡ [] }
     requires asks { IsTrue (F.tells files.old)
         → Asks (F.content files.old words.now.pattern) (F.content files.old words.now.target)
-        words.now.format words.now.induced q.now }
+        words.now.ask q.now }
     ensures cause { IfErr result (λ stop. HasCause stop (IsFaultOfSolve words.now)
         (disk F.tells F.content F.faults F.fault_at files.old files.new)) }
     ensures spares { IfErr result (λ stop. SparesOutput stop
@@ -119,11 +119,10 @@ pub fn solve<R: Threads + Sync, F: Files, O: Sink>(
     let SolveWords {
         pattern,
         target,
-        induced,
-        format,
+        ask,
         ..
     } = words;
-    let q = load_problem(alloc, files, pattern, target, *format, *induced)?;
+    let q = load_problem(alloc, files, pattern, target, ask)?;
     solve_problem(rt, alloc, &q, words, files, out, spent)
 }
 

@@ -5,11 +5,13 @@ use graph_theory::lad_text::LadCause;
 use job_list::ListCause;
 use opb_text::OpbCause;
 
-/// What a file is to the command.
+/// What a text is to the command.
 #[derive(Clone, Copy, PartialEq, Eq, Debug)]
 pub enum Role {
     /// The pattern graph.
     Pattern,
+    /// The pairs of pattern vertices whose images are to be in order.
+    Less,
     /// The target graph.
     Target,
     /// The mapping to be tested.
@@ -33,6 +35,8 @@ pub enum TextFault {
     TooLong,
     /// The first faulty word of a graph's text, from 1, and its cause.
     Word { word: u64, cause: LadCause },
+    /// The first pair that names a vertex which the pattern has not, from 1.
+    Pair { number: u32 },
     /// The first faulty line of a mapping's text, from 1.
     Line { line: u64 },
     /// The first faulty line of an encoding's text, from 1, and its cause.

@@ -112,7 +112,7 @@ fn put_job<E: Sink>(job: u32, part: &[u8], err: &mut E) -> Result<(), Failed>
     put_all(&[b"job ", digits.format(job).as_bytes(), part], err)
 }
 
-/// Puts what a file is called after its role.
+/// Puts what a text is called after its role.
 fn put_role<E: Sink>(role: Role, err: &mut E) -> Result<(), Failed>
     ensures text { Wrote (E.spot err.old).steady (E.contents err.old) (E.contents err.new) result
         (role_text role) }
@@ -120,6 +120,7 @@ fn put_role<E: Sink>(role: Role, err: &mut E) -> Result<(), Failed>
 {
     match role {
         Role::Pattern => err.put(b"pattern"),
+        Role::Less => err.put(b"less"),
         Role::Target => err.put(b"target"),
         Role::Mapping => err.put(b"mapping"),
         Role::Encoding => err.put(b"encoding"),
@@ -130,7 +131,7 @@ fn put_role<E: Sink>(role: Role, err: &mut E) -> Result<(), Failed>
     }
 }
 
-/// Puts why a text is refused, behind what the file is called.
+/// Puts why a text is refused, behind what the text is called.
 fn put_fault<E: Sink>(fault: TextFault, err: &mut E) -> Result<(), Failed>
     ensures text { Wrote (E.spot err.old).steady (E.contents err.old) (E.contents err.new) result
         (fault_text fault) }
@@ -142,6 +143,10 @@ fn put_fault<E: Sink>(fault: TextFault, err: &mut E) -> Result<(), Failed>
         TextFault::Word { word, cause } => {
             let number = digits.format(word).as_bytes();
             put_all(&[b": word ", number, b": ", cause_name(cause), b"\n"], err)
+        }
+        TextFault::Pair { number } => {
+            let place = digits.format(number).as_bytes();
+            put_all(&[b": pair ", place, b": NoSuchVertex", b"\n"], err)
         }
         TextFault::Line { line } => {
             let number = digits.format(line).as_bytes();

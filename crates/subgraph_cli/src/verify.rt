@@ -85,10 +85,9 @@ pub fn verify<F: Files, O: Sink>(
         pattern,
         target,
         mapping,
-        induced,
-        format,
+        ask,
     } = words;
-    let q = load_problem(alloc, files, pattern, target, *format, *induced)?;
+    let q = load_problem(alloc, files, pattern, target, ask)?;
     let map = load_map(alloc, files, mapping)?;
     let is_embedding = q.is_embedding(&map);
     drop(map);
