@@ -1,6 +1,6 @@
 -- Loading the list of a batch and the problems of its jobs.
 
-use Rattle.std.specs.Prelude.{◌≡◌, ℕ, ◌+◌, ◌≤◌, IsTrue, List, [], ◌∷◌, ◌++◌, length, map, take, get_or, slice_get, Option, Some, None, Result, Ok, Err, Vec, refl}
+use Rattle.std.specs.Prelude.{◌≡◌, ℕ, ◌+◌, ◌≤◌, Bool, IsTrue, List, [], ◌∷◌, ◌++◌, length, map, take, get_or, slice_get, Option, Some, None, Result, Ok, Err, Vec, refl}
 use Rattle.std.proofs.Common.{zero, suc, ap, sym, subst, ◌∙◌, arith}
 use Rattle.std.specs.Global.{Global}
 use Rattle.std.specs.List.{All, AllZip}
@@ -13,12 +13,15 @@ use Rattle.job_list.specs.Jobs.{JobText, Says, IsList, lines, text_of}
 use Rattle.job_list.specs.declared.job.Job.{Job}
 use Rattle.outer_io.specs.NamedFiles.{SameFiles}
 use Rattle.subgraph_cli.specs.Disk.{Disk}
-use Rattle.subgraph_cli.specs.Questions.{IsFaultOfTwo}
-use Rattle.subgraph_cli.specs.Stops.{HasCause}
-use Rattle.subgraph_cli.specs.declared.stop.Role.TheVariants.{Pattern, Target, Mapping, Encoding, Log, JobList, JobPattern, JobTarget}
+use Rattle.command_line.specs.Questions.{Question, plain_question}
+use Rattle.subgraph_cli.specs.Questions.{AskSays, LacksPair, IsFaultOfTwo}
+use Rattle.subgraph_cli.specs.Stops.{HasCause, IsOfFiles}
+use Rattle.subgraph_cli.specs.declared.stop.TextFault.{TextFault}
+use Rattle.subgraph_cli.proofs.OneProblem.{pairs_not_refused}
+use Rattle.subgraph_cli.specs.declared.stop.Role.TheVariants.{Pattern, Less, Target, Mapping, Encoding, Log, JobList, JobPattern, JobTarget}
 use Rattle.subgraph_cli.specs.declared.stop.Stop.{Stop}
 use Rattle.subgraph_cli.specs.declared.stop.Stop.TheVariants.{Refused, FilesFault, OutputFault, NoMemory}
-use Rattle.whole_program.specs.Jobs.{HoldsList, HasNames, AreJobs, JobAsks, AreAsked, StopsAt, IsFirstOfJobs, IsFaultOfJobs, JobSays, JobsSay}
+use Rattle.whole_program.specs.Jobs.{HoldsList, HasNames, AreJobs, JobAsks, AreAsked, StopsAt, IsFirstOfJobs, IsFaultOfJobs, JobSays, JobsSay, job_ask, stop_of_job}
 
 -- The names of a list's jobs are names of files.
 names_of : (ls : List (List ℕ)) (jobs : List JobText) → AllZip Says ls jobs → All HasNames jobs
@@ -91,6 +94,7 @@ jobs_stop (Refused (JobPattern n) fault) number i jobs j qs content kind is ther
 jobs_stop (Refused (JobTarget n) fault) number i jobs j qs content kind is there asked says =
     record { place = i; number_is = says.0 ∙ is; job = j; at = there; problems = qs; before = asked; refused = says.1 }
 jobs_stop (Refused Pattern fault) number i jobs j qs content kind is there asked says = absurd says
+jobs_stop (Refused Less fault) number i jobs j qs content kind is there asked says = absurd says
 jobs_stop (Refused Target fault) number i jobs j qs content kind is there asked says = absurd says
 jobs_stop (Refused Mapping fault) number i jobs j qs content kind is there asked says = absurd says
 jobs_stop (Refused Encoding fault) number i jobs j qs content kind is there asked says = absurd says
@@ -100,9 +104,36 @@ jobs_stop (Refused JobList fault) number i jobs j qs content kind is there asked
 -- A cause of reading the files of a job, where the jobs before it ask problems.
 pub jobs_cause : (s : Stop) (i : ℕ) (jobs : List JobText) (j : JobText) (kind : LadKind) (d : Disk) → slice_get jobs i ≡ Some j
     → (IsTrue d.tells → (qs : List Problem) × AreAsked d.content kind (take i jobs) qs)
-    → HasCause s (IsFaultOfTwo j.pattern j.target kind) d → HasCause s (IsFaultOfJobs jobs kind) d
+    → HasCause s (IsFaultOfTwo j.pattern j.target (job_ask kind j)) d → HasCause s (IsFaultOfJobs jobs kind) d
 jobs_cause FilesFault i jobs j kind d there before cause =
     record { rose = cause.rose; of_one = record { place = i; job = j; at = there; before = before; of_two = cause.of_one } }
 jobs_cause OutputFault i jobs j kind d there before cause = tt
 jobs_cause (Refused role fault) i jobs j kind d there before cause = tt
 jobs_cause NoMemory i jobs j kind d there before cause = tt
+
+-- A job names no pairs, so none is refused.
+no_pair : (pattern : Option (List ℕ)) (kind : LadKind) (induced : Bool) (fault : TextFault) → LacksPair pattern (plain_question induced kind) fault → ⊥
+no_pair pattern kind induced fault lacks = pairs_not_refused lacks.graph [] fault (λ k d inside. absurd (omega arith)) lacks.is
+
+-- What is said of two names and a question holds of the same ones.
+pub ask_says_as : (r : Result Problem Stop) (content : List ℕ → Option (List ℕ)) (p q t u : List ℕ) (a b : Question) → p ≡ q → t ≡ u → a ≡ b
+    → AskSays r (content p) (content t) a → AskSays r (content q) (content u) b
+ask_says_as r content p q t u a b pattern target ask says =
+    subst (λ (x : List ℕ). AskSays r (content x) (content u) b) pattern
+    (subst (λ (x : List ℕ). AskSays r (content p) (content x) b) target (subst (λ (x : Question). AskSays r (content p) (content t) x) ask says))
+
+-- What loading the problem of a job says of the job.
+pub job_stops : (s : Stop) (number : ℕ) (j : JobText) (content : List ℕ → Option (List ℕ)) (kind : LadKind) → IsOfFiles s
+    → AskSays (Err s) (content j.pattern) (content j.target) (job_ask kind j) → JobSays (Err (stop_of_job number s)) number j content kind
+job_stops FilesFault number j content kind of_files says = tt
+job_stops OutputFault number j content kind of_files says = absurd of_files
+job_stops NoMemory number j content kind of_files says = tt
+job_stops (Refused Pattern fault) number j content kind of_files says = (refl, says)
+job_stops (Refused Less fault) number j content kind of_files says = no_pair (content j.pattern) kind j.induced fault says
+job_stops (Refused Target fault) number j content kind of_files says = (refl, says)
+job_stops (Refused Mapping fault) number j content kind of_files says = absurd says
+job_stops (Refused Encoding fault) number j content kind of_files says = absurd says
+job_stops (Refused Log fault) number j content kind of_files says = absurd says
+job_stops (Refused JobList fault) number j content kind of_files says = absurd says
+job_stops (Refused (JobPattern n) fault) number j content kind of_files says = absurd says
+job_stops (Refused (JobTarget n) fault) number j content kind of_files says = absurd says

@@ -16,10 +16,10 @@ use Rattle.job_list.proofs.Reading.{said_once, never_both}
 use Rattle.command_line.specs.declared.batch.BatchWords.{BatchWords}
 use Rattle.subgraph_cli.proofs.OneProblem.{one_problem, asks_not_refused}
 use Rattle.subgraph_cli.specs.declared.stop.Role.{Role}
-use Rattle.subgraph_cli.specs.declared.stop.Role.TheVariants.{Pattern, Target, Mapping, Encoding, Log, JobList, JobPattern, JobTarget}
+use Rattle.subgraph_cli.specs.declared.stop.Role.TheVariants.{Pattern, Less, Target, Mapping, Encoding, Log, JobList, JobPattern, JobTarget}
 use Rattle.subgraph_cli.specs.declared.stop.TextFault.{TextFault}
 use Rattle.subgraph_cli.specs.declared.stop.TextFault.TheVariants.{TooLong, Listed}
-use Rattle.whole_program.specs.Jobs.{HoldsList, HoldsNoList, JobAsks, AreAsked, StopsAt}
+use Rattle.whole_program.specs.Jobs.{HoldsList, HoldsNoList, JobAsks, AreAsked, StopsAt, job_ask}
 use Rattle.whole_program.specs.Batches.{IsFirstOfBatch, are_decided, IsEnough}
 use Rattle.whole_program.specs.Verdicts.{AreRight}
 use Rattle.whole_program.specs.declared.verdict.JobVerdict.{JobVerdict}
@@ -56,7 +56,7 @@ one_asked laws content kind [] (p ∷ ps) qs x y = absurd x
 one_asked laws content kind (j ∷ js) [] qs x y = absurd x
 one_asked laws content kind (j ∷ js) (p ∷ ps) [] x y = absurd y
 one_asked laws content kind (j ∷ js) (p ∷ ps) (q ∷ qs) x y =
-    ap (λ r. r ∷ ps) (one_problem laws (content j.pattern) (content j.target) kind j.induced p q x.0 y.0)
+    ap (λ r. r ∷ ps) (one_problem laws (content j.pattern) (content j.target) (job_ask kind j) p q x.0 y.0)
     ∙ ap (λ rs. q ∷ rs) (one_asked laws content kind js ps qs x.1 y.1)
 
 -- The problem of the job at a place.
@@ -79,7 +79,7 @@ not_stopped : TextLaws → (content : List ℕ → Option (List ℕ)) (kind : La
     → AreAsked content kind jobs qs → StopsAt content kind jobs number role fault → ⊥
 not_stopped laws content kind jobs qs number role fault asked stops =
     let has = asked_at content kind jobs qs stops.place stops.job asked stops.at in
-    asks_not_refused laws (content stops.job.pattern) (content stops.job.target) kind stops.job.induced has.problem role fault has.asks stops.refused
+    asks_not_refused laws (content stops.job.pattern) (content stops.job.target) (job_ask kind stops.job) has.problem role fault has.asks stops.refused
 
 -- A batch whose jobs ask problems is not refused.
 pub batch_not_refused : TextLaws → (w : BatchWords) (content : List ℕ → Option (List ℕ)) (jobs : List JobText) (qs : List Problem) (role : Role) (fault : TextFault)
@@ -92,6 +92,7 @@ batch_not_refused laws w content jobs qs (JobTarget n) fault holds asked refused
     not_stopped laws content w.format jobs qs n Target fault asked
     (subst (λ (js : List JobText). StopsAt content w.format js n Target fault) (one_list (content w.list) refused.0 jobs refused.1 holds) refused.2)
 batch_not_refused laws w content jobs qs Pattern fault holds asked refused = refused.2
+batch_not_refused laws w content jobs qs Less fault holds asked refused = refused.2
 batch_not_refused laws w content jobs qs Target fault holds asked refused = refused.2
 batch_not_refused laws w content jobs qs Mapping fault holds asked refused = refused.2
 batch_not_refused laws w content jobs qs Encoding fault holds asked refused = refused.2

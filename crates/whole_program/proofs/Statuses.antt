@@ -16,7 +16,7 @@ use Rattle.subgraph_cli.specs.Stops.{HasCause, IsOfFiles, SparesOutput, TellsSto
 use Rattle.subgraph_cli.specs.Completeness.{HasNoFault, IsOrNoMemory}
 use Rattle.subgraph_cli.specs.Solving.{IsOrStops}
 use Rattle.subgraph_cli.specs.declared.stop.Role.{Role}
-use Rattle.subgraph_cli.specs.declared.stop.Role.TheVariants.{Pattern, Target, Mapping, Encoding, Log, JobList, JobPattern, JobTarget}
+use Rattle.subgraph_cli.specs.declared.stop.Role.TheVariants.{Pattern, Less, Target, Mapping, Encoding, Log, JobList, JobPattern, JobTarget}
 use Rattle.subgraph_cli.specs.declared.stop.TextFault.{TextFault}
 use Rattle.subgraph_cli.specs.declared.stop.Stop.{Stop}
 use Rattle.subgraph_cli.specs.declared.stop.Stop.TheVariants.{Refused, FilesFault, OutputFault, NoMemory}
@@ -49,6 +49,7 @@ jobs_stop NoMemory w content accounts out jobs holds says = tt
 jobs_stop (Refused (JobPattern n) fault) w content accounts out jobs holds says = (jobs, holds, says)
 jobs_stop (Refused (JobTarget n) fault) w content accounts out jobs holds says = (jobs, holds, says)
 jobs_stop (Refused JobList fault) w content accounts out jobs holds says = absurd says
+jobs_stop (Refused Less fault) w content accounts out jobs holds says = absurd says
 jobs_stop (Refused Pattern fault) w content accounts out jobs holds says = absurd says
 jobs_stop (Refused Target fault) w content accounts out jobs holds says = absurd says
 jobs_stop (Refused Mapping fault) w content accounts out jobs holds says = absurd says

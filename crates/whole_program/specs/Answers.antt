@@ -1,19 +1,10 @@
 -- What a job of a batch is answered.
 
-use Rattle.std.specs.Prelude.{◌≡◌, ℕ, ◌≤◌, ◌<◌, ◌^◌, false, Result}
-use Rattle.std.specs.declared.alloc.AllocError.{AllocError}
+use Rattle.std.specs.Prelude.{ℕ}
 use Rattle.graph_theory.specs.Embedding.{Problem, Embeds, HasNone}
 use Rattle.parallel_solve.specs.Solving.{AreSpent}
-use Rattle.parallel_solve.specs.declared.answers.Settings.{Settings}
 use Rattle.parallel_solve.specs.declared.answers.Solved.{Solved}
 use Rattle.parallel_solve.specs.declared.answers.Solved.TheVariants.{Yes, NoEmbedding, Unknown, NoMemory}
-
--- One worker is asked for, and no log.
-pub record IsForJobs (s : Settings) : Type 0 where
-  pub one : s.threads ≡ 1
-  pub budget : s.budget < 2 ^ 63
-  pub rows : s.rows ≤ 4194304
-  pub unlogged : s.prove ≡ false
 
 -- What the answer to a problem says: the list embeds; none exists; or one worker spent this budget, as its account shows.
 abbrev pub IsJobAnswer : Solved → Problem → ℕ → Type 0
@@ -21,7 +12,3 @@ IsJobAnswer (Yes m) q budget = Embeds q m.items
 IsJobAnswer (NoEmbedding proof) q budget = HasNone q
 IsJobAnswer (Unknown accounts) q budget = AreSpent q 1 budget accounts.items
 IsJobAnswer NoMemory q budget = ⊥
-
--- What deciding a problem gives.
-abbrev pub Decided : Type 0
-Decided = Result Solved AllocError

@@ -18,7 +18,7 @@ use Rattle.subgraph_cli.specs.Completeness.{HasNoFault, IsOrNoMemory}
 use Rattle.subgraph_cli.specs.Solving.{IsOrStops, SolveStatus, IsDecided}
 use Rattle.whole_program.specs.Verdicts.{AreRight}
 use Rattle.whole_program.specs.Texts.{verdicts_text}
-use Rattle.whole_program.specs.Jobs.{HoldsList, HoldsNoList, AreAsked, IsFirstOfJobs, IsFaultOfJobs}
+use Rattle.whole_program.specs.Jobs.{HoldsList, HoldsNoList, AreAsked, IsFirstOfJobs, IsFaultOfJobs, job_ask}
 use Rattle.whole_program.specs.declared.verdict.JobVerdict.{JobVerdict}
 use Rattle.whole_program.specs.declared.verdict.JobVerdict.TheVariants.{Yes, Nothing, Unknown}
 use Rattle.whole_program.specs.declared.batch.Batched.{Batched}
@@ -164,13 +164,13 @@ VerdictOf (Yes m) status = status ≡ 0
 VerdictOf Nothing status = status ≡ 1
 VerdictOf Unknown status = Unit {0}
 
--- A line that is decided tells what a `solve` of its job by itself decides, over the same files and with the same format, whatever its other options.
+-- A line that is decided tells what a `solve` of its job by itself decides, over the same files and with the words that ask the same, whatever its other options.
 abbrev pub DecidesAsAlone : Type 0
 DecidesAsAlone = (w : BatchWords) (s : SolveWords) (content : List ℕ → Option (List ℕ))
     (accounts : List Account) (batched : Batched) (text : List ℕ)
     (d : Decides w content accounts batched text) (place : ℕ) (job : JobText)
     (verdict : JobVerdict) (o : Outcome)
     → slice_get d.jobs place ≡ Some job → slice_get d.verdicts place ≡ Some verdict
-    → s.format ≡ w.format → s.induced ≡ job.induced
+    → s.ask ≡ job_ask w.format job
     → SolveStatus o s (content job.pattern) (content job.target)
     → IsDecided o.status → VerdictOf verdict o.status

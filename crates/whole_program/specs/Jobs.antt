@@ -7,6 +7,7 @@ use Rattle.graph_theory.specs.Embedding.{Problem}
 use Rattle.graph_theory.specs.declared.lad_text.LadKind.{LadKind}
 use Rattle.job_list.specs.Jobs.{JobText, IsList, FirstBad, text_of}
 use Rattle.job_list.specs.declared.job.Job.{Job}
+use Rattle.command_line.specs.Questions.{Question, plain_question}
 use Rattle.subgraph_cli.specs.Disk.{Disk}
 use Rattle.subgraph_cli.specs.Questions.{Asks, IsFirstRefused, IsFaultOfTwo}
 use Rattle.subgraph_cli.specs.declared.stop.Role.{Role}
@@ -53,10 +54,14 @@ pub record AreJobs (jobs : List JobText) : Type 0 where
   pub few : length jobs ≤ 1000
   pub names : All HasNames jobs
 
+-- What a job asks of its two graphs: injective maps with no order of images, and induced copies where the job says so.
+abbrev pub job_ask : LadKind → JobText → Question
+job_ask kind j = plain_question j.induced kind
+
 module _ (content : List ℕ → Option (List ℕ)) (kind : LadKind) where
-  -- The files of a job ask this problem, of induced embeddings where the job says so.
+  -- The files of a job ask this problem.
   abbrev pub JobAsks : JobText → Problem → Type 0
-  JobAsks j q = Asks (content j.pattern) (content j.target) kind j.induced q
+  JobAsks j q = Asks (content j.pattern) (content j.target) (job_ask kind j) q
 
   -- The jobs ask these problems, in order.
   abbrev pub AreAsked : List JobText → List Problem → Type 0
@@ -70,7 +75,8 @@ module _ (content : List ℕ → Option (List ℕ)) (kind : LadKind) where
     pub at : slice_get jobs place ≡ Some job
     pub problems : List Problem
     pub before : AreAsked (take place jobs) problems
-    pub refused : IsFirstRefused (content job.pattern) (content job.target) kind role fault
+    pub refused : IsFirstRefused (content job.pattern) (content job.target)
+        (job_ask kind job) role fault
 
   -- The first file of the jobs that is not good has this role, for this fault; jobs are numbered from 1.
   abbrev pub IsFirstOfJobs : List JobText → Role → TextFault → Type 0
@@ -85,7 +91,7 @@ pub record IsFaultOfJobs (jobs : List JobText) (kind : LadKind) (d : Disk) : Typ
   pub at : slice_get jobs place ≡ Some job
   pub before : IsTrue d.tells → (problems : List Problem)
       × AreAsked d.content kind (take place jobs) problems
-  pub of_two : IsFaultOfTwo job.pattern job.target kind d
+  pub of_two : IsFaultOfTwo job.pattern job.target (job_ask kind job) d
 
 -- Why a batch stops where the problem of a job was not loaded.
 abbrev pub stop_of_job : ℕ → Stop → Stop
@@ -97,9 +103,9 @@ stop_of_job number stop = stop
 abbrev pub JobSays : Result Problem Stop → ℕ → JobText → (List ℕ → Option (List ℕ)) → LadKind → Type 0
 JobSays (Ok q) number j content kind = JobAsks content kind j q
 JobSays (Err (Refused (JobPattern n) fault)) number j content kind = (n ≡ number)
-    × IsFirstRefused (content j.pattern) (content j.target) kind Pattern fault
+    × IsFirstRefused (content j.pattern) (content j.target) (job_ask kind j) Pattern fault
 JobSays (Err (Refused (JobTarget n) fault)) number j content kind = (n ≡ number)
-    × IsFirstRefused (content j.pattern) (content j.target) kind Target fault
+    × IsFirstRefused (content j.pattern) (content j.target) (job_ask kind j) Target fault
 JobSays (Err (Refused _ fault)) number j content kind = ⊥
 JobSays (Err FilesFault) number j content kind = Unit {0}
 JobSays (Err OutputFault) number j content kind = ⊥

@@ -5,11 +5,11 @@ ghost use Rattle.command_line.specs.Batch.{IsBatchInRange};
 ghost use Rattle.whole_program.specs.Verdicts.{AreRight, verdict_of, accounts_of, accounts_in};
 
 use crate::verdict::JobVerdict;
-use crate::work::answers_to;
+use crate::work::{Deciding, answers_to};
 use command_line::BatchWords;
 use fail_account::account::Account;
 use graph_rows::problem::Problem;
-use parallel_solve::{Settings, Solved};
+use parallel_solve::Solved;
 use std::alloc::Global;
 use std::sync::Wait;
 use std::thread::Threads;
@@ -72,14 +72,8 @@ pub(crate) fn decide_all<R: Threads + Wait + Sync>(
         spent.new.items) }
     ensures memory { IfErr result (λ stop. stop ≡ Stop.NoMemory) }
 {
-    let settings = Settings {
-        threads: 1,
-        seed: words.seed,
-        budget: words.budget,
-        rows: words.book,
-        prove: false,
-    };
-    match answers_to(rt, alloc, problems, words.threads, &settings) {
+    let work = Deciding::new(alloc, words.seed, words.budget, words.book);
+    match answers_to(rt, alloc, problems, words.threads, &work) {
         Ok(answers) => verdicts(alloc, answers, spent),
         Err(_) => Err(Stop::NoMemory),
     }

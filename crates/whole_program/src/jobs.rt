@@ -3,11 +3,11 @@
 ghost use Rattle.std.specs.Prelude.{◌≡◌, ◌≤◌, ◌+◌, ◌⊎◌, IsTrue, IfOk, IfErr, IsErrOf, length, map, string_bytes};
 ghost use Rattle.job_list.specs.Jobs.{text_of};
 ghost use Rattle.subgraph_cli.specs.Disk.{disk, KeepsFiles};
-ghost use Rattle.whole_program.specs.Jobs.{JobSays, JobsSay, HasNames, AreJobs, IsFaultOfJobs, stop_of_job};
+ghost use Rattle.whole_program.specs.Jobs.{JobSays, JobsSay, HasNames, AreJobs, IsFaultOfJobs, job_ask, stop_of_job};
 ghost use Rattle.subgraph_cli.specs.Questions.{IsFaultOfTwo};
 ghost use Rattle.subgraph_cli.specs.Stops.{HasCause, IsOfFiles};
 
-use command_line::FileName;
+use command_line::{AskWords, FileName};
 use graph_rows::problem::Problem;
 use graph_theory::lad_text::LadKind;
 use job_list::Job;
@@ -63,14 +63,16 @@ fn load_job<F: Files>(
         → JobSays result number (text_of job.now) (F.content files.old) kind }
     ensures loading { IfErr result IsOfFiles }
     ensures cause { IfErr result (λ stop. HasCause stop
-        (IsFaultOfTwo (string_bytes job.now.pattern) (string_bytes job.now.target) kind)
+        (IsFaultOfTwo (string_bytes job.now.pattern) (string_bytes job.now.target)
+        (job_ask kind (text_of job.now)))
         (disk F.tells F.content F.faults F.fault_at files.old files.new)) }
     ensures quiet { IsErrOf result Stop.FilesFault ⊎ (F.faults files.new ≡ F.faults files.old) }
     ensures files { KeepsFiles F.tells F.content F.faults files.old files.new }
 {
     let pattern = file_named(&job.pattern);
     let target = file_named(&job.target);
-    match load_problem(alloc, files, &pattern, &target, kind, job.induced) {
+    let ask = AskWords::plain(job.induced, kind);
+    match load_problem(alloc, files, &pattern, &target, &ask) {
         Ok(problem) => Ok(problem),
         Err(stop) => Err(job_stop(number, stop)),
     }

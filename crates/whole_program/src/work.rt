@@ -1,57 +1,67 @@
 //! Problems as the jobs of a batch.
 
-ghost use Rattle.std.specs.Prelude.{◌≡◌, ◌<◌, ◌^◌, length, IfOk};
-ghost use Rattle.std.specs.Thread.{IsSync};
+ghost use Rattle.std.specs.Prelude.{◌≡◌, ◌<◌, ◌≤◌, ◌^◌, length, IfOk};
 ghost use Rattle.batch_pool.specs.Placing.{AreDone};
-ghost use Rattle.whole_program.specs.Answers.{IsForJobs, IsJobAnswer};
+ghost use Rattle.whole_program.specs.Answers.{IsJobAnswer};
 
 use batch_pool::{OpenJobGate, Work, run_jobs};
 use graph_rows::Problem;
-use parallel_solve::{Settings, Solved, solve};
+use parallel_solve::{Solved, solve_alone};
 use std::alloc::{AllocError, Global};
+use std::marker::Model;
 use std::sync::Wait;
 use std::thread::Threads;
 
-/// Work that decides each problem as a function does, within a budget for each.
+/// How each problem of a batch is decided: by one worker with this seed, within this budget of failed guesses, with a book of so many rows.
 #[derive(Drop)]
-struct ByFunction<F> {
-    decide: F,
+pub(crate) struct Deciding {
+    alloc: Global,
+    seed: u64,
     budget: u64,
+    rows: u32,
 }
 
-impl<F: Fn(&Problem) -> Result<Solved, AllocError>> Work for ByFunction<F> {
+impl Model for Deciding {
+    ghost use Rattle.std.specs.Prelude.{ℕ, ◌<◌, ◌≤◌, ◌^◌};
+
+    ghost Value = { ℕ };
+
+    ghost view = { λ d. d.budget };
+
+    ghost invariant = { λ d. (d.budget < 2 ^ 63) × (d.rows ≤ 4194304) };
+}
+
+impl Deciding {
+    /// Deciding with these options.
+    pub(crate) fn new(alloc: Global, seed: u64, budget: u64, rows: u32) -> Deciding
+        requires budget { budget < 2 ^ 63 }
+        requires rows { rows ≤ 4194304 }
+        ensures { result ≡ budget }
+    {
+        Deciding {
+            alloc,
+            seed,
+            budget,
+            rows,
+        }
+    }
+}
+
+impl Work for Deciding {
     type Job = Problem;
 
     type Out = Solved;
 
-    ghost use Rattle.std.specs.Prelude.{IfOk};
-    ghost use Rattle.std.specs.Borrow.{Bor};
-    ghost use Rattle.graph_theory.specs.Embedding.{Problem as TheProblem};
-    ghost use Rattle.whole_program.specs.Answers.{IsJobAnswer, Decided};
+    ghost use Rattle.whole_program.specs.Answers.{IsJobAnswer};
 
-    ghost ready = { λ w. (r : Bor TheProblem) → F.pre w.decide r
-        × ((a : Decided) → F.post w.decide r a → IfOk a (λ s. IsJobAnswer s r.now w.budget)) };
+    ghost answers = { λ budget q answer. IsJobAnswer answer q budget };
 
-    ghost answers = { λ w q answer. IsJobAnswer answer q w.budget };
-
+    /// That memory was refused is no answer, so that the pool can try again.
     fn does(&self, job: &Problem) -> Result<Solved, AllocError> {
-        (self.decide)(job)
-    }
-}
-
-/// Decides a problem by one worker. That memory was refused is no answer, so that the pool can try again.
-fn solve_job<R: Threads + Sync>(
-    rt: &R,
-    alloc: Global,
-    q: &Problem,
-    s: &Settings,
-) -> Result<Solved, AllocError>
-    requires { IsForJobs s.now }
-    ensures { IfOk result (λ a. IsJobAnswer a q.now s.now.budget) }
-{
-    match solve(rt, alloc, q, s) {
-        Solved::NoMemory => Err(AllocError),
-        answer => Ok(answer),
+        match solve_alone(self.alloc, job, self.seed, self.budget, self.rows) {
+            Solved::NoMemory => Err(AllocError),
+            answer => Ok(answer),
+        }
     }
 }
 
@@ -61,20 +71,12 @@ pub(crate) fn answers_to<R: Threads + Wait + Sync>(
     alloc: Global,
     problems: Vec<Problem>,
     workers: u32,
-    s: &Settings,
+    work: &Deciding,
 ) -> Result<Vec<Solved>, AllocError>
-    requires settings { IsForJobs s.now }
     requires few { length problems.items < 2 ^ 32 }
-    ensures { IfOk result (λ v. AreDone (λ q a. IsJobAnswer a q s.now.budget) problems.items
+    ensures { IfOk result (λ v. AreDone (λ q a. IsJobAnswer a q work.now) problems.items
         v.items) }
 {
-    let work = ByFunction {
-        decide: |q: &Problem| -> Result<Solved, AllocError>
-            requires { IsSync R.row × IsForJobs s.now }
-            ensures { IfOk result (λ a. IsJobAnswer a q.now s.entry.now.budget) }
-        { solve_job(rt, alloc, q, s) },
-        budget: s.budget,
-    };
-    let ran = run_jobs(rt, alloc, problems, workers, &work, &OpenJobGate)?;
+    let ran = run_jobs(rt, alloc, problems, workers, work, &OpenJobGate)?;
     Ok(ran.outs)
 }

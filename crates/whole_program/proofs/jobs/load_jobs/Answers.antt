@@ -9,6 +9,7 @@ use Rattle.subgraph_cli.proofs.Told.{disk_on, keeps_on}
 use Rattle.subgraph_cli.specs.Disk.{Disk}
 use Rattle.subgraph_cli.specs.Questions.{IsFaultOfTwo}
 use Rattle.subgraph_cli.specs.Stops.{HasCause}
+use Rattle.whole_program.specs.Jobs.{job_ask}
 use Rattle.whole_program.proofs.Loading.{has_names, text_at, job_says_on, asked_next, jobs_stop, jobs_cause}
 use Rattle.whole_program.proofs.jobs.load_jobs.Goals as goal
 
@@ -33,7 +34,7 @@ returns-in-Err-clause-cause g c =
     let same = disk_on _ _ _ g.F.Files.fault_at _ _ c.load_job.new.files c.loop-i.invariant.kept c.loop-i.invariant.quiet in
     jobs_cause c.in-Err.stop c.loop-i.i (map text_of c.args.jobs.now) (text_of c.index-jobs-i.result) c.args.kind _
     (text_at c.args.jobs.now c.loop-i.i c.index-jobs-i.result here) (λ told. (_, c.loop-i.invariant.asked told))
-    (subst (λ (d : Disk). HasCause c.in-Err.stop (IsFaultOfTwo (text_of c.index-jobs-i.result).pattern (text_of c.index-jobs-i.result).target c.args.kind) d) same c.in-Err.ensures.cause)
+    (subst (λ (d : Disk). HasCause c.in-Err.stop (IsFaultOfTwo (text_of c.index-jobs-i.result).pattern (text_of c.index-jobs-i.result).target (job_ask c.args.kind (text_of c.index-jobs-i.result))) d) same c.in-Err.ensures.cause)
 
 pub returns-in-Err-push-clause-files : goal.returns-in-Err-push-clause-files
 returns-in-Err-push-clause-files g c = keeps_on _ _ _ _ _ _ c.loop-i.invariant.kept c.in-Ok.ensures.files
