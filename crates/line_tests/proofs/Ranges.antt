@@ -1,9 +1,15 @@
 -- Lists of numbers in range, one number more.
-use Rattle.std.proofs.Common.{◌≡◌, ℕ, suc, ◌+◌, ◌<◌, true, List, [], ◌∷◌, ◌++◌, take, slice_index, length, sym, ap, subst, ◌∙◌, arith, inl, inr}
-use Rattle.std.specs.Prelude.{map}
+use Rattle.std.proofs.Common.{◌≡◌, ℕ, suc, ◌+◌, ◌<◌, ◌≤◌, nat_lt, true, List, [], ◌∷◌, ◌++◌, take, slice_index, length, get_or, Some, sym, ap, subst, ◌∙◌, arith, inl, inr}
+use Rattle.std.specs.Prelude.{map, slice_get}
 use Rattle.std.proofs.lemmas.List.{reverse-append}
-use Rattle.graph_theory.specs.Graph.{size}
+use Rattle.std.proofs.lemmas.Bool.{and_from, cases_eq, lt-ltb}
+use Rattle.std.proofs.lemmas.Option.{slice_get_within, get_or_from_slice_get}
+use Rattle.graph_theory.specs.Graph.{Graph, size}
+use Rattle.graph_theory.specs.Neighbours.{count, is_near}
+use Rattle.graph_theory.specs.Blocks.{has_near}
+use Rattle.graph_theory.proofs.Counts.{count_two}
 use Rattle.graph_theory.specs.Embedding.{Problem}
+use Rattle.graph_rows.specs.Orders.{IsOrder}
 use Rattle.log_theory.specs.declared.step.Ref.{Ref}
 use Rattle.log_theory.specs.LogText.{IsRef, AreRefs}
 use Rattle.log_theory.specs.Lookups.{is_among}
@@ -36,3 +42,30 @@ pub changes_pushed : (q : Problem) (numbers : List ℕ) (old new : List Entry) (
 changes_pushed q numbers old new e is all fits =
     let first : changes_of numbers new ≡ change_of numbers e ∷ changes_of numbers old = ap (changes_of numbers) is ∙ ap (map (change_of numbers)) (reverse-append old (e ∷ [])) in
     subst (AreInProblem q) (sym first) (fits, all)
+
+-- ---- pairs that may be in order
+
+abbrev pub IsOrdered : ℕ → ℕ × ℕ → Type 0
+IsOrdered n x = (x.0 < n) × (x.1 < n) × (x.0 ≡ x.1 → ⊥)
+
+-- The first of them are of so many vertices.
+abbrev pub AreOrdered : ℕ → List (ℕ × ℕ) → ℕ → Type 0
+AreOrdered n pairs i = (k : ℕ) (x : ℕ × ℕ) → k < i → slice_get pairs k ≡ Some x → IsOrdered n x
+
+pub ordered_more : (n : ℕ) (pairs : List (ℕ × ℕ)) (i : ℕ) (d : ℕ × ℕ) → IsOrdered n (get_or pairs i d) → AreOrdered n pairs i → AreOrdered n pairs (i + 1)
+ordered_more n pairs i d here before k x below at = elim (cases_eq k i) [
+  | inl same ↦ subst (IsOrdered n) (ap (λ (j : ℕ). get_or pairs j d) (sym same) ∙ get_or_from_slice_get pairs k x d at) here
+  | inr apart ↦ before k x (omega (arith, below, apart)) at
+]
+
+pub order_of_all : (n : ℕ) (pairs : List (ℕ × ℕ)) (i : ℕ) → length pairs ≤ 64 → length pairs ≤ i → AreOrdered n pairs i → IsOrder n pairs
+order_of_all n pairs i few all each =
+    let of : (k : ℕ) (x : ℕ × ℕ) → slice_get pairs k ≡ Some x → IsOrdered n x = λ k x at. each k x (let below = slice_get_within pairs k x at in omega (arith, below, all)) at in
+    record { few = few; first = λ k x at. (of k x at).0; second = λ k x at. (of k x at).1; two = λ k x at. (of k x at).2 }
+
+-- ---- blocks
+
+-- Two vertices near a third are a block around it.
+pub two_near : (g : Graph) (c a b : ℕ) → c < size g → a < size g → b < size g → (a ≡ b → ⊥) → is_near g c a ≡ true → is_near g c b ≡ true → has_near g c ≡ true
+two_near g c a b c_in a_in b_in two first second =
+    and_from (nat_lt c (size g)) (nat_lt 1 (count (is_near g c) (size g))) (lt-ltb c (size g) c_in) (count_two (is_near g c) a b (size g) a_in b_in two first second)

@@ -2,6 +2,7 @@
 
 ghost use Rattle.std.specs.Prelude.{◌≡◌, ℕ, ◌^◌, ◌<◌, ◌≤◌, [], true, length, is_some, IfOk};
 ghost use Rattle.graph_theory.specs.Graph.{size, edge};
+ghost use Rattle.graph_theory.specs.Blocks.{in_block, has_near, has_block};
 ghost use Rattle.graph_theory.specs.Reversed.{turned};
 ghost use Rattle.log_theory.specs.LogText.{AreRefs};
 ghost use Rattle.log_theory.specs.Lookups.{is_among};
@@ -9,25 +10,28 @@ ghost use Rattle.nogood_book.specs.Rows.{Sound, AreInRange};
 ghost use Rattle.nogood_book.specs.Places.{IsNogoodRow};
 ghost use Rattle.recorder.specs.Recording.{change_by, changes_of, set_at, IsIn};
 ghost use Rattle.recorder.specs.Telling.{Joins};
-ghost use Rattle.dead_theory.specs.Changes.{IsInBy, IsInProblem, AreInProblem};
+ghost use Rattle.dead_theory.specs.Changes.{IsEndOf, IsInBy, IsInProblem, AreInProblem};
 ghost use Rattle.dead_paths.specs.Explaining.{end_by, IsEndIn};
 
 use bit_rows::has_bit;
 use dead_paths::{Basis, DeadPath, LineMaker, PathEnd, RowNames, Scratch, explain};
 use domain_bits::{Domains, Mark};
-use graph_rows::Problem;
+use graph_rows::near::is_near;
+use graph_rows::{Graph, Problem};
 use graph_theory::direction::Direction;
+use graph_theory::embedding::Maps;
 use journals::Journal;
 use log_theory::{Name, Ref};
 use nogood_book::{Row, RowKind};
-use recorder::{Cause, Entry, Failure, Place, What};
+use recorder::{Cause, Entry, Failure, Place, Side, What};
 use std::alloc::{AllocError, Global};
 
-/// How a path ended, with the place of the set that was found short, or the numbers of the lines of owner 1 against refuted values.
+/// How a path ended, with the place of the set that was found short and the centre of its block, or the numbers of the lines of owner 1 against
+/// refuted values.
 pub enum Ended {
     Empty(u16),
     Whole(u32),
-    Short(Place),
+    Short(Option<u16>, Place),
     Exhausted(u16, &'static [u64]),
 }
 
@@ -40,15 +44,15 @@ impl Ended {
         match self {
             Ended::Empty(p) => PathEnd::Failed(Failure::Empty(*p)),
             Ended::Whole(name) => PathEnd::Failed(Failure::Whole(*name)),
-            Ended::Short(_) => PathEnd::Failed(Failure::Short(0)),
+            Ended::Short(_, _) => PathEnd::Failed(Failure::Short(0)),
             Ended::Exhausted(p, _) => PathEnd::Exhausted(*p),
         }
     }
 
-    /// The set.
-    fn short(&self) -> Option<Place> {
+    /// The set, with the centre of its block.
+    fn short(&self) -> Option<(Option<u16>, Place)> {
         match self {
-            Ended::Short(place) => Some(*place),
+            Ended::Short(centre, place) => Some((*centre, *place)),
             _ => None,
         }
     }
@@ -81,14 +85,91 @@ fn is_placed(numbers: &[u16], place: Place) -> bool
     place.start <= place.middle && place.middle <= place.end && place.end <= numbers.len()
 }
 
-/// The same, and it is one of vertices of the pattern and of values.
-fn is_set(q: &Problem, numbers: &[u16], place: Place) -> bool
-    ensures { result ≡ true → IsInProblem q.now (change_by numbers.now (What.Others place) 0) }
+/// Whether two vertices, of which this is one, are near the centre.
+fn is_near_with(g: &Graph, c: u16, b: u16) -> bool
+    requires c_in { c < size g.now }
+    requires b_in { b < size g.now }
+    ensures { result ≡ true → has_near g.now c ≡ true }
 {
-    if !is_placed(numbers, place) {
+    for a in 0..g.size() {
+        if a != b && is_near(g, c, a) && is_near(g, c, b) {
+            return true;
+        }
+    }
+    false
+}
+
+/// Whether two vertices are near the centre.
+fn has_two_near(g: &Graph, c: u16) -> bool
+    ensures { result ≡ true → has_near g.now c ≡ true }
+{
+    if c >= g.size() {
         return false;
     }
-    are_below(&numbers[place.start..place.middle], q.pattern().size())
+    for b in 0..g.size() {
+        if is_near_with(g, c, b) {
+            return true;
+        }
+    }
+    false
+}
+
+/// Whether there is the block of a centre, or of all vertices.
+fn is_block(q: &Problem, centre: Option<u16>) -> bool
+    ensures { result ≡ true → has_block q.now centre ≡ true }
+{
+    match centre {
+        None => match q.maps() {
+            Maps::Injective => true,
+            Maps::Local => false,
+            Maps::Any => false,
+        },
+        Some(c) => match q.maps() {
+            Maps::Injective => false,
+            Maps::Local => has_two_near(q.pattern(), c),
+            Maps::Any => false,
+        },
+    }
+}
+
+/// Whether all these are in the block.
+fn are_members(q: &Problem, centre: Option<u16>, vertices: &[u16]) -> bool
+    requires there { has_block q.now centre ≡ true }
+    requires inside { (p : ℕ) → is_among p vertices.now ≡ true → p < size q.now.pattern }
+    ensures { result ≡ true → (p : ℕ) → is_among p vertices.now ≡ true
+        → in_block q.now centre p ≡ true }
+{
+    for p in vertices {
+        if !is_member(q, centre, *p) {
+            return false;
+        }
+    }
+    true
+}
+
+/// Whether one is.
+fn is_member(q: &Problem, centre: Option<u16>, p: u16) -> bool
+    requires there { has_block q.now centre ≡ true }
+    requires p_in { p < size q.now.pattern }
+    ensures { result ≡ in_block q.now centre p }
+{
+    match centre {
+        None => true,
+        Some(c) => is_near(q.pattern(), c, p),
+    }
+}
+
+/// The same of a set, and it is one of vertices of the pattern, in a block that there is, and of values.
+fn is_set(q: &Problem, numbers: &[u16], centre: Option<u16>, place: Place) -> bool
+    ensures { result ≡ true
+        → IsInProblem q.now (change_by numbers.now (What.Others centre place) 0) }
+{
+    if !is_placed(numbers, place) || !is_block(q, centre) {
+        return false;
+    }
+    let vertices = &numbers[place.start..place.middle];
+    are_below(vertices, q.pattern().size())
+        && are_members(q, centre, vertices)
         && are_below(&numbers[place.middle..place.end], q.target().size())
 }
 
@@ -129,8 +210,27 @@ fn is_crowd(
     if p >= q.pattern().size() || t >= q.target().size() || !is_placed(numbers, place) {
         return false;
     }
+    if !is_block(q, None) {
+        return false;
+    }
     leads_to_all(q, direction, p, &numbers[place.start..place.middle])
         && are_below(&numbers[place.middle..place.end], q.target().size())
+}
+
+/// Whether the vertex is at this end of a pair that is to be in order.
+fn is_end_of(q: &Problem, k: u16, side: Side, r: u16) -> bool
+    requires { r < size q.now.pattern }
+    ensures { result ≡ true → IsEndOf q.now k side r }
+{
+    let less = q.less();
+    if usize::from(k) >= less.len() {
+        return false;
+    }
+    let (lesser, greater) = less[usize::from(k)];
+    match side {
+        Side::Lesser => lesser == r,
+        Side::Greater => greater == r,
+    }
 }
 
 /// Whether the numbers of a cause, and the vertex whose values it took, are in range.
@@ -148,6 +248,7 @@ fn is_cause(q: &Problem, cause: Cause, r: u16) -> bool
         Cause::Edge(p, u, direction) => {
             p < q.pattern().size() && u < q.target().size() && p != r && leads(q, direction, p, r)
         }
+        Cause::Order(k, u, side) => u < q.target().size() && is_end_of(q, k, side, r),
     }
 }
 
@@ -157,7 +258,7 @@ fn is_change(q: &Problem, numbers: &[u16], what: What, from: Mark) -> bool
 {
     match what {
         What::One(r, cause) => is_cause(q, cause, r),
-        What::Others(place) => is_set(q, numbers, place),
+        What::Others(centre, place) => is_set(q, numbers, centre, place),
         What::Over(p, t, direction, place) => is_crowd(q, numbers, p, t, direction, place),
     }
 }
@@ -227,7 +328,13 @@ fn is_nogood(rows: &[Row], k: u32) -> bool
 }
 
 /// Whether an end is one of the problem and these rows.
-fn is_end(q: &Problem, rows: &[Row], numbers: &[u16], end: PathEnd, short: Option<Place>) -> bool
+fn is_end(
+    q: &Problem,
+    rows: &[Row],
+    numbers: &[u16],
+    end: PathEnd,
+    short: Option<(Option<u16>, Place)>,
+) -> bool
     ensures { result ≡ true → IsEndIn q.now rows.now (end_by end (set_at numbers.now short) []) }
 {
     match end {
@@ -235,7 +342,7 @@ fn is_end(q: &Problem, rows: &[Row], numbers: &[u16], end: PathEnd, short: Optio
             Failure::Empty(p) => p < q.pattern().size(),
             Failure::Whole(name) => is_nogood(rows, name),
             Failure::Short(_) => match short {
-                Some(place) => is_set(q, numbers, place),
+                Some((centre, place)) => is_set(q, numbers, centre, place),
                 None => false,
             },
         },

@@ -40,7 +40,8 @@ struct Deaths {
 fn add<M: LineMaker>(
     alloc: Global,
     lines: &Ground<'_>,
-    case: &Deaths,
+    numbers: &[u16],
+    paths: &[Dead],
     maker: &mut M,
     journal: &mut Journal,
 ) -> Result<(), AllocError> {
@@ -49,30 +50,31 @@ fn add<M: LineMaker>(
         lines,
         rows: &[],
         names: &ByPlace {},
-        numbers: case.numbers,
+        numbers,
     };
-    for dead in case.paths {
+    for dead in paths {
         explain_in(&basis, dead, maker, journal)?;
     }
     Ok(())
 }
 
 /// The same, by a maker of its own.
-fn add_made(
+pub fn add_made(
     alloc: Global,
     lines: &Encoding,
-    case: &Deaths,
+    numbers: &[u16],
+    paths: &[Dead],
     journal: &mut Journal,
 ) -> Result<(), AllocError> {
     let ground = Ground::new(alloc, lines);
     let mut maker = LineCache::new(alloc, lines.problem(), lines)?;
-    add(alloc, &ground, case, &mut maker, journal)
+    add(alloc, &ground, numbers, paths, &mut maker, journal)
 }
 
 /// Whether the lines are these, and a checker takes them.
 fn are_explained(alloc: Global, lines: &Encoding, case: &Deaths) -> Result<bool, AllocError> {
     let mut journal = Journal::new(alloc, 1);
-    add_made(alloc, lines, case, &mut journal)?;
+    add_made(alloc, lines, case.numbers, case.paths, &mut journal)?;
     is_log(alloc, lines, &journal, &case.log)
 }
 
@@ -141,11 +143,14 @@ static DEATHS: [Deaths; 14] = [
                     What::One(1, Cause::Vertex(0, 0)),
                     What::One(2, Cause::Vertex(0, 0)),
                 ],
-                Ended::Short(Place {
-                    start: 0,
-                    middle: 2,
-                    end: 3,
-                }),
+                Ended::Short(
+                    None,
+                    Place {
+                        start: 0,
+                        middle: 2,
+                        end: 3,
+                    },
+                ),
             ),
             Dead(
                 &[(0, 0)],
@@ -154,20 +159,26 @@ static DEATHS: [Deaths; 14] = [
                     What::One(1, Cause::Vertex(0, 0)),
                     What::One(2, Cause::Vertex(0, 0)),
                 ],
-                Ended::Short(Place {
-                    start: 3,
-                    middle: 5,
-                    end: 6,
-                }),
+                Ended::Short(
+                    None,
+                    Place {
+                        start: 3,
+                        middle: 5,
+                        end: 6,
+                    },
+                ),
             ),
             Dead(
                 &[],
                 &[],
-                Ended::Short(Place {
-                    start: 6,
-                    middle: 9,
-                    end: 11,
-                }),
+                Ended::Short(
+                    None,
+                    Place {
+                        start: 6,
+                        middle: 9,
+                        end: 11,
+                    },
+                ),
             ),
         ],
         log: Log {
@@ -192,11 +203,14 @@ u 1.5 ; 1.4 ;
                 What::One(1, Cause::Vertex(0, 0)),
                 What::One(2, Cause::Vertex(0, 0)),
                 What::One(3, Cause::Vertex(0, 0)),
-                What::Others(Place {
-                    start: 0,
-                    middle: 2,
-                    end: 4,
-                }),
+                What::Others(
+                    None,
+                    Place {
+                        start: 0,
+                        middle: 2,
+                        end: 4,
+                    },
+                ),
             ],
             Ended::Empty(3),
         )],

@@ -13,7 +13,7 @@ use std::test::Fail;
 use test_support::{Example, PATH, TRIANGLE, all_hold};
 
 /// Adds the lines for the first domains of so many pattern vertices, in order.
-fn add_first(
+pub fn add_first(
     alloc: Global,
     lines: &Encoding,
     count: u16,
@@ -49,7 +49,8 @@ impl<R> Example<R> for Firsts {
     }
 }
 
-const STAR: &[u8] = b"4 3 1 2 3 1 0 1 0 1 0";
+/// A vertex with three neighbours.
+pub const STAR: &[u8] = b"4 3 1 2 3 1 0 1 0 1 0";
 
 static FIRSTS: [Firsts; 10] = [
     // Vertex 0 of the path, which has one neighbour, goes to no middle, since that neighbour of degree 2 finds neighbours of degree 1 alone

@@ -13,6 +13,8 @@ mod first_line_tests;
 #[cfg(test)]
 mod logs;
 #[cfg(test)]
+mod map_tests;
+#[cfg(test)]
 mod nogood_tests;
 #[cfg(test)]
 mod row_line_tests;

@@ -1,6 +1,10 @@
 //! Small problems, logs over them, and what a checker says of these.
 
+ghost use Rattle.std.specs.Prelude.{◌≡◌, true, IfOk};
+ghost use Rattle.graph_rows.specs.Orders.{IsOrder};
+
 use graph_rows::Problem;
+use graph_theory::embedding::Maps;
 use journals::Journal;
 use lad_reader::LadKind;
 use log_theory::Verdict;
@@ -13,6 +17,15 @@ use test_support::graph_in;
 
 /// A small problem: the texts of its pattern and its target, their kind, and whether the copy is to be induced.
 pub struct Sample(pub &'static [u8], pub &'static [u8], pub LadKind, pub bool);
+
+/// A small problem whose maps need not be injective, or are to be in order: the texts of its pattern and its target, which images have to differ,
+/// and the pairs of vertices whose images are to be in order.
+pub struct Mapped(
+    pub &'static [u8],
+    pub &'static [u8],
+    pub Maps,
+    pub &'static [(u16, u16)],
+);
 
 /// A log: its two first lines, the lines of owner 1, and its last line.
 pub struct Log {
@@ -27,6 +40,45 @@ impl Sample {
         let pattern = graph_in(alloc, self.0, self.2)?;
         let target = graph_in(alloc, self.1, self.2)?;
         Some(Problem::new(pattern, target, self.3))
+    }
+}
+
+/// Whether a problem of so many pattern vertices may ask that the images of these pairs be in order.
+fn is_order(pairs: &[(u16, u16)], vertices: u16) -> bool
+    ensures { result ≡ true → IsOrder vertices pairs.now }
+{
+    if pairs.len() > 64 {
+        return false;
+    }
+    for x in pairs {
+        if x.0 >= vertices || x.1 >= vertices || x.0 == x.1 {
+            return false;
+        }
+    }
+    true
+}
+
+/// Such pairs, in memory of their own.
+fn order_of(
+    alloc: Global,
+    pairs: &[(u16, u16)],
+    vertices: u16,
+) -> Result<Vec<(u16, u16)>, AllocError>
+    ensures { IfOk result (λ order. IsOrder vertices order.items) }
+{
+    if !is_order(pairs, vertices) {
+        return Err(AllocError);
+    }
+    Vec::from_slice(alloc, pairs)
+}
+
+impl Mapped {
+    /// The problem.
+    pub fn problem(&self, alloc: Global) -> Option<Problem> {
+        let pattern = graph_in(alloc, self.0, LadKind::Lad)?;
+        let target = graph_in(alloc, self.1, LadKind::Lad)?;
+        let order = order_of(alloc, self.3, pattern.size()).ok()?;
+        Some(Problem::mapped(pattern, target, self.2).with_less(order))
     }
 }
 
@@ -45,17 +97,61 @@ fn bytes_of(alloc: Global, log: &Log) -> Result<Vec<u8>, AllocError> {
     Ok(bytes)
 }
 
-/// Whether a checker accepts the log over an encoding, as one that shows that there is no solution where it ends with `e`.
+/// Adds lines without hints: of a line `u` that is what comes up to its first `;`.
+fn push_plain(bytes: &mut Vec<u8>, lines: &[u8]) -> Result<(), AllocError> {
+    let mut before = b'\n';
+    let mut first = b'\n';
+    let mut kept = true;
+    for byte in lines {
+        if before == b'\n' {
+            first = *byte;
+        }
+        if *byte == b'\n' {
+            kept = true;
+        }
+        if kept {
+            bytes.push(*byte)?;
+        }
+        if first == b'u' && *byte == b';' {
+            kept = false;
+        }
+        before = *byte;
+    }
+    Ok(())
+}
+
+const FIRST_LINE: &[u8] = b"embedding proof 1";
+
+/// The bytes of the log without hints.
+fn plain_bytes_of(alloc: Global, log: &Log) -> Result<Vec<u8>, AllocError> {
+    let mut bytes = Vec::from_slice(alloc, b"embedding proof 2")?;
+    if log.head.len() > FIRST_LINE.len() {
+        bytes.extend_from_slice(&log.head[FIRST_LINE.len()..])?;
+    }
+    push_plain(&mut bytes, log.lines)?;
+    push_plain(&mut bytes, log.end)?;
+    Ok(bytes)
+}
+
+/// What the log's last line says: that nothing is shown, or that there is no solution.
+fn verdict_of(log: &Log) -> Verdict {
+    if log.end == b"q\n".as_slice() {
+        Verdict::Undecided
+    } else {
+        Verdict::Unsatisfiable
+    }
+}
+
+/// Whether a checker accepts the log over an encoding, with its hints and without them, as one that shows what its last line says.
 pub fn is_accepted(alloc: Global, lines: &Encoding, log: &Log) -> Result<bool, AllocError> {
-    let bytes = bytes_of(alloc, log)?;
     let Some(model) = model_of(alloc, lines) else {
         return Ok(false);
     };
-    let verdict = check(alloc, &model, &bytes);
-    if log.end == b"q\n".as_slice() {
-        return Ok(verdict == Verdict::Undecided);
-    }
-    Ok(verdict == Verdict::Unsatisfiable)
+    let verdict = verdict_of(log);
+    Ok(
+        check(alloc, &model, &bytes_of(alloc, log)?) == verdict
+            && check(alloc, &model, &plain_bytes_of(alloc, log)?) == verdict,
+    )
 }
 
 /// Whether the lines of the journal are those of the log, and a checker accepts it.

@@ -1,8 +1,9 @@
 //! Lines that rest on the nogoods of a book, an owner's own by their lines and others by the names under which they are shared: a log of two
 //! owners for three vertices in two.
 
-ghost use Rattle.std.specs.Prelude.{◌≡◌, ◌≤◌, IfSome};
+ghost use Rattle.std.specs.Prelude.{◌≡◌, ◌≤◌, true, IfSome};
 ghost use Rattle.graph_theory.specs.Graph.{size};
+ghost use Rattle.graph_theory.specs.Embedding.{is_injective};
 ghost use Rattle.nogood_book.specs.Rows.{Sound};
 ghost use Rattle.line_tests.specs.Shared.{shared_rows};
 
@@ -22,6 +23,7 @@ use test_support::{APART, graph_of_size};
 
 /// Three vertices into two, so that each path is dead.
 fn three_into_two(alloc: Global) -> Option<Problem>
+    ensures injective { IfSome result (λ q. is_injective q.maps ≡ true) }
     ensures pattern { IfSome result (λ q. size q.pattern ≡ 3) }
     ensures target { IfSome result (λ q. size q.target ≡ 2) }
 {
@@ -63,6 +65,7 @@ fn rows() -> [Row; 4]
 
 /// The rows are sound.
 fn rows_are_sound(_q: &Problem)
+    requires injective { is_injective _q.now.maps ≡ true }
     requires pattern { size _q.now.pattern ≡ 3 }
     requires target { size _q.now.target ≡ 2 }
     ensures { Sound _q.now shared_rows }
@@ -95,6 +98,7 @@ fn add<M: LineMaker>(
     maker: &mut M,
     journal: &mut Journal,
 ) -> Result<(), AllocError>
+    requires injective { is_injective lines.now.maps ≡ true }
     requires pattern { size lines.now.pattern ≡ 3 }
     requires target { size lines.now.target ≡ 2 }
 {
@@ -120,6 +124,7 @@ fn add_made(
     paths: &[Dead],
     journal: &mut Journal,
 ) -> Result<(), AllocError>
+    requires injective { is_injective lines.now.maps ≡ true }
     requires pattern { size lines.now.pattern ≡ 3 }
     requires target { size lines.now.target ≡ 2 }
 {
@@ -137,6 +142,7 @@ fn are_lines(
     text: &[u8],
 ) -> Result<bool, AllocError>
     requires owner { owner ≤ 64 }
+    requires injective { is_injective lines.now.maps ≡ true }
     requires pattern { size lines.now.pattern ≡ 3 }
     requires target { size lines.now.target ≡ 2 }
 {
@@ -208,6 +214,7 @@ u 1.2 ; #0 1.1 1 ;
 
 /// Whether the lines of both owners are these, and show that there is no embedding.
 fn is_refuted(alloc: Global, q: &Problem) -> Result<bool, AllocError>
+    requires injective { is_injective q.now.maps ≡ true }
     requires pattern { size q.now.pattern ≡ 3 }
     requires target { size q.now.target ≡ 2 }
 {

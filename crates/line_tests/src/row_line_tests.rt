@@ -51,7 +51,7 @@ fn ask(
 }
 
 /// A line of the encoding, or one of owner 1.
-enum Answer {
+pub enum Answer {
     There(u64),
     Made(u64),
 }
@@ -75,7 +75,7 @@ struct Asked {
 }
 
 /// Whether the answers are these.
-fn are_answered(
+pub fn are_answered(
     alloc: Global,
     lines: &Encoding,
     pairs: &[((u16, u16, u16), Answer)],
@@ -113,7 +113,8 @@ const FOUR: &[u8] = b"4 3 1 2 3 3 0 2 3 3 0 1 3 3 0 1 2";
 
 const THREE: &[u8] = b"5 3 2 3 4 3 2 3 4 2 0 1 2 0 1 2 0 1";
 
-const FIRST_WITH_LOOP: &[u8] = b"2 2 0 1 1 0";
+/// Two neighbours, of which the first has a loop.
+pub const FIRST_WITH_LOOP: &[u8] = b"2 2 0 1 1 0";
 
 const SECOND_WITH_LOOP: &[u8] = b"2 1 1 2 0 1";
 

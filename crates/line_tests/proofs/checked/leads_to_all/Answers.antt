@@ -1,4 +1,4 @@
-use Rattle.std.proofs.Common.{ℕ, List, refl, ap, ◌∙◌, arith, rules}
+use Rattle.std.proofs.Common.{ℕ, List, refl, ap, ◌∙◌, rules}
 use Rattle.journal_theory.proofs.Placing.{take_all}
 use Rattle.log_theory.specs.Lookups.{is_among}
 use Rattle.recorder.specs.Telling.{Joins}
