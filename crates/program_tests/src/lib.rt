@@ -16,6 +16,8 @@ mod ends;
 #[cfg(test)]
 mod fault_tests;
 #[cfg(test)]
+mod map_tests;
+#[cfg(test)]
 mod refusal_tests;
 #[cfg(test)]
 mod solve_tests;

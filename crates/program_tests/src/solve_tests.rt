@@ -313,6 +313,17 @@ const VERIFY: &str = "subgraph verify p t m";
 
 const VERIFY_INDUCED: &str = "subgraph verify p t m --induced";
 
+const SOLVE_ANY: &str = "subgraph solve p t --map any";
+
+const VERIFY_ANY: &str = "subgraph verify p t m --map any";
+
+const SOLVE_LOCAL: &str = "subgraph solve p t --map local";
+
+const VERIFY_LOCAL: &str = "subgraph verify p t m --map local";
+
+/// A cycle of six vertices.
+const SIX_CYCLE: &str = "6\n2 1 5\n2 0 2\n2 1 3\n2 2 4\n2 3 5\n2 4 0\n";
+
 /// The files of a row, with this mapping.
 fn files_of(alloc: Global, row: &Embedded, mapping: &[u8]) -> Result<Vec<MemoryPart>, AllocError> {
     let mut files = parts(alloc, &[("p", row.2), ("t", row.3)])?;
@@ -357,7 +368,7 @@ fn first_wrong_embedded<R: Threads + Wait + Sync>(
     Ok(None)
 }
 
-static EMBEDDED: [Embedded; 8] = [
+static EMBEDDED: [Embedded; 11] = [
     Embedded(SOLVE, VERIFY, "0\n", "0\n"),
     Embedded(SOLVE, VERIFY, PATH, TRIANGLE),
     Embedded(SOLVE, VERIFY, "1\n1 0\n", "2\n0\n1 1\n"),
@@ -366,6 +377,9 @@ static EMBEDDED: [Embedded; 8] = [
     Embedded(SOLVE_INDUCED, VERIFY_INDUCED, EDGE, FOUR_CYCLE),
     Embedded(SOLVE_INDUCED, VERIFY_INDUCED, PATH, FOUR_CYCLE),
     Embedded(SOLVE_INDUCED, VERIFY_INDUCED, FOUR_CYCLE, FOUR_CYCLE),
+    Embedded(SOLVE_ANY, VERIFY_ANY, PATH, EDGE),
+    Embedded(SOLVE_ANY, VERIFY_ANY, FOUR_CYCLE, TRIANGLE),
+    Embedded(SOLVE_LOCAL, VERIFY_LOCAL, SIX_CYCLE, TRIANGLE),
 ];
 
 #[test]

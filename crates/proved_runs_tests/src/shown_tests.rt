@@ -2,7 +2,7 @@
 
 use crate::judged::{Asked, checks_so, leaves};
 use crate::proof_tests::{HEAD, REFUTATION};
-use memory_runs::{CLEAN, FOUR_CYCLE, Gives, Judge, Ran, TRIANGLE};
+use memory_runs::{CLEAN, EDGE, FOUR_CYCLE, Gives, Judge, Ran, TRIANGLE};
 use std::alloc::{AllocError, Global};
 use std::sync::Wait;
 use std::test::Fail;
@@ -23,6 +23,9 @@ u 1.8 ~x3 ;
 u 1.9 ;
 e 1.9
 ";
+
+/// A path of three vertices.
+const PATH: &str = "3\n1 1\n2 0 2\n1 1\n";
 
 /// The first line of the encoding of a triangle in a cycle of four vertices.
 const FIRST_LINE: &str = "* #variable= 12 #constraint= 34\n";
@@ -72,7 +75,7 @@ fn first_wrong<R: Threads + Wait + Sync>(
     Ok(None)
 }
 
-static SHOWN: [Shown; 16] = [
+static SHOWN: [Shown; 22] = [
     Shown {
         line: "subgraph solve p t --prove e --log l",
         pattern: TRIANGLE,
@@ -232,6 +235,66 @@ static SHOWN: [Shown; 16] = [
         encoding: "* #variable= 4 #constraint= ",
         log: "embedding proof 1\n",
         told: "accepted unsatisfiable\n",
+    },
+    Shown {
+        line: "subgraph solve p t --map local --prove e --log l",
+        pattern: PATH,
+        target: EDGE,
+        status: 1,
+        out: "none\n",
+        encoding: "* #variable= 6 #constraint= 16\n",
+        log: "embedding proof 1\nm 16\n",
+        told: "accepted unsatisfiable\n",
+    },
+    Shown {
+        line: "subgraph solve p t --map local --threads 8 --profile 2 --prove e --log l",
+        pattern: FOUR_CYCLE,
+        target: TRIANGLE,
+        status: 1,
+        out: "none\n",
+        encoding: "* #variable= 12 #constraint= ",
+        log: "embedding proof 2\n",
+        told: "accepted unsatisfiable\n",
+    },
+    Shown {
+        line: "subgraph solve p t --map local --prove e --log l",
+        pattern: TRIANGLE,
+        target: "1\n1 0\n",
+        status: 1,
+        out: "none\n",
+        encoding: "* #variable= 3 #constraint= ",
+        log: "embedding proof 1\n",
+        told: "accepted unsatisfiable\n",
+    },
+    Shown {
+        line: "subgraph solve p t --map any --prove e --log l",
+        pattern: TRIANGLE,
+        target: FOUR_CYCLE,
+        status: 1,
+        out: "none\n",
+        encoding: "* #variable= 12 #constraint= 30\n",
+        log: "embedding proof 1\nm 30\n",
+        told: "accepted unsatisfiable\n",
+    },
+    Shown {
+        line: "subgraph solve p t --less 0,1:1,0 --prove e --log l",
+        pattern: EDGE,
+        target: EDGE,
+        status: 1,
+        out: "none\n",
+        encoding: "* #variable= 4 #constraint= 18\n",
+        log: "embedding proof 1\nm 18\n",
+        told: "accepted unsatisfiable\n",
+    },
+    Shown {
+        line: "subgraph solve p t --map any --less 2,1:1,0 --prove e --log l",
+        pattern: TRIANGLE,
+        target: TRIANGLE,
+        status: 0,
+        out: "yes\n0 -> 2\n1 -> 1\n2 -> 0\n",
+        encoding: "* #variable= 9 #constraint= ",
+        log: "embedding proof 1\n",
+        told: "accepted satisfiable\n",
     },
 ];
 
