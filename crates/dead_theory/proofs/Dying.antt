@@ -1,5 +1,5 @@
 -- A dead path's changes and its end refute it, and what is told of them is in range.
-use Rattle.std.proofs.Common.{◌≡◌, ℕ, ◌<◌, ◌==◌, ◌&&◌, Bool, true, false, List, [], ◌∷◌, ◌++◌, refl, sym, ap, subst, ◌∙◌, Option, Some, Result, Ok, inl, inr, ◌⊎◌}
+use Rattle.std.proofs.Common.{arith, ◌≡◌, ℕ, ◌<◌, ◌==◌, ◌&&◌, Bool, true, false, List, [], ◌∷◌, ◌++◌, refl, sym, ap, subst, ◌∙◌, Option, Some, Result, Ok, inl, inr, ◌⊎◌}
 use Rattle.std.specs.Prelude.{map}
 use Rattle.std.proofs.lemmas.Bool.{lt-ltb, true≢false}
 use Rattle.graph_theory.specs.Graph.{size}
@@ -34,7 +34,7 @@ use Rattle.dead_theory.specs.Laws.{Dies, DeadLaws, ToldLaws}
 use Rattle.dead_theory.proofs.Naming.{rows_named, named_more, names_kept, range_of, path_of_row, row_vertex_in}
 use Rattle.dead_theory.proofs.Literals.{distinct_literals, literals_in_range, path_true, true_at, empty_false}
 use Rattle.dead_theory.proofs.Explaining.{same_among, NeededOut, AreOn, refused_may, vertex_shown, change_gives}
-use Rattle.dead_theory.proofs.Ending.{failure_ends, exhausted_ends, end_in, end_refutes}
+use Rattle.dead_theory.proofs.Ending.{distinct_few, set_in, failure_ends, exhausted_ends, end_in, end_refutes}
 
 -- ---- what was told, taken apart
 
@@ -182,15 +182,16 @@ change_in q s old new (LeftOne r (cause.Nogood name) from) is l = l.stands
 change_in q s old new (LeftOne r (cause.Edge p u direction) from) is l = (l.stands.joins, l.stands.value_in)
 change_in q s old new (LeftOne r (cause.Order k u side) from) is l =
     (record { pair = l.stands.pair; pair_is = l.stands.pair_is; end_is = l.stands.end_is; vertex_in = l.stands.vertex_in; other_in = l.stands.other_in }, l.stands.value_in)
-change_in q s old new (LeftOthers centre vertices values from) is l =
-    record {
-      block = l.stands.0.block;
-      members = λ p h. l.stands.0.members p (same_among vertices p ∙ h);
-      vertices_in = λ p h. l.stands.0.vertices_in p (same_among vertices p ∙ h);
-      values_in = λ u h. l.stands.0.values_in u (same_among values u ∙ h);
-    }
-change_in q s old new (LeftOver p t direction vertices values from) is l =
-    (l.stands.vertex_in, l.stands.value_in, (λ r h. l.stands.joins r (same_among vertices r ∙ h)), (λ u h. l.stands.values_in u (same_among values u ∙ h)), l.stands.injective)
+change_in q s old new (LeftOthers centre vertices values from) is l = set_in q centre old vertices values l.stands.0 l.stands.1
+change_in q s old new (LeftOver p t direction vertices values from) is l = record {
+  injective = l.stands.injective;
+  vertex_in = l.stands.vertex_in;
+  value_in = l.stands.value_in;
+  joins = λ r h. l.stands.joins r (same_among vertices r ∙ h);
+  values_in = λ u h. l.stands.values_in u (same_among values u ∙ h);
+  vertices_few = distinct_few (size q.pattern) vertices l.stands.distinct (λ r here. (l.stands.joins r here).other_in);
+  values_few = let less = l.stands.fewer in omega (arith, less);
+}
 
 pub told_in : (q : Problem) (s : Option watched.State) (d : State) (cs : List Change) → d.values ≡ size q.target → Told q s d cs → AreInProblem q cs
 told_in q s d [] is told = tt

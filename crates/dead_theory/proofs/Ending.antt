@@ -1,19 +1,23 @@
 -- What each end comes to.
-use Rattle.std.proofs.Common.{◌≡◌, ℕ, ◌<◌, Bool, true, false, ◌||◌, List, [], ◌∷◌, length, Option, Some, None, refl, sym, ◌∙◌, ap, subst, arith, inl, inr, ◌⊎◌}
+use Rattle.std.proofs.Common.{◌≡◌, ℕ, zero, suc, ◌<◌, ◌≤◌, Bool, true, false, ◌||◌, List, [], ◌∷◌, length, Option, Some, None, refl, sym, ◌∙◌, ap, subst, arith, inl, inr, ◌⊎◌}
 use Rattle.std.proofs.lemmas.Bool.{cases_eq, eqb-true, eq-eqb, ne_eqb}
+use Rattle.graph_theory.specs.Graph.{size}
 use Rattle.graph_theory.specs.Embedding.{Problem}
+use Rattle.graph_theory.specs.Neighbours.{count}
 use Rattle.proof_theory.specs.Forms.{Form}
 use Rattle.proof_theory.specs.Slack.{Setting, refutes}
 use Rattle.log_theory.specs.Lookups.{is_among}
 use Rattle.encoding_theory.specs.Encoding.{at_least}
 use Rattle.forcing_theory.specs.Chains.{run}
 use Rattle.explanation_theory.specs.Reasons.{IsNoPair, AreTrue, at_leasts, pairs_clause}
+use Rattle.explanation_theory.proofs.SetCounting.{sum_over, one_if, distinct_sum}
 use Rattle.explanation_theory.proofs.Giving.{leads_to_end}
 use Rattle.explanation_theory.proofs.Forcing.{at_least_fails, clause_fails, AreSet}
 use Rattle.explanation_theory.proofs.Explaining as explaining
 use Rattle.explanation_theory.proofs.Explaining.{conflict_refutes}
 use Rattle.search_theory.specs.Account.{NotAmong}
 use Rattle.domain_bits.specs.Removals.{State, in_domain}
+use Rattle.all_different.specs.Pruning.{among}
 use Rattle.nogood_watch.specs.Nogoods as watched
 use Rattle.nogood_watch.specs.Nogoods.{literal}
 use Rattle.nogood_book.specs.declared.row.Row.{Row}
@@ -21,10 +25,10 @@ use Rattle.nogood_book.specs.Rows.{path_at}
 use Rattle.recorder.specs.declared.change.Failure.{Failure}
 use Rattle.recorder.specs.declared.change.Failure.TheVariants as failure
 use Rattle.recorder.specs.Recording.{Change, CountedSet}
-use Rattle.recorder.specs.Telling.{HasAtMost, IsDecided, IsShown, Fails}
-use Rattle.dead_theory.specs.Changes.{NamesRows, IsLeftOut, NogoodForms, AreUpheld}
+use Rattle.recorder.specs.Telling.{HasAtMost, AreDistinct, HaveOnly, IsDecided, IsShown, Fails}
+use Rattle.dead_theory.specs.Changes.{NamesRows, IsLeftOut, NogoodForms, AreUpheld, IsSetIn}
 use Rattle.dead_theory.specs.Ends.{End, Empty, Whole, Short, Exhausted, end_of, EndsBy, IsEndIn, EndsIn, EndNeeds}
-use Rattle.dead_theory.proofs.Explaining.{same_among, NeededOut, AreOn, pairs_lead, only_these, these_only, these_out}
+use Rattle.dead_theory.proofs.Explaining.{same_among, distinct_of, NeededOut, AreOn, pairs_lead, only_these, these_only, these_out}
 
 -- What propagation tells is an end.
 pub failure_ends : (q : Problem) (s : Option watched.State) (d : State) (cs : List Change) (short : Option CountedSet) (f : Failure) → Fails q s d (Some cs) short f → EndsBy (end_of f short) q s d
@@ -48,19 +52,38 @@ refuted_among (w ∷ ws) u refuted = by (cases_eq w u) (λ other. refuted_among 
 pub exhausted_ends : (q : Problem) (s : Option watched.State) (d : State) (p : ℕ) (values : List ℕ) → ((u : ℕ) → in_domain d p u ≡ true → NotAmong values u → ⊥) → EndsBy (Exhausted p values) q s d
 exhausted_ends q s d p values left u there = refuted_among values u (left u there)
 
+ones : (xs : List ℕ) → sum_over (λ i. one_if true) xs ≡ length xs
+ones [] = refl
+ones (x ∷ xs) = let h = ones xs in omega (arith, h)
+
+all_counted : (n : ℕ) → count (λ i. true) n ≡ n
+all_counted zero = refl
+all_counted (suc n) = let h = all_counted n in omega (arith, h)
+
+-- Different numbers below n are n at most.
+pub distinct_few : (n : ℕ) (xs : List ℕ) → AreDistinct xs → ((x : ℕ) → among xs x ≡ true → x < n) → length xs ≤ n
+distinct_few n xs distinct within =
+    let l = distinct_sum (λ i. true) n xs (distinct_of xs distinct) (λ x here. within x (same_among xs x ∙ here)) in
+    let a = ones xs in
+    let b = all_counted n in
+    omega (arith, l, a, b)
+
+-- The numbers of a set are of the problem.
+pub set_in : (q : Problem) (centre : Option ℕ) (d : State) (vertices values : List ℕ) → HaveOnly q centre d vertices values → length values ≤ length vertices → IsSetIn q centre vertices values
+set_in q centre d vertices values only short = record {
+  block = only.block;
+  members = λ p here. only.members p (same_among vertices p ∙ here);
+  vertices_in = λ p here. only.vertices_in p (same_among vertices p ∙ here);
+  values_in = λ u here. only.values_in u (same_among values u ∙ here);
+  vertices_few = distinct_few (size q.pattern) vertices only.distinct only.vertices_in;
+  values_few = short;
+}
+
 -- Its numbers are in range.
 pub end_in : (q : Problem) (rows : List Row) (s : Option watched.State) (d : State) (e : End) → NamesRows rows s → EndsBy e q s d → IsEndIn q rows e
 end_in q rows s d (Empty p) names h = h.0
 end_in q rows s d (Whole name) names h = (names name h.pairs h.named).0
-end_in q rows s d (Short centre vertices values) names h = (
-  record {
-    block = h.0.block;
-    members = λ p among. h.0.members p (same_among vertices p ∙ among);
-    vertices_in = λ p among. h.0.vertices_in p (same_among vertices p ∙ among);
-    values_in = λ u among. h.0.values_in u (same_among values u ∙ among);
-  },
-  h.1,
-)
+end_in q rows s d (Short centre vertices values) names h = (set_in q centre d vertices values h.0 (let less = h.1 in omega (arith, less)), h.1)
 end_in q rows s d (Exhausted p values) names h = tt
 
 -- ---- what it comes to

@@ -47,7 +47,7 @@ pub same_among : (xs : List ℕ) (p : ℕ) → among xs p ≡ is_among p xs
 same_among [] p = refl
 same_among (x ∷ xs) p = ap (λ (b : Bool). (x == p) || b) (same_among xs p)
 
-distinct_of : (xs : List ℕ) → AreDistinct xs → are_distinct xs ≡ true
+pub distinct_of : (xs : List ℕ) → AreDistinct xs → are_distinct xs ≡ true
 distinct_of [] h = refl
 distinct_of (x ∷ xs) h = both (is_among x xs) (are_distinct xs) (sym (same_among xs x) ∙ h.0) (distinct_of xs h.1)
   where

@@ -1,6 +1,6 @@
 -- What explains a change that was told, which values it is about, and which its reason rests on.
 
-use Rattle.std.specs.Prelude.{◌≡◌, ℕ, ◌<◌, Bool, true, false, ◌⊎◌, List, [], ◌∷◌, ◌++◌, length, map, is_some, Contains, Option, Some, None, slice_get}
+use Rattle.std.specs.Prelude.{◌≡◌, ℕ, ◌<◌, ◌≤◌, Bool, true, false, ◌⊎◌, List, [], ◌∷◌, ◌++◌, length, map, is_some, Contains, Option, Some, None, slice_get}
 use Rattle.graph_theory.specs.Graph.{size, edge}
 use Rattle.graph_theory.specs.Reversed.{turned}
 use Rattle.graph_theory.specs.Embedding.{Problem, is_injective, Compatible}
@@ -280,12 +280,25 @@ pub record IsEndOf (q : Problem) (k : ℕ) (side : Side) (r : ℕ) : Type 0 wher
   pub vertex_in : r < size q.pattern
   pub other_in : end_beside side pair < size q.pattern
 
--- Vertices of a block that there is, and values.
+-- Vertices of a block that there is, no more than the pattern has, and values, no more than these vertices.
 pub record IsSetIn (q : Problem) (centre : Option ℕ) (vertices values : List ℕ) : Type 0 where
   pub block : has_block q centre ≡ true
   pub members : (p : ℕ) → is_among p vertices ≡ true → in_block q centre p ≡ true
   pub vertices_in : (p : ℕ) → is_among p vertices ≡ true → p < size q.pattern
   pub values_in : (u : ℕ) → is_among u values ≡ true → u < size q.target
+  pub vertices_few : length vertices ≤ size q.pattern
+  pub values_few : length values ≤ length vertices
+
+-- A pair of injective maps, vertices to which edges lead from its vertex, no more than the pattern has, and values, no more than these vertices.
+pub record IsCrowdIn (q : Problem) (p t : ℕ) (direction : Direction) (vertices values : List
+    ℕ) : Type 0 where
+  pub injective : is_injective q.maps ≡ true
+  pub vertex_in : p < size q.pattern
+  pub value_in : t < size q.target
+  pub joins : (r : ℕ) → is_among r vertices ≡ true → Joins q direction p r
+  pub values_in : (u : ℕ) → is_among u values ≡ true → u < size q.target
+  pub vertices_few : length vertices ≤ size q.pattern
+  pub values_few : length values ≤ length vertices
 
 -- The numbers of a change are vertices and values of the problem.
 abbrev pub IsInBy : Cause → Problem → ℕ → Type 0
@@ -300,9 +313,8 @@ IsInBy (cause.Order k u side) q r = IsEndOf q k side r × (u < size q.target)
 abbrev pub IsInProblem : Problem → Change → Type 0
 IsInProblem q (LeftOne r why from) = IsInBy why q r
 IsInProblem q (LeftOthers centre vertices values from) = IsSetIn q centre vertices values
-IsInProblem q (LeftOver p t direction vertices values from) = (p < size q.pattern)
-    × (t < size q.target) × ((r : ℕ) → is_among r vertices ≡ true → Joins q direction p r)
-    × ((u : ℕ) → is_among u values ≡ true → u < size q.target) × (is_injective q.maps ≡ true)
+IsInProblem q (LeftOver p t direction vertices values from) = IsCrowdIn q p t direction vertices
+    values
 
 abbrev pub AreInProblem : Problem → List Change → Type 0
 AreInProblem q [] = Unit {0}

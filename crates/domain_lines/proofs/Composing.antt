@@ -331,7 +331,7 @@ from_some x w None (Some new) P B goes = goes x
 from_some x w (Some old) None P B goes = goes x
 from_some x w (Some old) (Some new) P B goes = λ forms stands has. goes has.0 forms stands has.1
 
-refusals_addable : (q : Problem) (p : ℕ) (values : List ℕ) (n : ℕ) → length (refused_values q p values) ≡ n → n < 2 ^ 64 → IsAddable (refused_values q p values)
+refusals_addable : (q : Problem) (p : ℕ) (values : List ℕ) (n : ℕ) → length (refused_values q p values) ≡ n → n ≤ 8192 → IsAddable (refused_values q p values)
 refusals_addable q p values n is short = record { most = 2 ^ 14; small = refusals_small q p values; fits = omega (arith, is, short) }
 
 abbrev Chosen : Frame → Problem → ℕ → List Ref → ℕ → List (ℕ × Name) → List ℕ → List Form → Type 0
@@ -352,7 +352,7 @@ values_long q p [] = refl
 values_long q p (v ∷ vs) = ap (λ (k : ℕ). suc k) (values_long q p vs)
 
 -- The sum of what was collected.
-pub first_summed : (w : Frame) (q : Problem) (a b : Option (List Step)) (p n : ℕ) (refs sums : List Ref) (named : List (ℕ × Name)) (name : Name) → sums ≡ refs → length refs < 2 ^ 64 → 0 < length refs → size q.target ≤ n
+pub first_summed : (w : Frame) (q : Problem) (a b : Option (List Step)) (p n : ℕ) (refs sums : List Ref) (named : List (ℕ × Name)) (name : Name) → sums ≡ refs → length refs ≤ 8192 → 0 < length refs → size q.target ≤ n
     → ((f : Form) (gs : List Form) → IsAddable (f ∷ gs) → Goes w a b (Named w sums (f ∷ gs)) (IsKept w (Ok name) (sum_from f gs)))
     → Goes w a b (HasValues w q p refs n named) (IsFirstLine w q p (Ok (Some name)) named)
 first_summed w q a b p n refs sums named name same short some all goes =
@@ -395,7 +395,7 @@ none_seen w q a p refs named none = goes_stay w a a (AreUnits w named) (HasValue
 
 -- A sum that is refused memory.
 pub first_fails : (w : Frame) (q : Problem) (a b : Option (List Step)) (p n : ℕ) (refs sums : List Ref) (named : List (ℕ × Name)) (made : Result Name AllocError) (answer : Result (Option Name) AllocError) → IsErr answer
-    → sums ≡ refs → length refs < 2 ^ 64 → 0 < length refs
+    → sums ≡ refs → length refs ≤ 8192 → 0 < length refs
     → ((f : Form) (gs : List Form) → IsAddable (f ∷ gs) → Goes w a b (Named w sums (f ∷ gs)) (IsKept w made (sum_from f gs)))
     → Goes w a b (HasValues w q p refs n named) (IsFirstLine w q p answer named)
 first_fails w q a b p n refs sums named made answer err same short some goes =

@@ -1,11 +1,12 @@
 //! The lines of first domains.
 
-ghost use Rattle.std.specs.Prelude.{◌≡◌, ◌+◌, ◌<◌, false, IfOk, IfSome, IfNone};
+ghost use Rattle.std.specs.Prelude.{◌≡◌, ◌+◌, ◌<◌, ◌≤◌, false, length, IfOk, IfSome, IfNone};
 ghost use Rattle.graph_theory.specs.Graph.{size};
 ghost use Rattle.graph_theory.specs.Reversed.{reversed_problem, AreMutual};
 ghost use Rattle.search_theory.specs.Consistency.{IsFirstValue};
 ghost use Rattle.log_theory.specs.LogText.{IsName, IsRef, AreRefs};
 ghost use Rattle.encoding_theory.specs.Encoding.{is_refused};
+ghost use Rattle.journals.specs.Keeping.{KeepsRest};
 ghost use Rattle.log_growth.specs.Frames.{Frame, IsFrameOf, Goes};
 ghost use Rattle.domain_lines.specs.Named.{AreUnits};
 ghost use Rattle.domain_lines.specs.Given.{IsSeen, IsLarge, HasValues, AreCollected, IsFirstLine};
@@ -103,9 +104,7 @@ impl<'a> DomainLines<'a> {
             (IsSeen w self.now p u result units.new) }
         ensures first { IfOk result (λ found. IfNone found (IsFirstValue self.now p u)) }
         ensures fits { IfOk result (λ found. IfSome found IsRef) }
-        ensures owner { K.owner keeper.new ≡ K.owner keeper.old }
-        ensures notes { K.notes keeper.new ≡ K.notes keeper.old }
-        ensures spare { K.spare keeper.new ≡ K.spare keeper.old }
+        ensures rest { KeepsRest K.owner K.notes K.spare keeper.old keeper.new }
     {
         if let Some(found) = self.out.known(units, p, u) {
             return Ok(Some(found));
@@ -140,9 +139,8 @@ impl<'a> DomainLines<'a> {
             (HasValues w self.now p refs.old.items u units.old)
             (AreCollected w self.now p result refs.new.items (u + 1) units.new) }
         ensures fits { IfOk result (λ _. AreRefs refs.new.items) }
-        ensures owner { K.owner keeper.new ≡ K.owner keeper.old }
-        ensures notes { K.notes keeper.new ≡ K.notes keeper.old }
-        ensures spare { K.spare keeper.new ≡ K.spare keeper.old }
+        ensures few { length refs.new.items ≤ length refs.old.items + 1 }
+        ensures rest { KeepsRest K.owner K.notes K.spare keeper.old keeper.new }
     {
         match self.value_ref(alloc, keeper, units, p, u)? {
             Some(clause) => {
@@ -168,9 +166,7 @@ impl<'a> DomainLines<'a> {
             → Goes w (K.kept keeper.old) (K.kept keeper.new) (AreUnits w units.old)
             (IsFirstLine w self.now p result units.new) }
         ensures name { IfOk result (λ found. IfSome found IsName) }
-        ensures owner { K.owner keeper.new ≡ K.owner keeper.old }
-        ensures notes { K.notes keeper.new ≡ K.notes keeper.old }
-        ensures spare { K.spare keeper.new ≡ K.spare keeper.old }
+        ensures rest { KeepsRest K.owner K.notes K.spare keeper.old keeper.new }
     {
         if !keeper.is_on() {
             return Ok(None);

@@ -13,6 +13,7 @@ ghost use Rattle.log_theory.specs.LogText.{IsName, IsRef, AreRefs};
 ghost use Rattle.encoding_theory.specs.Variables.{variable as variable_of};
 ghost use Rattle.encoding_theory.specs.Encoding.{is_refused, refusal};
 ghost use Rattle.explanation_theory.specs.Reasons.{not_there};
+ghost use Rattle.journals.specs.Keeping.{KeepsRest};
 ghost use Rattle.log_growth.specs.Frames.{Frame, IsNamed, Goes, AnyForms, Named, IsKept};
 ghost use Rattle.domain_line_theory.specs.Crowds.{refused_pairs, high_count, place_count, crowd_block, HasAllLower};
 ghost use Rattle.domain_lines.specs.Named.{is_false, AreUnits};
@@ -168,9 +169,7 @@ impl<'a> ValueClauses<'a> {
             → Goes w (K.kept keeper.old) (K.kept keeper.new) (Named w refs.items fs)
             (IsKept w result (refusal self.now p u)) }
         ensures name { IfOk result IsName }
-        ensures owner { K.owner keeper.new ≡ K.owner keeper.old }
-        ensures notes { K.notes keeper.new ≡ K.notes keeper.old }
-        ensures spare { K.spare keeper.new ≡ K.spare keeper.old }
+        ensures rest { KeepsRest K.owner K.notes K.spare keeper.old keeper.new }
     {
         let variable = self.variable(p, u);
         let mut lits = Vec::new(alloc);
@@ -222,9 +221,7 @@ impl<'a> ValueClauses<'a> {
             (Named w clauses.items (refused_pairs self.now pairs))
             (IsKept w result (refusal self.now p u)) }
         ensures name { IfOk result IsName }
-        ensures owner { K.owner keeper.new ≡ K.owner keeper.old }
-        ensures notes { K.notes keeper.new ≡ K.notes keeper.old }
-        ensures spare { K.spare keeper.new ≡ K.spare keeper.old }
+        ensures rest { KeepsRest K.owner K.notes K.spare keeper.old keeper.new }
     {
         let crowd = self.crowd(alloc, p, u, d)?;
         let sum = keep_sum(alloc, keeper, &crowd)?;
@@ -249,9 +246,7 @@ impl<'a> ValueClauses<'a> {
             → Goes w (K.kept keeper.old) (K.kept keeper.new) AnyForms
             (IsKept w result (refusal self.now p u)) }
         ensures name { IfOk result IsName }
-        ensures owner { K.owner keeper.new ≡ K.owner keeper.old }
-        ensures notes { K.notes keeper.new ≡ K.notes keeper.old }
-        ensures spare { K.spare keeper.new ≡ K.spare keeper.old }
+        ensures rest { KeepsRest K.owner K.notes K.spare keeper.old keeper.new }
     {
         self.crowd_line(alloc, keeper, p, u, 0, Vec::new(alloc))
     }
@@ -272,9 +267,7 @@ impl<'a> ValueClauses<'a> {
             → Goes w (K.kept keeper.old) (K.kept keeper.new) (AreUnits w units.old)
             (IsGiven w result (refusal self.now p u) units.new) }
         ensures fits { IfOk result IsRef }
-        ensures owner { K.owner keeper.new ≡ K.owner keeper.old }
-        ensures notes { K.notes keeper.new ≡ K.notes keeper.old }
-        ensures spare { K.spare keeper.new ≡ K.spare keeper.old }
+        ensures rest { KeepsRest K.owner K.notes K.spare keeper.old keeper.new }
     {
         if let Some(found) = self.known(units, p, u) {
             return Ok(found);
@@ -303,9 +296,7 @@ impl<'a> ValueClauses<'a> {
             (HasPairs v self.now refs.old.items pairs units.old)
             (ArePushed v self.now result refs.new.items (pairs ++ (r, w) ∷ []) units.new) }
         ensures fits { IfOk result (λ _. AreRefs refs.new.items) }
-        ensures owner { K.owner keeper.new ≡ K.owner keeper.old }
-        ensures notes { K.notes keeper.new ≡ K.notes keeper.old }
-        ensures spare { K.spare keeper.new ≡ K.spare keeper.old }
+        ensures rest { KeepsRest K.owner K.notes K.spare keeper.old keeper.new }
     {
         let clause = self.lower_ref(alloc, keeper, units, r, w)?;
         refs.push(clause)?;
@@ -332,9 +323,7 @@ impl<'a> ValueClauses<'a> {
             (ArePushed v self.now result refs.new.items (pairs ++ pairs_with r lower.now)
             units.new) }
         ensures fits { IfOk result (λ _. AreRefs refs.new.items) }
-        ensures owner { K.owner keeper.new ≡ K.owner keeper.old }
-        ensures notes { K.notes keeper.new ≡ K.notes keeper.old }
-        ensures spare { K.spare keeper.new ≡ K.spare keeper.old }
+        ensures rest { KeepsRest K.owner K.notes K.spare keeper.old keeper.new }
     {
         for w in lower {
             self.push_lower(alloc, keeper, units, r, *w, refs)?;
@@ -361,9 +350,7 @@ impl<'a> ValueClauses<'a> {
             (ArePushed v self.now result refs.new.items (pairs ++ all_pairs vertices.now lower.now)
             units.new) }
         ensures fits { IfOk result (λ _. AreRefs refs.new.items) }
-        ensures owner { K.owner keeper.new ≡ K.owner keeper.old }
-        ensures notes { K.notes keeper.new ≡ K.notes keeper.old }
-        ensures spare { K.spare keeper.new ≡ K.spare keeper.old }
+        ensures rest { KeepsRest K.owner K.notes K.spare keeper.old keeper.new }
     {
         for r in vertices {
             self.push_all_lower(alloc, keeper, units, *r, lower, refs)?;
@@ -415,9 +402,7 @@ impl<'a> ValueClauses<'a> {
             → Goes w (K.kept keeper.old) (K.kept keeper.new) (AreUnits w units.old)
             (IsMade w result (refusal self.now p u) units.new) }
         ensures name { IfOk result IsName }
-        ensures owner { K.owner keeper.new ≡ K.owner keeper.old }
-        ensures notes { K.notes keeper.new ≡ K.notes keeper.old }
-        ensures spare { K.spare keeper.new ≡ K.spare keeper.old }
+        ensures rest { KeepsRest K.owner K.notes K.spare keeper.old keeper.new }
     {
         let d = self.degree_at(p, u, place);
         let vertices = self.turned.vertices(alloc, p, d)?;
@@ -461,9 +446,7 @@ impl<'a> ValueClauses<'a> {
             → Goes w (K.kept keeper.old) (K.kept keeper.new) (AreUnits w units.old)
             (IsGiven w result (refusal self.now p u) units.new) }
         ensures fits { IfOk result IsRef }
-        ensures owner { K.owner keeper.new ≡ K.owner keeper.old }
-        ensures notes { K.notes keeper.new ≡ K.notes keeper.old }
-        ensures spare { K.spare keeper.new ≡ K.spare keeper.old }
+        ensures rest { KeepsRest K.owner K.notes K.spare keeper.old keeper.new }
     {
         match lack {
             Lack::Degree => self.lower_ref(alloc, keeper, units, p, u),

@@ -33,6 +33,13 @@ abbrev pub Notes : Option (List Step) → List (ℕ × ℕ) → List (ℕ × ℕ
 Notes None old new row number = Unit {0}
 Notes (Some steps) old new row number = new ≡ old ++ (row, number) ∷ []
 
+-- Whose lines they are, what was noted, and for how many more notes there is room: all as before. What holds lines may be of any type.
+pub record KeepsRest {K : Type 0} (owner_of : K → ℕ) (notes_of : K → List (ℕ × ℕ)) (spare_of : K
+    → ℕ) (old new : K) : Type 0 where
+  pub owner : owner_of new ≡ owner_of old
+  pub notes : notes_of new ≡ notes_of old
+  pub spare : spare_of new ≡ spare_of old
+
 -- ---- text
 
 -- The text of lines.

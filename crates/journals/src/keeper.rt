@@ -3,7 +3,7 @@
 ghost use Rattle.std.specs.Prelude.{◌≡◌, ℕ, ◌≤◌, List, [], Option, None, OnOk, IfOk, is_some};
 ghost use Rattle.log_theory.specs.declared.step.Step.{Step};
 ghost use Rattle.log_theory.specs.LogText.{IsName};
-ghost use Rattle.journals.specs.Keeping.{IsLine, Keeps, Notes};
+ghost use Rattle.journals.specs.Keeping.{IsLine, Keeps, KeepsRest, Notes};
 
 use log_theory::{Name, Step};
 use std::alloc::AllocError;
@@ -33,9 +33,7 @@ pub trait Keeper: Drop {
         requires { IsLine step }
         ensures kept { Keeps result (owner self.old) (kept self.old) (kept self.new) step }
         ensures name { IfOk result IsName }
-        ensures owner { owner self.new ≡ owner self.old }
-        ensures notes { notes self.new ≡ notes self.old }
-        ensures spare { spare self.new ≡ spare self.old };
+        ensures rest { KeepsRest owner notes spare self.old self.new };
 
     /// Makes room for a note, which then takes no memory.
     fn room(&mut self) -> Result<(), AllocError>

@@ -1,5 +1,5 @@
 -- What the line of a set that is found or made adds to what is known.
-use Rattle.std.proofs.Common.{◌≡◌, ℕ, Bool, ◌==◌, ◌||◌, true, List, [], ◌∷◌, Option, Ok, Err, refl, sym, ap, subst, ◌∙◌, ◌⊎◌, inl, inr}
+use Rattle.std.proofs.Common.{arith, ◌≡◌, ℕ, Bool, ◌==◌, ◌||◌, true, List, [], ◌∷◌, Option, Ok, Err, refl, sym, ap, subst, ◌∙◌, ◌⊎◌, inl, inr}
 use Rattle.std.specs.List.{list_any}
 use Rattle.std.specs.List.Sorted.{IsPermutation}
 use Rattle.std.specs.declared.alloc.AllocError.{AllocError}
@@ -74,6 +74,8 @@ set_same q b xs ys values same h = record {
   members = λ p among. h.members p (among_same xs ys p same among);
   vertices_in = λ p among. h.vertices_in p (among_same xs ys p same among);
   values_in = h.values_in;
+  vertices_few = let same_long = length_permutation xs ys same in let few = h.vertices_few in omega (arith, same_long, few);
+  values_few = let same_long = length_permutation xs ys same in let few = h.values_few in omega (arith, same_long, few);
 }
 
 -- The name of a set's form is that of the form of its vertices in another order.

@@ -2,6 +2,7 @@
 
 ghost use Rattle.std.specs.Prelude.{◌≡◌, ◌<◌, length, IfOk};
 ghost use Rattle.log_theory.specs.LogText.{IsName};
+ghost use Rattle.journals.specs.Keeping.{KeepsRest};
 ghost use Rattle.log_growth.specs.Frames.{Frame, IsFrameOf, Goes};
 ghost use Rattle.dead_theory.specs.Changes.{IsSetIn};
 ghost use Rattle.dead_paths.specs.Explaining.{IsLimited};
@@ -31,9 +32,7 @@ pub(crate) fn set_line<K: Keeper>(
         (IsKnownSet lines.now w set.now.centre set.now.vertices.now set.now.values.now sets.new
         result) }
     ensures fits { IfOk result IsName }
-    ensures owner { K.owner keeper.new ≡ K.owner keeper.old }
-    ensures notes { K.notes keeper.new ≡ K.notes keeper.old }
-    ensures spare { K.spare keeper.new ≡ K.spare keeper.old }
+    ensures rest { KeepsRest K.owner K.notes K.spare keeper.old keeper.new }
 {
     if let Some(name) = sets.find(set) {
         return Ok(name);

@@ -1,5 +1,5 @@
 -- How what calls do to lines fits together.
-use Rattle.std.proofs.Common.{inl, inr, ◌≡◌, ℕ, List, [], ◌∷◌, ◌++◌, length, Option, Some, None, Result, Ok, Err, refl, sym, ap, subst, ◌∙◌, append_assoc, append-nil}
+use Rattle.std.proofs.Common.{inl, inr, ◌≡◌, ◌^◌, ℕ, List, [], ◌∷◌, ◌++◌, length, Option, Some, None, Result, Ok, Err, refl, sym, ap, subst, ◌∙◌, append_assoc, append-nil}
 use Rattle.std.specs.Prelude.{slice_get}
 use Rattle.std.specs.declared.alloc.AllocError.{AllocError}
 use Rattle.proof_theory.specs.Forms.{Form}
@@ -15,6 +15,7 @@ use Rattle.journal_theory.specs.Referring.{step_refs, NamesRow}
 use Rattle.journal_theory.specs.Journals.{own_name, IsMaking, named}
 use Rattle.journal_theory.proofs.Placing.{get_snoc}
 use Rattle.journal_theory.proofs.Growing.{journal_more}
+use Rattle.forcing_theory.specs.Sums.{IsSmall, AreSmall}
 use Rattle.journals.specs.Keeping.{IsLine, Keeps}
 use Rattle.log_growth.specs.Frames.{Frame, Stands, IsNamed, MayFollow, After, Goes, Lasts, IsKept}
 
@@ -107,6 +108,10 @@ last_at : (forms : List Form) (f : Form) → slice_get (forms ++ f ∷ []) (leng
 last_at [] f = refl
 last_at (g ∷ forms) f = last_at forms f
 
+small_snoc : (n : ℕ) (forms : List Form) (f : Form) → AreSmall n forms → IsSmall n f → AreSmall n (forms ++ f ∷ [])
+small_snoc n [] f all small = (small, tt)
+small_snoc n (g ∷ forms) f all small = (all.0, small_snoc n forms f all.1 small)
+
 -- One line more stands, and its name is the form's.
 stands_more : (w : Frame) (lines : List Step) (forms : List Form) (step : Step) (f : Form) → Stands w lines forms → IsLine step → MayFollow w forms step f
     → Stands w (lines ++ named w.owner (length lines) step ∷ []) (forms ++ f ∷ [])
@@ -125,6 +130,7 @@ stands_more w lines forms step f stands line may =
         | inr h ↦ ap (λ (y : Step). in_range (variables w.problem) (step_variables y)) h.1
             ∙ ap (in_range (variables w.problem)) (variables_named w.owner (length lines) step line) ∙ may.ranges
       ];
+      small = small_snoc (2 ^ 40) forms f stands.small may.small;
     }
 
 kept_after : (w : Frame) (n : Name) (old new : List Step) (step : Step) (f : Form) (forms : List Form) → n ≡ own_name w.owner (length old) → new ≡ old ++ named w.owner (length old) step ∷ [] → IsLine step

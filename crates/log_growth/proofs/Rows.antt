@@ -16,6 +16,7 @@ use Rattle.journal_theory.specs.Stepping.{IsWritten}
 use Rattle.journal_theory.specs.Journals.{named, HoldsOwn, IsJournal, base_of, Row, IsNogoodOf, Journal, Journaled}
 use Rattle.journal_theory.proofs.Placing.{get_more, get_front, some_same, from_one_more, from_one_within}
 use Rattle.journal_theory.proofs.Growing.{wider_base, base_more, finds_on}
+use Rattle.forcing_theory.specs.Sums.{AreSmall}
 use Rattle.journals.specs.Keeping.{IsLine}
 use Rattle.journals.proofs.Texts.{named_step}
 use Rattle.log_growth.specs.Frames.{Frame, HoldsModel, IsFrameOf, Stands, IsNamed, AreNamed}
@@ -58,12 +59,14 @@ is_other rows owner k o n apart =
 
 -- What is a journal beside the rows stands in the frame, where its numbers are in their ranges.
 pub stands_of : (q : Problem) (rows : List Row) (clause : ℕ → Form) (root : List Form) (owner : ℕ) (j : Journal) (forms : List Form) → Journaled (encoding q) rows clause root owner j forms
-    → ((i : ℕ) (s : Step) → slice_get j.lines i ≡ Some s → IsLine s × (in_range (variables q) (step_variables s) ≡ true)) → Stands (frame_of q rows clause root owner) j.lines forms
-stands_of q rows clause root owner j forms journaled fits = record {
+    → ((i : ℕ) (s : Step) → slice_get j.lines i ≡ Some s → IsLine s × (in_range (variables q) (step_variables s) ≡ true)) → AreSmall (2 ^ 40) forms
+    → Stands (frame_of q rows clause root owner) j.lines forms
+stands_of q rows clause root owner j forms journaled fits small = record {
   journal = journaled.journal;
   rows = λ i k s at names. let o = journaled.foreign i k s at names in is_other rows owner k o.0 o.1 o.2;
   fits = λ i s at. (fits i s at).0;
   ranges = λ i s at. (fits i s at).1;
+  small = small;
 }
 
 -- With further lines that stand, what is a journal beside the rows is one still.
@@ -74,7 +77,6 @@ journaled_on q rows clause root owner j forms more rest new before stands front 
   journal = stands.journal;
   foreign = λ i k s at names. others_of rows owner k (stands.rows i k s at names);
   noted = λ k own. let n = before.noted k own in (n.0, n.1, from_one_more forms more n.0 (clause k) n.2);
-  notes_in = before.notes_in;
   early = λ k n i m s own is below at names.
       let noted = before.noted k own in
       let same : n ≡ noted.0 = some_same n noted.0 (sym is ∙ noted.1) in
@@ -106,6 +108,7 @@ stands_wider w v lines forms wider stands = record {
   rows = λ i k s at names. wider.foreign k (stands.rows i k s at names);
   fits = stands.fits;
   ranges = λ i s at. ap (λ (q : Problem). in_range (variables q) (step_variables s)) wider.problem_same ∙ stands.ranges i s at;
+  small = stands.small;
 }
 
 pub named_wider : (w v : Frame) (forms : List Form) (r : Ref) (f : Form) → Widens w v → IsNamed w forms r f → IsNamed v forms r f

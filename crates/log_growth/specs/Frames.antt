@@ -13,7 +13,7 @@ use Rattle.log_theory.specs.Lookups.{Lookup, makes}
 use Rattle.log_theory.specs.Verdicts.{in_range, step_variables}
 use Rattle.encoding_theory.specs.Variables.{variables}
 use Rattle.encoding_theory.specs.Encoding.{encoding}
-use Rattle.forcing_theory.specs.Sums.{AreSmall, summing}
+use Rattle.forcing_theory.specs.Sums.{IsSmall, AreSmall, summing}
 use Rattle.journal_theory.specs.Referring.{step_refs, NamesRow}
 use Rattle.journal_theory.specs.Journals.{Finds, HoldsOwn, IsJournal}
 use Rattle.journals.specs.Keeping.{IsLine}
@@ -37,7 +37,8 @@ pub record IsFrameOf (q : Problem) (owner : ℕ) (w : Frame) : Type 0 where
   pub owner_is : w.owner ≡ owner
   pub model : HoldsModel q w.base
 
--- The lines make the forms; the rows that they name are others'; and all their numbers are in their ranges.
+-- The lines make the forms; the rows that they name are others'; all their numbers are in their ranges; and the coefficients of each form are
+-- together at most 2^40 in size, as is its bound. (That no operation of a line is wider than exact arithmetic is in `journal`: each makes its form.)
 pub record Stands (w : Frame) (lines : List Step) (forms : List Form) : Type 0 where
   pub journal : IsJournal w.base w.owner lines forms
   pub rows : (i k : ℕ) (s : Step) → slice_get lines i ≡ Some s → NamesRow (step_refs s) k
@@ -45,6 +46,7 @@ pub record Stands (w : Frame) (lines : List Step) (forms : List Form) : Type 0 w
   pub fits : (i : ℕ) (s : Step) → slice_get lines i ≡ Some s → IsLine s
   pub ranges : (i : ℕ) (s : Step) → slice_get lines i ≡ Some s
       → in_range (variables w.problem) (step_variables s) ≡ true
+  pub small : AreSmall (2 ^ 40) forms
 
 -- ---- what references name
 
@@ -60,12 +62,13 @@ AreNamed w forms (r ∷ rs) (f ∷ fs) = IsNamed w forms r f × AreNamed w forms
 AreNamed w forms [] (f ∷ fs) = ⊥
 AreNamed w forms (r ∷ rs) [] = ⊥
 
--- The step may be kept behind lines that make these forms, and makes this one.
+-- The step may be kept behind lines that make these forms, and makes this one, which is small.
 pub record MayFollow (w : Frame) (forms : List Form) (step : Step) (f : Form) : Type 0 where
   pub made : (look : Lookup) → Finds w.base look → HoldsOwn w.owner forms look
       → makes look step ≡ Ok f
   pub rows : (k : ℕ) → NamesRow (step_refs step) k → w.foreign k ≡ true
   pub ranges : in_range (variables w.problem) (step_variables step) ≡ true
+  pub small : IsSmall (2 ^ 40) f
 
 -- ---- what a call does to lines
 
@@ -100,11 +103,11 @@ abbrev pub IsKept : Frame → Result Name AllocError → Form → List Form → 
 IsKept w (Ok n) f forms = IsNamed w forms (Made n) f
 IsKept w (Err e) f forms = Unit {0}
 
--- The sizes of the forms, of which there is one at least, add up to what exact arithmetic bears.
+-- The sizes of the forms, of which there is one at least, add up to no more than the form of a line may have.
 pub record IsAddable (fs : List Form) : Type 0 where
   pub most : ℕ
   pub small : AreSmall most fs
-  pub fits : length fs * most ≤ 2 ^ 125
+  pub fits : length fs * most ≤ 2 ^ 40
 
 -- The references name these forms.
 abbrev pub Named : Frame → List Ref → List Form → List Form → Type 0

@@ -3,13 +3,15 @@
 //! The lines of an owner stand beside what was there before: the encoding of a problem, and clauses of others. A call that gives lines
 //! leads from lines that stand, of whose forms one thing is so, to lines that stand, of whose forms another is so; forms are only ever added,
 //! so that what a name meant it means for good. Calls fit together in sequence, what lasts may be carried beside them, and whatever
-//! a call answers the lines can go into a log. The layers above say in these words which forms their names have.
+//! a call answers the lines can go into a log. The coefficients of a form that is added are together at most 2^40 in size, so that a checker
+//! that counts in words of 64 bits has room for it. The layers above say in these words which forms their names have.
 #![tactic(auto)]
 
 ghost use Rattle.std.specs.Prelude.{◌≡◌, ℕ, ◌<◌, List, [], ◌∷◌, length, IfOk};
 ghost use Rattle.proof_theory.specs.Forms.{Form};
 ghost use Rattle.log_theory.specs.LogText.{IsName, AreRefs};
 ghost use Rattle.forcing_theory.specs.Sums.{sum_from};
+ghost use Rattle.journals.specs.Keeping.{KeepsRest};
 ghost use Rattle.log_growth.specs.Frames.{Frame, Goes, Named, IsKept, IsAddable, AreSumOf};
 
 use journals::Keeper;
@@ -45,9 +47,7 @@ pub fn keep_sum<K: Keeper>(alloc: Global, keeper: &mut K, refs: &[Ref]) -> Resul
         → Goes w (K.kept keeper.old) (K.kept keeper.new) (Named w refs.now (f ∷ gs))
         (IsKept w result (sum_from f gs)) }
     ensures name { IfOk result IsName }
-    ensures owner { K.owner keeper.new ≡ K.owner keeper.old }
-    ensures notes { K.notes keeper.new ≡ K.notes keeper.old }
-    ensures spare { K.spare keeper.new ≡ K.spare keeper.old }
+    ensures rest { KeepsRest K.owner K.notes K.spare keeper.old keeper.new }
 {
     let ops = sum_of(alloc, refs)?;
     keeper.keep(Step::P { name: NO_NAME, ops })

@@ -269,6 +269,9 @@ module _ (q : Problem) (plain : InLimits q) where
     apart = λ p t r. small_around p t r _ (small_more (9216 * weight q t) (2 ^ 28) _ (small_apart_base t r) (apart_room t));
     both = λ p t r. small_more 16385 (2 ^ 40) _ (small_both p t r) (omega arith);
     spread = λ p r w. small_more 9216 (2 ^ 40) _ (small_spread p r w) (omega arith);
+    clause = λ p t r. small_more 8193 (2 ^ 40) _ (small_clause p t r) (omega arith);
+    block = λ b t. small_more 1024 (2 ^ 40) _ (small_block b t) (omega arith);
+    free = λ r. small_more 8192 (2 ^ 40) _ (small_at_most r) (omega arith);
   }
 
   module _ (look : Lookup) (finds : FindsEncoding q look) where

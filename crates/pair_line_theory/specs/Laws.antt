@@ -15,7 +15,7 @@ use Rattle.log_theory.specs.declared.step.Ref.{Ref}
 use Rattle.log_theory.specs.declared.step.Step.TheVariants.{P, U}
 use Rattle.log_theory.specs.Lookups.{Lookup, makes}
 use Rattle.encoding_theory.specs.Pairs.{is_edge_pair, is_non_edge_pair}
-use Rattle.encoding_theory.specs.Encoding.{at_most_in, pair_form}
+use Rattle.encoding_theory.specs.Encoding.{at_most, at_most_in, pair_form}
 use Rattle.forcing_theory.specs.Sums.{IsSmall}
 use Rattle.explanation_theory.specs.Reasons.{ForcesBeside, ForcesByEdges}
 use Rattle.pair_line_theory.specs.Operations.{FindsEncoding}
@@ -153,7 +153,7 @@ pub record RowMakes (q : Problem) (look : Lookup) : Type 0 where
   pub non_edge : (p t r : ℕ) → IsPlace q p t r → is_non_edge_pair q p r ≡ true
       → look (non_edge_line q p r t) ≡ Some (pair_form q p r t)
 
--- All coefficients together, and the bound, are below 2^40 in size.
+-- All coefficients together, and the bound, are at most 2^40 in size.
 pub record RowSizes (q : Problem) : Type 0 where
   pub beside : (p t r : ℕ) → IsSmall (2 ^ 40) (beside_form q p t r)
   pub near : (b : Option ℕ) (p t r : ℕ) → IsSmall (2 ^ 40) (near_form q b p t r)
@@ -161,6 +161,9 @@ pub record RowSizes (q : Problem) : Type 0 where
   pub apart : (p t r : ℕ) → IsSmall (2 ^ 40) (apart_form q p t r)
   pub spread : (p r w : ℕ) → IsSmall (2 ^ 40) (spread_form q p r w)
   pub both : (p t r : ℕ) → IsSmall (2 ^ 40) (consistent_form q p t r)
+  pub clause : (p t r : ℕ) → IsSmall (2 ^ 40) (consistent_clause q p t r)
+  pub block : (b : Option ℕ) (t : ℕ) → IsSmall (2 ^ 40) (at_most_in q b t)
+  pub free : (r : ℕ) → IsSmall (2 ^ 40) (at_most q r)
 
 -- The lines for a pair of vertices: what they force, what makes them, and that they are small.
 pub record RowLaws (q : Problem) : Type 0 where

@@ -1,5 +1,5 @@
 -- The lines may be kept, and what they force.
-use Rattle.std.proofs.Common.{◌≡◌, ℕ, ◌<◌, ◌==◌, Bool, true, false, ◌||◌, cond, List, [], ◌∷◌, ◌++◌, refl, sym, ap, subst, ◌∙◌, arith, Option, Some, None, Result, Ok, Err, inl, inr, ◌⊎◌}
+use Rattle.std.proofs.Common.{◌≡◌, ℕ, ◌^◌, ◌<◌, ◌==◌, Bool, true, false, ◌||◌, cond, List, [], ◌∷◌, ◌++◌, refl, sym, ap, subst, ◌∙◌, arith, Option, Some, None, Result, Ok, Err, inl, inr, ◌⊎◌}
 use Rattle.std.specs.Prelude.{IsSome}
 use Rattle.std.specs.declared.alloc.AllocError.{AllocError}
 use Rattle.std.proofs.lemmas.Bool.{cases_eq, eq-eqb, ne_eqb}
@@ -27,6 +27,7 @@ use Rattle.explanation_theory.specs.Reasons.{ForcesBeside, ForcesByEdges}
 use Rattle.pair_line_theory.specs.Rows.{is_paired, at_most_line, edge_line, non_edge_line, spread_form}
 use Rattle.pair_line_theory.specs.Laws.{IsPlace, FindsSpread, RowMakes}
 use Rattle.pair_line_theory.proofs.Making.{row_laws}
+use Rattle.forcing_theory.specs.Sums.{IsSmall}
 use Rattle.log_growth.specs.Frames.{Frame, IsFrameOf, IsNamed, MayFollow, IsKept, Goes, AnyForms}
 use Rattle.log_growth.specs.Rows.{Widens}
 use Rattle.log_growth.proofs.Rows.{named_wider}
@@ -142,6 +143,21 @@ module _ (q : Problem) (plain : IsWithin q) (p t r : ℕ) (place : IsPlace q p t
       by (Many c) many a (Some mine) found = laws.joined name mine (spread_ref q names (Many c) p r) p t r place found (spread_found w owner names forms look frame spreads finds own (Many c) many a (let n = sharing_count q p r c many.2 many.0 in omega (arith, n, many.1)))
       by (Many c) many a None found = laws.apart name (spread_ref q names (Many c) p r) p t r place many.2 (spread_found w owner names forms look frame spreads finds own (Many c) many a (let n = sharing_count q p r c many.2 many.0 in omega (arith, n, many.1)))
 
+  own_small : (meeting : Meeting) → IsSmall (2 ^ 40) (own_form q meeting p t r)
+  own_small Never = (row_laws q plain.limits).sizes.beside p t r
+  own_small (Around c) = (row_laws q plain.limits).sizes.near (Some c) p t r
+  own_small May = (row_laws q plain.limits).sizes.beside p t r
+
+  row_small : (sharing : Sharing) (meeting : Meeting) (own : Option Ref) → IsSmall (2 ^ 40) (row_form q sharing meeting own p t r)
+  row_small Nothing meeting (Some mine) = own_small meeting
+  row_small Nothing Never None = (row_laws q plain.limits).sizes.block None t
+  row_small Nothing (Around c) None = (row_laws q plain.limits).sizes.block (Some c) t
+  row_small Nothing May None = (row_laws q plain.limits).sizes.free r
+  row_small (One m) meeting (Some mine) = (row_laws q plain.limits).sizes.joined p t r
+  row_small (One m) meeting None = (row_laws q plain.limits).sizes.apart p t r
+  row_small (Many c) meeting (Some mine) = (row_laws q plain.limits).sizes.joined p t r
+  row_small (Many c) meeting None = (row_laws q plain.limits).sizes.apart p t r
+
   pub row_line_ops : (names : List (ℕ × Name)) → ((k : ℕ) (n : Name) → entry_at names k ≡ Some n → IsName n) → (sharing : Sharing) (meeting : Meeting) (ops : List Op) → ops ≡ row_ops q names sharing meeting (own_line q p r t) p t r
       → IsSharing q p r sharing → IsMeeting q p r meeting → AreOps ops
   row_line_ops names fit sharing meeting ops is shares meets = subst AreOps (sym is) (good_ops (variables q) (row_ops q names sharing meeting (own_line q p r t) p t r) (good_row_ops q plain names fit sharing meeting p t r shares meets place.first place.place place.second))
@@ -152,7 +168,7 @@ module _ (q : Problem) (plain : IsWithin q) (p t r : ℕ) (place : IsPlace q p t
   row_follows owner w forms name names fit sharing meeting ops frame is shares meets around spreads =
       subst (λ (os : List Op). MayFollow w forms (P name os) (row_form q sharing meeting (own_line q p r t) p t r)) (sym is)
       (good_follows q owner w forms name (row_ops q names sharing meeting (own_line q p r t) p t r) (row_form q sharing meeting (own_line q p r t) p t r) frame
-      (good_row_ops q plain names fit sharing meeting p t r shares meets place.first place.place place.second) (λ look finds own. row_made w owner names forms name sharing meeting look frame spreads shares meets around finds own))
+      (good_row_ops q plain names fit sharing meeting p t r shares meets place.first place.place place.second) (row_small sharing meeting (own_line q p r t)) (λ look finds own. row_made w owner names forms name sharing meeting look frame spreads shares meets around finds own))
 
   -- A name of this form is that of a line for the pair.
   pub row_kept : (w : Frame) (result : Result Name AllocError) (sharing : Sharing) (meeting : Meeting) (forms : List Form) → IsSharing q p r sharing → IsMeeting q p r meeting → IsKept w result (row_form q sharing meeting (own_line q p r t) p t r) forms
@@ -312,7 +328,7 @@ module _ (q : Problem) (plain : IsWithin q) (p t r : ℕ) (place : IsPlace q p t
       → MayFollow w forms (P name ops) (own_form q meeting p t r)
   edge_follows owner w forms name meeting own ops frame meets mine is =
       subst (λ (os : List Op). MayFollow w forms (P name os) (own_form q meeting p t r)) (sym is)
-      (good_follows q owner w forms name (own_ops q meeting own t r) (own_form q meeting p t r) frame (good_own_row q plain meeting own p r t meets place.first place.second place.place mine)
+      (good_follows q owner w forms name (own_ops q meeting own t r) (own_form q meeting p t r) frame (good_own_row q plain meeting own p r t meets place.first place.second place.place mine) (own_small q plain p t r place meeting)
       (λ look finds own_. own_made q plain p t r place look name own meeting (finds_encoding q owner w look frame finds) meets
       (subst (λ (o : Option Ref). OwnFound q plain p t r place look o) mine (own_found q plain p t r place look (finds_encoding q owner w look frame finds)))))
 

@@ -88,6 +88,7 @@ module _ (q : Problem) (limits : IsWithin q) where
               (lines.0.1.found look finds own) lines.0.2 (lines.1.1.found look finds own) lines.1.2;
           rows = λ k names. absurd names;
           ranges = ap (λ (x : Problem). in_range (variables x) (variables_of (consistent_places q p t r))) frame.problem_is ∙ literals_good.1;
+          small = (row_laws q limits.limits).sizes.clause p t r;
         }))
 
     pub clause_goes : (owner : ℕ) (w : Frame) (out back name : Name) (lits : List Literal) (refs : List Ref) (result : Result Name AllocError) (old new : Option (List Step)) → IsFrameOf q owner w → IsName out → IsName back
@@ -109,7 +110,7 @@ module _ (q : Problem) (limits : IsWithin q) where
         → MayFollow w forms (P name ops) (consistent_form q p t r)
     both_follows owner w forms clause name ops frame fits is named =
         subst (λ (os : List Op). MayFollow w forms (P name os) (consistent_form q p t r)) (sym is)
-        (good_follows q owner w forms name (beside_ops q (Made clause) r) (consistent_form q p t r) (frame_of q owner w frame) (ops_good clause fits)
+        (good_follows q owner w forms name (beside_ops q (Made clause) r) (consistent_form q p t r) (frame_of q owner w frame) (ops_good clause fits) ((row_laws q limits.limits).sizes.both p t r)
         (λ look finds own. ((row_laws q limits.limits).makes look (finds_encoding q owner w look (frame_of q owner w frame) finds)).both name (Made clause) p t r place (named.found look finds own)))
 
     both_kept : (w : Frame) (result : Result Name AllocError) (forms : List Form) → is_injective q.maps ≡ true → IsKept w result (consistent_form q p t r) forms → IsRowLine w q p t r result forms

@@ -1,5 +1,5 @@
 -- The lines that count shared neighbours may be kept, and what a table of their names says.
-use Rattle.std.proofs.Common.{◌≡◌, ℕ, ◌-◌, ◌<◌, ◌==◌, Bool, true, cond, List, [], ◌∷◌, ◌++◌, sym, ap, subst, ◌∙◌, arith, Option, Some, Result, Ok, Err, inl, inr, ◌⊎◌}
+use Rattle.std.proofs.Common.{◌≡◌, ℕ, ◌-◌, ◌^◌, ◌<◌, ◌==◌, Bool, true, cond, List, [], ◌∷◌, ◌++◌, sym, ap, subst, ◌∙◌, arith, Option, Some, Result, Ok, Err, inl, inr, ◌⊎◌}
 use Rattle.std.specs.Prelude.{IfOk, OnOk, OnErr}
 use Rattle.std.specs.declared.alloc.AllocError.{AllocError}
 use Rattle.std.proofs.lemmas.Bool.{cases_eq, eq-eqb, ne_eqb}
@@ -23,11 +23,13 @@ use Rattle.pair_line_theory.specs.Operations.{FindsEncoding}
 use Rattle.pair_line_theory.specs.Rows.{target_line, is_shared, spread_form, spread_ops, not_both, not_both_form, two_ops}
 use Rattle.pair_line_theory.specs.Laws.{IsPlace, AreTwoShared}
 use Rattle.pair_line_theory.proofs.Making.{row_laws}
+use Rattle.forcing_theory.specs.Sums.{IsSmall}
 use Rattle.log_growth.specs.Frames.{Frame, IsNamed, MayFollow, IsKept, Goes, AnyForms}
 use Rattle.log_growth.proofs.Going.{goes_as, goes_beside, goes_then, goes_kept}
 use Rattle.journals.specs.Keeping.{IsLine, Keeps}
 use Rattle.log_growth.specs.Rows.{Widens}
 use Rattle.log_growth.proofs.Rows.{named_wider}
+use Rattle.log_growth.proofs.Steps.{clause_small}
 use Rattle.log_growth.proofs.Naming.{named_later}
 use Rattle.pair_lines.specs.declared.sharing.Sharers.{Sharers}
 use Rattle.pair_lines.specs.Choices.{IsWithin, AreSharers, entry_at, pair_key, pair_name, not_both_key, not_both_name}
@@ -37,13 +39,14 @@ use Rattle.pair_lines.proofs.Good.{AreGood, count_few, good_ops, good_rows, good
 pub finds_encoding : (q : Problem) (owner : ℕ) (w : Frame) (look : Lookup) → HasEncoding q owner w → Finds w.base look → FindsEncoding q look
 finds_encoding q owner w look frame finds = record { line = λ k f at. finds.alike _ f (frame.model.line k f at) }
 
--- A line of good operations may be kept where they make its form.
-pub good_follows : (q : Problem) (owner : ℕ) (w : Frame) (forms : List Form) (name : Name) (ops : List Op) (f : Form) → HasEncoding q owner w → AreGood (variables q) ops
+-- A line of good operations may be kept where they make its form, and this is small.
+pub good_follows : (q : Problem) (owner : ℕ) (w : Frame) (forms : List Form) (name : Name) (ops : List Op) (f : Form) → HasEncoding q owner w → AreGood (variables q) ops → IsSmall (2 ^ 40) f
     → ((look : Lookup) → Finds w.base look → HoldsOwn w.owner forms look → makes look (P name ops) ≡ Ok f) → MayFollow w forms (P name ops) f
-good_follows q owner w forms name ops f frame good makes_it = record {
+good_follows q owner w forms name ops f frame good small makes_it = record {
   made = makes_it;
   rows = λ k names. absurd (good_rows (variables q) ops good k names);
   ranges = ap (λ (n : ℕ). in_range n (axiom_variables ops)) frame.variables_are ∙ good_range (variables q) ops good;
+  small = small;
 }
 
 -- ---- the clause of two vertices
@@ -62,6 +65,7 @@ module _ (q : Problem) (plain : IsWithin q) (apart : is_injective q.maps ≡ tru
         made = λ look finds own. ((row_laws q plain.limits).makes look (finds_encoding q owner w look frame finds)).not_both name m n v apart order n_in v_in;
         rows = λ k names. absurd names;
         ranges = ap (λ (k : ℕ). in_range k (variables_of (not_both q m n v))) frame.variables_are ∙ (good_not_both q plain m n v (omega (arith, order, n_in)) n_in v_in).1;
+        small = clause_small (not_both q m n v) (omega arith);
       }))
 
   pub not_both_goes : (owner : ℕ) (w : Frame) (result : Result Name AllocError) (old new : Option (List Step)) → HasEncoding q owner w → lits ≡ not_both q m n v → refs ≡ target_line q v ∷ [] → Keeps result owner old new (U name lits refs)
@@ -192,7 +196,7 @@ module _ (q : Problem) (plain : IsWithin q) (pair : Sharers) (sharers : AreShare
   many_may (Ok ops) is = λ name.
       subst (λ (os : List Op). MayFollow w forms (P name os) (spread_form q pair.p pair.r v)) (sym is)
       (good_follows q owner w forms name (spread_ops q pair.p pair.r v (pair.count - 1)) (spread_form q pair.p pair.r v) frame (good_spread_ops q plain pair.p pair.r v (pair.count - 1) sharers.injective sharers.first_in sharers.second_in v_in (let few = sharers_few q plain pair sharers in omega (arith, few)))
-      (λ look finds own. ((row_laws q plain.limits).makes look (finds_encoding q owner w look frame finds)).spread name pair.p v pair.r (pair.count - 1) at_v sharers.injective (let c = sharers.counted in let m = sharers.many in omega (arith, c, m)) (let m = sharers.many in omega (arith, m))))
+      ((row_laws q plain.limits).sizes.spread pair.p pair.r v) (λ look finds own. ((row_laws q plain.limits).makes look (finds_encoding q owner w look frame finds)).spread name pair.p v pair.r (pair.count - 1) at_v sharers.injective (let c = sharers.counted in let m = sharers.many in omega (arith, c, m)) (let m = sharers.many in omega (arith, m))))
 
   -- Two are shared, and their clause has this name.
   pub two_may : (m n : ℕ) (clause : Name) (result : Result (List Op) AllocError) → AreTwoShared q.pattern pair.p pair.r m n → IsName clause → IsNamed w forms (Made clause) (not_both_form q m n v)
@@ -201,7 +205,7 @@ module _ (q : Problem) (plain : IsWithin q) (pair : Sharers) (sharers : AreShare
   two_may m n clause (Ok ops) two fits named is = λ name.
       subst (λ (os : List Op). MayFollow w forms (P name os) (spread_form q pair.p pair.r v)) (sym is)
       (good_follows q owner w forms name (two_ops q (Made clause) pair.p pair.r v) (spread_form q pair.p pair.r v) frame (good_two_ops q plain clause pair.p pair.r v fits sharers.second_in v_in)
-      (λ look finds own. ((row_laws q plain.limits).makes look (finds_encoding q owner w look frame finds)).two name (Made clause) m n pair.p v pair.r at_v two (named.found look finds own)))
+      ((row_laws q plain.limits).sizes.spread pair.p pair.r v) (λ look finds own. ((row_laws q plain.limits).makes look (finds_encoding q owner w look frame finds)).two name (Made clause) m n pair.p v pair.r at_v two (named.found look finds own)))
 
 pub many_ops : (q : Problem) → IsWithin q → (pair : Sharers) (v : ℕ) (result : Result (List Op) AllocError) → AreSharers q pair → v < size q.target
     → IfOk result (λ ops. ops ≡ spread_ops q pair.p pair.r v (pair.count - 1)) → IfOk result AreOps

@@ -12,6 +12,7 @@ ghost use Rattle.log_theory.specs.LogText.{IsName};
 ghost use Rattle.encoding_theory.specs.Variables.{when};
 ghost use Rattle.pair_line_theory.specs.Laws.{IsPlace};
 ghost use Rattle.pair_line_theory.specs.Rows.{at_least_line, there as there_at, is_consistent as is_consistent_by, consistent_places, consistent_clause, beside_ops};
+ghost use Rattle.journals.specs.Keeping.{KeepsRest};
 ghost use Rattle.log_growth.specs.Frames.{Frame, IsFrameOf, IsNamed, Goes};
 ghost use Rattle.pair_lines.specs.Claims.{AreBothLines, IsRowLine};
 
@@ -147,9 +148,7 @@ fn keep_of_clause<K: Keeper>(
         (consistent_clause known.now pair.p pair.t pair.r))
         (IsRowLine w known.now pair.p pair.t pair.r result) }
     ensures name { IfOk result IsName }
-    ensures owner { K.owner keeper.new ≡ K.owner keeper.old }
-    ensures notes { K.notes keeper.new ≡ K.notes keeper.old }
-    ensures spare { K.spare keeper.new ≡ K.spare keeper.old }
+    ensures rest { KeepsRest K.owner K.notes K.spare keeper.old keeper.new }
 {
     known.in_limits();
     let ops = clause_ops(alloc, known, clause, pair.r)?;
@@ -175,9 +174,7 @@ pub(crate) fn both_line<K: Keeper>(
         (AreBothLines w q.now pair.p pair.t pair.r lines.0 lines.1)
         (IsRowLine w q.now pair.p pair.t pair.r result) }
     ensures name { IfOk result IsName }
-    ensures owner { K.owner keeper.new ≡ K.owner keeper.old }
-    ensures notes { K.notes keeper.new ≡ K.notes keeper.old }
-    ensures spare { K.spare keeper.new ≡ K.spare keeper.old }
+    ensures rest { KeepsRest K.owner K.notes K.spare keeper.old keeper.new }
 {
     known.in_limits();
     let lits = places(alloc, q, known, pair)?;

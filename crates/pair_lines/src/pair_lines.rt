@@ -5,6 +5,7 @@ ghost use Rattle.graph_theory.specs.Embedding.{Problem as TheProblem};
 ghost use Rattle.proof_theory.specs.Forms.{Form};
 ghost use Rattle.log_theory.specs.LogText.{IsName, IsRef};
 ghost use Rattle.pair_line_theory.specs.Laws.{IsPlace};
+ghost use Rattle.journals.specs.Keeping.{KeepsRest};
 ghost use Rattle.log_growth.specs.Frames.{Frame, IsFrameOf, IsKept, Goes, AnyForms};
 ghost use Rattle.pair_lines.specs.Choices.{IsAsked, IsMeeting, own_form, own_line as own_line_of};
 ghost use Rattle.pair_lines.specs.Claims.{HasEncoding, Knows, IsKnownRow, IsThere};
@@ -85,9 +86,7 @@ fn keep_edge_row<K: Keeper>(
         → Goes w (K.kept keeper.old) (K.kept keeper.new) AnyForms
         (IsKept w result (own_form known.now meeting pair.p pair.t pair.r)) }
     ensures name { IfOk result IsName }
-    ensures owner { K.owner keeper.new ≡ K.owner keeper.old }
-    ensures notes { K.notes keeper.new ≡ K.notes keeper.old }
-    ensures spare { K.spare keeper.new ≡ K.spare keeper.old }
+    ensures rest { KeepsRest K.owner K.notes K.spare keeper.old keeper.new }
 {
     known.in_limits();
     let ops = own_ops(alloc, known, meeting, own, pair)?;
@@ -125,9 +124,7 @@ impl PairLines {
             → Goes w (K.kept keeper.old) (K.kept keeper.new) (Knows w q.now self.old)
             (IsKnownRow by_edges w q.now pair.p pair.t pair.r self.new result) }
         ensures fits { IfOk result IsRef }
-        ensures owner { K.owner keeper.new ≡ K.owner keeper.old }
-        ensures notes { K.notes keeper.new ≡ K.notes keeper.old }
-        ensures spare { K.spare keeper.new ≡ K.spare keeper.old }
+        ensures rest { KeepsRest K.owner K.notes K.spare keeper.old keeper.new }
     {
         let known = Known::new(q, lines, Direction::Out);
         known.in_limits();

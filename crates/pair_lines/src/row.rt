@@ -7,6 +7,7 @@ ghost use Rattle.graph_theory.specs.Neighbours.{is_neighbour};
 ghost use Rattle.graph_theory.specs.Reversed.{reversed_problem};
 ghost use Rattle.log_theory.specs.LogText.{IsName};
 ghost use Rattle.pair_line_theory.specs.Laws.{IsPlace};
+ghost use Rattle.journals.specs.Keeping.{KeepsRest};
 ghost use Rattle.log_growth.specs.Frames.{Frame, IsFrameOf, Goes, AnyForms};
 ghost use Rattle.pair_lines.specs.declared.sharing.Sharing.TheVariants.{Many as ManyShared};
 ghost use Rattle.pair_lines.specs.Choices.{IsSharing, pair_name};
@@ -43,9 +44,7 @@ fn keep_spreads<K: Keeper>(
         → Goes f (K.kept keeper.old) (K.kept keeper.new) (AreSpreads f known.now spreads.old)
         (AreSpreads f known.now spreads.new) }
     ensures there { OnOk result (HasAround known.now spreads.new sharing pair.p pair.t pair.r) }
-    ensures owner { K.owner keeper.new ≡ K.owner keeper.old }
-    ensures notes { K.notes keeper.new ≡ K.notes keeper.old }
-    ensures spare { K.spare keeper.new ≡ K.spare keeper.old }
+    ensures rest { KeepsRest K.owner K.notes K.spare keeper.old keeper.new }
 {
     match sharing {
         Sharing::Many(count) => {
@@ -77,9 +76,7 @@ fn keep_row<K: Keeper>(
         → Goes f (K.kept keeper.old) (K.kept keeper.new) (AreSpreads f known.now spreads.now)
         (IsSharedLine f known.now pair.p pair.t pair.r result) }
     ensures name { IfOk result IsName }
-    ensures owner { K.owner keeper.new ≡ K.owner keeper.old }
-    ensures notes { K.notes keeper.new ≡ K.notes keeper.old }
-    ensures spare { K.spare keeper.new ≡ K.spare keeper.old }
+    ensures rest { KeepsRest K.owner K.notes K.spare keeper.old keeper.new }
 {
     known.in_limits();
     spreads.fit();
@@ -103,9 +100,7 @@ fn line_by<K: Keeper>(
         → Goes f (K.kept keeper.old) (K.kept keeper.new) (AreSpreads f known.now spreads.old)
         (IsSharedRow f known.now pair.p pair.t pair.r spreads.new result) }
     ensures name { IfOk result IsName }
-    ensures owner { K.owner keeper.new ≡ K.owner keeper.old }
-    ensures notes { K.notes keeper.new ≡ K.notes keeper.old }
-    ensures spare { K.spare keeper.new ≡ K.spare keeper.old }
+    ensures rest { KeepsRest K.owner K.notes K.spare keeper.old keeper.new }
 {
     keep_spreads(alloc, known, spreads, keeper, sharing, pair)?;
     keep_row(alloc, known, spreads, keeper, sharing, pair)
@@ -130,9 +125,7 @@ fn lines_both<K: Keeper>(
         → Goes w (K.kept keeper.old) (K.kept keeper.new) (AreTurned w q.now spreads.old)
         (IsRow w q.now pair.p pair.t pair.r spreads.new result) }
     ensures name { IfOk result IsName }
-    ensures owner { K.owner keeper.new ≡ K.owner keeper.old }
-    ensures notes { K.notes keeper.new ≡ K.notes keeper.old }
-    ensures spare { K.spare keeper.new ≡ K.spare keeper.old }
+    ensures rest { KeepsRest K.owner K.notes K.spare keeper.old keeper.new }
 {
     let out = Known::new(q, lines, Direction::Out);
     let back = Known::new(q, lines, Direction::In);
@@ -160,9 +153,7 @@ pub fn row_line_with<K: Keeper>(
         → Goes w (K.kept keeper.old) (K.kept keeper.new) (AreTurned w q.now spreads.old)
         (IsRow w q.now pair.p pair.t pair.r spreads.new result) }
     ensures name { IfOk result IsName }
-    ensures owner { K.owner keeper.new ≡ K.owner keeper.old }
-    ensures notes { K.notes keeper.new ≡ K.notes keeper.old }
-    ensures spare { K.spare keeper.new ≡ K.spare keeper.old }
+    ensures rest { KeepsRest K.owner K.notes K.spare keeper.old keeper.new }
 {
     let out = Known::new(q, lines, Direction::Out);
     let back = Known::new(q, lines, Direction::In);
@@ -190,9 +181,7 @@ pub fn row_line<K: Keeper>(
         → Goes w (K.kept keeper.old) (K.kept keeper.new) AnyForms
         (IsRowLine w q.now pair.p pair.t pair.r result) }
     ensures name { IfOk result IsName }
-    ensures owner { K.owner keeper.new ≡ K.owner keeper.old }
-    ensures notes { K.notes keeper.new ≡ K.notes keeper.old }
-    ensures spare { K.spare keeper.new ≡ K.spare keeper.old }
+    ensures rest { KeepsRest K.owner K.notes K.spare keeper.old keeper.new }
 {
     let mut spreads = Spreads::new(alloc);
     row_line_with(alloc, q, lines, &mut spreads, keeper, pair)

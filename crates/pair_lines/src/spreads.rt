@@ -7,6 +7,7 @@ ghost use Rattle.graph_theory.specs.Embedding.{is_injective};
 ghost use Rattle.log_theory.specs.LogText.{IsName, AreOps};
 ghost use Rattle.pair_line_theory.specs.Rows.{not_both_form};
 ghost use Rattle.pair_line_theory.specs.Laws.{AreTwoShared};
+ghost use Rattle.journals.specs.Keeping.{KeepsRest};
 ghost use Rattle.log_growth.specs.Frames.{Frame, Goes, AnyForms, IsKept};
 ghost use Rattle.pair_lines.specs.declared.sharing.Sharing.TheVariants.{Many as ManyShared};
 ghost use Rattle.pair_lines.specs.Choices.{AreSharers, pair_name};
@@ -43,9 +44,7 @@ fn make_not_both<K: Keeper>(
         → Goes f (K.kept keeper.old) (K.kept keeper.new) AnyForms
         (IsKept f result (not_both_form known.now m n w)) }
     ensures name { IfOk result IsName }
-    ensures owner { K.owner keeper.new ≡ K.owner keeper.old }
-    ensures notes { K.notes keeper.new ≡ K.notes keeper.old }
-    ensures spare { K.spare keeper.new ≡ K.spare keeper.old }
+    ensures rest { KeepsRest K.owner K.notes K.spare keeper.old keeper.new }
 {
     known.in_limits();
     let lits = not_both(alloc, known, m, n, w)?;
@@ -76,9 +75,7 @@ fn keep_not_both<K: Keeper>(
         (IsNotBoth f known.now m n w spreads.new result) }
     ensures name { IfOk result IsName }
     ensures stay { Stay spreads.old spreads.new }
-    ensures owner { K.owner keeper.new ≡ K.owner keeper.old }
-    ensures notes { K.notes keeper.new ≡ K.notes keeper.old }
-    ensures spare { K.spare keeper.new ≡ K.spare keeper.old }
+    ensures rest { KeepsRest K.owner K.notes K.spare keeper.old keeper.new }
 {
     known.in_limits();
     let _vertices = known.vertices();
@@ -108,9 +105,7 @@ fn ops_of_two<K: Keeper>(
         (HasSpreadOps f known.now pair.p pair.r w spreads.new result) }
     ensures ops { IfOk result AreOps }
     ensures stay { Stay spreads.old spreads.new }
-    ensures owner { K.owner keeper.new ≡ K.owner keeper.old }
-    ensures notes { K.notes keeper.new ≡ K.notes keeper.old }
-    ensures spare { K.spare keeper.new ≡ K.spare keeper.old }
+    ensures rest { KeepsRest K.owner K.notes K.spare keeper.old keeper.new }
 {
     known.in_limits();
     let clause = keep_not_both(alloc, known, spreads, keeper, two.0, two.1, w)?;
@@ -133,9 +128,7 @@ fn ops_at<K: Keeper>(
         (HasSpreadOps f known.now pair.p pair.r w spreads.new result) }
     ensures ops { IfOk result AreOps }
     ensures stay { Stay spreads.old spreads.new }
-    ensures owner { K.owner keeper.new ≡ K.owner keeper.old }
-    ensures notes { K.notes keeper.new ≡ K.notes keeper.old }
-    ensures spare { K.spare keeper.new ≡ K.spare keeper.old }
+    ensures rest { KeepsRest K.owner K.notes K.spare keeper.old keeper.new }
 {
     known.in_limits();
     match two_shared(known, pair) {
@@ -160,9 +153,7 @@ fn keep_spread<K: Keeper>(
         (AreSpreads f known.now spreads.new) }
     ensures there { OnOk result (IsSome (pair_name spreads.new pair.p pair.r w)) }
     ensures stay { Stay spreads.old spreads.new }
-    ensures owner { K.owner keeper.new ≡ K.owner keeper.old }
-    ensures notes { K.notes keeper.new ≡ K.notes keeper.old }
-    ensures spare { K.spare keeper.new ≡ K.spare keeper.old }
+    ensures rest { KeepsRest K.owner K.notes K.spare keeper.old keeper.new }
 {
     if spreads.find(pair.p, pair.r, w).is_some() {
         return Ok(());
@@ -189,9 +180,7 @@ pub(crate) fn keep_around<K: Keeper>(
         (AreSpreads f known.now spreads.new) }
     ensures there { OnOk result
         (HasAround known.now spreads.new (ManyShared pair.count) pair.p t pair.r) }
-    ensures owner { K.owner keeper.new ≡ K.owner keeper.old }
-    ensures notes { K.notes keeper.new ≡ K.notes keeper.old }
-    ensures spare { K.spare keeper.new ≡ K.spare keeper.old }
+    ensures rest { KeepsRest K.owner K.notes K.spare keeper.old keeper.new }
 {
     let mut w = known.next_near(t, 0);
     while w < known.targets() {

@@ -11,6 +11,7 @@ use Rattle.log_growth.proofs.Going.{goes_stay, goes_as, goes_then}
 use Rattle.pair_lines.specs.Claims.{AreBothLines, IsRowLine}
 use Rattle.pair_lines.proofs.Joining.{clause_line, clause_goes}
 use Rattle.pair_lines.proofs.Failing.{if_ok_failed}
+use Rattle.journals.proofs.Rests.{rest_same, rest_then}
 use Rattle.pair_lines.proofs.both_ways.both_line.Goals as goal
 
 pub returns-in_err-lits-clause-goes : goal.returns-in_err-lits-clause-goes
@@ -50,52 +51,28 @@ returns-clause-goes g c = λ f frame.
     (c.in_ok-refs.ensures ∙ ap (λ (x : Problem). let rs : List Ref = Made c.args.lines.0 ∷ Made c.args.lines.1 ∷ at_least_line x c.args.pair.r ∷ [] in rs) c.requires.same) c.in_ok-clause.ensures.kept)
     (subst (λ (x : Problem). (w : Frame) → IsFrameOf x (g.K.Keeper.owner c.keep.new.self) w
     → Goes w (g.K.Keeper.kept c.keep.new.self) (g.K.Keeper.kept c.keep_of_clause.new.keeper) (λ forms. IsNamed w forms (Made c.in_ok-clause.clause) (consistent_clause x c.args.pair.p c.args.pair.t c.args.pair.r)) (IsRowLine w x c.args.pair.p c.args.pair.t c.args.pair.r c.keep_of_clause.result))
-    c.requires.same c.keep_of_clause.ensures.goes f (subst (λ (o : ℕ). IsFrameOf c.args.q.now o f) (sym c.in_ok-clause.ensures.owner) frame))
+    c.requires.same c.keep_of_clause.ensures.goes f (subst (λ (o : ℕ). IsFrameOf c.args.q.now o f) (sym c.in_ok-clause.ensures.rest.owner) frame))
 
-pub returns-in_err-lits-clause-owner : goal.returns-in_err-lits-clause-owner
-returns-in_err-lits-clause-owner g c = refl
-
-pub returns-in_err-lits-clause-notes : goal.returns-in_err-lits-clause-notes
-returns-in_err-lits-clause-notes g c = refl
-
-pub returns-in_err-lits-clause-spare : goal.returns-in_err-lits-clause-spare
-returns-in_err-lits-clause-spare g c = refl
+pub returns-in_err-lits-clause-rest : goal.returns-in_err-lits-clause-rest
+returns-in_err-lits-clause-rest g c = rest_same
 
 pub returns-in_err-lits-clause-name : goal.returns-in_err-lits-clause-name
 returns-in_err-lits-clause-name g c = if_ok_failed c.from_residual.result _ _ c.from_residual.ensures.1
 
-pub returns-in_err-refs-clause-owner : goal.returns-in_err-refs-clause-owner
-returns-in_err-refs-clause-owner g c = refl
-
-pub returns-in_err-refs-clause-notes : goal.returns-in_err-refs-clause-notes
-returns-in_err-refs-clause-notes g c = refl
-
-pub returns-in_err-refs-clause-spare : goal.returns-in_err-refs-clause-spare
-returns-in_err-refs-clause-spare g c = refl
+pub returns-in_err-refs-clause-rest : goal.returns-in_err-refs-clause-rest
+returns-in_err-refs-clause-rest g c = rest_same
 
 pub returns-in_err-refs-clause-name : goal.returns-in_err-refs-clause-name
 returns-in_err-refs-clause-name g c = if_ok_failed c.from_residual-in_err-refs.result _ _ c.from_residual-in_err-refs.ensures.1
 
-pub returns-in_err-clause-clause-owner : goal.returns-in_err-clause-clause-owner
-returns-in_err-clause-clause-owner g c = c.keep.ensures.owner
-
-pub returns-in_err-clause-clause-notes : goal.returns-in_err-clause-clause-notes
-returns-in_err-clause-clause-notes g c = c.keep.ensures.notes
-
-pub returns-in_err-clause-clause-spare : goal.returns-in_err-clause-clause-spare
-returns-in_err-clause-clause-spare g c = c.keep.ensures.spare
+pub returns-in_err-clause-clause-rest : goal.returns-in_err-clause-clause-rest
+returns-in_err-clause-clause-rest g c = c.keep.ensures.rest
 
 pub returns-in_err-clause-clause-name : goal.returns-in_err-clause-clause-name
 returns-in_err-clause-clause-name g c = if_ok_failed c.from_residual-in_err-clause.result _ _ c.from_residual-in_err-clause.ensures.1
 
-pub returns-clause-owner : goal.returns-clause-owner
-returns-clause-owner g c = c.keep_of_clause.ensures.owner ∙ c.keep.ensures.owner
-
-pub returns-clause-notes : goal.returns-clause-notes
-returns-clause-notes g c = c.keep_of_clause.ensures.notes ∙ c.keep.ensures.notes
-
-pub returns-clause-spare : goal.returns-clause-spare
-returns-clause-spare g c = c.keep_of_clause.ensures.spare ∙ c.keep.ensures.spare
+pub returns-clause-rest : goal.returns-clause-rest
+returns-clause-rest g c = rest_then c.keep.ensures.rest c.keep_of_clause.ensures.rest
 
 pub returns-clause-name : goal.returns-clause-name
 returns-clause-name g c = c.keep_of_clause.ensures.name

@@ -11,4 +11,4 @@ returns-in_err-keep_spreads-clause-goes g c = λ f frame.
 pub returns-clause-goes : goal.returns-clause-goes
 returns-clause-goes g c = λ f frame.
     lines_join c.args.known.now c.args.pair.p c.args.pair.t c.args.pair.r f (g.K.Keeper.owner c.args.keeper.now) (g.K.Keeper.owner c.keep_spreads.new.keeper) (g.K.Keeper.kept c.args.keeper.now) (g.K.Keeper.kept c.keep_spreads.new.keeper)
-    (g.K.Keeper.kept c.keep_row.new.keeper) c.args.spreads.now c.keep_spreads.new.spreads c.keep_row.result c.keep_spreads.ensures.owner frame c.keep_spreads.ensures.goes c.keep_row.ensures.goes
+    (g.K.Keeper.kept c.keep_row.new.keeper) c.args.spreads.now c.keep_spreads.new.spreads c.keep_row.result c.keep_spreads.ensures.rest.owner frame c.keep_spreads.ensures.goes c.keep_row.ensures.goes

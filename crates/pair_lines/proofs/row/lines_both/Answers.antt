@@ -5,6 +5,7 @@ use Rattle.pair_lines.specs.Choices.{IsSharing}
 use Rattle.pair_lines.proofs.Turning.{first_stops, lines_pair, second_stops, both_join}
 use Rattle.pair_lines.proofs.Failing.{if_ok_failed}
 use Rattle.pair_line_theory.specs.Laws.{IsPlace}
+use Rattle.journals.proofs.Rests.{rest_then}
 use Rattle.pair_lines.proofs.row.lines_both.Goals as goal
 
 pub line_by-requires-clause-shared : goal.line_by-requires-clause-shared
@@ -21,47 +22,29 @@ returns-in_err-second-clause-goes g c = λ w frame.
     let e = err_from_is_err_and c.from_residual-in_err-second.result c.from_residual-in_err-second.ensures.1 in
     rw e.1 (second_stops w c.args.q.now c.args.pair.p c.args.pair.t c.args.pair.r (g.K.Keeper.kept c.args.keeper.now) (g.K.Keeper.kept c.line_by-2.new.keeper) c.args.spreads.now c.line_by.new.spreads c.line_by-2.new.spreads c.in_ok-first.first c.line_by-2.result e.0
     (lines_pair w c.args.q.now c.new-out.result c.new-back.result c.args.pair.p c.args.pair.t c.args.pair.r (g.K.Keeper.owner c.args.keeper.now) (g.K.Keeper.owner c.line_by.new.keeper) (g.K.Keeper.kept c.args.keeper.now) (g.K.Keeper.kept c.line_by.new.keeper)
-    (g.K.Keeper.kept c.line_by-2.new.keeper) c.args.spreads.now c.line_by.new.spreads c.line_by-2.new.spreads c.in_ok-first.first c.line_by-2.result c.new-out.ensures c.new-back.ensures c.in_ok-first.ensures.owner frame c.in_ok-first.ensures.goes c.line_by-2.ensures.goes))
+    (g.K.Keeper.kept c.line_by-2.new.keeper) c.args.spreads.now c.line_by.new.spreads c.line_by-2.new.spreads c.in_ok-first.first c.line_by-2.result c.new-out.ensures c.new-back.ensures c.in_ok-first.ensures.rest.owner frame c.in_ok-first.ensures.goes c.line_by-2.ensures.goes))
 
 pub returns-clause-goes : goal.returns-clause-goes
 returns-clause-goes g c = λ w frame.
     both_join w c.args.q.now c.args.pair.p c.args.pair.t c.args.pair.r (g.K.Keeper.owner c.args.keeper.now) (g.K.Keeper.owner c.line_by-2.new.keeper) (g.K.Keeper.kept c.args.keeper.now) (g.K.Keeper.kept c.line_by-2.new.keeper) (g.K.Keeper.kept c.both_line.new.keeper)
-    c.args.spreads.now c.line_by.new.spreads c.line_by-2.new.spreads c.in_ok-first.first c.in_ok-second.second c.both_line.result (c.in_ok-second.ensures.owner ∙ c.in_ok-first.ensures.owner) frame
+    c.args.spreads.now c.line_by.new.spreads c.line_by-2.new.spreads c.in_ok-first.first c.in_ok-second.second c.both_line.result (c.in_ok-second.ensures.rest.owner ∙ c.in_ok-first.ensures.rest.owner) frame
     (lines_pair w c.args.q.now c.new-out.result c.new-back.result c.args.pair.p c.args.pair.t c.args.pair.r (g.K.Keeper.owner c.args.keeper.now) (g.K.Keeper.owner c.line_by.new.keeper) (g.K.Keeper.kept c.args.keeper.now) (g.K.Keeper.kept c.line_by.new.keeper)
-    (g.K.Keeper.kept c.line_by-2.new.keeper) c.args.spreads.now c.line_by.new.spreads c.line_by-2.new.spreads c.in_ok-first.first (Ok c.in_ok-second.second) c.new-out.ensures c.new-back.ensures c.in_ok-first.ensures.owner frame c.in_ok-first.ensures.goes c.in_ok-second.ensures.goes) c.both_line.ensures.goes
+    (g.K.Keeper.kept c.line_by-2.new.keeper) c.args.spreads.now c.line_by.new.spreads c.line_by-2.new.spreads c.in_ok-first.first (Ok c.in_ok-second.second) c.new-out.ensures c.new-back.ensures c.in_ok-first.ensures.rest.owner frame c.in_ok-first.ensures.goes c.in_ok-second.ensures.goes) c.both_line.ensures.goes
 
-pub returns-in_err-first-clause-owner : goal.returns-in_err-first-clause-owner
-returns-in_err-first-clause-owner g c = c.line_by.ensures.owner
-
-pub returns-in_err-first-clause-notes : goal.returns-in_err-first-clause-notes
-returns-in_err-first-clause-notes g c = c.line_by.ensures.notes
-
-pub returns-in_err-first-clause-spare : goal.returns-in_err-first-clause-spare
-returns-in_err-first-clause-spare g c = c.line_by.ensures.spare
+pub returns-in_err-first-clause-rest : goal.returns-in_err-first-clause-rest
+returns-in_err-first-clause-rest g c = c.line_by.ensures.rest
 
 pub returns-in_err-first-clause-name : goal.returns-in_err-first-clause-name
 returns-in_err-first-clause-name g c = if_ok_failed c.from_residual.result _ _ c.from_residual.ensures.1
 
-pub returns-in_err-second-clause-owner : goal.returns-in_err-second-clause-owner
-returns-in_err-second-clause-owner g c = c.line_by-2.ensures.owner ∙ c.line_by.ensures.owner
-
-pub returns-in_err-second-clause-notes : goal.returns-in_err-second-clause-notes
-returns-in_err-second-clause-notes g c = c.line_by-2.ensures.notes ∙ c.line_by.ensures.notes
-
-pub returns-in_err-second-clause-spare : goal.returns-in_err-second-clause-spare
-returns-in_err-second-clause-spare g c = c.line_by-2.ensures.spare ∙ c.line_by.ensures.spare
+pub returns-in_err-second-clause-rest : goal.returns-in_err-second-clause-rest
+returns-in_err-second-clause-rest g c = rest_then c.line_by.ensures.rest c.line_by-2.ensures.rest
 
 pub returns-in_err-second-clause-name : goal.returns-in_err-second-clause-name
 returns-in_err-second-clause-name g c = if_ok_failed c.from_residual-in_err-second.result _ _ c.from_residual-in_err-second.ensures.1
 
-pub returns-clause-owner : goal.returns-clause-owner
-returns-clause-owner g c = c.both_line.ensures.owner ∙ (c.line_by-2.ensures.owner ∙ c.line_by.ensures.owner)
-
-pub returns-clause-notes : goal.returns-clause-notes
-returns-clause-notes g c = c.both_line.ensures.notes ∙ (c.line_by-2.ensures.notes ∙ c.line_by.ensures.notes)
-
-pub returns-clause-spare : goal.returns-clause-spare
-returns-clause-spare g c = c.both_line.ensures.spare ∙ (c.line_by-2.ensures.spare ∙ c.line_by.ensures.spare)
+pub returns-clause-rest : goal.returns-clause-rest
+returns-clause-rest g c = rest_then (rest_then c.line_by.ensures.rest c.line_by-2.ensures.rest) c.both_line.ensures.rest
 
 pub returns-clause-name : goal.returns-clause-name
 returns-clause-name g c = c.both_line.ensures.name

@@ -8,6 +8,7 @@ use Rattle.pair_lines.proofs.Turning.{row_out, row_back}
 use Rattle.pair_lines.proofs.Failing.{if_ok_failed}
 use Rattle.pair_line_theory.specs.Laws.{IsPlace}
 use Rattle.graph_theory.specs.Embedding.{Problem}
+use Rattle.journals.proofs.Rests.{rest_same}
 use Rattle.pair_lines.proofs.row.row_line_with.Goals as goal
 
 pub returns-in_err-shared-clause-goes : goal.returns-in_err-shared-clause-goes
@@ -27,14 +28,8 @@ returns-in-In-clause-goes g c = λ w frame.
     c.line_by-in-In.result c.new-back.ensures c.requires.placed frame
     (subst (λ (a : Asked). IsAsked c.args.q.now c.args.pair.p c.args.pair.r a) c.in-In.is c.in_ok-shared.ensures).1 c.line_by-in-In.ensures.goes
 
-pub returns-in_err-shared-clause-owner : goal.returns-in_err-shared-clause-owner
-returns-in_err-shared-clause-owner g c = refl
-
-pub returns-in_err-shared-clause-notes : goal.returns-in_err-shared-clause-notes
-returns-in_err-shared-clause-notes g c = refl
-
-pub returns-in_err-shared-clause-spare : goal.returns-in_err-shared-clause-spare
-returns-in_err-shared-clause-spare g c = refl
+pub returns-in_err-shared-clause-rest : goal.returns-in_err-shared-clause-rest
+returns-in_err-shared-clause-rest g c = rest_same
 
 pub returns-in_err-shared-clause-name : goal.returns-in_err-shared-clause-name
 returns-in_err-shared-clause-name g c = if_ok_failed c.from_residual.result _ _ c.from_residual.ensures.1
@@ -42,26 +37,14 @@ returns-in_err-shared-clause-name g c = if_ok_failed c.from_residual.result _ _ 
 pub asked_of-requires-clause-others : goal.asked_of-requires-clause-others
 asked_of-requires-clause-others g c = c.requires.placed.others
 
-pub returns-in-Out-clause-owner : goal.returns-in-Out-clause-owner
-returns-in-Out-clause-owner g c = c.line_by.ensures.owner
-
-pub returns-in-Out-clause-notes : goal.returns-in-Out-clause-notes
-returns-in-Out-clause-notes g c = c.line_by.ensures.notes
-
-pub returns-in-Out-clause-spare : goal.returns-in-Out-clause-spare
-returns-in-Out-clause-spare g c = c.line_by.ensures.spare
+pub returns-in-Out-clause-rest : goal.returns-in-Out-clause-rest
+returns-in-Out-clause-rest g c = c.line_by.ensures.rest
 
 pub returns-in-Out-clause-name : goal.returns-in-Out-clause-name
 returns-in-Out-clause-name g c = c.line_by.ensures.name
 
-pub returns-in-In-clause-owner : goal.returns-in-In-clause-owner
-returns-in-In-clause-owner g c = c.line_by-in-In.ensures.owner
-
-pub returns-in-In-clause-notes : goal.returns-in-In-clause-notes
-returns-in-In-clause-notes g c = c.line_by-in-In.ensures.notes
-
-pub returns-in-In-clause-spare : goal.returns-in-In-clause-spare
-returns-in-In-clause-spare g c = c.line_by-in-In.ensures.spare
+pub returns-in-In-clause-rest : goal.returns-in-In-clause-rest
+returns-in-In-clause-rest g c = c.line_by-in-In.ensures.rest
 
 pub returns-in-In-clause-name : goal.returns-in-In-clause-name
 returns-in-In-clause-name g c = c.line_by-in-In.ensures.name
@@ -69,14 +52,8 @@ returns-in-In-clause-name g c = c.line_by-in-In.ensures.name
 pub asked_of-requires-clause-p_in : goal.asked_of-requires-clause-p_in
 asked_of-requires-clause-p_in g c = c.requires.placed.first
 
-pub returns-in-Both-clause-owner : goal.returns-in-Both-clause-owner
-returns-in-Both-clause-owner g c = c.lines_both.ensures.owner
-
-pub returns-in-Both-clause-notes : goal.returns-in-Both-clause-notes
-returns-in-Both-clause-notes g c = c.lines_both.ensures.notes
-
-pub returns-in-Both-clause-spare : goal.returns-in-Both-clause-spare
-returns-in-Both-clause-spare g c = c.lines_both.ensures.spare
+pub returns-in-Both-clause-rest : goal.returns-in-Both-clause-rest
+returns-in-Both-clause-rest g c = c.lines_both.ensures.rest
 
 pub returns-in-Both-clause-name : goal.returns-in-Both-clause-name
 returns-in-Both-clause-name g c = c.lines_both.ensures.name

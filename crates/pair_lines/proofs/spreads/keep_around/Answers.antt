@@ -1,4 +1,4 @@
-use Rattle.std.proofs.Common.{refl, ◌≡◌, ◌<◌, ◌+◌, ℕ, true, sym, subst, ◌∙◌, arith, inl, inr, ◌⊎◌}
+use Rattle.std.proofs.Common.{◌≡◌, ◌<◌, ◌+◌, ℕ, true, sym, subst, ◌∙◌, arith, inl, inr, ◌⊎◌}
 use Rattle.graph_theory.specs.Graph.{size}
 use Rattle.graph_theory.specs.Neighbours.{is_neighbour}
 use Rattle.log_growth.proofs.Going.{goes_same, goes_then}
@@ -9,6 +9,7 @@ use Rattle.std.specs.Prelude.{IsSome}
 use Rattle.std.proofs.lemmas.Bool.{cases_order, true≢false}
 use Rattle.graph_theory.specs.Embedding.{Problem}
 use Rattle.pair_lines.specs.Choices.{Names, IsNext, entry_at, pair_key, pair_name}
+use Rattle.journals.proofs.Rests.{rest_same, rest_then}
 use Rattle.pair_lines.proofs.spreads.keep_around.Goals as goal
 
 -- The names that stand before w, that of w, and none from there to the next.
@@ -23,9 +24,7 @@ there_more q old new p r t w next stay here is before v low near = by (cases_ord
 
 pub loop-w-init : goal.loop-w-init
 loop-w-init g c = record {
-  owner = refl;
-  notes = refl;
-  spare = refl;
+  rest = rest_same;
   goes = λ f frame. goes_same f (g.K.Keeper.kept c.args.keeper.now) (AreSpreads f c.args.known.now c.args.spreads.now);
   there = λ v low near. absurd (none_before (is_neighbour c.args.known.now.target c.args.t) (size c.args.known.now.target) c.next_near-w.result v c.next_near-w.ensures low near);
   within = c.next_near-w.ensures.high;
@@ -33,37 +32,23 @@ loop-w-init g c = record {
 
 pub loop-w-preserved : goal.loop-w-preserved
 loop-w-preserved g c = record {
-  owner = c.keep_spread.ensures.owner ∙ c.loop-w.invariant.owner;
-  notes = c.keep_spread.ensures.notes ∙ c.loop-w.invariant.notes;
-  spare = c.keep_spread.ensures.spare ∙ c.loop-w.invariant.spare;
-  goes = λ f frame. goes_then f (g.K.Keeper.kept c.args.keeper.now) (g.K.Keeper.kept c.loop-w.keeper) (g.K.Keeper.kept c.keep_spread.new.keeper) (AreSpreads f c.args.known.now c.args.spreads.now) (AreSpreads f c.args.known.now c.loop-w.spreads) (AreSpreads f c.args.known.now c.keep_spread.new.spreads) (c.loop-w.invariant.goes f frame) (c.keep_spread.ensures.goes f (subst (λ (o : ℕ). HasEncoding c.args.known.now o f) (sym c.loop-w.invariant.owner) frame));
+  rest = rest_then c.loop-w.invariant.rest c.keep_spread.ensures.rest;
+  goes = λ f frame. goes_then f (g.K.Keeper.kept c.args.keeper.now) (g.K.Keeper.kept c.loop-w.keeper) (g.K.Keeper.kept c.keep_spread.new.keeper) (AreSpreads f c.args.known.now c.args.spreads.now) (AreSpreads f c.args.known.now c.loop-w.spreads) (AreSpreads f c.args.known.now c.keep_spread.new.spreads) (c.loop-w.invariant.goes f frame) (c.keep_spread.ensures.goes f (subst (λ (o : ℕ). HasEncoding c.args.known.now o f) (sym c.loop-w.invariant.rest.owner) frame));
   there = there_more c.args.known.now c.loop-w.spreads c.keep_spread.new.spreads c.args.pair.p c.args.pair.r c.args.t c.loop-w.w c.next_near-w-in-loop-w.result c.keep_spread.ensures.stay c.in_ok-keep_spread.ensures.there c.next_near-w-in-loop-w.ensures c.loop-w.invariant.there;
   within = c.next_near-w-in-loop-w.ensures.high;
 }
 
-pub returns-in_err-keep_spread-clause-owner : goal.returns-in_err-keep_spread-clause-owner
-returns-in_err-keep_spread-clause-owner g c = c.keep_spread.ensures.owner ∙ c.loop-w.invariant.owner
-
-pub returns-in_err-keep_spread-clause-notes : goal.returns-in_err-keep_spread-clause-notes
-returns-in_err-keep_spread-clause-notes g c = c.keep_spread.ensures.notes ∙ c.loop-w.invariant.notes
-
-pub returns-in_err-keep_spread-clause-spare : goal.returns-in_err-keep_spread-clause-spare
-returns-in_err-keep_spread-clause-spare g c = c.keep_spread.ensures.spare ∙ c.loop-w.invariant.spare
+pub returns-in_err-keep_spread-clause-rest : goal.returns-in_err-keep_spread-clause-rest
+returns-in_err-keep_spread-clause-rest g c = rest_then c.loop-w.invariant.rest c.keep_spread.ensures.rest
 
 pub returns-in_err-keep_spread-clause-goes : goal.returns-in_err-keep_spread-clause-goes
-returns-in_err-keep_spread-clause-goes g c = λ f frame. goes_then f (g.K.Keeper.kept c.args.keeper.now) (g.K.Keeper.kept c.loop-w.keeper) (g.K.Keeper.kept c.keep_spread.new.keeper) (AreSpreads f c.args.known.now c.args.spreads.now) (AreSpreads f c.args.known.now c.loop-w.spreads) (AreSpreads f c.args.known.now c.keep_spread.new.spreads) (c.loop-w.invariant.goes f frame) (c.keep_spread.ensures.goes f (subst (λ (o : ℕ). HasEncoding c.args.known.now o f) (sym c.loop-w.invariant.owner) frame))
+returns-in_err-keep_spread-clause-goes g c = λ f frame. goes_then f (g.K.Keeper.kept c.args.keeper.now) (g.K.Keeper.kept c.loop-w.keeper) (g.K.Keeper.kept c.keep_spread.new.keeper) (AreSpreads f c.args.known.now c.args.spreads.now) (AreSpreads f c.args.known.now c.loop-w.spreads) (AreSpreads f c.args.known.now c.keep_spread.new.spreads) (c.loop-w.invariant.goes f frame) (c.keep_spread.ensures.goes f (subst (λ (o : ℕ). HasEncoding c.args.known.now o f) (sym c.loop-w.invariant.rest.owner) frame))
 
 pub returns-in_err-keep_spread-clause-there : goal.returns-in_err-keep_spread-clause-there
 returns-in_err-keep_spread-clause-there g c = on_ok_failed c.from_residual.result _ _ c.from_residual.ensures.1
 
-pub returns-clause-owner : goal.returns-clause-owner
-returns-clause-owner g c = c.loop-w.invariant.owner
-
-pub returns-clause-notes : goal.returns-clause-notes
-returns-clause-notes g c = c.loop-w.invariant.notes
-
-pub returns-clause-spare : goal.returns-clause-spare
-returns-clause-spare g c = c.loop-w.invariant.spare
+pub returns-clause-rest : goal.returns-clause-rest
+returns-clause-rest g c = c.loop-w.invariant.rest
 
 pub returns-clause-goes : goal.returns-clause-goes
 returns-clause-goes g c = c.loop-w.invariant.goes

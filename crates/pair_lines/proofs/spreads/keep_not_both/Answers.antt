@@ -4,6 +4,7 @@ use Rattle.log_growth.proofs.Going.{goes_stay}
 use Rattle.pair_lines.specs.Claims.{AreSpreads, IsNotBoth}
 use Rattle.pair_lines.proofs.Spreading.{not_both_beside, not_both_refused, not_both_added}
 use Rattle.pair_lines.proofs.Failing.{if_ok_failed}
+use Rattle.journals.proofs.Rests.{rest_same}
 use Rattle.pair_lines.proofs.spreads.keep_not_both.Goals as goal
 
 pub returns-in-Some-clause-goes : goal.returns-in-Some-clause-goes
@@ -29,14 +30,8 @@ returns-clause-goes g c = λ f frame.
     (let o = c.requires.order in let l = c.requires.n_in in omega (arith, o, l)) c.requires.n_in c.requires.w_in c.in_ok-add_not_both.ensures.added
     (not_both_beside f c.args.known.now c.args.spreads.now c.args.m c.args.n c.args.w (Ok c.in_ok-name.name) (g.K.Keeper.kept c.args.keeper.now) (g.K.Keeper.kept c.make_not_both.new.keeper) (c.in_ok-name.ensures.goes f frame))
 
-pub returns-in-Some-clause-owner : goal.returns-in-Some-clause-owner
-returns-in-Some-clause-owner g c = refl
-
-pub returns-in-Some-clause-notes : goal.returns-in-Some-clause-notes
-returns-in-Some-clause-notes g c = refl
-
-pub returns-in-Some-clause-spare : goal.returns-in-Some-clause-spare
-returns-in-Some-clause-spare g c = refl
+pub returns-in-Some-clause-rest : goal.returns-in-Some-clause-rest
+returns-in-Some-clause-rest g c = rest_same
 
 pub returns-in-Some-clause-stay : goal.returns-in-Some-clause-stay
 returns-in-Some-clause-stay g c = λ k h. h
@@ -44,14 +39,8 @@ returns-in-Some-clause-stay g c = λ k h. h
 pub returns-in-Some-clause-name : goal.returns-in-Some-clause-name
 returns-in-Some-clause-name g c = c.in-Some.ensures.fits
 
-pub returns-in_err-name-clause-owner : goal.returns-in_err-name-clause-owner
-returns-in_err-name-clause-owner g c = c.make_not_both.ensures.owner
-
-pub returns-in_err-name-clause-notes : goal.returns-in_err-name-clause-notes
-returns-in_err-name-clause-notes g c = c.make_not_both.ensures.notes
-
-pub returns-in_err-name-clause-spare : goal.returns-in_err-name-clause-spare
-returns-in_err-name-clause-spare g c = c.make_not_both.ensures.spare
+pub returns-in_err-name-clause-rest : goal.returns-in_err-name-clause-rest
+returns-in_err-name-clause-rest g c = c.make_not_both.ensures.rest
 
 pub returns-in_err-name-clause-stay : goal.returns-in_err-name-clause-stay
 returns-in_err-name-clause-stay g c = λ k h. h
@@ -59,26 +48,14 @@ returns-in_err-name-clause-stay g c = λ k h. h
 pub returns-in_err-name-clause-name : goal.returns-in_err-name-clause-name
 returns-in_err-name-clause-name g c = if_ok_failed c.from_residual.result _ _ c.from_residual.ensures.1
 
-pub returns-in_err-add_not_both-clause-owner : goal.returns-in_err-add_not_both-clause-owner
-returns-in_err-add_not_both-clause-owner g c = c.make_not_both.ensures.owner
-
-pub returns-in_err-add_not_both-clause-notes : goal.returns-in_err-add_not_both-clause-notes
-returns-in_err-add_not_both-clause-notes g c = c.make_not_both.ensures.notes
-
-pub returns-in_err-add_not_both-clause-spare : goal.returns-in_err-add_not_both-clause-spare
-returns-in_err-add_not_both-clause-spare g c = c.make_not_both.ensures.spare
+pub returns-in_err-add_not_both-clause-rest : goal.returns-in_err-add_not_both-clause-rest
+returns-in_err-add_not_both-clause-rest g c = c.make_not_both.ensures.rest
 
 pub returns-in_err-add_not_both-clause-name : goal.returns-in_err-add_not_both-clause-name
 returns-in_err-add_not_both-clause-name g c = if_ok_failed c.from_residual-in_err-add_not_both.result _ _ c.from_residual-in_err-add_not_both.ensures.1
 
-pub returns-clause-owner : goal.returns-clause-owner
-returns-clause-owner g c = c.make_not_both.ensures.owner
-
-pub returns-clause-notes : goal.returns-clause-notes
-returns-clause-notes g c = c.make_not_both.ensures.notes
-
-pub returns-clause-spare : goal.returns-clause-spare
-returns-clause-spare g c = c.make_not_both.ensures.spare
+pub returns-clause-rest : goal.returns-clause-rest
+returns-clause-rest g c = c.make_not_both.ensures.rest
 
 pub returns-clause-name : goal.returns-clause-name
 returns-clause-name g c = c.in_ok-name.ensures.name

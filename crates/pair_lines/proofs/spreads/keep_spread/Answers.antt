@@ -1,4 +1,4 @@
-use Rattle.std.proofs.Common.{Result, subst, refl, ◌∙◌}
+use Rattle.std.proofs.Common.{Result, subst}
 use Rattle.std.specs.declared.alloc.AllocError.{AllocError}
 use Rattle.log_theory.specs.declared.step.Name.{Name}
 use Rattle.pair_line_theory.specs.Rows.{spread_form}
@@ -7,6 +7,7 @@ use Rattle.log_growth.proofs.Going.{goes_as, goes_same}
 use Rattle.pair_lines.specs.Claims.{AreSpreads, HasSpreadOps}
 use Rattle.pair_lines.proofs.Spreading.{spread_goes, spreads_put}
 use Rattle.pair_lines.proofs.Failing.{on_ok_failed}
+use Rattle.journals.proofs.Rests.{rest_same, rest_then}
 use Rattle.pair_lines.proofs.spreads.keep_spread.Goals as goal
 
 pub returns-then-is_some-clause-goes : goal.returns-then-is_some-clause-goes
@@ -24,7 +25,7 @@ returns-in_err-name-clause-goes g c = λ f frame.
     (λ forms. IsKept f c.keep.result (spread_form c.args.known.now c.args.pair.p c.args.pair.r c.args.w) forms × AreSpreads f c.args.known.now c.ops_at.new.spreads forms)
     (AreSpreads f c.args.known.now c.args.spreads.now) (AreSpreads f c.args.known.now c.ops_at.new.spreads) (λ forms h. h) (λ forms k. k.1)
     (spread_goes c.args.known.now (g.K.Keeper.owner c.args.keeper.now) (g.K.Keeper.owner c.ops_at.new.keeper) f (record { owner = 0; number = 0 }) c.args.pair.p c.args.pair.r c.args.w c.in_ok-ops.ops c.args.spreads.now c.ops_at.new.spreads c.keep.result
-    (g.K.Keeper.kept c.args.keeper.now) (g.K.Keeper.kept c.ops_at.new.keeper) (g.K.Keeper.kept c.keep.new.self) frame c.ops_at.ensures.owner (c.in_ok-ops.ensures.goes f frame) c.in_ok-ops.ensures.ops c.keep.ensures.kept)
+    (g.K.Keeper.kept c.args.keeper.now) (g.K.Keeper.kept c.ops_at.new.keeper) (g.K.Keeper.kept c.keep.new.self) frame c.ops_at.ensures.rest.owner (c.in_ok-ops.ensures.goes f frame) c.in_ok-ops.ensures.ops c.keep.ensures.kept)
 
 pub returns-clause-goes : goal.returns-clause-goes
 returns-clause-goes g c = λ f frame.
@@ -34,28 +35,16 @@ returns-clause-goes g c = λ f frame.
     (λ forms k. spreads_put f c.args.known.now c.in_limits.ensures c.ops_at.new.spreads c.add.new.self forms c.args.pair.p c.args.pair.r c.args.w c.in_ok-name.name c.add.result c.requires.pair.first_in c.requires.pair.second_in c.requires.w_in c.add.ensures.added c.add.ensures.refused
     (subst (λ (x : Result Name AllocError). IsKept f x (spread_form c.args.known.now c.args.pair.p c.args.pair.r c.args.w) forms) c.in_ok-name.was k.0) k.1)
     (spread_goes c.args.known.now (g.K.Keeper.owner c.args.keeper.now) (g.K.Keeper.owner c.ops_at.new.keeper) f (record { owner = 0; number = 0 }) c.args.pair.p c.args.pair.r c.args.w c.in_ok-ops.ops c.args.spreads.now c.ops_at.new.spreads c.keep.result
-    (g.K.Keeper.kept c.args.keeper.now) (g.K.Keeper.kept c.ops_at.new.keeper) (g.K.Keeper.kept c.keep.new.self) frame c.ops_at.ensures.owner (c.in_ok-ops.ensures.goes f frame) c.in_ok-ops.ensures.ops c.keep.ensures.kept)
+    (g.K.Keeper.kept c.args.keeper.now) (g.K.Keeper.kept c.ops_at.new.keeper) (g.K.Keeper.kept c.keep.new.self) frame c.ops_at.ensures.rest.owner (c.in_ok-ops.ensures.goes f frame) c.in_ok-ops.ensures.ops c.keep.ensures.kept)
 
-pub returns-then-is_some-clause-owner : goal.returns-then-is_some-clause-owner
-returns-then-is_some-clause-owner g c = refl
-
-pub returns-then-is_some-clause-notes : goal.returns-then-is_some-clause-notes
-returns-then-is_some-clause-notes g c = refl
-
-pub returns-then-is_some-clause-spare : goal.returns-then-is_some-clause-spare
-returns-then-is_some-clause-spare g c = refl
+pub returns-then-is_some-clause-rest : goal.returns-then-is_some-clause-rest
+returns-then-is_some-clause-rest g c = rest_same
 
 pub returns-then-is_some-clause-stay : goal.returns-then-is_some-clause-stay
 returns-then-is_some-clause-stay g c = λ k h. h
 
-pub returns-in_err-ops-clause-owner : goal.returns-in_err-ops-clause-owner
-returns-in_err-ops-clause-owner g c = c.ops_at.ensures.owner
-
-pub returns-in_err-ops-clause-notes : goal.returns-in_err-ops-clause-notes
-returns-in_err-ops-clause-notes g c = c.ops_at.ensures.notes
-
-pub returns-in_err-ops-clause-spare : goal.returns-in_err-ops-clause-spare
-returns-in_err-ops-clause-spare g c = c.ops_at.ensures.spare
+pub returns-in_err-ops-clause-rest : goal.returns-in_err-ops-clause-rest
+returns-in_err-ops-clause-rest g c = c.ops_at.ensures.rest
 
 pub returns-in_err-ops-clause-stay : goal.returns-in_err-ops-clause-stay
 returns-in_err-ops-clause-stay g c = c.ops_at.ensures.stay
@@ -63,14 +52,8 @@ returns-in_err-ops-clause-stay g c = c.ops_at.ensures.stay
 pub returns-in_err-ops-clause-there : goal.returns-in_err-ops-clause-there
 returns-in_err-ops-clause-there g c = on_ok_failed c.from_residual.result _ _ c.from_residual.ensures.1
 
-pub returns-in_err-name-clause-owner : goal.returns-in_err-name-clause-owner
-returns-in_err-name-clause-owner g c = c.keep.ensures.owner ∙ c.ops_at.ensures.owner
-
-pub returns-in_err-name-clause-notes : goal.returns-in_err-name-clause-notes
-returns-in_err-name-clause-notes g c = c.keep.ensures.notes ∙ c.ops_at.ensures.notes
-
-pub returns-in_err-name-clause-spare : goal.returns-in_err-name-clause-spare
-returns-in_err-name-clause-spare g c = c.keep.ensures.spare ∙ c.ops_at.ensures.spare
+pub returns-in_err-name-clause-rest : goal.returns-in_err-name-clause-rest
+returns-in_err-name-clause-rest g c = rest_then c.ops_at.ensures.rest c.keep.ensures.rest
 
 pub returns-in_err-name-clause-stay : goal.returns-in_err-name-clause-stay
 returns-in_err-name-clause-stay g c = c.ops_at.ensures.stay
@@ -78,14 +61,8 @@ returns-in_err-name-clause-stay g c = c.ops_at.ensures.stay
 pub returns-in_err-name-clause-there : goal.returns-in_err-name-clause-there
 returns-in_err-name-clause-there g c = on_ok_failed c.from_residual-in_err-name.result _ _ c.from_residual-in_err-name.ensures.1
 
-pub returns-clause-owner : goal.returns-clause-owner
-returns-clause-owner g c = c.keep.ensures.owner ∙ c.ops_at.ensures.owner
-
-pub returns-clause-notes : goal.returns-clause-notes
-returns-clause-notes g c = c.keep.ensures.notes ∙ c.ops_at.ensures.notes
-
-pub returns-clause-spare : goal.returns-clause-spare
-returns-clause-spare g c = c.keep.ensures.spare ∙ c.ops_at.ensures.spare
+pub returns-clause-rest : goal.returns-clause-rest
+returns-clause-rest g c = rest_then c.ops_at.ensures.rest c.keep.ensures.rest
 
 pub add-requires : goal.add-requires
 add-requires g c = c.in_ok-name.ensures.name

@@ -51,5 +51,5 @@ returns-clause-goes g c = λ w pairs frame lower.
     (g.K.Keeper.kept c.keep_clause.new.keeper) c.in_ok-sum.sum c.push.new.self.items c.keep_clause.result (refusal c.args.self.now c.args.p c.args.u) c.in_ok-push.ensures.items
     (λ f gs add. c.in_ok-sum.ensures.goes w f gs frame.owner_is add)
     (c.keep_clause.ensures.goes w (refused_pairs c.args.self.now pairs ++ summed (crowd_forms c.args.self.now (crowd_block c.args.self.now c.args.p) c.args.p c.args.u (high_neighbours c.args.self.now.pattern c.args.p c.args.d) (high_places c.args.self.now c.args.u c.args.d)) ∷ [])
-    (frame_for_moved c.args.self.now (g.K.Keeper.owner c.args.keeper.now) (g.K.Keeper.owner c.keep_sum.new.keeper) w c.in_ok-sum.ensures.owner frame)
+    (frame_for_moved c.args.self.now (g.K.Keeper.owner c.args.keeper.now) (g.K.Keeper.owner c.keep_sum.new.keeper) w c.in_ok-sum.ensures.rest.owner frame)
     (crowd_refutes c.args.self.now c.args.p c.args.u c.args.d pairs c.requires.fewer lower))

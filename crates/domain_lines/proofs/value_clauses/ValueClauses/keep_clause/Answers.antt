@@ -1,4 +1,4 @@
-use Rattle.std.proofs.Common.{refl, ◌≡◌, ap, sym, subst, ◌∙◌, [], ◌∷◌, ◌++◌, List, ℕ, true, ◌<◌, ◌^◌}
+use Rattle.std.proofs.Common.{refl, arith, ◌≡◌, ap, sym, subst, ◌∙◌, [], ◌∷◌, ◌++◌, List, ℕ, true, ◌<◌, ◌^◌}
 use Rattle.proof_theory.specs.declared.literal.Literal.{Literal}
 use Rattle.log_theory.specs.declared.step.Name.{Name}
 use Rattle.log_theory.specs.declared.step.Ref.{Ref}
@@ -28,4 +28,4 @@ returns-clause-goes g c = λ w fs frame refuted.
     (subst AreLiterals (sym lits) (subst (λ (v : ℕ). v < 2 ^ 32) c.variable-variable.ensures c.variable-variable.type_inv, tt), subst AreRefs (sym c.new-2.ensures) c.requires.fits)
     (λ forms named. subst (λ (ls : List Literal). MayFollow w forms (U name ls c.new-2.result) (refusal c.args.self.now c.args.p c.args.u)) (sym lits)
     (subst (λ (rs : List Ref). MayFollow w forms (U name (not_there c.args.self.now (c.args.p, c.args.u) ∷ []) rs) (refusal c.args.self.now c.args.p c.args.u)) (sym c.new-2.ensures)
-    (clause_follows w forms name (not_there c.args.self.now (c.args.p, c.args.u) ∷ []) c.args.refs.items fs named refl (variable_in c.args.self.now w.problem c.args.p c.args.u frame.variables_are c.requires.p_in c.requires.u_in) refuted)))
+    (clause_follows w forms name (not_there c.args.self.now (c.args.p, c.args.u) ∷ []) c.args.refs.items fs named refl (variable_in c.args.self.now w.problem c.args.p c.args.u frame.variables_are c.requires.p_in c.requires.u_in) refuted (omega arith))))

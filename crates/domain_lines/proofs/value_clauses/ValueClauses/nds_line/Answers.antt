@@ -55,7 +55,7 @@ returns-clause-goes g c = λ w frame.
     (λ forms has. has)
     (c.in_ok-push_pairs.ensures.goes w [] frame))
     (c.crowd_line.ensures.goes w (all_pairs c.deref.result.now c.deref-2.result.now)
-    (frame_for_moved c.args.self.now (g.K.Keeper.owner c.args.keeper.now) (g.K.Keeper.owner c.push_pairs.new.keeper) w c.in_ok-push_pairs.ensures.owner frame)
+    (frame_for_moved c.args.self.now (g.K.Keeper.owner c.args.keeper.now) (g.K.Keeper.owner c.push_pairs.new.keeper) w c.in_ok-push_pairs.ensures.rest.owner frame)
     (all_lower c.args.self.now c.args.p c.args.u c.degree_at-d.result c.deref.result.now c.deref-2.result.now
     (c.deref.ensures.value ∙ (rw c.self.view_is at c.in_ok-vertices.ensures))
     (c.deref-2.ensures.value ∙ (rw c.self.view_is at c.in_ok-lower.ensures))))

@@ -14,6 +14,7 @@ use Rattle.pair_lines.proofs.Good.{good_served}
 use Rattle.pair_lines.proofs.Turning.{frame_of}
 use Rattle.pair_lines.proofs.Following.{edge_found, edge_there, edge_kept, edge_refused, row_refused, row_added, row_there_of}
 use Rattle.pair_lines.proofs.Failing.{if_ok_failed}
+use Rattle.journals.proofs.Rests.{rest_same}
 use Rattle.pair_lines.proofs.pair_lines.PairLines.row.Goals as goal
 
 -- ---- by edges alone
@@ -98,131 +99,65 @@ returns-clause-goes g c = λ w frame.
     (row_added w c.args.q.now (subst (λ (x : Problem). IsWithin x) c.new-known.ensures c.in_limits.ensures) c.args.pair.p c.args.pair.t c.args.pair.r (g.K.Keeper.kept c.args.keeper.now) (g.K.Keeper.kept c.row_line_with.new.keeper) c.args.self.now
     (record { rows = c.add-2.new.self; edge_rows = c.args.self.now.edge_rows; spreads = c.row_line_with.new.spreads }) c.in_ok-name-2.name c.requires.placed.first c.requires.placed.place c.requires.placed.second c.in_ok-add-2.ensures.added refl (c.in_ok-name-2.ensures.goes w frame))
 
-pub returns-in-Some-clause-owner : goal.returns-in-Some-clause-owner
-returns-in-Some-clause-owner g c = refl
-
-pub returns-in-Some-clause-notes : goal.returns-in-Some-clause-notes
-returns-in-Some-clause-notes g c = refl
-
-pub returns-in-Some-clause-spare : goal.returns-in-Some-clause-spare
-returns-in-Some-clause-spare g c = refl
+pub returns-in-Some-clause-rest : goal.returns-in-Some-clause-rest
+returns-in-Some-clause-rest g c = rest_same
 
 pub returns-in-Some-clause-fits : goal.returns-in-Some-clause-fits
 returns-in-Some-clause-fits g c = c.in-Some.ensures.fits
 
-pub returns-in-None-clause-owner : goal.returns-in-None-clause-owner
-returns-in-None-clause-owner g c = refl
+pub returns-in-None-clause-rest : goal.returns-in-None-clause-rest
+returns-in-None-clause-rest g c = rest_same
 
-pub returns-in-None-clause-notes : goal.returns-in-None-clause-notes
-returns-in-None-clause-notes g c = refl
-
-pub returns-in-None-clause-spare : goal.returns-in-None-clause-spare
-returns-in-None-clause-spare g c = refl
-
-pub returns-in_err-name-clause-owner : goal.returns-in_err-name-clause-owner
-returns-in_err-name-clause-owner g c = c.keep_edge_row.ensures.owner
-
-pub returns-in_err-name-clause-notes : goal.returns-in_err-name-clause-notes
-returns-in_err-name-clause-notes g c = c.keep_edge_row.ensures.notes
-
-pub returns-in_err-name-clause-spare : goal.returns-in_err-name-clause-spare
-returns-in_err-name-clause-spare g c = c.keep_edge_row.ensures.spare
+pub returns-in_err-name-clause-rest : goal.returns-in_err-name-clause-rest
+returns-in_err-name-clause-rest g c = c.keep_edge_row.ensures.rest
 
 pub returns-in_err-name-clause-fits : goal.returns-in_err-name-clause-fits
 returns-in_err-name-clause-fits g c = if_ok_failed c.from_residual.result _ _ c.from_residual.ensures.1
 
-pub returns-in_err-add-clause-owner : goal.returns-in_err-add-clause-owner
-returns-in_err-add-clause-owner g c = c.keep_edge_row.ensures.owner
-
-pub returns-in_err-add-clause-notes : goal.returns-in_err-add-clause-notes
-returns-in_err-add-clause-notes g c = c.keep_edge_row.ensures.notes
-
-pub returns-in_err-add-clause-spare : goal.returns-in_err-add-clause-spare
-returns-in_err-add-clause-spare g c = c.keep_edge_row.ensures.spare
+pub returns-in_err-add-clause-rest : goal.returns-in_err-add-clause-rest
+returns-in_err-add-clause-rest g c = c.keep_edge_row.ensures.rest
 
 pub returns-in_err-add-clause-fits : goal.returns-in_err-add-clause-fits
 returns-in_err-add-clause-fits g c = if_ok_failed c.from_residual-in_err-add.result _ _ c.from_residual-in_err-add.ensures.1
 
-pub returns-then-by_edges-clause-owner : goal.returns-then-by_edges-clause-owner
-returns-then-by_edges-clause-owner g c = c.keep_edge_row.ensures.owner
-
-pub returns-then-by_edges-clause-notes : goal.returns-then-by_edges-clause-notes
-returns-then-by_edges-clause-notes g c = c.keep_edge_row.ensures.notes
-
-pub returns-then-by_edges-clause-spare : goal.returns-then-by_edges-clause-spare
-returns-then-by_edges-clause-spare g c = c.keep_edge_row.ensures.spare
+pub returns-then-by_edges-clause-rest : goal.returns-then-by_edges-clause-rest
+returns-then-by_edges-clause-rest g c = c.keep_edge_row.ensures.rest
 
 pub returns-then-by_edges-clause-fits : goal.returns-then-by_edges-clause-fits
 returns-then-by_edges-clause-fits g c = c.in_ok-name.ensures.name
 
-pub returns-in-Some-find-clause-owner : goal.returns-in-Some-find-clause-owner
-returns-in-Some-find-clause-owner g c = refl
-
-pub returns-in-Some-find-clause-notes : goal.returns-in-Some-find-clause-notes
-returns-in-Some-find-clause-notes g c = refl
-
-pub returns-in-Some-find-clause-spare : goal.returns-in-Some-find-clause-spare
-returns-in-Some-find-clause-spare g c = refl
+pub returns-in-Some-find-clause-rest : goal.returns-in-Some-find-clause-rest
+returns-in-Some-find-clause-rest g c = rest_same
 
 pub returns-in-Some-find-clause-fits : goal.returns-in-Some-find-clause-fits
 returns-in-Some-find-clause-fits g c = c.in-Some-find.ensures.fits
 
-pub returns-in_err-asked-clause-owner : goal.returns-in_err-asked-clause-owner
-returns-in_err-asked-clause-owner g c = refl
-
-pub returns-in_err-asked-clause-notes : goal.returns-in_err-asked-clause-notes
-returns-in_err-asked-clause-notes g c = refl
-
-pub returns-in_err-asked-clause-spare : goal.returns-in_err-asked-clause-spare
-returns-in_err-asked-clause-spare g c = refl
+pub returns-in_err-asked-clause-rest : goal.returns-in_err-asked-clause-rest
+returns-in_err-asked-clause-rest g c = rest_same
 
 pub returns-in_err-asked-clause-fits : goal.returns-in_err-asked-clause-fits
 returns-in_err-asked-clause-fits g c = if_ok_failed c.from_residual-in_err-asked.result _ _ c.from_residual-in_err-asked.ensures.1
 
-pub returns-in-Some-line_there-clause-owner : goal.returns-in-Some-line_there-clause-owner
-returns-in-Some-line_there-clause-owner g c = refl
-
-pub returns-in-Some-line_there-clause-notes : goal.returns-in-Some-line_there-clause-notes
-returns-in-Some-line_there-clause-notes g c = refl
-
-pub returns-in-Some-line_there-clause-spare : goal.returns-in-Some-line_there-clause-spare
-returns-in-Some-line_there-clause-spare g c = refl
+pub returns-in-Some-line_there-clause-rest : goal.returns-in-Some-line_there-clause-rest
+returns-in-Some-line_there-clause-rest g c = rest_same
 
 pub returns-in-Some-line_there-clause-fits : goal.returns-in-Some-line_there-clause-fits
 returns-in-Some-line_there-clause-fits g c = c.in-Some-line_there.ensures.fits
 
-pub returns-in_err-name-2-clause-owner : goal.returns-in_err-name-2-clause-owner
-returns-in_err-name-2-clause-owner g c = c.row_line_with.ensures.owner
-
-pub returns-in_err-name-2-clause-notes : goal.returns-in_err-name-2-clause-notes
-returns-in_err-name-2-clause-notes g c = c.row_line_with.ensures.notes
-
-pub returns-in_err-name-2-clause-spare : goal.returns-in_err-name-2-clause-spare
-returns-in_err-name-2-clause-spare g c = c.row_line_with.ensures.spare
+pub returns-in_err-name-2-clause-rest : goal.returns-in_err-name-2-clause-rest
+returns-in_err-name-2-clause-rest g c = c.row_line_with.ensures.rest
 
 pub returns-in_err-name-2-clause-fits : goal.returns-in_err-name-2-clause-fits
 returns-in_err-name-2-clause-fits g c = if_ok_failed c.from_residual-in_err-name-2.result _ _ c.from_residual-in_err-name-2.ensures.1
 
-pub returns-in_err-add-2-clause-owner : goal.returns-in_err-add-2-clause-owner
-returns-in_err-add-2-clause-owner g c = c.row_line_with.ensures.owner
-
-pub returns-in_err-add-2-clause-notes : goal.returns-in_err-add-2-clause-notes
-returns-in_err-add-2-clause-notes g c = c.row_line_with.ensures.notes
-
-pub returns-in_err-add-2-clause-spare : goal.returns-in_err-add-2-clause-spare
-returns-in_err-add-2-clause-spare g c = c.row_line_with.ensures.spare
+pub returns-in_err-add-2-clause-rest : goal.returns-in_err-add-2-clause-rest
+returns-in_err-add-2-clause-rest g c = c.row_line_with.ensures.rest
 
 pub returns-in_err-add-2-clause-fits : goal.returns-in_err-add-2-clause-fits
 returns-in_err-add-2-clause-fits g c = if_ok_failed c.from_residual-in_err-add-2.result _ _ c.from_residual-in_err-add-2.ensures.1
 
-pub returns-clause-owner : goal.returns-clause-owner
-returns-clause-owner g c = c.row_line_with.ensures.owner
-
-pub returns-clause-notes : goal.returns-clause-notes
-returns-clause-notes g c = c.row_line_with.ensures.notes
-
-pub returns-clause-spare : goal.returns-clause-spare
-returns-clause-spare g c = c.row_line_with.ensures.spare
+pub returns-clause-rest : goal.returns-clause-rest
+returns-clause-rest g c = c.row_line_with.ensures.rest
 
 pub returns-clause-fits : goal.returns-clause-fits
 returns-clause-fits g c = c.in_ok-name-2.ensures.name
