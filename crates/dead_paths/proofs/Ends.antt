@@ -2,9 +2,12 @@
 use Rattle.std.proofs.Common.{◌≡◌, ℕ, zero, suc, ◌*◌, ◌^◌, ◌<◌, ◌≤◌, Bool, false, List, [], ◌∷◌, ◌++◌, length, drop, get_or, Option, Some, None, Result, Ok, Err, OnOk, is_some, refl, sym, ap, subst, ◌∙◌, append_assoc, length-append, arith}
 use Rattle.std.specs.Prelude.{map}
 use Rattle.std.proofs.Math.Nat.{mul-le-mul}
+use Rattle.std.proofs.lemmas.List.{length-map}
 use Rattle.std.specs.declared.alloc.AllocError.{AllocError}
 use Rattle.graph_theory.specs.Graph.{size}
 use Rattle.graph_theory.specs.Embedding.{Problem}
+use Rattle.search_theory.specs.Account.{InRange}
+use Rattle.fail_account.proofs.Distinct.{path_few}
 use Rattle.proof_theory.specs.Forms.{Form}
 use Rattle.log_theory.specs.declared.step.Name.{Name}
 use Rattle.log_theory.specs.declared.step.Ref.{Ref}
@@ -31,10 +34,11 @@ use Rattle.journal_theory.specs.Journals.{named}
 use Rattle.journals.specs.Keeping.{Keeps}
 use Rattle.log_growth.specs.Frames.{Frame, IsFrameOf, AreNamed, MayFollow, Goes, Lasts, IsKept}
 use Rattle.log_growth.proofs.Going.{goes_stay, goes_as, goes_then, goes_beside}
+use Rattle.log_growth.proofs.Steps.{clause_small}
 use Rattle.log_growth.proofs.Naming.{are_named_later, named_behind, all_found, named_rows}
 use Rattle.dead_paths.specs.declared.room.ChosenEntry.{ChosenEntry}
-use Rattle.dead_paths.specs.declared.dead_line.PathEnd.{PathEnd}
-use Rattle.dead_paths.specs.declared.dead_line.PathEnd.TheVariants as path_end
+use Rattle.recorder.specs.declared.change.DeadEnd.{DeadEnd}
+use Rattle.recorder.specs.declared.change.DeadEnd.TheVariants as dead_end
 use Rattle.dead_paths.specs.Making.{AreRowsNamed}
 use Rattle.dead_paths.specs.Choosing.{chosen_of, chosen_in, IsOfRow, AreNameable}
 use Rattle.dead_paths.specs.Explaining.{IsLimited, Explained, Knowing, AreRefuted, end_by, IsEndIn, IsChosenFor, IsBegun, EndExplained, AddsNogood, AddsEnd, IsEndPushed, IsSetPushed, AreChangesPushed, AreGathered, IsDeadName, IsLastOf}
@@ -139,16 +143,21 @@ gather_goes q rows w names path e refuted knows mid now a b c cs old new result 
     (goes_beside w b c (Knowing mid (IsBegun q rows w names path e refuted)) (IsEndPushed q rows path (known_after path cs) e w old new now result) (Explained q rows path w names cs old)
     (explained_last q rows path w names cs old) ends))
 
+in_bounds : (q : Problem) (path : List (ℕ × ℕ)) → AreInRange q path → InRange (size q.pattern) (size q.target) path
+in_bounds q [] range = tt
+in_bounds q (x ∷ path) range = (range.0, range.1, in_bounds q path range.2)
+
 -- The path's clause may follow.
-pub dead_follows : (q : Problem) (rows : List Row) (owner : ℕ) (w : Frame) (path : List (ℕ × ℕ)) (changes : List Change) (chosen : List Chosen) (e : End) (refs : List Ref) (name : Name) (forms : List Form) → IsFrameOf q owner w
+pub dead_follows : (q : Problem) (rows : List Row) (owner : ℕ) (w : Frame) (path : List (ℕ × ℕ)) (changes : List Change) (chosen : List Chosen) (e : End) (refs : List Ref) (name : Name) (forms : List Form) → IsLimited q → IsFrameOf q owner w
     → Dies q rows path changes e → IsChosenFor q rows path changes chosen e → AreGuessed path (told_of chosen) → EndExplained q rows w path chosen e refs forms
     → MayFollow w forms (U name (map (not_there q) path) refs) (pairs_clause q path)
-dead_follows q rows owner w path changes chosen e refs name forms frame dies choice guessed ended = record {
+dead_follows q rows owner w path changes chosen e refs name forms limited frame dies choice guessed ended = record {
   made = λ look finds own.
       dead_laws_hold.line q rows path changes e dies chosen choice.needed ended.own ended.ends choice.needs choice.choice ended.explained guessed ended.in_end look name refs
       (all_found w forms refs (ended.own ++ ended.ends) look ended.named finds own);
   rows = λ k names. named_rows w forms refs (ended.own ++ ended.ends) ended.named k names;
   ranges = ap (λ (p : Problem). in_range (variables p) (variables_of (map (not_there q) path))) frame.problem_is ∙ told_laws_hold.range q path dies.range;
+  small = clause_small (map (not_there q) path) (let few = path_few (size q.pattern) (size q.target) path dies.distinct (in_bounds q path dies.range) in let most = limited.pattern in omega (arith, few, most, length-map path (not_there q)));
 }
 
 -- And is kept.
@@ -175,13 +184,13 @@ dead_off q path w now None Before off = tt
 dead_off q path w now (Some steps) Before off = absurd cc
 
 -- What is chosen for the end, whatever is refuted.
-pub chosen_for : (q : Problem) (rows : List Row) (path : List (ℕ × ℕ)) (cs : List Change) (chosen : List Chosen) (e : PathEnd) (short : Option CountedSet) (values : List ℕ) → IsChosenFor q rows path cs chosen (end_by e short [])
+pub chosen_for : (q : Problem) (rows : List Row) (path : List (ℕ × ℕ)) (cs : List Change) (chosen : List Chosen) (e : DeadEnd) (short : Option CountedSet) (values : List ℕ) → IsChosenFor q rows path cs chosen (end_by e short [])
     → IsChosenFor q rows path cs chosen (end_by e short values)
 chosen_for q rows path cs chosen e short values h = record { needed = h.needed; needs = by e h.needs; choice = h.choice }
   where
-    by : (e : PathEnd) → EndNeeds rows path (end_by e short []) h.needed → EndNeeds rows path (end_by e short values) h.needed
-    by (path_end.Failed f) needs = needs
-    by (path_end.Exhausted p) needs = needs
+    by : (e : DeadEnd) → EndNeeds rows path (end_by e short []) h.needed → EndNeeds rows path (end_by e short values) h.needed
+    by (dead_end.Failed f) needs = needs
+    by (dead_end.Exhausted p) needs = needs
 
 -- ---- what is pushed for an end
 
@@ -248,7 +257,7 @@ choice_is q rows path cs chosen e needed (Ok u) needs choice = record { needed =
 choice_is q rows path cs chosen e needed (Err x) needs choice = tt
 
 -- What propagation tells is in range where its end is.
-pub failed_in : (q : Problem) (rows : List Row) (f : Failure) (short : Option CountedSet) → ends.IsEndIn q rows (end_of f short) → IsEndIn q rows (end_by (path_end.Failed f) short [])
+pub failed_in : (q : Problem) (rows : List Row) (f : Failure) (short : Option CountedSet) → ends.IsEndIn q rows (end_of f short) → IsEndIn q rows (end_by (dead_end.Failed f) short [])
 failed_in q rows (failure.Empty p) short h = h
 failed_in q rows (failure.Whole name) short h = h
 failed_in q rows (failure.Short n) (Some set) h = h.0

@@ -1,8 +1,9 @@
 -- References to lines of the encoding: they are in range, name their forms, and a set's forms can be added up.
-use Rattle.std.proofs.Common.{◌≡◌, ℕ, ◌+◌, ◌-◌, ◌^◌, ◌<◌, ◌≤◌, ◌==◌, Bool, true, false, ◌||◌, not, ◌&&◌, is_some, List, [], ◌∷◌, ◌++◌, length, slice_index, None, refl, sym, ap, subst, ◌∙◌, arith, Option, Some, Result, Ok, Err, append-nil, ℤ, pos, negsuc, unsigned_abs}
+use Rattle.std.proofs.Common.{◌≡◌, ℕ, ◌+◌, ◌-◌, ◌<◌, ◌≤◌, ◌==◌, Bool, true, false, ◌||◌, not, ◌&&◌, is_some, List, [], ◌∷◌, ◌++◌, length, slice_index, None, refl, sym, ap, subst, ◌∙◌, arith, Option, Some, Result, Ok, Err, append-nil, length-append, ℤ, pos, negsuc, unsigned_abs}
 use Rattle.std.specs.Prelude.{map, slice_get}
 use Rattle.std.proofs.lemmas.Bool.{and_parts, eq-eqb, ne_eqb}
 use Rattle.std.proofs.lemmas.Option.{slice_get_within}
+use Rattle.std.proofs.lemmas.List.{length-map}
 use Rattle.std.specs.declared.alloc.AllocError.{AllocError}
 use Rattle.graph_theory.specs.Graph.{size, edge}
 use Rattle.graph_theory.specs.declared.direction.Direction.{Direction}
@@ -39,7 +40,7 @@ use Rattle.log_growth.proofs.Going.{goes_as, goes_beside}
 use Rattle.log_growth.proofs.Naming.{line_named, named_behind, named_count}
 use Rattle.dead_paths.specs.Lines.{at_least_ref, at_most_ref, block_ref, edge_ref, order_ref, at_least_refs, beside_refs, set_refs, crowd_refs, AreVertices, AreValues, ArePairs, IsSetKept, IsCrowdKept}
 use Rattle.dead_paths.specs.Making.{GivesSet}
-use Rattle.dead_theory.specs.Changes.{set_forms, crowd_forms, IsSetIn}
+use Rattle.dead_theory.specs.Changes.{set_forms, crowd_forms, IsSetIn, IsCrowdIn}
 use Rattle.dead_paths.specs.Explaining.{IsLimited, Adds}
 use Rattle.dead_paths.proofs.Marking.{among_at}
 
@@ -239,15 +240,19 @@ small_behind : (n : ℕ) (fs gs : List Form) → AreSmall n fs → AreSmall n gs
 small_behind n [] gs a b = b
 small_behind n (f ∷ fs) gs a b = (a.0, small_behind n fs gs a.1 b)
 
--- Forms of lines add up, whatever number of them is named.
-addable : (w : Frame) (refs : List Ref) (fs : List Form) → AreNamed w [] refs fs → AreSmall 8193 fs → length refs < 2 ^ 64 → IsAddable fs
+-- References to some numbers and to no more others are few.
+few_refs : (f g : ℕ → Ref) (refs : List Ref) (xs ys : List ℕ) (n : ℕ) → refs ≡ map f xs ++ map g ys → length xs ≤ n → n ≤ 1024 → length ys ≤ length xs → length refs ≤ 2048
+few_refs f g refs xs ys n is some most fewer = let e = ap (λ (rs : List Ref). length rs) is in omega (arith, e, length-append (map f xs) (map g ys), length-map xs f, length-map ys g, some, most, fewer)
+
+-- Forms of few lines add up.
+addable : (w : Frame) (refs : List Ref) (fs : List Form) → AreNamed w [] refs fs → AreSmall 8193 fs → length refs ≤ 2048 → IsAddable fs
 addable w refs fs named small short = record { most = 8193; small = small; fits = let e = named_count w [] refs fs named in omega (arith, e, short) }
 
 -- ---- what is kept
 
 -- What summing references keeps, whatever this is called.
 sum_goes : (owner : ℕ) (w : Frame) (old new : Option (List Step)) (result : Result Name AllocError) (refs : List Ref) (f : Form) (gs : List Form) (Claim : List Form → Type 0)
-    → ((forms : List Form) → AreNamed w forms refs (f ∷ gs)) → AreSmall 8193 (f ∷ gs) → length refs < 2 ^ 64 → w.owner ≡ owner
+    → ((forms : List Form) → AreNamed w forms refs (f ∷ gs)) → AreSmall 8193 (f ∷ gs) → length refs ≤ 2048 → w.owner ≡ owner
     → ((w : Frame) (f : Form) (gs : List Form) → w.owner ≡ owner → IsAddable (f ∷ gs) → Goes w old new (Named w refs (f ∷ gs)) (IsKept w result (sum_from f gs)))
     → ((forms : List Form) → IsKept w result (sum_from f gs) forms → Claim forms) → Goes w old new AnyForms Claim
 sum_goes owner w old new result refs f gs Claim named small short owner_is goes claim =
@@ -255,27 +260,29 @@ sum_goes owner w old new result refs f gs Claim named small short owner_is goes 
 
 -- A set's line.
 pub set_goes : (q : Problem) (owner : ℕ) (old new : Option (List Step)) (result : Result Name AllocError) (b : Option ℕ) (vertices values : List ℕ) (refs : List Ref) → IsLimited q → 0 < length vertices
-    → refs ≡ set_refs q b vertices values → length refs < 2 ^ 64 → IsSetIn q b vertices values
+    → refs ≡ set_refs q b vertices values → IsSetIn q b vertices values
     → ((w : Frame) (f : Form) (gs : List Form) → w.owner ≡ owner → IsAddable (f ∷ gs) → Goes w old new (Named w refs (f ∷ gs)) (IsKept w result (sum_from f gs)))
     → (w : Frame) → IsFrameOf q owner w → Goes w old new AnyForms (IsSetKept q b vertices values w result)
-set_goes q owner old new result b [] values refs few some is short set goes w frame = absurd (omega (arith, some))
-set_goes q owner old new result b (p ∷ rest) values refs few some is short set goes w frame =
+set_goes q owner old new result b [] values refs few some is set goes w frame = absurd (omega (arith, some))
+set_goes q owner old new result b (p ∷ rest) values refs few some is set goes w frame =
     sum_goes owner w old new result refs (at_least q p) (at_leasts q rest ++ map (at_most_in q b) values) (IsSetKept q b (p ∷ rest) values w result)
     (λ forms. subst (λ (rs : List Ref). AreNamed w forms rs (at_least q p ∷ (at_leasts q rest ++ map (at_most_in q b) values))) (sym is) (set_refs_named q owner w forms b p rest values frame set))
-    (small_behind 8193 (at_leasts q (p ∷ rest)) (map (at_most_in q b) values) (at_leasts_small q (p ∷ rest) few) (at_mosts_small q b values few)) short frame.owner_is goes (λ forms kept. kept)
+    (small_behind 8193 (at_leasts q (p ∷ rest)) (map (at_most_in q b) values) (at_leasts_small q (p ∷ rest) few) (at_mosts_small q b values few))
+    (few_refs (at_least_ref q) (block_ref q b) refs (p ∷ rest) values (size q.pattern) is set.vertices_few few.pattern set.values_few) frame.owner_is goes (λ forms kept. kept)
 
 -- A crowd's.
-pub crowd_goes : (q : Problem) (owner : ℕ) (old new : Option (List Step)) (result : Result Name AllocError) (p t : ℕ) (vertices values : List ℕ) (refs : List Ref) → IsLimited q → 0 < length vertices
-    → refs ≡ crowd_refs q p t vertices values → length refs < 2 ^ 64 → p < size q.pattern → t < size q.target → AreVertices q vertices → ArePairs q p vertices → AreValues q values
-    → is_injective q.maps ≡ true → ((w : Frame) (f : Form) (gs : List Form) → w.owner ≡ owner → IsAddable (f ∷ gs) → Goes w old new (Named w refs (f ∷ gs)) (IsKept w result (sum_from f gs)))
+pub crowd_goes : (q : Problem) (owner : ℕ) (old new : Option (List Step)) (result : Result Name AllocError) (p t : ℕ) (direction : Direction) (vertices values : List ℕ) (refs : List Ref) → IsLimited q → 0 < length vertices
+    → refs ≡ crowd_refs q p t vertices values → IsCrowdIn q p t direction vertices values
+    → ((w : Frame) (f : Form) (gs : List Form) → w.owner ≡ owner → IsAddable (f ∷ gs) → Goes w old new (Named w refs (f ∷ gs)) (IsKept w result (sum_from f gs)))
     → (w : Frame) → IsFrameOf q owner w → Goes w old new AnyForms (IsCrowdKept q p t vertices values w result)
-crowd_goes q owner old new result p t [] values refs few some is short p_in t_in vs ps us apart goes w frame = absurd (omega (arith, some))
-crowd_goes q owner old new result p t (r ∷ rest) values refs few some is short p_in t_in vs ps us apart goes w frame =
+crowd_goes q owner old new result p t direction [] values refs few some is crowd goes w frame = absurd (omega (arith, some))
+crowd_goes q owner old new result p t direction (r ∷ rest) values refs few some is crowd goes w frame =
     sum_goes owner w old new result refs (pair_form q p r t) (beside_forms q p t rest ++ map (at_most_in q None) values) (IsCrowdKept q p t (r ∷ rest) values w result)
     (λ forms. subst (λ (rs : List Ref). AreNamed w forms rs (beside_forms q p t (r ∷ rest) ++ map (at_most_in q None) values)) (sym is)
-    (named_behind w forms (beside_refs q p t (r ∷ rest)) (beside_forms q p t (r ∷ rest)) (map (block_ref q None) values) (map (at_most_in q None) values) (besides_named q owner w forms p t (r ∷ rest) frame p_in t_in vs ps)
-    (at_mosts_named q owner w forms None values frame (whole_there q apart) us)))
-    (small_behind 8193 (beside_forms q p t (r ∷ rest)) (map (at_most_in q None) values) (besides_small q p t (r ∷ rest) few) (at_mosts_small q None values few)) short frame.owner_is goes (λ forms kept. by result forms kept)
+    (named_behind w forms (beside_refs q p t (r ∷ rest)) (beside_forms q p t (r ∷ rest)) (map (block_ref q None) values) (map (at_most_in q None) values) (besides_named q owner w forms p t (r ∷ rest) frame crowd.vertex_in crowd.value_in (λ s here. (crowd.joins s here).other_in) (λ s here. joins_out q direction p s (crowd.joins s here)))
+    (at_mosts_named q owner w forms None values frame (whole_there q crowd.injective) crowd.values_in)))
+    (small_behind 8193 (beside_forms q p t (r ∷ rest)) (map (at_most_in q None) values) (besides_small q p t (r ∷ rest) few) (at_mosts_small q None values few))
+    (few_refs (λ s. edge_ref q p s t) (block_ref q None) refs (r ∷ rest) values (size q.pattern) is crowd.vertices_few few.pattern crowd.values_few) frame.owner_is goes (λ forms kept. by result forms kept)
   where
     by : (result : Result Name AllocError) (forms : List Form) → IsKept w result (over_form q p t r rest values) forms → IsCrowdKept q p t (r ∷ rest) values w result forms
     by (Ok n) forms kept = (kept, tt)

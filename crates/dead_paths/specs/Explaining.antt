@@ -20,8 +20,8 @@ use Rattle.dead_theory.specs.Changes.{Chosen, IsOneOf, IsBorne, AreBorne, known_
 use Rattle.dead_theory.specs.Ends.{End, Empty, Whole, Short, Exhausted, end_of, EndsIn, EndNeeds}
 use Rattle.dead_theory.specs.Walks.{IsChoice}
 use Rattle.log_growth.specs.Frames.{Frame, IsNamed, AreNamed}
-use Rattle.dead_paths.specs.declared.dead_line.PathEnd.{PathEnd}
-use Rattle.dead_paths.specs.declared.dead_line.PathEnd.TheVariants as path_end
+use Rattle.recorder.specs.declared.change.DeadEnd.{DeadEnd}
+use Rattle.recorder.specs.declared.change.DeadEnd.TheVariants as dead_end
 use Rattle.dead_paths.specs.Lines.{at_least_ref, at_least_refs, AreVertices}
 use Rattle.dead_paths.specs.Making.{AreRowsNamed}
 
@@ -55,9 +55,9 @@ Sufficing result knows claim forms = OnOk result (knows forms × claim forms)
 -- ---- ends
 
 -- The end that the search tells, with the set that was found short, and the values that were refuted.
-abbrev pub end_by : PathEnd → Option CountedSet → List ℕ → End
-end_by (path_end.Failed f) short values = end_of f short
-end_by (path_end.Exhausted p) short values = Exhausted p values
+abbrev pub end_by : DeadEnd → Option CountedSet → List ℕ → End
+end_by (dead_end.Failed f) short values = end_of f short
+end_by (dead_end.Exhausted p) short values = Exhausted p values
 
 -- Its numbers are in range.
 abbrev pub IsEndIn : Problem → List Row → End → Type 0

@@ -10,6 +10,7 @@ ghost use Rattle.needed_values.specs.Needed.{AreRows};
 ghost use Rattle.dead_theory.specs.Changes.{known_after, AreGuessed, AreInProblem};
 ghost use Rattle.dead_theory.specs.Ends.{EndNeeds};
 ghost use Rattle.dead_theory.specs.Laws.{Dies};
+ghost use Rattle.journals.specs.Keeping.{KeepsRest};
 ghost use Rattle.log_growth.specs.Frames.{Frame, IsFrameOf, Goes};
 ghost use Rattle.dead_paths.specs.Rooms.{IsFit};
 ghost use Rattle.dead_paths.specs.Making.{AreRowsNamed};
@@ -30,17 +31,9 @@ use journals::Keeper;
 use log_theory::{Clause, Name, Ref, Refs, Step};
 use needed_values::{need_all, unmark_all};
 use proof_theory::Literal;
-use recorder::{Entry, Failure, Place};
+use recorder::{DeadEnd, Entry, Failure, Place};
+use smallvec::SmallVec;
 use std::alloc::{AllocError, Global};
-
-/// How a path ended.
-#[derive(Clone, Copy, PartialEq, Eq, Debug)]
-pub enum PathEnd {
-    /// As propagation tells.
-    Failed(Failure),
-    /// Each value of this vertex was refuted below the path.
-    Exhausted(u16),
-}
 
 /// A dead path, as a search tells of it.
 #[derive(Clone, Copy)]
@@ -50,7 +43,7 @@ pub struct DeadPath<'a> {
     /// The changes since the domains were full, in their order.
     pub entries: &'a [Entry],
     /// How it ended.
-    pub end: PathEnd,
+    pub end: DeadEnd,
     /// The set that was found short, with the centre of its block, where that is the end.
     pub short: Option<(Option<u16>, Place)>,
     /// Names of the lines of the values that were refuted below the path, in their order.
@@ -67,7 +60,7 @@ const NO_NAME: Name = Name {
 fn mark_end(
     walk: &Walk<'_>,
     short: Option<(Option<u16>, Place)>,
-    end: PathEnd,
+    end: DeadEnd,
     marked: &mut [bool],
     needed: &mut [u64],
     room: &mut Room,
@@ -86,7 +79,7 @@ fn mark_end(
 {
     let values = count_values(walk.q);
     match end {
-        PathEnd::Failed(failure) => match failure {
+        DeadEnd::Failed(failure) => match failure {
             Failure::Empty(p) => {
                 need_all(marked, needed, values, p, &mut room.spare);
                 Ok(())
@@ -115,7 +108,7 @@ fn mark_end(
                 Ok(())
             }
         },
-        PathEnd::Exhausted(p) => {
+        DeadEnd::Exhausted(p) => {
             need_all(marked, needed, values, p, &mut room.spare);
             Ok(())
         }
@@ -129,7 +122,7 @@ fn push_chosen<M: LineMaker, N: RowNames, K: Keeper>(
     at: &mut [u16],
     maker: &mut M,
     keeper: &mut K,
-    pairs: &mut Vec<(u16, u16)>,
+    pairs: &mut SmallVec<(u16, u16), 8>,
     refs: &mut Vec<Ref>,
 ) -> Result<(), AllocError>
     requires limited { IsLimited basis.now.lines.now }
@@ -150,9 +143,7 @@ fn push_chosen<M: LineMaker, N: RowNames, K: Keeper>(
     ensures known { (path : List (ℕ × ℕ)) → AreAt at.old path → OnOk result
         (AreAt at.new (known_after path (chosen_in basis.now.numbers.now chosen.now))) }
     ensures fits { OnOk result (AreRefs refs.new.items) }
-    ensures owner { K.owner keeper.new ≡ K.owner keeper.old }
-    ensures notes { K.notes keeper.new ≡ K.notes keeper.old }
-    ensures spare { K.spare keeper.new ≡ K.spare keeper.old }
+    ensures rest { KeepsRest K.owner K.notes K.spare keeper.old keeper.new }
 {
     let mut left = chosen.len();
     while left > 0 {
@@ -169,7 +160,7 @@ fn push_end<M: LineMaker, N: RowNames, K: Keeper>(
     at: &[u16],
     maker: &mut M,
     keeper: &mut K,
-    pairs: &mut Vec<(u16, u16)>,
+    pairs: &mut SmallVec<(u16, u16), 8>,
     refs: &mut Vec<Ref>,
 ) -> Result<(), AllocError>
     requires limited { IsLimited basis.now.lines.now }
@@ -191,12 +182,10 @@ fn push_end<M: LineMaker, N: RowNames, K: Keeper>(
         (end_by dead.now.end (set_at basis.now.numbers.now dead.now.short) values) w
         refs.old.items refs.new.items (M.knows maker.new basis.now.lines.now w) result) }
     ensures fits { OnOk result (AreRefs refs.new.items) }
-    ensures owner { K.owner keeper.new ≡ K.owner keeper.old }
-    ensures notes { K.notes keeper.new ≡ K.notes keeper.old }
-    ensures spare { K.spare keeper.new ≡ K.spare keeper.old }
+    ensures rest { KeepsRest K.owner K.notes K.spare keeper.old keeper.new }
 {
     match dead.end {
-        PathEnd::Failed(failure) => match failure {
+        DeadEnd::Failed(failure) => match failure {
             Failure::Empty(p) => push_at_least(basis.lines, &[p], refs),
             Failure::Whole(name) => push_nogood(basis, name, None, at, pairs, refs),
             Failure::Short(_) => match dead.short {
@@ -215,7 +204,7 @@ fn push_end<M: LineMaker, N: RowNames, K: Keeper>(
                 None => Ok(()),
             },
         },
-        PathEnd::Exhausted(p) => {
+        DeadEnd::Exhausted(p) => {
             refs.extend_from_slice(dead.refuted)?;
             push_at_least(basis.lines, &[p], refs)
         }
@@ -254,7 +243,7 @@ fn size_of(q: &Problem) -> usize
 fn choose_in(
     walk: &Walk<'_>,
     entries: &[Entry],
-    end: (PathEnd, Option<(Option<u16>, Place)>),
+    end: (DeadEnd, Option<(Option<u16>, Place)>),
     marked: &mut [bool],
     needed: &mut [u64],
     room: &mut Room,
@@ -287,7 +276,7 @@ fn choose_in(
 fn choose_for(
     walk: &Walk<'_>,
     entries: &[Entry],
-    end: (PathEnd, Option<(Option<u16>, Place)>),
+    end: (DeadEnd, Option<(Option<u16>, Place)>),
     marked: &mut Vec<bool>,
     needed: &mut Vec<u64>,
     room: &mut Room,
@@ -347,9 +336,7 @@ fn gather<M: LineMaker, N: RowNames, K: Keeper>(
         (end_by dead.now.end (set_at basis.now.numbers.now dead.now.short) values)
         refs.new.items (M.knows maker.new basis.now.lines.now w) result) }
     ensures fits { OnOk result (AreRefs refs.new.items) }
-    ensures owner { K.owner keeper.new ≡ K.owner keeper.old }
-    ensures notes { K.notes keeper.new ≡ K.notes keeper.old }
-    ensures spare { K.spare keeper.new ≡ K.spare keeper.old }
+    ensures rest { KeepsRest K.owner K.notes K.spare keeper.old keeper.new }
 {
     let chosen = scratch.chosen.as_slice();
     let at = scratch.at.as_mut_slice();
@@ -408,9 +395,7 @@ pub fn explain<M: LineMaker, N: RowNames, K: Keeper>(
         (M.knows maker.new basis.now.lines.now w) result) }
     ensures name { IfOk result (λ o. IfSome o IsName) }
     ensures last { IfOk result (λ o. IfSome o (IsLastOf (K.kept keeper.new))) }
-    ensures owner { K.owner keeper.new ≡ K.owner keeper.old }
-    ensures notes { K.notes keeper.new ≡ K.notes keeper.old }
-    ensures spare { K.spare keeper.new ≡ K.spare keeper.old }
+    ensures rest { KeepsRest K.owner K.notes K.spare keeper.old keeper.new }
 {
     if !keeper.is_on() {
         return Ok(None);

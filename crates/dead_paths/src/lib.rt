@@ -28,7 +28,7 @@ mod takes;
 mod walk;
 
 pub use beside::{Beside, BlockSet};
-pub use dead_line::{DeadPath, PathEnd, explain};
+pub use dead_line::{DeadPath, explain};
 pub use ground::Ground;
 pub use lines::keep_set;
 pub use maker::{Basis, LineMaker, RowNames};

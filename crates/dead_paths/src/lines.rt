@@ -6,6 +6,7 @@ ghost use Rattle.log_theory.specs.LogText.{IsName};
 ghost use Rattle.recorder.specs.Recording.{LeftOver};
 ghost use Rattle.graph_theory.specs.Blocks.{has_block};
 ghost use Rattle.dead_theory.specs.Changes.{IsInProblem, IsSetIn};
+ghost use Rattle.journals.specs.Keeping.{KeepsRest};
 ghost use Rattle.log_growth.specs.Frames.{Frame, IsFrameOf, AnyForms, Goes};
 ghost use Rattle.dead_paths.specs.Lines.{at_least_refs, block_ref, beside_refs, AreVertices, AreValues, ArePairs, IsSetKept, IsCrowdKept};
 ghost use Rattle.dead_paths.specs.Explaining.{IsLimited};
@@ -89,9 +90,7 @@ pub(crate) fn keep_crowd<K: Keeper>(
         (IsCrowdKept lines.now crowd.now.p crowd.now.t crowd.now.vertices.now crowd.now.values.now
         w result) }
     ensures name { IfOk result IsName }
-    ensures owner { K.owner keeper.new ≡ K.owner keeper.old }
-    ensures notes { K.notes keeper.new ≡ K.notes keeper.old }
-    ensures spare { K.spare keeper.new ≡ K.spare keeper.old }
+    ensures rest { KeepsRest K.owner K.notes K.spare keeper.old keeper.new }
 {
     let mut refs = Vec::new(alloc);
     push_beside(lines, crowd.p, crowd.t, crowd.vertices, &mut refs)?;
@@ -115,9 +114,7 @@ pub fn keep_set<K: Keeper>(
         → Goes w (K.kept keeper.old) (K.kept keeper.new) AnyForms
         (IsSetKept lines.now set.now.centre set.now.vertices.now set.now.values.now w result) }
     ensures name { IfOk result IsName }
-    ensures owner { K.owner keeper.new ≡ K.owner keeper.old }
-    ensures notes { K.notes keeper.new ≡ K.notes keeper.old }
-    ensures spare { K.spare keeper.new ≡ K.spare keeper.old }
+    ensures rest { KeepsRest K.owner K.notes K.spare keeper.old keeper.new }
 {
     let mut refs = Vec::new(alloc);
     push_at_least(lines, set.vertices, &mut refs)?;

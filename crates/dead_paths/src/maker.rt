@@ -5,6 +5,7 @@ ghost use Rattle.graph_theory.specs.Graph.{size};
 ghost use Rattle.graph_theory.specs.Embedding.{Problem as TheProblem};
 ghost use Rattle.proof_theory.specs.Forms.{Form};
 ghost use Rattle.log_theory.specs.LogText.{IsName, IsRef};
+ghost use Rattle.journals.specs.Keeping.{KeepsRest};
 ghost use Rattle.log_growth.specs.Frames.{Frame, IsFrameOf, Goes, Lasts};
 ghost use Rattle.log_growth.specs.Rows.{Widens};
 ghost use Rattle.dead_theory.specs.Changes.{IsSetIn};
@@ -43,9 +44,7 @@ pub trait LineMaker: Drop {
             (knows self.old lines.now w) (GivesFirst lines.now w p result
             (knows self.new lines.now w)) }
         ensures fits { IfOk result IsRef }
-        ensures owner { K.owner keeper.new ≡ K.owner keeper.old }
-        ensures notes { K.notes keeper.new ≡ K.notes keeper.old }
-        ensures spare { K.spare keeper.new ≡ K.spare keeper.old };
+        ensures rest { KeepsRest K.owner K.notes K.spare keeper.old keeper.new };
 
     /// A line that, where `beside.p` is at `beside.t`, takes from `beside.r` whatever is not consistent with this; or, by edges alone, what edges, and
     /// their labels, do not let go together with this.
@@ -67,9 +66,7 @@ pub trait LineMaker: Drop {
             (GivesRow by_edges lines.now w beside.p beside.t beside.r result
             (knows self.new lines.now w)) }
         ensures fits { IfOk result IsRef }
-        ensures owner { K.owner keeper.new ≡ K.owner keeper.old }
-        ensures notes { K.notes keeper.new ≡ K.notes keeper.old }
-        ensures spare { K.spare keeper.new ≡ K.spare keeper.old };
+        ensures rest { KeepsRest K.owner K.notes K.spare keeper.old keeper.new };
 
     /// The line of a set: that its vertices go somewhere and that one vertex at most of its block goes to each of its values, summed.
     fn set<K: Keeper>(
@@ -89,9 +86,7 @@ pub trait LineMaker: Drop {
             (GivesSet lines.now w set.now.centre set.now.vertices.now set.now.values.now result
             (knows self.new lines.now w)) }
         ensures fits { IfOk result IsName }
-        ensures owner { K.owner keeper.new ≡ K.owner keeper.old }
-        ensures notes { K.notes keeper.new ≡ K.notes keeper.old }
-        ensures spare { K.spare keeper.new ≡ K.spare keeper.old };
+        ensures rest { KeepsRest K.owner K.notes K.spare keeper.old keeper.new };
 
     /// What it knows stays so as forms are added.
     ghost lasts: { (maker : Self) (q : TheProblem) (w : Frame) → Lasts (knows maker q w) };

@@ -21,6 +21,7 @@ use graph_theory::direction::Direction;
 use needed_values::{Sharers, need_but, need_set};
 use nogood_book::{Row, push_path};
 use recorder::Side;
+use smallvec::SmallVec;
 use std::alloc::{AllocError, Global};
 
 /// What a walk back reads: the problem, its rows of values that share neighbours, the book's rows, the numbers of sets, and the path's values at
@@ -104,7 +105,7 @@ pub(crate) fn uphold_row(
     marked: &mut [bool],
     needed: &mut [u64],
     spare: &mut [u64],
-    pairs: &mut Vec<(u16, u16)>,
+    pairs: &mut SmallVec<(u16, u16), 8>,
 ) -> Result<(), AllocError>
     requires sound { Sound walk.now.q.now walk.now.rows.now }
     requires nogood { IsNogoodRow walk.now.rows.now name }

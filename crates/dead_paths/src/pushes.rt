@@ -7,6 +7,7 @@ ghost use Rattle.nogood_book.specs.Rows.{Sound};
 ghost use Rattle.nogood_book.specs.Places.{IsNogoodRow};
 ghost use Rattle.recorder.specs.Recording.{LeftOver, change_of};
 ghost use Rattle.dead_theory.specs.Changes.{shown_of, IsInProblem, IsSetIn};
+ghost use Rattle.journals.specs.Keeping.{KeepsRest};
 ghost use Rattle.log_growth.specs.Frames.{Frame, IsFrameOf, AnyForms, Goes};
 ghost use Rattle.dead_paths.specs.Making.{AreRowsNamed};
 ghost use Rattle.dead_paths.specs.Choosing.{AreAt, IsOfRow, chosen_of};
@@ -23,6 +24,7 @@ use journals::Keeper;
 use log_theory::Ref;
 use nogood_book::push_path;
 use recorder::{Cause, What};
+use smallvec::SmallVec;
 use std::alloc::{AllocError, Global};
 
 /// Puts references to the lines that a nogood row needs: those by which its vertices go somewhere, but where a pair is known to hold or the
@@ -32,7 +34,7 @@ pub(crate) fn push_nogood<N: RowNames>(
     name: u32,
     but: Option<u16>,
     at: &[u16],
-    pairs: &mut Vec<(u16, u16)>,
+    pairs: &mut SmallVec<(u16, u16), 8>,
     refs: &mut Vec<Ref>,
 ) -> Result<(), AllocError>
     requires limited { IsLimited basis.now.lines.now }
@@ -70,9 +72,7 @@ pub(crate) fn push_set<M: LineMaker, K: Keeper>(
         (IsSetPushed lines.now set.now.centre set.now.vertices.now set.now.values.now w
         refs.old.items refs.new.items (M.knows maker.new lines.now w) result) }
     ensures fits { OnOk result (AreRefs refs.new.items) }
-    ensures owner { K.owner keeper.new ≡ K.owner keeper.old }
-    ensures notes { K.notes keeper.new ≡ K.notes keeper.old }
-    ensures spare { K.spare keeper.new ≡ K.spare keeper.old }
+    ensures rest { KeepsRest K.owner K.notes K.spare keeper.old keeper.new }
 {
     if set.vertices.is_empty() {
         return Ok(());
@@ -99,9 +99,7 @@ fn push_crowd<K: Keeper>(
         (IsCrowdPushed lines.now crowd.now.p crowd.now.t crowd.now.vertices.now
         crowd.now.values.now w refs.old.items refs.new.items result) }
     ensures fits { OnOk result (AreRefs refs.new.items) }
-    ensures owner { K.owner keeper.new ≡ K.owner keeper.old }
-    ensures notes { K.notes keeper.new ≡ K.notes keeper.old }
-    ensures spare { K.spare keeper.new ≡ K.spare keeper.old }
+    ensures rest { KeepsRest K.owner K.notes K.spare keeper.old keeper.new }
 {
     if crowd.vertices.is_empty() {
         return Ok(());
@@ -118,7 +116,7 @@ pub(crate) fn push_change<M: LineMaker, N: RowNames, K: Keeper>(
     at: &mut [u16],
     maker: &mut M,
     keeper: &mut K,
-    pairs: &mut Vec<(u16, u16)>,
+    pairs: &mut SmallVec<(u16, u16), 8>,
     refs: &mut Vec<Ref>,
 ) -> Result<(), AllocError>
     requires limited { IsLimited basis.now.lines.now }
@@ -141,9 +139,7 @@ pub(crate) fn push_change<M: LineMaker, N: RowNames, K: Keeper>(
     ensures shown { (known : List (ℕ × ℕ)) → AreAt at.old known → OnOk result
         (AreAt at.new (shown_of (change_of basis.now.numbers.now chosen.now.entry) known)) }
     ensures fits { OnOk result (AreRefs refs.new.items) }
-    ensures owner { K.owner keeper.new ≡ K.owner keeper.old }
-    ensures notes { K.notes keeper.new ≡ K.notes keeper.old }
-    ensures spare { K.spare keeper.new ≡ K.spare keeper.old }
+    ensures rest { KeepsRest K.owner K.notes K.spare keeper.old keeper.new }
 {
     match chosen.entry.what {
         What::One(r, cause) => match cause {

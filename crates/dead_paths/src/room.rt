@@ -7,6 +7,7 @@ ghost use Rattle.dead_paths.specs.Rooms.{IsFit};
 
 use bit_rows::words_for;
 use recorder::Entry;
+use smallvec::SmallVec;
 use std::alloc::{AllocError, Global};
 
 /// Rows and lists that are filled anew for each change.
@@ -15,7 +16,7 @@ pub(crate) struct Room {
     pub(crate) other: Vec<u64>,
     pub(crate) set: Vec<u64>,
     pub(crate) counts: Vec<u16>,
-    pub(crate) pairs: Vec<(u16, u16)>,
+    pub(crate) pairs: SmallVec<(u16, u16), 8>,
 }
 
 impl Drop for Room {
@@ -126,7 +127,7 @@ impl Scratch {
                 other: Vec::new(alloc),
                 set: Vec::new(alloc),
                 counts: Vec::new(alloc),
-                pairs: Vec::new(alloc),
+                pairs: SmallVec::new(alloc),
             },
         }
     }

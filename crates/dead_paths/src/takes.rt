@@ -30,6 +30,7 @@ use needed_values::{
     needed_row, part_compatible, put_needed, unmark,
 };
 use recorder::{Cause, Entry, Side, What};
+use smallvec::SmallVec;
 use std::alloc::AllocError;
 
 /// What comes of a step back from a change.
@@ -200,7 +201,7 @@ fn by_nogood(
     marked: &mut [bool],
     needed: &mut [u64],
     spare: &mut [u64],
-    pairs: &mut Vec<(u16, u16)>,
+    pairs: &mut SmallVec<(u16, u16), 8>,
 ) -> Result<bool, AllocError>
     requires sound { Sound walk.now.q.now walk.now.rows.now }
     requires held { AreRows (size walk.now.q.now.target) marked.old needed.old }

@@ -1,14 +1,15 @@
 -- What rows that serve a seat tell of it, and what a seat knows that wrote a row by itself.
+use Rattle.std.proofs.lemmas.Bool.{leb-true, le-leb}
 use Rattle.std.proofs.lemmas.List.{take-append-drop, take_all}
-use Rattle.std.proofs.Common.{◌≡◌, inl, ℕ, ◌<◌, ◌≤◌, List, [], ◌∷◌, ◌++◌, length, take, drop, sym, ap, subst, ◌∙◌, refl, append-nil as append_nil, length-append, arith}
+use Rattle.std.specs.Prelude.{nat_le}
+use Rattle.std.proofs.Common.{◌≡◌, inl, true, ℕ, ◌<◌, ◌≤◌, List, [], ◌∷◌, ◌++◌, length, take, drop, sym, ap, subst, ◌∙◌, refl, append-nil as append_nil, length-append, arith}
 use Rattle.graph_theory.specs.Embedding.{Problem}
 use Rattle.nogood_book.specs.declared.row.Row.{Row}
-use Rattle.nogood_book.specs.declared.row.Published.{Published}
-use Rattle.nogood_book.specs.declared.row.Published.TheVariants.{At, Full}
 use Rattle.nogood_book.specs.Rows.{Sound, MayFollow}
 use Rattle.nogood_book.specs.Places.{StartsWith, places}
-use Rattle.nogood_book.specs.Facts.{Facts, Grew, CaughtUp, StandsAt, IsPlaced}
+use Rattle.nogood_book.specs.Facts.{Facts, Grew, CaughtUp, StandsAt}
 use Rattle.nogood_book.proofs.Lists.{starts_same, starts_on, starts_length, get_seam, places-append, places_own, none_of_others}
+use Rattle.nogood_book.proofs.Parts.{empty_of}
 use Rattle.nogood_book.proofs.Paths.{sound_snoc, follow_more}
 use Rattle.locked_shelf.specs.Shelf.{Held, ShelfView, IsKept, Serves, facts_of}
 
@@ -23,17 +24,25 @@ starts_drop rows seen s = let e = s.1 in sym (e ∙ ap (λ z. seen ++ z) (sym (a
 -- a seat that serves itself
 pub caught_alone : (s : ShelfView) → Sound s.problem s.seen → CaughtUp (facts_of s) (facts_of s)
 caught_alone s h = record {
-  grew = record { problem = refl; owner = refl; size = refl; seen = starts_same s.seen; sound = h };
+  grew = record { problem = refl; owner = refl; size = refl; seen = starts_same s.seen; sound = h; over = λ e. (e, refl) };
   mine = refl;
   looks = inl refl;
 }
+
+-- a seat that had seen as many rows as its book has room for has them still
+shown_all : (s : ShelfView) (rows : List Row) → StartsWith rows s.seen → length rows ≤ s.most → s.most ≤ length s.seen → (nat_le s.most (length rows) ≡ true) × (rows ≡ s.seen)
+shown_all s rows starts few whole =
+    let none : length starts.0 ≡ 0 = omega (arith, few, whole, ap (λ (z : List Row). length z) starts.1, length-append s.seen starts.0) in (
+      le-leb s.most (length rows) (omega (arith, whole, starts_length s.seen rows starts)),
+      starts.1 ∙ (ap (λ (z : List Row). s.seen ++ z) (empty_of starts.0 none) ∙ append_nil s.seen),
+    )
 
 -- a seat that took up rows which serve it
 pub caught_up : (h : Held) (s : ShelfView) → Sound h.problem h.rows → Serves h s → CaughtUp (facts_of s) (facts_of (record s { seen = h.rows }))
 caught_up h s sound v =
     let P : Problem → Type 0 = λ q. Sound q h.rows in
     let e = starts_drop h.rows s.seen v.seen in record {
-      grew = record { problem = refl; owner = refl; size = refl; seen = v.seen; sound = subst P v.problem sound };
+      grew = record { problem = refl; owner = refl; size = refl; seen = v.seen; sound = subst P v.problem sound; over = λ e. shown_all s h.rows v.seen v.few (leb-true s.most (length s.seen) e) };
       mine = ap (places s.owner) (sym e) ∙ (places-append s.owner s.seen (drop (length s.seen) h.rows)
           ∙ (ap (λ z. places s.owner s.seen ++ z) (none_of_others s.owner (length s.seen) (drop (length s.seen) h.rows) v.others) ∙ append_nil (places s.owner s.seen)));
       looks = inl refl;
@@ -43,9 +52,9 @@ caught_up h s sound v =
 pub placed_alone : (s : ShelfView) (r : Row) → IsKept s → r.owner ≡ s.owner → length s.seen < s.most → MayFollow s.problem s.seen r
     → StandsAt r (length s.seen) (facts_of s) (facts_of (record s { seen = s.seen ++ r ∷ [] }))
 placed_alone s r k own room may = record {
-  inside = room;
+  inside = omega (arith, room, k.limit);
   new_ = omega arith;
-  grew = record { problem = refl; owner = refl; size = refl; seen = (r ∷ [], refl); sound = sound_snoc s.problem s.seen r k.sound may };
+  grew = record { problem = refl; owner = refl; size = refl; seen = (r ∷ [], refl); sound = sound_snoc s.problem s.seen r k.sound may; over = λ e. absurd (omega (arith, room, leb-true s.most (length s.seen) e)) };
   row_is = get_seam s.seen [] (length s.seen) r refl;
   last = length-append s.seen (r ∷ []);
   mine = places_own s.owner s.seen r own;
@@ -66,24 +75,7 @@ grew_on s t u a b = record {
   size = b.size ∙ a.size;
   seen = starts_on s.seen t.seen u.seen a.seen b.seen;
   sound = b.sound;
-}
-
--- what is published after catching up, where no looks are told
-pub placed_later : (s t u : Facts) (r : Row) (p : Published) → CaughtUp s t → t.looks ≡ s.looks → IsPlaced r t u p → IsPlaced r s u p
-placed_later s t u r (At at) c l h = record {
-  inside = omega (arith, h.inside, c.grew.size);
-  new_ = omega (arith, h.new_, starts_length s.seen t.seen c.grew.seen);
-  grew = grew_on s t u c.grew h.grew;
-  row_is = h.row_is;
-  last = h.last;
-  mine = ap (λ o. places o u.seen) (sym c.grew.owner) ∙ (h.mine ∙ ap (λ z. z ++ at ∷ []) (ap (λ o. places o t.seen) c.grew.owner ∙ c.mine));
-  looks = h.looks ∙ l;
-}
-placed_later s t u r Full c l h = record {
-  grew = grew_on s t u c.grew h.grew;
-  mine = ap (λ o. places o u.seen) (sym c.grew.owner) ∙ (h.mine ∙ (ap (λ o. places o t.seen) c.grew.owner ∙ c.mine));
-  full = h.full ∙ c.grew.size;
-  looks = h.looks ∙ l;
+  over = λ e. let m = a.over e in let n = b.over m.0 in (n.0, n.1 ∙ m.1);
 }
 
 -- rows that are the same as what was seen, as far as that goes, begin with it

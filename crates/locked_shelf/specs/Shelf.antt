@@ -1,6 +1,6 @@
 -- A book under a lock, and its seats.
 
-use Rattle.std.specs.Prelude.{◌≡◌, ◌≢◌, ◌⊎◌, ℕ, ◌≤◌, List, [], ◌∷◌, ◌++◌, drop, length, Vec, vec_capacity, None}
+use Rattle.std.specs.Prelude.{◌≡◌, ◌≢◌, ◌⊎◌, ℕ, ◌≤◌, List, [], ◌∷◌, ◌++◌, drop, length, Vec, vec_capacity, None, nat_le}
 use Rattle.std.specs.Global.{Global}
 use Rattle.std.specs.List.{All}
 use Rattle.graph_theory.specs.Embedding.{Problem}
@@ -29,15 +29,15 @@ pub record ShelfView : Type 0 where
 abbrev pub view_of : Problem → ℕ → ℕ → List Row → ShelfView
 view_of q owner most seen = record { problem = q; owner = owner; most = most; seen = seen }
 
--- What a seat shows; a book under a lock tells no looks.
+-- What a seat shows; a book under a lock tells no looks, and its seats take rows until it is full.
 abbrev pub facts_of : ShelfView → Facts
 facts_of s = record {
   problem = s.problem;
   owner = s.owner;
   size = s.most;
   seen = s.seen;
-  looks =
-      None;
+  looks = None;
+  ended = nat_le s.most (length s.seen);
 }
 
 -- What a seat keeps.

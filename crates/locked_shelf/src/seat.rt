@@ -3,7 +3,7 @@
 ghost use Rattle.std.specs.Prelude.{◌≡◌, ◌≤◌, ◌<◌, ◌↔◌, [], IsTrue, length, vec_capacity};
 ghost use Rattle.nogood_book.specs.Rows.{MayFollow, Sound};
 ghost use Rattle.nogood_book.specs.Places.{StartsWith};
-ghost use Rattle.nogood_book.specs.Facts.{IsPlaced};
+ghost use Rattle.nogood_book.specs.Facts.{IsPublished};
 ghost use Rattle.locked_shelf.specs.Shelf.{facts_of, fresh, IsKept};
 
 use graph_rows::Problem;
@@ -93,12 +93,12 @@ impl<'a> ShelfSeat<'a> {
         self.rows.len() < self.most as usize
     }
 
-    /// Adds a row of its own behind what it has seen, if there is room.
+    /// Adds a row of its own behind what it has seen, if its book has room for one more.
     pub(crate) fn write(&mut self, row: Row) -> Published
         requires owner { row.owner ≡ self.old.owner }
         requires row { MayFollow self.old.problem self.old.seen row }
         ensures most { self.new.most ≡ self.old.most }
-        ensures placed { IsPlaced row (facts_of self.old) (facts_of self.new) result }
+        ensures published { IsPublished row (facts_of self.old) (facts_of self.new) result }
     {
         if !self.has_room() {
             return Published::Full;
@@ -114,7 +114,7 @@ impl<'a> RowSeat for ShelfSeat<'a> {
 
     fn rows(&self) -> &[Row]
         ensures seen { result.now ≡ (facts_of self.now).seen }
-        ensures few { length result.now ≤ (facts_of self.now).size }
+        ensures few { length result.now ≤ 4194304 }
         ensures size { (facts_of self.now).size ≤ 4194304 }
         ensures sound { Sound (facts_of self.now).problem (facts_of self.now).seen }
     {

@@ -2,7 +2,7 @@
 
 ghost use Rattle.std.specs.Prelude.{◌≡◌, ◌≤◌, [], length, IfOk};
 ghost use Rattle.nogood_book.specs.Rows.{MayFollow};
-ghost use Rattle.nogood_book.specs.Facts.{CaughtUp, IsPlaced};
+ghost use Rattle.nogood_book.specs.Facts.{CaughtUp, IsPlaced, IsPublished};
 ghost use Rattle.locked_shelf.specs.Shelf.{facts_of, fresh};
 
 use crate::bundle::Bundle;
@@ -90,5 +90,13 @@ impl<'a, R: Wait + Sync> Book for LockedShelf<'a, R> {
             bundle.write(row);
         }
         seat.write(row)
+    }
+
+    /// A seat at the shelf keeps no rows that are not the shelf's.
+    fn place(&self, seat: &mut ShelfSeat<'a>, row: Row) -> Published {
+        match self.publish(seat, row) {
+            Published::At(at) => Published::At(at),
+            Published::Full => Published::Full,
+        }
     }
 }

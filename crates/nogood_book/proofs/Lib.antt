@@ -3,10 +3,11 @@ pub mod Paths
 pub mod Walking
 pub mod Reaching
 mod Codes
-mod Parts
+pub mod Parts
 mod NextWord
 mod ViewLists
 mod Steps
 mod Keeps
+mod Own
 mod Opened
 mod Trying

@@ -11,7 +11,8 @@ use Rattle.nogood_book.proofs.Lists.{places-append, places_from-append, places_o
 pub parts_live : (v : View) → v.spent ≡ false → parts v ≡ (v.owner, v.mine) ∷ v.gathered
 parts_live v e = let P : Bool → List Part = λ b. if b then [] else (v.owner, v.mine) ∷ v.gathered in ap P e
 
-empty_of : {A : Type 0} (xs : List A) → length xs ≡ 0 → xs ≡ []
+-- a list of no length
+pub empty_of : {A : Type 0} (xs : List A) → length xs ≡ 0 → xs ≡ []
 empty_of [] e = refl
 empty_of (x ∷ xs) e = absurd (omega arith)
 

@@ -55,9 +55,9 @@ row_placed r at s t path h up =
     (h.row_is, path_at_is t.problem t.seen at r h.grew.sound h.row_is ∙ ap (λ z. z ++ (r.vertex, r.value) ∷ []) later.leads)
 
 -- a step that was published leads to the path that was meant
-pub reaches_next : (r : Row) (at : ℕ) (s t : Facts) (path : Pairs) → StandsAt r at s t → r.kind ≡ Step → s.size ≤ 4194304 → Reaches s.seen r.parent path
+pub reaches_next : (r : Row) (at : ℕ) (s t : Facts) (path : Pairs) → StandsAt r at s t → r.kind ≡ Step → Reaches s.seen r.parent path
     → Reaches t.seen (Some at) (path ++ (r.vertex, r.value) ∷ [])
-reaches_next r at s t path h k few up = record {
+reaches_next r at s t path h k up = record {
   has = (r, h.row_is, k);
   leads = (row_placed r at s t path h up).1;
   narrow = omega (arith, h.inside);

@@ -5,6 +5,7 @@ ghost use Rattle.nogood_book.specs.Rows.{Sound, path_at};
 
 use crate::row::Row;
 use graph_rows::Problem;
+use smallvec::SmallVec;
 use std::alloc::AllocError;
 
 /// Adds the path of row `k` behind what is there: the guesses above it in their order, and its own pair last. The problem tells
@@ -13,7 +14,7 @@ pub fn push_path(
     q: &Problem,
     rows: &[Row],
     k: u32,
-    into: &mut Vec<(u16, u16)>,
+    into: &mut SmallVec<(u16, u16), 8>,
 ) -> Result<(), AllocError>
     requires sound { Sound q.now rows.now }
     requires inside { k < length rows.now }

@@ -18,7 +18,7 @@ pub struct Row {
     pub value: u16,
 }
 
-/// The place of the row that was published, from 0, or that there is no room for more.
+/// The place of the row, from 0: in the book, or behind its rows at the seat that keeps it. Or that there is no room for it.
 #[derive(Clone, Copy, Debug, PartialEq, Eq)]
 pub enum Published {
     At(u32),

@@ -28,6 +28,7 @@ use nogood_book::{Row, RowKind, push_path};
 use nogood_watch::{WatchAnswer, Watched};
 use pair_supports::PairSupports;
 use recorder::{Cause, Failure, Recorder};
+use smallvec::SmallVec;
 use std::alloc::{AllocError, Global};
 use std::marker::Model;
 
@@ -35,7 +36,7 @@ use std::marker::Model;
 /// watches.
 pub struct Nogoods {
     watched: Watched,
-    literals: Vec<(u16, u16)>,
+    literals: SmallVec<(u16, u16), 8>,
 }
 
 impl Drop for Nogoods {
@@ -64,7 +65,7 @@ impl Nogoods {
         let watched = Watched::new(alloc, q.pattern().size(), q.target().size())?;
         Ok(Nogoods {
             watched,
-            literals: Vec::new(alloc),
+            literals: SmallVec::new(alloc),
         })
     }
 

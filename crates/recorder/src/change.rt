@@ -73,3 +73,12 @@ pub enum Failure {
     /// So many domains of a block, the first of it by size and number, have fewer values together.
     Short(u16),
 }
+
+/// How a path has died.
+#[derive(Clone, Copy, PartialEq, Eq, Debug)]
+pub enum DeadEnd {
+    /// Propagation found no embedding within the domains.
+    Failed(Failure),
+    /// All values of this vertex, which is that of the level after the path, are refuted there or have left its domain.
+    Exhausted(u16),
+}

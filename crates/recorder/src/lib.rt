@@ -18,7 +18,7 @@ mod sets;
 mod shared;
 
 // What is told.
-pub use change::{Cause, Entry, Failure, Place, Side, What};
+pub use change::{Cause, DeadEnd, Entry, Failure, Place, Side, What};
 
 // Who is told: any recorder, none, or one that keeps the changes, with what is read of it.
 pub use causes::{Causes, KeptChanges};

@@ -74,7 +74,7 @@ returns-in_err-name-clause-goes g c = λ w values frame dies guessed.
 
 pub returns-clause-goes : goal.returns-clause-goes
 returns-clause-goes g c = λ w values frame dies guessed.
-    let here = frame_owner c.args.basis.now.lines.now (g.K.Keeper.owner c.args.keeper.now) (g.K.Keeper.owner c.gather.new.keeper) w c.gather.ensures.owner frame in
+    let here = frame_owner c.args.basis.now.lines.now (g.K.Keeper.owner c.args.keeper.now) (g.K.Keeper.owner c.gather.new.keeper) w c.gather.ensures.rest.owner frame in
     let ats = subst (λ (xs : List ℕ). AreAt xs c.args.dead.now.path.now) (sym c.deref.ensures.value) c.in_ok-fill_at.ensures.known in
     let chosen = subst (λ (p : Problem). IsChosenFor p c.args.basis.now.rows.now c.args.dead.now.path.now (changes_of c.args.basis.now.numbers.now c.args.dead.now.entries.now) (chosen_in c.args.basis.now.numbers.now c.choose_for.new.chosen.items) (end_by c.args.dead.now.end (set_at c.args.basis.now.numbers.now c.args.dead.now.short) [])) c.problem-q.ensures (c.in_ok-choose_for.ensures.choice c.args.dead.now.path.now ats) in
     let lits = c.in_ok-lits.ensures.literals ∙ ap (λ (p : Problem). map (not_there p) c.args.dead.now.path.now) c.problem-q.ensures in
@@ -86,7 +86,7 @@ returns-clause-goes g c = λ w values frame dies guessed.
     (EndExplained c.args.basis.now.lines.now c.args.basis.now.rows.now w c.args.dead.now.path.now (chosen_in c.args.basis.now.numbers.now c.choose_for.new.chosen.items) (end_by c.args.dead.now.end (set_at c.args.basis.now.numbers.now c.args.dead.now.short) values) c.gather.new.refs.items) here.owner_is c.in_ok-name.ensures.kept
     (c.in_ok-lits.ensures.fits, subst AreRefs (sym c.new.ensures) c.in_ok-gather.ensures.fits)
     (λ forms ended. rw (lits, c.new.ensures)
-    (dead_follows c.args.basis.now.lines.now c.args.basis.now.rows.now (g.K.Keeper.owner c.gather.new.keeper) w c.args.dead.now.path.now (changes_of c.args.basis.now.numbers.now c.args.dead.now.entries.now) (chosen_in c.args.basis.now.numbers.now c.choose_for.new.chosen.items) (end_by c.args.dead.now.end (set_at c.args.basis.now.numbers.now c.args.dead.now.short) values) c.gather.new.refs.items (record { owner = 0; number = 0 }) forms here dies choice all ended)))
+    (dead_follows c.args.basis.now.lines.now c.args.basis.now.rows.now (g.K.Keeper.owner c.gather.new.keeper) w c.args.dead.now.path.now (changes_of c.args.basis.now.numbers.now c.args.dead.now.entries.now) (chosen_in c.args.basis.now.numbers.now c.choose_for.new.chosen.items) (end_by c.args.dead.now.end (set_at c.args.basis.now.numbers.now c.args.dead.now.short) values) c.gather.new.refs.items (record { owner = 0; number = 0 }) forms (subst IsLimited c.problem-q.ensures c.size_of-size.ensures.limited) here dies choice all ended)))
 
 pub returns-clause-last : goal.returns-clause-last
 returns-clause-last g c = last_kept (g.K.Keeper.owner c.gather.new.keeper) c.in_ok-name.name (g.K.Keeper.kept c.gather.new.keeper) (g.K.Keeper.kept c.keep.new.self) (U (record { owner = 0; number = 0 }) c.in_ok-lits.lits c.new.result) c.in_ok-name.ensures.kept

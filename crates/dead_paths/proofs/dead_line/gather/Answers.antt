@@ -23,7 +23,7 @@ returns-clause-goes g c = λ w values frame.
     rw (sym c.as_slice-chosen.ensures.value) (gather_goes c.args.basis.now.lines.now c.args.basis.now.rows.now w (g.N.RowNames.names c.args.basis.now.names.now) c.args.dead.now.path.now (end_by c.args.dead.now.end (set_at c.args.basis.now.numbers.now c.args.dead.now.short) values) c.args.dead.now.refuted.now (g.M.LineMaker.knows c.args.maker.now c.args.basis.now.lines.now w) (g.M.LineMaker.knows c.push_chosen.new.maker c.args.basis.now.lines.now w) (g.M.LineMaker.knows c.push_end.new.maker c.args.basis.now.lines.now w) (g.K.Keeper.kept c.args.keeper.now) (g.K.Keeper.kept c.push_chosen.new.keeper) (g.K.Keeper.kept c.push_end.new.keeper)
     (chosen_in c.args.basis.now.numbers.now c.as_slice-chosen.result.now) c.push_chosen.new.refs.items c.push_end.new.refs.items c.push_end.result
     (c.in_ok-push_chosen.ensures.goes w c.args.dead.now.path.now known frame)
-    (c.push_end.ensures.goes w values (known_after c.args.dead.now.path.now (chosen_in c.args.basis.now.numbers.now c.as_slice-chosen.result.now)) (c.in_ok-push_chosen.ensures.known c.args.dead.now.path.now known) (frame_owner c.args.basis.now.lines.now (g.K.Keeper.owner c.args.keeper.now) (g.K.Keeper.owner c.push_chosen.new.keeper) w c.push_chosen.ensures.owner frame)))
+    (c.push_end.ensures.goes w values (known_after c.args.dead.now.path.now (chosen_in c.args.basis.now.numbers.now c.as_slice-chosen.result.now)) (c.in_ok-push_chosen.ensures.known c.args.dead.now.path.now known) (frame_owner c.args.basis.now.lines.now (g.K.Keeper.owner c.args.keeper.now) (g.K.Keeper.owner c.push_chosen.new.keeper) w c.push_chosen.ensures.rest.owner frame)))
 
 pub returns-in_err-push_chosen-clause-goes : goal.returns-in_err-push_chosen-clause-goes
 returns-in_err-push_chosen-clause-goes g c = λ w values frame.

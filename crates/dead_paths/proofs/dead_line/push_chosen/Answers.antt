@@ -1,5 +1,5 @@
 use Rattle.std.proofs.lemmas.Result.{err_from_is_err_and}
-use Rattle.std.proofs.Common.{◌≡◌, ℕ, ◌-◌, ◌<◌, ◌∷◌, suc, List, ap, ◌∙◌, refl, length, drop, subst, sym, arith}
+use Rattle.std.proofs.Common.{◌≡◌, ℕ, ◌-◌, ◌<◌, ◌∷◌, suc, List, ap, ◌∙◌, length, drop, subst, sym, arith}
 use Rattle.dead_paths.specs.declared.room.ChosenEntry.{ChosenEntry}
 use Rattle.log_theory.specs.LogText.{AreRefs}
 use Rattle.recorder.specs.Recording.{change_of}
@@ -10,15 +10,14 @@ use Rattle.dead_paths.specs.Choosing.{AreAt, chosen_of, chosen_in, IsOfRow}
 use Rattle.dead_paths.specs.Explaining.{Explained, Knowing}
 use Rattle.dead_paths.proofs.Causes.{explained_goes, explained_none, explained_refused}
 use Rattle.dead_paths.proofs.Ends.{frame_owner, nameable_at, changes_drop, drop_past}
+use Rattle.journals.proofs.Rests.{rest_same, rest_then}
 use Rattle.dead_paths.proofs.dead_line.push_chosen.Goals as goal
 
 pub loop-left-init : goal.loop-left-init
 loop-left-init g c = record {
   within = omega arith;
   fits = subst AreRefs (sym c.requires.none) tt;
-  owner = refl;
-  notes = refl;
-  spare = refl;
+  rest = rest_same;
   known = λ path here.
       subst (λ (cs : List Chosen). AreAt c.args.at.now (known_after path cs)) (sym (ap (chosen_in c.args.basis.now.numbers.now) (drop_past c.args.chosen.now (length c.args.chosen.now) (omega arith)))) here;
   goes = λ w path here frame. explained_none c.args.basis.now.lines.now c.args.basis.now.rows.now path w (g.N.RowNames.names c.args.basis.now.names.now) (g.M.LineMaker.knows c.args.maker.now c.args.basis.now.lines.now w) (g.K.Keeper.kept c.args.keeper.now)
@@ -55,9 +54,7 @@ loop-left-preserved g c =
     record {
       within = omega (arith, within);
       fits = c.in_ok-push_change.ensures.fits;
-      owner = c.push_change.ensures.owner ∙ i.owner;
-      notes = c.push_change.ensures.notes ∙ i.notes;
-      spare = c.push_change.ensures.spare ∙ i.spare;
+      rest = rest_then i.rest c.push_change.ensures.rest;
       known = λ path here.
           subst (λ (cs : List Chosen). AreAt c.push_change.new.at (known_after path cs)) (sym more)
           (c.in_ok-push_change.ensures.shown (known_after path (chosen_in c.args.basis.now.numbers.now (drop c.loop-left.left c.args.chosen.now))) (i.known path here));
@@ -68,7 +65,7 @@ loop-left-preserved g c =
           (explained_goes c.args.basis.now.lines.now c.args.basis.now.rows.now path w (g.N.RowNames.names c.args.basis.now.names.now) (g.M.LineMaker.knows c.args.maker.now c.args.basis.now.lines.now w) (g.M.LineMaker.knows c.loop-left.maker c.args.basis.now.lines.now w)
           (g.M.LineMaker.knows c.push_change.new.maker c.args.basis.now.lines.now w) (g.K.Keeper.kept c.args.keeper.now) (g.K.Keeper.kept c.loop-left.keeper) (g.K.Keeper.kept c.push_change.new.keeper)
           (chosen_in c.args.basis.now.numbers.now (drop c.loop-left.left c.args.chosen.now)) (chosen_of c.args.basis.now.numbers.now c.index-chosen-left.result) c.loop-left.refs.items c.push_change.new.refs.items (i.goes w path here frame)
-          (c.in_ok-push_change.ensures.goes w (known_after path (chosen_in c.args.basis.now.numbers.now (drop c.loop-left.left c.args.chosen.now))) (i.known path here) (frame_owner c.args.basis.now.lines.now (g.K.Keeper.owner c.args.keeper.now) (g.K.Keeper.owner c.loop-left.keeper) w i.owner frame)));
+          (c.in_ok-push_change.ensures.goes w (known_after path (chosen_in c.args.basis.now.numbers.now (drop c.loop-left.left c.args.chosen.now))) (i.known path here) (frame_owner c.args.basis.now.lines.now (g.K.Keeper.owner c.args.keeper.now) (g.K.Keeper.owner c.loop-left.keeper) w i.rest.owner frame)));
     }
 
 pub returns-in_err-push_change-clause-goes : goal.returns-in_err-push_change-clause-goes
@@ -80,7 +77,7 @@ returns-in_err-push_change-clause-goes g c = λ w path here frame.
     (chosen_in c.args.basis.now.numbers.now (drop c.loop-left.left c.args.chosen.now)) (chosen_in c.args.basis.now.numbers.now c.args.chosen.now) (chosen_of c.args.basis.now.numbers.now c.index-chosen-left.result) c.loop-left.refs.items c.push_change.new.refs.items
     c.push_change.new.refs.items c.push_change.result err.0 (i.goes w path here frame)
     (c.push_change.ensures.goes w (known_after path (chosen_in c.args.basis.now.numbers.now (drop c.loop-left.left c.args.chosen.now))) (i.known path here)
-    (frame_owner c.args.basis.now.lines.now (g.K.Keeper.owner c.args.keeper.now) (g.K.Keeper.owner c.loop-left.keeper) w i.owner frame)))
+    (frame_owner c.args.basis.now.lines.now (g.K.Keeper.owner c.args.keeper.now) (g.K.Keeper.owner c.loop-left.keeper) w i.rest.owner frame)))
 
 pub returns-clause-goes : goal.returns-clause-goes
 returns-clause-goes g c = λ w path here frame.

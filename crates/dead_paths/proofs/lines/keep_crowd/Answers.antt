@@ -1,4 +1,4 @@
-use Rattle.std.proofs.Common.{◌≡◌, ◌++◌, List, None, ap, ◌∙◌, refl, subst, sym, arith}
+use Rattle.std.proofs.Common.{◌≡◌, ◌++◌, List, None, ap, ◌∙◌, refl, subst, sym}
 use Rattle.std.specs.Prelude.{map}
 use Rattle.std.proofs.lemmas.Result.{err_from_is_err_and}
 use Rattle.log_theory.specs.declared.step.Ref.{Ref}
@@ -10,10 +10,10 @@ use Rattle.dead_paths.proofs.LineRefs.{whole_there, joins_out, crowd_refs_fit, c
 use Rattle.dead_paths.proofs.lines.keep_crowd.Goals as goal
 
 pub push_beside-requires-clause-vertices : goal.push_beside-requires-clause-vertices
-push_beside-requires-clause-vertices g c = λ r among. (c.requires.in_problem.2 r among).other_in
+push_beside-requires-clause-vertices g c = λ r among. (c.requires.in_problem.joins r among).other_in
 
 pub push_beside-requires-clause-pairs : goal.push_beside-requires-clause-pairs
-push_beside-requires-clause-pairs g c = λ r among. joins_out c.args.lines.now c.args.crowd.now.direction c.args.crowd.now.p r (c.requires.in_problem.2 r among)
+push_beside-requires-clause-pairs g c = λ r among. joins_out c.args.lines.now c.args.crowd.now.direction c.args.crowd.now.p r (c.requires.in_problem.joins r among)
 
 pub returns-in_err-push_beside-clause-goes : goal.returns-in_err-push_beside-clause-goes
 returns-in_err-push_beside-clause-goes g c = λ w frame.
@@ -34,8 +34,8 @@ keep_sum-requires-clause-fits g c =
     ∙ ap (λ (rs : List Ref). rs ++ map (block_ref c.args.lines.now None) c.args.crowd.now.values.now)
     (c.in_ok-push_beside.ensures ∙ ap (λ (rs : List Ref). rs ++ beside_refs c.args.lines.now c.args.crowd.now.p c.args.crowd.now.t c.args.crowd.now.vertices.now) c.new-refs.ensures.items) in
     subst AreRefs (sym is)
-    (crowd_refs_fit c.args.lines.now c.args.crowd.now.p c.args.crowd.now.t c.args.crowd.now.vertices.now c.args.crowd.now.values.now c.requires.limited c.requires.in_problem.0 c.requires.in_problem.1 (λ r among. (c.requires.in_problem.2 r among).other_in)
-    (λ r among. joins_out c.args.lines.now c.args.crowd.now.direction c.args.crowd.now.p r (c.requires.in_problem.2 r among)) c.requires.in_problem.3 c.requires.in_problem.4)
+    (crowd_refs_fit c.args.lines.now c.args.crowd.now.p c.args.crowd.now.t c.args.crowd.now.vertices.now c.args.crowd.now.values.now c.requires.limited c.requires.in_problem.vertex_in c.requires.in_problem.value_in (λ r among. (c.requires.in_problem.joins r among).other_in)
+    (λ r among. joins_out c.args.lines.now c.args.crowd.now.direction c.args.crowd.now.p r (c.requires.in_problem.joins r among)) c.requires.in_problem.values_in c.requires.in_problem.injective)
 
 pub returns-clause-goes : goal.returns-clause-goes
 returns-clause-goes g c =
@@ -43,10 +43,8 @@ returns-clause-goes g c =
     c.deref.ensures.value ∙ c.in_ok-push_at_most.ensures
     ∙ ap (λ (rs : List Ref). rs ++ map (block_ref c.args.lines.now None) c.args.crowd.now.values.now)
     (c.in_ok-push_beside.ensures ∙ ap (λ (rs : List Ref). rs ++ beside_refs c.args.lines.now c.args.crowd.now.p c.args.crowd.now.t c.args.crowd.now.vertices.now) c.new-refs.ensures.items) in
-    let short = c.deref.type_inv.0 in
-    crowd_goes c.args.lines.now (g.K.Keeper.owner c.args.keeper.now) (g.K.Keeper.kept c.args.keeper.now) (g.K.Keeper.kept c.keep_sum.new.keeper) c.keep_sum.result c.args.crowd.now.p c.args.crowd.now.t c.args.crowd.now.vertices.now c.args.crowd.now.values.now c.deref.result.now
-    c.requires.limited c.requires.some is (omega (arith, short)) c.requires.in_problem.0 c.requires.in_problem.1 (λ r among. (c.requires.in_problem.2 r among).other_in)
-    (λ r among. joins_out c.args.lines.now c.args.crowd.now.direction c.args.crowd.now.p r (c.requires.in_problem.2 r among)) c.requires.in_problem.3 c.requires.in_problem.4 c.keep_sum.ensures.goes
+    crowd_goes c.args.lines.now (g.K.Keeper.owner c.args.keeper.now) (g.K.Keeper.kept c.args.keeper.now) (g.K.Keeper.kept c.keep_sum.new.keeper) c.keep_sum.result c.args.crowd.now.p c.args.crowd.now.t c.args.crowd.now.direction c.args.crowd.now.vertices.now c.args.crowd.now.values.now c.deref.result.now
+    c.requires.limited c.requires.some is c.requires.in_problem c.keep_sum.ensures.goes
 
 pub push_at_most-requires-clause-exists : goal.push_at_most-requires-clause-exists
-push_at_most-requires-clause-exists g c = whole_there c.args.lines.now c.requires.in_problem.4
+push_at_most-requires-clause-exists g c = whole_there c.args.lines.now c.requires.in_problem.injective

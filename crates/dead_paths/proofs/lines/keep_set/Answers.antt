@@ -1,4 +1,4 @@
-use Rattle.std.proofs.Common.{◌≡◌, ◌++◌, List, ap, ◌∙◌, refl, subst, sym, arith}
+use Rattle.std.proofs.Common.{◌≡◌, ◌++◌, List, ap, ◌∙◌, refl, subst, sym}
 use Rattle.std.specs.Prelude.{map}
 use Rattle.std.proofs.lemmas.Result.{err_from_is_err_and}
 use Rattle.log_theory.specs.declared.step.Ref.{Ref}
@@ -33,9 +33,8 @@ returns-clause-goes g c =
     let is : c.deref.result.now ≡ set_refs c.args.lines.now c.args.set.now.centre c.args.set.now.vertices.now c.args.set.now.values.now =
     c.deref.ensures.value ∙ c.in_ok-push_at_most.ensures
     ∙ ap (λ (rs : List Ref). rs ++ map (block_ref c.args.lines.now c.args.set.now.centre) c.args.set.now.values.now) (c.in_ok-push_at_least.ensures ∙ ap (λ (rs : List Ref). rs ++ at_least_refs c.args.lines.now c.args.set.now.vertices.now) c.new-refs.ensures.items) in
-    let short = c.deref.type_inv.0 in
     set_goes c.args.lines.now (g.K.Keeper.owner c.args.keeper.now) (g.K.Keeper.kept c.args.keeper.now) (g.K.Keeper.kept c.keep_sum.new.keeper) c.keep_sum.result c.args.set.now.centre c.args.set.now.vertices.now c.args.set.now.values.now c.deref.result.now
-    c.requires.limited c.requires.some is (omega (arith, short)) c.requires.in_problem c.keep_sum.ensures.goes
+    c.requires.limited c.requires.some is c.requires.in_problem c.keep_sum.ensures.goes
 
 pub push_at_least-requires : goal.push_at_least-requires
 push_at_least-requires g c = c.requires.in_problem.vertices_in

@@ -12,13 +12,13 @@ push_path-requires-clause-sound g c = subst (λ (p : Problem). Sound p c.args.ba
 pub push_bearing_all-requires-clause-vertices : goal.push_bearing_all-requires-clause-vertices
 push_bearing_all-requires-clause-vertices g c = λ k below.
     let is : c.deref.result.now ≡ path_at c.args.basis.now.rows.now c.args.name =
-    c.deref.ensures.value ∙ c.in_ok-push_path.ensures ∙ ap (λ (xs : List (ℕ × ℕ)). xs ++ path_at c.args.basis.now.rows.now c.args.name) c.clear.ensures.items in
+    c.deref.ensures ∙ c.in_ok-push_path.ensures ∙ ap (λ (xs : List (ℕ × ℕ)). xs ++ path_at c.args.basis.now.rows.now c.args.name) c.clear.ensures.items in
     row_vertex_of c.args.basis.now.lines.now c.args.basis.now.rows.now c.args.name c.deref.result.now k c.requires.sound is below
 
 pub returns-clause-pushed : goal.returns-clause-pushed
 returns-clause-pushed g c = λ known here.
     let is : c.deref.result.now ≡ path_at c.args.basis.now.rows.now c.args.name =
-    c.deref.ensures.value ∙ c.in_ok-push_path.ensures ∙ ap (λ (xs : List (ℕ × ℕ)). xs ++ path_at c.args.basis.now.rows.now c.args.name) c.clear.ensures.items in
+    c.deref.ensures ∙ c.in_ok-push_path.ensures ∙ ap (λ (xs : List (ℕ × ℕ)). xs ++ path_at c.args.basis.now.rows.now c.args.name) c.clear.ensures.items in
     nogood_pushed c.args.basis.now.lines.now c.args.basis.now.rows.now (g.N.RowNames.names c.args.basis.now.names.now) known c.args.but c.args.name c.deref.result.now c.args.refs.now.items c.push_bearing_all.new.refs.items c.push.new.self.items c.name.result is
     c.name.ensures.name c.in_ok-push.ensures.items
     (c.in_ok-push_bearing_all.ensures.borne known here)

@@ -11,6 +11,6 @@ push_path-requires t c =
 
 pub returns : goal.returns
 returns t c = elim c.match-row.branch [
-  | in-Some+in_ok-push_path w ↦ path_with c.args.q.now c.args.rows.now c.args.k w.in-Some.parent no_row c.args.into.now.items w.push_path.new.into.items c.push.new.self.items c.requires.sound c.requires.inside w.in-Some.is w.in_ok-push_path.ensures (cc c.in_ok-push.ensures.items)
-  | in_default w ↦ path_without c.args.q.now c.args.rows.now c.args.k no_row c.args.into.now.items c.push.new.self.items c.requires.sound c.requires.inside w.in_default.not-Some (cc c.in_ok-push.ensures.items)
+  | in-Some+in_ok-push_path w ↦ path_with c.args.q.now c.args.rows.now c.args.k w.in-Some.parent no_row c.args.into.now.items w.push_path.new.into.items c.push.new.self.items c.requires.sound c.requires.inside w.in-Some.is w.in_ok-push_path.ensures (cc c.in_ok-push.ensures.ok)
+  | in_default w ↦ path_without c.args.q.now c.args.rows.now c.args.k no_row c.args.into.now.items c.push.new.self.items c.requires.sound c.requires.inside w.in_default.not-Some (cc c.in_ok-push.ensures.ok)
 ]

@@ -16,7 +16,7 @@ split_seat-made-requires g c =
 pub invariant_of-seat : goal.invariant_of-seat
 invariant_of-seat g c =
     let e = c.split_seat-made.ensures in
-    seat_maker c.seat.inside.seat.table_id _ c.seat.inside.seat.me _ _ _ _ g.N.Naming.owner e.0 e.2 c.seat.invariant
+    seat_maker c.seat.inside.seat.table_id _ c.seat.inside.seat.me _ _ _ _ _ g.N.Naming.owner e.0 e.2 c.seat.invariant
 
 pub invariant_of-result : goal.invariant_of-result
 invariant_of-result g c =
