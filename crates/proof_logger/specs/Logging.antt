@@ -1,6 +1,6 @@
 -- What a logger is told of a search: how a path ends, and which rows come into the book.
 
-use Rattle.std.specs.Prelude.{◌≡◌, ℕ, ◌<◌, ◌≤◌, ◌⊎◌, true, List, [], ◌∷◌, ◌++◌, length, take, Contains, Option, Some, slice_get}
+use Rattle.std.specs.Prelude.{◌≡◌, ◌≢◌, ℕ, ◌<◌, ◌≤◌, ◌⊎◌, true, List, [], ◌∷◌, ◌++◌, length, take, Contains, Option, Some, slice_get}
 use Rattle.graph_theory.specs.Graph.{size}
 use Rattle.graph_theory.specs.Embedding.{Problem}
 use Rattle.search_theory.specs.Account.{Account, path, level_at, IsAt, NotAmong, FailsTo}
@@ -12,8 +12,8 @@ use Rattle.nogood_book.specs.Rows.{path_at}
 use Rattle.recorder.specs.Recording.{Change, CountedSet, HasGuess}
 use Rattle.recorder.specs.Telling.{IsOf, Tells, Fails}
 use Rattle.recorder.specs.Holding.{HoldsRows}
-use Rattle.proof_logger.specs.declared.logger.DeadEnd.{DeadEnd}
-use Rattle.proof_logger.specs.declared.logger.DeadEnd.TheVariants.{Failed, Exhausted}
+use Rattle.recorder.specs.declared.change.DeadEnd.{DeadEnd}
+use Rattle.recorder.specs.declared.change.DeadEnd.TheVariants.{Failed, Exhausted}
 
 -- ---- a dead path
 
@@ -63,6 +63,12 @@ pub record GrowsBeside (owner : ℕ) (rows more : List Row) : Type 0 where
   pub rest : List Row
   pub front : more ≡ rows ++ rest
   pub none_own : (k : ℕ) → IsNogoodBy owner more k → k < length rows
+
+-- Behind the rows there may be some that the owner keeps for itself: no nogood of another is among them.
+pub record EndsInOwn (owner : ℕ) (rows whole : List Row) : Type 0 where
+  pub rest : List Row
+  pub front : whole ≡ rows ++ rest
+  pub none_of_others : (k o : ℕ) → o ≢ owner → IsNogoodBy o whole k → k < length rows
 
 -- Rows have come, and row k is the one nogood of the owner among them: its path is that of a value which the account has refuted at the level.
 pub record Publishes (a : Account) (owner level value : ℕ) (rows more : List Row)

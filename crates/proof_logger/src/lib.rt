@@ -7,4 +7,4 @@
 
 mod logger;
 
-pub use logger::{DeadEnd, ProofLogger, Unlogged};
+pub use logger::{ProofLogger, Unlogged};

@@ -9,23 +9,14 @@ ghost use Rattle.nogood_book.specs.Rows.{Sound};
 use fail_account::Account;
 use graph_rows::Problem;
 use nogood_book::Row;
-use recorder::{Failure, Recorder, Silent};
+use recorder::{DeadEnd, Recorder, Silent};
 use std::alloc::{AllocError, Global};
-
-/// How a path has died.
-#[derive(Clone, Copy)]
-pub enum DeadEnd {
-    /// Propagation found no embedding within the domains.
-    Failed(Failure),
-    /// All values of this vertex, which is that of the level after the path, are refuted there or have left its domain.
-    Exhausted(u16),
-}
 
 /// Hears of a search, and writes the lines of its proof.
 pub trait ProofLogger: Drop {
     ghost use Rattle.search_theory.specs.Account.{Account};
     ghost use Rattle.nogood_book.specs.declared.row.Row.{Row};
-    ghost use Rattle.proof_logger.specs.Logging.{Closed, EndsPath, GrowsBeside, Publishes};
+    ghost use Rattle.proof_logger.specs.Logging.{Closed, EndsInOwn, EndsPath, GrowsBeside, Publishes};
 
     /// Who is told of each change of the domains.
     type Told: Recorder;
@@ -36,7 +27,7 @@ pub trait ProofLogger: Drop {
     /// For how many more notes there is room.
     ghost spare: { Self → ℕ };
 
-    /// Lines stand for all that the account has refuted, beside these rows of the book.
+    /// Lines stand for all that the account has refuted, beside these rows: those of the book, and then the owner's own.
     ghost writes: { Self → Problem → List Row → Account → Type 0 };
 
     /// The lines follow from the problem, each from those before it, beside these rows.
@@ -87,7 +78,8 @@ pub trait ProofLogger: Drop {
         ensures restarted { (q : Problem) (rows : List Row) (a : Account)
             → writes self.old q rows a → writes self.new q rows (restarted a) };
 
-    /// What stays while nothing is written. Cost: none.
+    /// What stays while nothing is written: as rows of others come, and without the rows at the end that the owner keeps for itself.
+    /// Cost: none.
     fn stays(&self)
         ensures guess { (q : Problem) (rows : List Row) (a : Account) (p t : ℕ) → IsAt a.vertex p
             → writes self.now q rows a → writes self.now q rows (deepened a p t) }
@@ -102,6 +94,12 @@ pub trait ProofLogger: Drop {
         ensures refutes_grown { (q : Problem) (rows more : List Row)
             → GrowsBeside (owner self.now) rows more
             → refutes self.now q rows → refutes self.now q more }
+        ensures steps_without_own { (q : Problem) (rows whole : List Row)
+            → EndsInOwn (owner self.now) rows whole
+            → steps self.now q whole → steps self.now q rows }
+        ensures refutes_without_own { (q : Problem) (rows whole : List Row)
+            → EndsInOwn (owner self.now) rows whole
+            → refutes self.now q whole → refutes self.now q rows }
         ensures refuted { (q : Problem) (rows : List Row)
             → refutes self.now q rows → steps self.now q rows };
 }

@@ -15,12 +15,13 @@ use Rattle.nogood_book.specs.declared.row.Row.{Row}
 use Rattle.nogood_book.specs.declared.row.RowKind.TheVariants.{Nogood}
 use Rattle.nogood_book.specs.Rows.{Pairs, path_at, Sound}
 use Rattle.nogood_book.specs.Places.{StartsWith, is_nogood, nogoods_by}
-use Rattle.nogood_book.specs.Facts.{Facts, Grew, CaughtUp, one_more}
+use Rattle.nogood_book.specs.Facts.{Facts, Grew, CaughtUp, HasEnded, one_more}
 use Rattle.nogood_book.proofs.Lists.{starts_length, get_split, nogoods_by-append}
 use Rattle.nogood_book.proofs.Reaching.{by_stays}
 use Rattle.recorder.specs.Holding.{lists_in, singles_in, HoldsRows}
 use Rattle.propagation.specs.Acting.{NothingLeft}
 use Rattle.propagation.proofs.Holding.{listed_place, single_place, path_some}
+use Rattle.restart_search.proofs.Publishing.{ended_on}
 use Rattle.restart_search.specs.Sharing.{IsSeatFor, IsRowOf, IsPublished, Went, IsPathInForce, RowsInForce, HasLooked, KeepsUp}
 
 -- ---- rows in force
@@ -98,41 +99,35 @@ looked_none : (looks : Option (List ℕ)) → HasLooked looks 0
 looked_none None = tt
 looked_none (Some looks) = omega arith
 
--- after catching up a seat that has seen no more than this run's nogoods keeps up, or has seen all
-caught_keeps : (s t : Facts) (run : ℕ) → CaughtUp s t → run ≤ nogoods_by s.owner s.seen → HasLooked s.looks run → KeepsUp t (run + 1)
-caught_keeps s t run c own looked = by c.looks
-  where
-    by : (t.looks ≡ one_more s.looks (length t.seen)) ⊎ ((t.looks ≡ s.looks) × (length t.seen ≡ s.size)) → KeepsUp t (run + 1)
-    by (inl more) = inr (
-      omega (arith, by_stays s.owner s.seen t.seen c.grew.seen, own, ap (λ (o : ℕ). nogoods_by o t.seen) c.grew.owner),
-      subst (λ (l : Option (List ℕ)). HasLooked l (run + 1)) (sym more) (looked_more s.looks run (length t.seen) looked),
-    )
-    by (inr (same, all)) = inl (omega (arith, c.grew.size, all))
+-- after catching up there was one look more, or all rows of the book are used and seen
+caught_looks : (s t : Facts) (run : ℕ) → CaughtUp s t → HasLooked s.looks run → (t.size ≤ length t.seen) ⊎ HasLooked t.looks (run + 1)
+caught_looks s t run c looked = elim c.looks [
+  | inl more ↦ inr (subst (λ (l : Option (List ℕ)). HasLooked l (run + 1)) (sym more) (looked_more s.looks run (length t.seen) looked))
+  | inr h ↦ inl (omega (arith, c.grew.size, h.1))
+]
 
 -- before the first run
 pub keeps_first : (s t : Facts) (a : Account) → a.run ≡ 1 → CaughtUp s t → KeepsUp t a.run
-keeps_first s t a first c = subst (λ (n : ℕ). KeepsUp t n) (sym first) (caught_keeps s t 0 c (omega arith) (looked_none s.looks))
+keeps_first s t a first c = subst (λ (n : ℕ). KeepsUp t n) (sym first) (inr (omega arith), caught_looks s t 0 c (looked_none s.looks))
 
--- before a later one: the position is published, or the book is full
+-- before a later one: the position is published, or the seat takes no further row
 pub keeps_again : (q : Problem) (o : ℕ) (s t u : Facts) (a : Account) (all : Bool) → IsSeatFor q o s → Honest q a → a.count ≡ cutoff a.run → KeepsUp s a.run → Went s t
-    → (all ≡ true → IsPublished a o (length s.seen) t.seen) → (all ≡ false → length t.seen ≡ t.size) → CaughtUp t u → KeepsUp u (restarted a).run
-keeps_again q o s t u a all seat honest due keeps went published full caught = by all published full keeps
+    → (all ≡ true → IsPublished a o (length s.seen) t.seen) → (all ≡ false → HasEnded t) → CaughtUp t u → KeepsUp u (restarted a).run
+keeps_again q o s t u a all seat honest due keeps went published full caught = (left all published full keeps.0, looked keeps.1)
   where
-    full_on : (f : Facts) → length f.seen ≡ f.size → Grew f u → KeepsUp u (a.run + 1)
-    full_on f is grew = inl (omega (arith, starts_length f.seen u.seen grew.seen, is, grew.size))
-
-    seen_all : s.size ≤ length s.seen → KeepsUp u (a.run + 1)
-    seen_all is = inl (omega (arith, is, starts_length s.seen t.seen went.grew.seen, starts_length t.seen u.seen caught.grew.seen, went.grew.size, caught.grew.size))
-
-    one_run : IsPublished a o (length s.seen) t.seen → (a.run ≤ nogoods_by s.owner s.seen + 1) × HasLooked s.looks a.run → KeepsUp u (a.run + 1)
+    one_run : IsPublished a o (length s.seen) t.seen → a.run ≤ nogoods_by s.owner s.seen + 1 → a.run + 1 ≤ nogoods_by u.owner u.seen + 1
     one_run p h =
         let r = refuted_at_cutoff q a honest.reached due in
         let more = row_counts o s.seen t.seen _ went.grew.seen (p.each r.level r.vertex r.value r.vertex_is r.refuted) in
-        caught_keeps t u a.run caught
-        (omega (arith, h.0, more, ap (λ (n : ℕ). nogoods_by n s.seen) seat.owner_is, ap (λ (n : ℕ). nogoods_by n t.seen) (went.grew.owner ∙ seat.owner_is)))
-        (subst (λ (l : Option (List ℕ)). HasLooked l a.run) (sym went.looks) h.1)
+        let stays = by_stays o t.seen u.seen caught.grew.seen in
+        omega (arith, h, more, stays, ap (λ (n : ℕ). nogoods_by n s.seen) seat.owner_is, ap (λ (n : ℕ). nogoods_by n u.seen) (caught.grew.owner ∙ (went.grew.owner ∙ seat.owner_is)))
 
-    by : (b : Bool) → (b ≡ true → IsPublished a o (length s.seen) t.seen) → (b ≡ false → length t.seen ≡ t.size) → KeepsUp s a.run → KeepsUp u (a.run + 1)
-    by true p f (inl seen) = seen_all seen
-    by true p f (inr h) = one_run (p refl) h
-    by false p f k = full_on t (f refl) caught.grew
+    left : (b : Bool) → (b ≡ true → IsPublished a o (length s.seen) t.seen) → (b ≡ false → HasEnded t) → HasEnded s ⊎ (a.run ≤ nogoods_by s.owner s.seen + 1)
+        → HasEnded u ⊎ (a.run + 1 ≤ nogoods_by u.owner u.seen + 1)
+    left true p f (inl e) = inl (ended_on t u (ended_on s t e went.grew) caught.grew)
+    left true p f (inr h) = inr (one_run (p refl) h)
+    left false p f h = inl (ended_on t u (f refl) caught.grew)
+
+    looked : (s.size ≤ length s.seen) ⊎ HasLooked s.looks a.run → (u.size ≤ length u.seen) ⊎ HasLooked u.looks (a.run + 1)
+    looked (inl seen) = inl (omega (arith, seen, starts_length s.seen t.seen went.grew.seen, starts_length t.seen u.seen caught.grew.seen, went.grew.size, caught.grew.size))
+    looked (inr l) = caught_looks t u a.run caught (subst (λ (l : Option (List ℕ)). HasLooked l a.run) (sym went.looks) l)

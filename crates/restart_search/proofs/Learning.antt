@@ -12,12 +12,12 @@ use Rattle.nogood_book.specs.declared.row.RowKind.{RowKind}
 use Rattle.nogood_book.specs.declared.row.RowKind.TheVariants.{Step, Nogood}
 use Rattle.nogood_book.specs.Rows.{Pairs, path_at}
 use Rattle.nogood_book.specs.Places.{StartsWith, place_or, places, places_from}
-use Rattle.nogood_book.specs.Facts.{Facts, CaughtUp, IsFull, StandsAt}
+use Rattle.nogood_book.specs.Facts.{Facts, CaughtUp, IsFull, StandsAt, Grew, HasEnded}
 use Rattle.nogood_book.specs.Reaching.{Reaches}
 use Rattle.nogood_book.proofs.Lists.{get_front, starts_length}
 use Rattle.nogood_book.proofs.Reaching.{path_stays, row_placed}
 use Rattle.restart_search.specs.Sharing.{Went, if_nogood, nogood_of, nogoods_at, learned_by, refuted_at, refuted_below, refuted_in, LearnsFirst, HasLearned}
-use Rattle.restart_search.proofs.Publishing.{no_vertex_after}
+use Rattle.restart_search.proofs.Publishing.{no_vertex_after, ended_on}
 
 -- ---- the nogoods at places
 
@@ -93,7 +93,7 @@ learned_step r at o s t above h reaches kind owner =
     (learned_one o at s.seen t.seen r xs h.grew.seen (subst (λ (n : ℕ). places n t.seen ≡ places n s.seen ++ at ∷ []) owner h.mine) placed.0 placed.1)
     ∙ append-nil (learned_by o s.seen)
 
--- nor where the book is full
+-- nor where there is no room for it
 pub learned_full : (o : ℕ) (s t : Facts) → IsFull s t → s.owner ≡ o → learned_by o t.seen ≡ learned_by o s.seen
 learned_full o s t h owner = learned_same o s.seen t.seen h.grew.seen (subst (λ (n : ℕ). places n t.seen ≡ places n s.seen) owner h.mine)
 
@@ -295,7 +295,7 @@ first_caught o rows t u xs owner caught h = (h.0, h.1 ∙ ap (λ (zs : List Pair
 
 -- what was published is learned
 pub has_learned : (a : Account) (o : ℕ) (whole : Bool) (s t u : Facts) → s.owner ≡ o → Went s t → CaughtUp t u
-    → (whole ≡ true → learned_by o t.seen ≡ learned_by o s.seen ++ refuted_in a) → LearnsFirst o s.seen t.seen (refuted_in a) → (whole ≡ false → length t.seen ≡ t.size) → HasLearned a s u
+    → (whole ≡ true → learned_by o t.seen ≡ learned_by o s.seen ++ refuted_in a) → LearnsFirst o s.seen t.seen (refuted_in a) → (whole ≡ false → HasEnded t) → HasLearned a s u
 has_learned a o whole s t u owner went caught published part full = by whole published full
   where
     mine : t.owner ≡ s.owner
@@ -304,9 +304,9 @@ has_learned a o whole s t u owner went caught published part full = by whole pub
     first : LearnsFirst s.owner s.seen t.seen (refuted_in a)
     first = subst (λ (n : ℕ). LearnsFirst n s.seen t.seen (refuted_in a)) (sym owner) part
 
-    by : (b : Bool) → (b ≡ true → learned_by o t.seen ≡ learned_by o s.seen ++ refuted_in a) → (b ≡ false → length t.seen ≡ t.size) → HasLearned a s u
+    by : (b : Bool) → (b ≡ true → learned_by o t.seen ≡ learned_by o s.seen ++ refuted_in a) → (b ≡ false → HasEnded t) → HasLearned a s u
     by true all none = inl (learned_caught s.owner t u mine caught ∙ subst (λ (n : ℕ). learned_by n t.seen ≡ learned_by n s.seen ++ refuted_in a) (sym owner) (all refl))
-    by false all none = inr (omega (arith, none refl, starts_length t.seen u.seen caught.grew.seen, caught.grew.size), first_caught s.owner s.seen t u (refuted_in a) mine caught first)
+    by false all none = inr (ended_on t u (none refl) caught.grew, first_caught s.owner s.seen t u (refuted_in a) mine caught first)
 
 pub on_ok : {A E : Type 0} (answer : Result A E) (P : Type 0) → P → OnOk answer P
 on_ok (Ok x) P p = p

@@ -16,7 +16,7 @@ use Rattle.recorder.specs.Recording.{Change, LeftOne, CountedSet, from_of, MayTa
 use Rattle.recorder.specs.Telling.{IsOf, NamesList, NamesUnit, KeepsNames, Told, begins, goes_on, Tells}
 use Rattle.recorder.proofs.Telling.{tells_undone, tells_named}
 use Rattle.recorder.specs.Holding.{listed, single, made_from, lists_in, singles_in, HoldsRows}
-use Rattle.proof_logger.specs.declared.logger.DeadEnd.{DeadEnd}
+use Rattle.recorder.specs.declared.change.DeadEnd.{DeadEnd}
 use Rattle.proof_logger.specs.Logging.{EndsBy, EndsPath}
 use Rattle.restart_search.specs.declared.position.Moment.{Moment}
 use Rattle.restart_search.specs.Searching.{Levels, Based}

@@ -44,7 +44,7 @@ has_place at o (x ∷ xs) (suc j) r here own = by (x.owner == o) (subst (λ (n :
     by false h = h
 
 -- a row past the seam
-past_seam : (xs ys : List Row) (k : ℕ) (r : Row) → slice_get (xs ++ ys) k ≡ Some r → length xs ≤ k → (j : ℕ) × (slice_get ys j ≡ Some r) × (length xs + j ≡ k)
+pub past_seam : (xs ys : List Row) (k : ℕ) (r : Row) → slice_get (xs ++ ys) k ≡ Some r → length xs ≤ k → (j : ℕ) × (slice_get ys j ≡ Some r) × (length xs + j ≡ k)
 past_seam [] ys k r here past = (k, here, omega arith)
 past_seam (x ∷ xs) ys zero r here past = absurd (omega (arith, past))
 past_seam (x ∷ xs) ys (suc k) r here past = let h = past_seam xs ys k r here (omega (arith, past)) in (h.0, h.1, omega (arith, h.2))

@@ -16,7 +16,7 @@ use Rattle.nogood_book.specs.declared.row.Row.{Row}
 use Rattle.nogood_book.specs.declared.row.RowKind.TheVariants.{Nogood}
 use Rattle.nogood_book.specs.Rows.{Pairs, Sound, DeadFor, MayFollow}
 use Rattle.nogood_book.specs.Places.{StartsWith}
-use Rattle.nogood_book.specs.Facts.{Facts, Grew, StandsAt, IsFull}
+use Rattle.nogood_book.specs.Facts.{Facts, Grew, HasEnded, StandsAt, IsFull}
 use Rattle.nogood_book.specs.Reaching.{Reaches, MayStand}
 use Rattle.nogood_book.proofs.Lists.{starts_same, starts_on}
 use Rattle.nogood_book.proofs.Reaching.{row_of_more, may_follow, row_placed}
@@ -27,7 +27,7 @@ use Rattle.restart_search.proofs.Positions.{level_is, member_passes}
 
 -- where nothing was published
 pub went_none : (s : Facts) → Sound s.problem s.seen → Went s s
-went_none s sound = record { grew = record { problem = refl; owner = refl; size = refl; seen = starts_same s.seen; sound = sound }; looks = refl }
+went_none s sound = record { grew = record { problem = refl; owner = refl; size = refl; seen = starts_same s.seen; sound = sound; over = λ e. (e, refl) }; looks = refl }
 
 -- one after the other
 pub grew_on : (a b c : Facts) → Grew a b → Grew b c → Grew a c
@@ -37,6 +37,7 @@ grew_on a b c g h = record {
   size = h.size ∙ g.size;
   seen = starts_on a.seen b.seen c.seen g.seen h.seen;
   sound = h.sound;
+  over = λ e. let m = g.over e in let n = h.over m.0 in (n.0, n.1 ∙ m.1);
 }
 
 pub went_more : (a b c : Facts) → Went a b → Went b c → Went a c
@@ -48,9 +49,12 @@ went_at r at s t h = record { grew = h.grew; looks = h.looks }
 pub went_full : (s t : Facts) → IsFull s t → Went s t
 went_full s t h = record { grew = h.grew; looks = h.looks }
 
--- a full book has as many rows as the seat says after it
-pub full_after : (s t : Facts) → IsFull s t → length t.seen ≡ t.size
-full_after s t h = h.full ∙ sym h.grew.size
+-- a seat that takes no further row takes none later
+pub ended_on : (s t : Facts) → HasEnded s → Grew s t → HasEnded t
+ended_on s t h grew = record {
+  full = let e = h.full in omega (arith, e, ap length grew.seen.1, length-append s.seen grew.seen.0, grew.size);
+  ended = (grew.over h.ended).0;
+}
 
 -- it is the same owner's, for the same problem
 pub seat_went : (q : Problem) (o : ℕ) (s t : Facts) → Went s t → IsSeatFor q o s → IsSeatFor q o t

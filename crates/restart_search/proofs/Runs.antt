@@ -9,12 +9,13 @@ use Rattle.search_theory.specs.Account.{Account, Event, Deepen, Fail, Leads, May
 use Rattle.nogood_book.specs.declared.row.Row.{Row}
 use Rattle.nogood_book.specs.Rows.{Pairs}
 use Rattle.nogood_book.specs.Places.{StartsWith}
-use Rattle.nogood_book.specs.Facts.{Facts, Grew}
+use Rattle.nogood_book.specs.Facts.{Facts, Grew, HasEnded}
 use Rattle.nogood_book.proofs.Lists.{starts_length}
 use Rattle.restart_search.specs.declared.outcome.Outcome.{Outcome}
 use Rattle.restart_search.specs.declared.outcome.Outcome.TheVariants.{Found, Refuted, Spent, Stopped, NoMemory}
 use Rattle.restart_search.specs.Searching.{IfMemory}
 use Rattle.restart_search.specs.Sharing.{learned_by, refuted_in, refuted_in_all, LearnsFirst, Learns, HasLearned, GoesWithinRun, RestartsAt, LearnedInRuns, LearnedPart}
+use Rattle.restart_search.proofs.Publishing.{ended_on}
 use Rattle.restart_search.proofs.Learning.{first_all, first_more}
 
 -- ---- the events of a run
@@ -54,18 +55,10 @@ all_again (d ∷ ds) a = ap (λ (zs : List Pairs). refuted_in d ++ zs) (all_agai
 
 -- ---- what is learned
 
--- rows that are no fewer and no more are the same
-same_rows : (rows more : List Row) → StartsWith more rows → length more ≤ length rows → more ≡ rows
-same_rows rows more starts le = starts.1 ∙ (ap (λ (zs : List Row). rows ++ zs) (none starts.0 (omega (arith, le, ap length starts.1, length-append rows starts.0))) ∙ append-nil rows)
-  where
-    none : (xs : List Row) → length xs ≡ 0 → xs ≡ []
-    none [] empty = refl
-    none (x ∷ xs) empty = absurd (omega (arith, empty))
-
--- after some, the first ones of others; a full book shows no more
-learns_first : (s t u : Facts) (xs ys : List Pairs) → Learns s t xs → LearnsFirst s.owner t.seen u.seen ys → Grew t u → length u.seen ≤ u.size → LearnsFirst s.owner s.seen u.seen (xs ++ ys)
-learns_first s t u xs ys (inl is) next grew few = first_more s.owner s.seen t.seen u.seen xs ys [] (xs ++ ys) is next (sym (append-nil (xs ++ ys)))
-learns_first s t u xs ys (inr h) next grew few = (
+-- after some, the first ones of others; a seat that takes no further row has no more
+learns_first : (s t u : Facts) (xs ys : List Pairs) → Learns s t xs → LearnsFirst s.owner t.seen u.seen ys → Grew t u → LearnsFirst s.owner s.seen u.seen (xs ++ ys)
+learns_first s t u xs ys (inl is) next grew = first_more s.owner s.seen t.seen u.seen xs ys [] (xs ++ ys) is next (sym (append-nil (xs ++ ys)))
+learns_first s t u xs ys (inr h) next grew = (
   part.0 ++ ys,
   sym (append_assoc (A s.seen) xs ys) ∙ (ap (λ (zs : List Pairs). zs ++ ys) part.1 ∙ (append_assoc (A t.seen) part.0 ys ∙ ap (λ (zs : List Row). A zs ++ (part.0 ++ ys)) (sym rows))),
 )
@@ -76,24 +69,21 @@ learns_first s t u xs ys (inr h) next grew few = (
     part : LearnsFirst s.owner s.seen t.seen xs
     part = h.1
 
-    no_more : length u.seen ≤ length t.seen
-    no_more = omega (arith, h.0, few, grew.size)
-
     rows : u.seen ≡ t.seen
-    rows = same_rows t.seen u.seen grew.seen no_more
+    rows = (grew.over h.0.ended).1
 
 -- one after the other
-learns_on : (s t u : Facts) (xs ys : List Pairs) → Learns s t xs → Learns t u ys → t.owner ≡ s.owner → Grew t u → length u.seen ≤ u.size → Learns s u (xs ++ ys)
-learns_on s t u xs ys h k owner grew few = by h mine
+learns_on : (s t u : Facts) (xs ys : List Pairs) → Learns s t xs → Learns t u ys → t.owner ≡ s.owner → Grew t u → Learns s u (xs ++ ys)
+learns_on s t u xs ys h k owner grew = by h mine
   where
     A : List Row → List Pairs
     A rows = learned_by s.owner rows
 
     Then : Type 0
-    Then = (A u.seen ≡ A t.seen ++ ys) ⊎ ((u.size ≤ length u.seen) × LearnsFirst s.owner t.seen u.seen ys)
+    Then = (A u.seen ≡ A t.seen ++ ys) ⊎ (HasEnded u × LearnsFirst s.owner t.seen u.seen ys)
 
     mine : Then
-    mine = subst (λ (o : ℕ). (learned_by o u.seen ≡ learned_by o t.seen ++ ys) ⊎ ((u.size ≤ length u.seen) × LearnsFirst o t.seen u.seen ys)) owner k
+    mine = subst (λ (o : ℕ). (learned_by o u.seen ≡ learned_by o t.seen ++ ys) ⊎ (HasEnded u × LearnsFirst o t.seen u.seen ys)) owner k
 
     first_of : Then → LearnsFirst s.owner t.seen u.seen ys
     first_of (inl is) = first_all s.owner t.seen u.seen ys is
@@ -101,8 +91,8 @@ learns_on s t u xs ys h k owner grew few = by h mine
 
     by : Learns s t xs → Then → Learns s u (xs ++ ys)
     by (inl is) (inl next) = inl (next ∙ (ap (λ (zs : List Pairs). zs ++ ys) is ∙ append_assoc (A s.seen) xs ys))
-    by (inl is) (inr part) = inr (part.0, learns_first s t u xs ys (inl is) part.1 grew few)
-    by (inr full) next = inr (omega (arith, full.0, starts_length t.seen u.seen grew.seen, grew.size), learns_first s t u xs ys (inr full) (first_of next) grew few)
+    by (inl is) (inr part) = inr (part.0, learns_first s t u xs ys (inl is) part.1 grew)
+    by (inr full) next = inr (ended_on t u full.0 grew, learns_first s t u xs ys (inr full) (first_of next) grew)
 
 -- ---- over runs
 
@@ -126,22 +116,22 @@ learned_on q old mid new s t h k = record {
 
 -- with one restart more
 pub learned_again : (q : Problem) (old mid new : Account) (s t u : Facts) → LearnedInRuns q old mid s t → mid.count ≡ cutoff mid.run → new ≡ restarted mid → HasLearned mid t u
-    → t.owner ≡ s.owner → Grew t u → length u.seen ≤ u.size → LearnedInRuns q old new s u
-learned_again q old mid new s t u h due is learned owner grew few = record {
+    → t.owner ≡ s.owner → Grew t u → LearnedInRuns q old new s u
+learned_again q old mid new s t u h due is learned owner grew = record {
   ends = h.ends ++ mid ∷ [];
   restarts = subst (λ (a : Account). RestartsAt q old (h.ends ++ mid ∷ []) a) (sym is) (restarts_again q old mid h.ends h.restarts due);
   run = omega (arith, ap (λ (a : Account). a.run) is, h.run, length-append h.ends (mid ∷ []));
-  learned = subst (λ (xs : List Pairs). Learns s u xs) (sym (all_again h.ends mid)) (learns_on s t u (refuted_in_all h.ends) (refuted_in mid) h.learned learned owner grew few);
+  learned = subst (λ (xs : List Pairs). Learns s u xs) (sym (all_again h.ends mid)) (learns_on s t u (refuted_in_all h.ends) (refuted_in mid) h.learned learned owner grew);
 }
 
 -- where memory is refused at a restart, before it or after
 pub part_again : (q : Problem) (old mid new : Account) (s t u : Facts) (o : ℕ) → LearnedInRuns q old mid s t → mid.count ≡ cutoff mid.run → (new ≡ mid) ⊎ (new ≡ restarted mid) → LearnsFirst o t.seen u.seen (refuted_in mid)
-    → s.owner ≡ o → Grew t u → length u.seen ≤ u.size → LearnedPart q old new s u
-part_again q old mid new s t u o h due is first owner grew few = by is
+    → s.owner ≡ o → Grew t u → LearnedPart q old new s u
+part_again q old mid new s t u o h due is first owner grew = by is
   where
     firsts : LearnsFirst s.owner s.seen u.seen (refuted_in_all (h.ends ++ mid ∷ []))
     firsts = subst (λ (xs : List Pairs). LearnsFirst s.owner s.seen u.seen xs) (sym (all_again h.ends mid))
-        (learns_first s t u (refuted_in_all h.ends) (refuted_in mid) h.learned (subst (λ (n : ℕ). LearnsFirst n t.seen u.seen (refuted_in mid)) (sym owner) first) grew few)
+        (learns_first s t u (refuted_in_all h.ends) (refuted_in mid) h.learned (subst (λ (n : ℕ). LearnsFirst n t.seen u.seen (refuted_in mid)) (sym owner) first) grew)
 
     before : LearnedPart q old mid s u
     before = record { ends = h.ends; restarts = h.restarts; run = h.run; learned = inr (due, firsts) }

@@ -12,7 +12,7 @@ use Rattle.nogood_book.specs.declared.row.RowKind.{RowKind}
 use Rattle.nogood_book.specs.declared.row.RowKind.TheVariants.{Step, Nogood}
 use Rattle.nogood_book.specs.Rows.{Pairs, path_at}
 use Rattle.nogood_book.specs.Places.{IsNogoodRow, nogoods_by, places}
-use Rattle.nogood_book.specs.Facts.{Facts, Grew}
+use Rattle.nogood_book.specs.Facts.{Facts, Grew, HasEnded}
 
 -- The seat is one of this owner, for this problem.
 pub record IsSeatFor (q : Problem) (owner : ℕ) (f : Facts) : Type 0 where
@@ -74,10 +74,10 @@ abbrev pub LearnsFirst : ℕ → List Row → List Row → List Pairs → Type 0
 LearnsFirst owner rows more xs = (rest : List Pairs)
     × (learned_by owner rows ++ xs ≡ learned_by owner more ++ rest)
 
--- From the first to the second of these the seat's owner has learned exactly these paths, in order; or the first ones of them, and every row of the book is used and seen.
+-- From the first to the second of these the seat's owner has learned exactly these paths, in order; or the first ones of them, and the seat takes no further row.
 abbrev pub Learns : Facts → Facts → List Pairs → Type 0
 Learns s t xs = (learned_by s.owner t.seen ≡ learned_by s.owner s.seen ++ xs)
-    ⊎ ((t.size ≤ length t.seen) × LearnsFirst s.owner s.seen t.seen xs)
+    ⊎ (HasEnded t × LearnsFirst s.owner s.seen t.seen xs)
 
 -- It has learned what the position had refuted.
 abbrev pub HasLearned : Account → Facts → Facts → Type 0
@@ -107,7 +107,7 @@ abbrev pub refuted_in_all : List Account → List Pairs
 refuted_in_all [] = []
 refuted_in_all (a ∷ rest) = refuted_in a ++ refuted_in_all rest
 
--- From the old account to the new one, and from the first to the second of these facts, the seat's owner has learned all that its position had refuted at each of its restarts, in order, and nothing else; or the first ones of that, and every row of the book is used and seen.
+-- From the old account to the new one, and from the first to the second of these facts, the seat's owner has learned all that its position had refuted at each of its restarts, in order, and nothing else; or the first ones of that, and the seat takes no further row.
 pub record LearnedInRuns (q : Problem) (old new : Account) (s t : Facts) : Type 0 where
   pub ends : List Account
   pub restarts : RestartsAt q old ends new
@@ -141,7 +141,8 @@ abbrev pub HasLooked : Option (List ℕ) → ℕ → Type 0
 HasLooked None n = Unit {0}
 HasLooked (Some looks) n = n ≤ length looks
 
--- Every row of the book is used and seen; or all runs before this one have left a nogood of the seat's owner, and each run has begun with a look.
+-- All runs before this one have left a nogood of the seat's owner, or the seat takes no further row; and each run has begun with a look, or
+-- every row of the book is used and seen.
 abbrev pub KeepsUp : Facts → ℕ → Type 0
-KeepsUp f run = (f.size ≤ length f.seen) ⊎ ((run ≤ nogoods_by f.owner f.seen + 1)
-    × HasLooked f.looks run)
+KeepsUp f run = (HasEnded f ⊎ (run ≤ nogoods_by f.owner f.seen + 1))
+    × ((f.size ≤ length f.seen) ⊎ HasLooked f.looks run)

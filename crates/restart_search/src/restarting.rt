@@ -15,9 +15,9 @@ use crate::position::{Position, Propagator, present};
 use crate::sharing::{Author, publish_position};
 use domain_bits::Trail;
 use nogood_book::{Book, RowSeat};
-use proof_logger::{DeadEnd, ProofLogger};
+use proof_logger::ProofLogger;
 use propagation::{lower, propagate_again};
-use recorder::Recorder;
+use recorder::{DeadEnd, Recorder};
 use std::alloc::{AllocError, Global};
 
 /// Takes up what the book has: the nogoods among the rows from a place on, those before it being kept, and what follows at the root.
@@ -45,7 +45,6 @@ fn take_up_book<T: Trail, B: Book, L: ProofLogger>(
     requires long { length propagator.old.waiting.items ≡ size author.now.problem.now.pattern }
     ensures fits { B.fits author.now.book.now seat.new }
     ensures caught { CaughtUp (B.Seat.shows seat.old) (B.Seat.shows seat.new) }
-    ensures few { length (B.Seat.shows seat.new).seen ≤ (B.Seat.shows seat.new).size }
     ensures problem { propagator.new.filters.problem ≡ author.now.problem.now }
     ensures took { IfOk result
         (λ some. TookUpAt some author.now.problem.now propagator.new.filters.nogoods position.new
@@ -119,7 +118,6 @@ pub(crate) fn begin_again<T: Trail, B: Book, L: ProofLogger>(
     ensures part { LearnsFirst author.now.owner (B.Seat.shows seat.old).seen
         (B.Seat.shows seat.new).seen (refuted_in position.old.account) }
     ensures grew { Grew (B.Seat.shows seat.old) (B.Seat.shows seat.new) }
-    ensures few { length (B.Seat.shows seat.new).seen ≤ (B.Seat.shows seat.new).size }
     ensures restarted { OnOk result
         (position.new.account ≡ restarted position.old.account) }
     ensures account { (position.new.account ≡ position.old.account)

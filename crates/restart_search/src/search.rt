@@ -27,9 +27,9 @@ use domain_bits::{Domains, Trail};
 use fail_account::Account;
 use graph_rows::Problem;
 use nogood_book::{Book, Row, RowSeat};
-use proof_logger::{DeadEnd, ProofLogger};
+use proof_logger::ProofLogger;
 use propagation::{give, lower, propagate};
-use recorder::Recorder;
+use recorder::{DeadEnd, Recorder};
 use std::alloc::{AllocError, Global};
 use worker_gate::{AnswerCell, Gate, Note, Point};
 

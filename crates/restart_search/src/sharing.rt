@@ -10,6 +10,7 @@ ghost use Rattle.bit_rows.specs.BitRows.{has, words_for};
 ghost use Rattle.graph_theory.specs.Neighbours.{members};
 ghost use Rattle.search_theory.specs.Account.{InRange, Honest, path, level_at};
 ghost use Rattle.proof_logger.specs.Logging.{GrowsBeside};
+ghost use Rattle.nogood_book.specs.Facts.{HasEnded};
 ghost use Rattle.nogood_book.specs.Reaching.{Reaches, MayStand};
 ghost use Rattle.restart_search.specs.Sharing.{IsSeatFor, IsRowOf, IsPublished, LearnsFirst, Went, learned_by, refuted_at, refuted_in};
 
@@ -43,7 +44,7 @@ struct Level<'p> {
 }
 
 /// Publishes one nogood: that no embedding has the pairs above and this one, which the account has refuted at the level; and notes it.
-/// False where the book is full.
+/// False where there is no room for its row, nor for any that follows.
 fn publish_nogood<B: Book, L: ProofLogger>(
     author: &Author<B>,
     seat: &mut B::Seat,
@@ -81,7 +82,7 @@ fn publish_nogood<B: Book, L: ProofLogger>(
         → learned_by author.now.owner (B.Seat.shows seat.new).seen
         ≡ learned_by author.now.owner (B.Seat.shows seat.old).seen }
     ensures full { result ≡ false
-        → length (B.Seat.shows seat.new).seen ≡ (B.Seat.shows seat.new).size }
+        → HasEnded (B.Seat.shows seat.new) }
 {
     let _pattern = author.problem.pattern();
     let _target = author.problem.target();
@@ -93,7 +94,7 @@ fn publish_nogood<B: Book, L: ProofLogger>(
         value: pair.1,
     };
     log.stays();
-    match author.book.publish(seat, row) {
+    match author.book.place(seat, row) {
         Published::At(place) => {
             log.note(account, level.number, pair.1, place);
             true
@@ -102,7 +103,7 @@ fn publish_nogood<B: Book, L: ProofLogger>(
     }
 }
 
-/// Publishes one guess, and answers its place, below which the next level's rows stand; none where the book is full.
+/// Publishes one guess, and answers its place, below which the next level's rows stand; none where it has no room.
 fn publish_step<B: Book>(
     author: &Author<B>,
     seat: &mut B::Seat,
@@ -124,7 +125,7 @@ fn publish_step<B: Book>(
     ensures learned { learned_by author.now.owner (B.Seat.shows seat.new).seen
         ≡ learned_by author.now.owner (B.Seat.shows seat.old).seen }
     ensures full { IfNone result
-        (length (B.Seat.shows seat.new).seen ≡ (B.Seat.shows seat.new).size) }
+        (HasEnded (B.Seat.shows seat.new)) }
 {
     let _pattern = author.problem.pattern();
     let _target = author.problem.target();
@@ -135,14 +136,14 @@ fn publish_step<B: Book>(
         vertex: pair.0,
         value: pair.1,
     };
-    match author.book.publish(seat, row) {
+    match author.book.place(seat, row) {
         Published::At(place) => Some(place),
         Published::Full => None,
     }
 }
 
-/// Publishes a nogood for each value of the row, which the account has refuted at the level, with the pairs above. False where the book
-/// is full. Cost: a row of the book for each value, and one step for each word.
+/// Publishes a nogood for each value of the row, which the account has refuted at the level, with the pairs above. False where one
+/// has no room. Cost: a row for each value, and one step for each word.
 fn publish_level<B: Book, L: ProofLogger>(
     author: &Author<B>,
     seat: &mut B::Seat,
@@ -187,7 +188,7 @@ fn publish_level<B: Book, L: ProofLogger>(
         (refuted_at level.now.above.now (Some p) (members (has refuted.now) account.now.target)) }
     ensures full { IfOk result
         (λ whole. whole ≡ false
-        → length (B.Seat.shows seat.new).seen ≡ (B.Seat.shows seat.new).size) }
+        → HasEnded (B.Seat.shows seat.new)) }
 {
     let _few = author.problem.target().size();
     let _rows = seat.rows();
@@ -203,7 +204,8 @@ fn publish_level<B: Book, L: ProofLogger>(
     Ok(true)
 }
 
-/// Publishes the guess of level `at`, where the path has one, and makes it the parent of what follows. False where the book is full.
+/// Publishes the guess of level `at`, where the path has one, and makes it the parent of what follows. False where it has no
+/// room.
 fn publish_guess<B: Book>(
     author: &Author<B>,
     seat: &mut B::Seat,
@@ -227,7 +229,7 @@ fn publish_guess<B: Book>(
     ensures learned { learned_by author.now.owner (B.Seat.shows seat.new).seen
         ≡ learned_by author.now.owner (B.Seat.shows seat.old).seen }
     ensures full { result ≡ false
-        → length (B.Seat.shows seat.new).seen ≡ (B.Seat.shows seat.new).size }
+        → HasEnded (B.Seat.shows seat.new) }
 {
     let _rows = seat.rows();
     if at >= path.len() {
@@ -243,8 +245,8 @@ fn publish_guess<B: Book>(
 }
 
 /// Publishes what the position of the account has refuted: for each level in order, a nogood for each value refuted there, rising, and
-/// then the level's guess. False where the book is full, which ends it. Cost: a row of the book for each of these, and the words of the
-/// levels' rows.
+/// then the level's guess. False where a row has no room, which ends it. Cost: a row for each of these, and the words of the levels'
+/// rows.
 pub(crate) fn publish_position<B: Book, L: ProofLogger>(
     author: &Author<B>,
     seat: &mut B::Seat,
@@ -274,7 +276,7 @@ pub(crate) fn publish_position<B: Book, L: ProofLogger>(
         (B.Seat.shows seat.new).seen (refuted_in account.now) }
     ensures full { IfOk result
         (λ whole. whole ≡ false
-        → length (B.Seat.shows seat.new).seen ≡ (B.Seat.shows seat.new).size) }
+        → HasEnded (B.Seat.shows seat.new)) }
 {
     let _vertex = account.vertex();
     let _rows = seat.rows();

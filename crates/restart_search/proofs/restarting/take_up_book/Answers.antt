@@ -14,9 +14,6 @@ use Rattle.restart_search.proofs.Noting.{beside_caught}
 use Rattle.restart_search.proofs.Written.{kept_long}
 use Rattle.restart_search.proofs.restarting.take_up_book.Goals as goal
 
-few_seen : (f : Facts) (rows : List Row) → rows ≡ f.seen → length rows ≤ f.size → length f.seen ≤ f.size
-few_seen f rows is few = subst (λ (xs : List Row). length xs ≤ f.size) is few
-
 pub take_rows-requires-clause-sound : goal.take_rows-requires-clause-sound
 take_rows-requires-clause-sound g c =
     rw (c.rows-rows.ensures.seen)
@@ -108,18 +105,6 @@ returns-in_ok-close-in-Err-clause-steps g c =
 pub returns-in_err-close-in-Err-clause-steps : goal.returns-in_err-close-in-Err-clause-steps
 returns-in_err-close-in-Err-clause-steps g c =
     subst (λ (rows : List Row). g.L.ProofLogger.steps c.close.new.self c.args.author.now.problem.now rows) c.rows-rows.ensures.seen c.in_err-close-in-Err.ensures.steps
-
-pub returns-in_err-take_rows-clause-few : goal.returns-in_err-take_rows-clause-few
-returns-in_err-take_rows-clause-few g c = few_seen (g.B.Seat.RowSeat.shows c.catch_up.new.seat) c.rows-rows.result.now c.rows-rows.ensures.seen c.rows-rows.ensures.few
-
-pub returns-in-Ok-clause-few : goal.returns-in-Ok-clause-few
-returns-in-Ok-clause-few g c = few_seen (g.B.Seat.RowSeat.shows c.catch_up.new.seat) c.rows-rows.result.now c.rows-rows.ensures.seen c.rows-rows.ensures.few
-
-pub returns-in_ok-close-in-Err-clause-few : goal.returns-in_ok-close-in-Err-clause-few
-returns-in_ok-close-in-Err-clause-few g c = few_seen (g.B.Seat.RowSeat.shows c.catch_up.new.seat) c.rows-rows.result.now c.rows-rows.ensures.seen c.rows-rows.ensures.few
-
-pub returns-in_err-close-in-Err-clause-few : goal.returns-in_err-close-in-Err-clause-few
-returns-in_err-close-in-Err-clause-few g c = few_seen (g.B.Seat.RowSeat.shows c.catch_up.new.seat) c.rows-rows.result.now c.rows-rows.ensures.seen c.rows-rows.ensures.few
 
 pub returns-in_err-take_rows-clause-problem : goal.returns-in_err-take_rows-clause-problem
 returns-in_err-take_rows-clause-problem g c = c.take_rows.ensures.problem

@@ -206,13 +206,13 @@ pub returns-in-Ok-false-begin_again-clause-learned : goal.returns-in-Ok-false-be
 returns-in-Ok-false-begin_again-clause-learned g c =
     learned_again c.args.author.now.problem.now c.args.walk.now.position.account c.loop-p.walk.position.account c.begin_again.new.position.account (g.B.Seat.RowSeat.shows c.args.seat.now) (g.B.Seat.RowSeat.shows c.loop-p.seat)
     (g.B.Seat.RowSeat.shows c.begin_again.new.seat) c.loop-p.invariant.learned (c.if-at_cutoff.ensures.exactly.0 refl) c.in-Ok-false-begin_again.ensures.restarted c.in-Ok-false-begin_again.ensures.learned
-    (c.loop-p.invariant.seat.owner_is ∙ sym c.requires.seat.owner_is) c.begin_again.ensures.grew c.begin_again.ensures.few
+    (c.loop-p.invariant.seat.owner_is ∙ sym c.requires.seat.owner_is) c.begin_again.ensures.grew
 
 pub returns-in-Err-begin_again-clause-learned : goal.returns-in-Err-begin_again-clause-learned
 returns-in-Err-begin_again-clause-learned g c =
     part_again c.args.author.now.problem.now c.args.walk.now.position.account c.loop-p.walk.position.account c.begin_again.new.position.account (g.B.Seat.RowSeat.shows c.args.seat.now) (g.B.Seat.RowSeat.shows c.loop-p.seat)
     (g.B.Seat.RowSeat.shows c.begin_again.new.seat) c.args.author.now.owner c.loop-p.invariant.learned (c.if-at_cutoff.ensures.exactly.0 refl) c.begin_again.ensures.account c.begin_again.ensures.part c.requires.seat.owner_is
-    c.begin_again.ensures.grew c.begin_again.ensures.few
+    c.begin_again.ensures.grew
 
 pub loop-p-preserved-in-Ok-true-begin_again : goal.loop-p-preserved-in-Ok-true-begin_again
 loop-p-preserved-in-Ok-true-begin_again g c =
@@ -225,7 +225,7 @@ loop-p-preserved-in-Ok-true-begin_again g c =
       budget = c.begin_again.ensures.budget ∙ c.loop-p.invariant.budget;
       learned = learned_again c.args.author.now.problem.now c.args.walk.now.position.account c.loop-p.walk.position.account c.begin_again.new.position.account (g.B.Seat.RowSeat.shows c.args.seat.now) (g.B.Seat.RowSeat.shows c.loop-p.seat)
           (g.B.Seat.RowSeat.shows c.begin_again.new.seat) c.loop-p.invariant.learned (c.if-at_cutoff.ensures.exactly.0 refl) c.in-Ok-true-begin_again.ensures.restarted c.in-Ok-true-begin_again.ensures.learned
-          (c.loop-p.invariant.seat.owner_is ∙ sym c.requires.seat.owner_is) c.begin_again.ensures.grew c.begin_again.ensures.few;
+          (c.loop-p.invariant.seat.owner_is ∙ sym c.requires.seat.owner_is) c.begin_again.ensures.grew;
       long = c.begin_again.ensures.long;
       words = ap length (written _ _ _ len) ∙ c.fill_untried.ensures.long ∙ ap words_for c.loop-p.invariant.begun.sound.based.is_of.values_is;
       choice = c.loop-p.invariant.choice;
