@@ -9,9 +9,10 @@ use Rattle.log_theory.specs.declared.step.Ref.TheVariants.{Line, Made, Shared}
 use Rattle.log_theory.specs.declared.step.Step.{Step}
 use Rattle.log_theory.specs.Lookups.{Lookup, makes}
 use Rattle.log_theory.specs.Tables.{from_one}
-use Rattle.journal_theory.specs.Referring.{step_refs, NamesRow}
-use Rattle.journal_theory.specs.Journals.{IsMaking, Finds, HoldsOwn, IsJournal, base_of, Row, IsNogoodOf, Journal, no_journal, note_of, Journaled, with_line, with_note, GrowsFor, PublishesAt}
+use Rattle.journal_theory.specs.Referring.{step_refs, Agree, NamesRow}
+use Rattle.journal_theory.specs.Journals.{IsMaking, Finds, HoldsOwn, IsJournal, base_of, Row, IsNogoodOf, Journal, no_journal, note_of, Journaled, with_line, with_note, GrowsFor, PublishesAt, EndsInOwn}
 use Rattle.journal_theory.specs.Laws.{GrowthLaws}
+use Rattle.journal_theory.proofs.Agreeing.{makes_same}
 use Rattle.journal_theory.proofs.Placing.{get_more, get_front, get_snoc, take_front, take_all, some_same, from_one_more, from_one_within}
 
 -- ---- lines beside a base
@@ -82,7 +83,6 @@ starts model rows clause root owner none = record {
   journal = record { same = refl; making = λ k s at. absurd cc; steps = λ k s f look at form found own. absurd cc };
   foreign = λ i k s at names. absurd cc;
   noted = λ k own. absurd (none k own);
-  notes_in = λ k n is. absurd cc;
   early = λ k n i m s own is below at names. absurd cc;
 }
 
@@ -95,7 +95,6 @@ keeps model rows clause root owner j forms s f before making goes others = recor
   journal = journal_more (base_of model root clause (length rows)) owner j.lines forms s f before.journal making goes;
   foreign = λ i k x at names. elim (get_snoc j.lines s x i at) [ inl h ↦ before.foreign i k x h.1 names | inr h ↦ others k (subst (λ (y : Step). NamesRow (step_refs y) k) h.1 names) ];
   noted = λ k own. let n = before.noted k own in (n.0, n.1, from_one_more forms (f ∷ []) n.0 (clause k) n.2);
-  notes_in = before.notes_in;
   early = λ k n i m x own is below at names. by k n i m x own is below at names (get_snoc j.lines s x i at);
 }
   where
@@ -117,7 +116,6 @@ grows model rows more clause root owner j forms before g =
           (base_more model root clause clause (length rows) (length (rows ++ g.rest)) (omega (arith, length-append rows g.rest)) (λ k l. refl)) before.journal;
       foreign = λ i k s at names. let n = before.foreign i k s at names in (n.0, own_more rows g.rest k n.0 n.1, n.2);
       noted = λ k own. before.noted k (old k own);
-      notes_in = λ k n is. let l = before.notes_in k n is in omega (arith, l, length-append rows g.rest);
       early = λ k n i m s own is below at names. before.early k n i m s (old k own) is below at names;
     })
   where
@@ -163,25 +161,19 @@ none_or_some None = inl refl
 none_or_some (Some n) = inr (n, refl)
 
 notes : (model : List Form) (rows more : List Row) (clause : ℕ → Form) (root : List Form) (owner : ℕ) (j : Journal) (forms : List Form) (k n : ℕ)
-    → Journaled model rows clause root owner j forms → PublishesAt rows more owner k → from_one forms n ≡ Some (clause k) → Journaled model more clause root owner (with_note j k n) forms
-notes model rows more clause root owner j forms k n before p line =
+    → Journaled model rows clause root owner j forms → PublishesAt rows more owner k → note_of j.notes k ≡ None → from_one forms n ≡ Some (clause k)
+    → Journaled model more clause root owner (with_note j k n) forms
+notes model rows more clause root owner j forms k n before p unnoted line =
     subst (λ (rs : List Row). Journaled model rs clause root owner (with_note j k n) forms) (sym p.front) (record {
       journal = wider_base (base_of model root clause (length rows)) (base_of model root clause (length (rows ++ p.rest))) owner j.lines forms
           (base_more model root clause clause (length rows) (length (rows ++ p.rest)) (omega (arith, length-append rows p.rest)) (λ i l. refl)) before.journal;
       foreign = λ i m s at names. let o = before.foreign i m s at names in (o.0, own_more rows p.rest m o.0 o.1, o.2);
       noted = λ i own. noted i own (which i own);
-      notes_in = λ i m is. elim (note_cases j.notes k n i m is) [ inl h ↦ (let l = before.notes_in i m h in omega (arith, l, length-append rows p.rest)) | inr h ↦ here i h.1 ];
       early = λ i m l r s own is below at names. early i m l r s own is below at names (which i own);
     })
   where
     which : (i : ℕ) → IsNogoodOf (rows ++ p.rest) i owner → (i < length rows) ⊎ (i ≡ k)
     which i own = p.own i (subst (λ (rs : List Row). IsNogoodOf rs i owner) (sym p.front) own)
-
-    here : (i : ℕ) → i ≡ k → i < length (rows ++ p.rest)
-    here i e = let w = p.within in omega (arith, e, w, ap (λ (rs : List Row). length rs) p.front)
-
-    unnoted : note_of j.notes k ≡ None
-    unnoted = elim (none_or_some (note_of j.notes k)) [ inl h ↦ h | inr h ↦ (let l = before.notes_in k h.0 h.1 in let b = p.behind in absurd (omega (arith, l, b))) ]
 
     noted : (i : ℕ) → IsNogoodOf (rows ++ p.rest) i owner → (i < length rows) ⊎ (i ≡ k) → (m : ℕ) × (note_of (j.notes ++ (k, n) ∷ []) i ≡ Some m) × (from_one forms m ≡ Some (clause i))
     noted i own (inl l) = let m = before.noted i (own_front rows p.rest i owner l own) in (m.0, note_more j.notes ((k, n) ∷ []) i m.0 m.1, m.2)
@@ -207,9 +199,75 @@ clauses model rows clause other root owner j forms same before = record {
       (base_more model root clause other (length rows) (length rows) (omega arith) same) before.journal;
   foreign = before.foreign;
   noted = λ k own. let n = before.noted k own in (n.0, n.1, n.2 ∙ ap (λ (g : Form). let o : Option Form = Some g in o) (sym (same k (own_within rows k owner own))));
-  notes_in = before.notes_in;
   early = before.early;
 }
 
+-- ---- without rows of the owner's own at the end
+
+-- what the one lookup finds, and of the rows from a place on their clauses
+abbrev with_clauses : Lookup → (ℕ → Form) → ℕ → ℕ → Lookup
+with_clauses look clause few many (Shared row) = cond (nat_lt row few) (look (Shared row)) (cond (nat_lt row many) (Some (clause row)) None)
+with_clauses look clause few many (Line k) = look (Line k)
+with_clauses look clause few many (Made name) = look (Made name)
+
+agrees_below : (look : Lookup) (clause : ℕ → Form) (few many : ℕ) (rs : List Ref) → ((k : ℕ) → NamesRow rs k → k < few) → Agree look (with_clauses look clause few many) rs
+agrees_below look clause few many [] below = cc
+agrees_below look clause few many (Line k ∷ rs) below = (refl, agrees_below look clause few many rs below)
+agrees_below look clause few many (Made name ∷ rs) below = (refl, agrees_below look clause few many rs below)
+agrees_below look clause few many (Shared row ∷ rs) below = (
+  ap (λ (b : Bool). let o : Option Form = cond b (look (Shared row)) (cond (nat_lt row many) (Some (clause row)) None) in o) (sym (lt-ltb row few (below row (inl refl)))),
+  agrees_below look clause few many rs (λ k names. below k (inr names)),
+)
+
+narrower_base : (model root : List Form) (clause : ℕ → Form) (few many owner : ℕ) (lines : List Step) (forms : List Form) → few ≤ many
+    → ((i k : ℕ) (s : Step) → slice_get lines i ≡ Some s → NamesRow (step_refs s) k → k < few) → IsJournal (base_of model root clause many) owner lines forms
+    → IsJournal (base_of model root clause few) owner lines forms
+narrower_base model root clause few many owner lines forms le below j = record {
+  same = j.same;
+  making = j.making;
+  steps = λ k s f look at form found own.
+      makes_same look (with_clauses look clause few many) s (agrees_below look clause few many (step_refs s) (λ row names. below k row s at names))
+      ∙ j.steps k s f (with_clauses look clause few many) at form (finds look found) (record { own = own.own });
+}
+  where
+    finds : (look : Lookup) → Finds (base_of model root clause few) look → Finds (base_of model root clause many) (with_clauses look clause few many)
+    finds look found = record { alike = alike }
+      where
+        alike : (r : Ref) (f : Form) → base_of model root clause many r ≡ Some f → with_clauses look clause few many r ≡ Some f
+        alike (Line k) f e = found.alike (Line k) f e
+        alike (Made name) f e = found.alike (Made name) f e
+        alike (Shared row) f e = by (nat_lt row few) refl e
+          where
+            by : (b : Bool) → (nat_lt row few ≡ b) → cond (nat_lt row many) (Some (clause row)) None ≡ Some f
+                → cond b (look (Shared row)) (cond (nat_lt row many) (Some (clause row)) None) ≡ Some f
+            by true is h =
+                let w = within_of (nat_lt row many) (clause row) f h in
+                found.alike (Shared row) f (ap (λ (b : Bool). let o : Option Form = cond b (Some (clause row)) None in o) is ∙ ap (λ (g : Form). let o : Option Form = Some g in o) w.1)
+            by false is h = h
+
+ends_in_own : (model : List Form) (rows whole : List Row) (clause : ℕ → Form) (root : List Form) (owner : ℕ) (j : Journal) (forms : List Form) → EndsInOwn rows whole owner
+    → Journaled model whole clause root owner j forms → Journaled model rows clause root owner j forms
+ends_in_own model rows whole clause root owner j forms e before = record {
+  journal = narrower_base model root clause (length rows) (length whole) owner j.lines forms (omega (arith, length-append rows e.rest, ap (λ (rs : List Row). length rs) e.front))
+      (λ i k s at names. let o = before.foreign i k s at names in e.others k o.0 o.1 o.2) before.journal;
+  foreign = λ i k s at names.
+      let o = before.foreign i k s at names in
+      (o.0, own_front rows e.rest k o.0 (e.others k o.0 o.1 o.2) (subst (λ (rs : List Row). IsNogoodOf rs k o.0) e.front o.1), o.2);
+  noted = λ k own. before.noted k (later k own);
+  early = λ k n i m s own is below at names. before.early k n i m s (later k own) is below at names;
+}
+  where
+    later : (k : ℕ) → IsNogoodOf rows k owner → IsNogoodOf whole k owner
+    later k own = subst (λ (rs : List Row). IsNogoodOf rs k owner) (sym e.front) (own_more rows e.rest k owner own)
+
 pub growth : GrowthLaws
-growth = record { start = starts; kept = keeps; grows = grows; noted = notes; clauses = clauses; wider = wider_base }
+growth = record {
+  start = starts;
+  kept = keeps;
+  grows = grows;
+  noted = notes;
+  clauses = clauses;
+  wider = wider_base;
+  narrower = narrower_base;
+  without_own = ends_in_own;
+}

@@ -92,7 +92,6 @@ pub record Journaled (model : List Form) (rows : List Row) (clause : ℕ
       → (o : ℕ) × IsNogoodOf rows k o × (o ≢ owner)
   pub noted : (k : ℕ) → IsNogoodOf rows k owner
       → (n : ℕ) × (note_of j.notes k ≡ Some n) × (from_one forms n ≡ Some (clause k))
-  pub notes_in : (k n : ℕ) → note_of j.notes k ≡ Some n → k < length rows
   pub early : (k n i m : ℕ) (s : Step) → IsNogoodOf rows k owner → note_of j.notes k ≡ Some n
       → i < n → slice_get j.lines i ≡ Some s
       → NamesRow (step_refs s) m → m < k
@@ -120,3 +119,9 @@ pub record PublishesAt (rows more : List Row) (owner k : ℕ) : Type 0 where
   pub behind : length rows ≤ k
   pub within : k < length more
   pub own : (i : ℕ) → IsNogoodOf more i owner → (i < length rows) ⊎ (i ≡ k)
+
+-- The rows and some more of the owner's own behind them: all that are nogoods of others are among the rows.
+pub record EndsInOwn (rows whole : List Row) (owner : ℕ) : Type 0 where
+  pub rest : List Row
+  pub front : whole ≡ rows ++ rest
+  pub others : (k o : ℕ) → IsNogoodOf whole k o → o ≢ owner → k < length rows

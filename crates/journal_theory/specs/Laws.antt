@@ -1,6 +1,6 @@
 -- The laws of journals, from the definitions alone.
 
-use Rattle.std.specs.Prelude.{◌≡◌, ℕ, ◌<◌, true, List, [], ◌∷◌, ◌++◌, length, map, Some, Ok}
+use Rattle.std.specs.Prelude.{◌≡◌, ℕ, ◌<◌, ◌≤◌, true, List, [], ◌∷◌, ◌++◌, length, map, Some, None, Ok, slice_get}
 use Rattle.log_theory.specs.declared.step.Ref.TheVariants.{Made}
 use Rattle.log_theory.specs.declared.step.Step.{Step}
 use Rattle.log_theory.specs.declared.step.Verdict.TheVariants.{Unsatisfiable}
@@ -11,7 +11,7 @@ use Rattle.log_theory.specs.Tables.{Table, empty_table, made_by, from_one, undel
 use Rattle.log_theory.specs.Acceptance.{lines_text, Accepts}
 use Rattle.journal_theory.specs.Referring.{RefsLaw, step_refs, NamesRow}
 use Rattle.journal_theory.specs.Stepping.{StepsRun, step_line, whole_log, TextLaw, NoFeedLaw, LinesLaw}
-use Rattle.journal_theory.specs.Journals.{IsMaking, Finds, HoldsOwn, IsJournal, base_of, Row, IsNogoodOf, Journal, no_journal, Journaled, with_line, with_note, GrowsFor, PublishesAt}
+use Rattle.journal_theory.specs.Journals.{IsMaking, Finds, HoldsOwn, IsJournal, base_of, Row, IsNogoodOf, Journal, no_journal, Journaled, with_line, with_note, note_of, GrowsFor, PublishesAt, EndsInOwn}
 use Rattle.journal_theory.specs.Merging.{journal_of, merged, last_name, AreJournals, AreFitting}
 
 -- What lines make and what their texts are.
@@ -43,7 +43,8 @@ pub record MergeLaws : Type 0 where
   pub merged_steps : MergeLaw
   pub accepted : AcceptedLaw
 
--- How a worker keeps its journal: from no line on, line by line, as rows come and as its own rows are noted.
+-- How a worker keeps its journal: from no line on, line by line, as rows come and as its own rows are noted. Behind its rows it may have
+-- others of its own, which nobody else sees: the journal stands without them.
 pub record GrowthLaws : Type 0 where
   pub start : (model : List Form) (rows : List Row) (clause : ℕ
       → Form) (root : List Form) (owner : ℕ) → ((k : ℕ) → IsNogoodOf rows k owner → ⊥)
@@ -62,6 +63,7 @@ pub record GrowthLaws : Type 0 where
   pub noted : (model : List Form) (rows more : List Row) (clause : ℕ
       → Form) (root : List Form) (owner : ℕ) (j : Journal) (forms : List Form) (k n : ℕ)
       → Journaled model rows clause root owner j forms → PublishesAt rows more owner k
+      → note_of j.notes k ≡ None
       → from_one forms n ≡ Some (clause k)
       → Journaled model more clause root owner (with_note j k n) forms
   pub clauses : (model : List Form) (rows : List Row) (clause other : ℕ
@@ -71,3 +73,12 @@ pub record GrowthLaws : Type 0 where
       → Journaled model rows other root owner j forms
   pub wider : (less more : Lookup) (owner : ℕ) (lines : List Step) (forms : List Form)
       → Finds less more → IsJournal less owner lines forms → IsJournal more owner lines forms
+  pub narrower : (model root : List Form) (clause : ℕ
+      → Form) (few many owner : ℕ) (lines : List Step) (forms : List Form) → few ≤ many
+      → ((i k : ℕ) (s : Step) → slice_get lines i ≡ Some s → NamesRow (step_refs s) k → k < few)
+      → IsJournal (base_of model root clause many) owner lines forms
+      → IsJournal (base_of model root clause few) owner lines forms
+  pub without_own : (model : List Form) (rows whole : List Row) (clause : ℕ
+      → Form) (root : List Form) (owner : ℕ) (j : Journal) (forms : List Form)
+      → EndsInOwn rows whole owner → Journaled model whole clause root owner j forms
+      → Journaled model rows clause root owner j forms

@@ -1,6 +1,6 @@
 -- What shows that no embedding exists, and when it does.
 
-use Rattle.std.specs.Prelude.{◌≤◌, Bool, true, false, length}
+use Rattle.std.specs.Prelude.{◌≡◌, ℕ, ◌≤◌, Bool, true, false, length}
 use Rattle.graph_theory.specs.Embedding.{Problem}
 use Rattle.encoding_theory.specs.Variables.{variables}
 use Rattle.encoding_theory.specs.Encoding.{encoding}
@@ -23,3 +23,8 @@ IsProven false q Unlogged = Unit {0}
 IsProven false q (WithLog l) = ⊥
 IsProven true q Unlogged = ⊥
 IsProven true q (WithLog l) = IsProof q l
+
+-- The log, where there is one, is that of a refutation by this owner.
+abbrev pub IsFinishedBy : ℕ → Proof → Type 0
+IsFinishedBy finisher Unlogged = Unit {0}
+IsFinishedBy finisher (WithLog l) = l.finisher ≡ finisher

@@ -4,7 +4,7 @@ ghost use Rattle.std.specs.Prelude.{◌≡◌, ◌≤◌, true, length, All, IfO
 ghost use Rattle.search_journal.specs.Lines.{Steps, Refutes};
 ghost use Rattle.proof_collection.specs.Making.{AreBy, AreOfOwners, IsFinisher, AreOfLogs};
 ghost use Rattle.proof_collection.specs.Parts.{ArePartsOf};
-ghost use Rattle.proof_collection.specs.Proofs.{IsProven};
+ghost use Rattle.proof_collection.specs.Proofs.{IsFinishedBy, IsProven};
 
 use crate::maker::ProofMaker;
 use crate::owner_log::OwnerLog;
@@ -53,7 +53,8 @@ fn journals_of<'a>(alloc: Global, logs: Vec<OwnerLog<'a>>) -> Result<Vec<Journal
 /// The proof that the parts of a log are. Cost: two looks at each journal.
 fn proof_of(problem: &Problem, parts: Logged) -> Proof
     requires { ArePartsOf problem.now parts }
-    ensures { IsProven true problem.now result }
+    ensures proven { IsProven true problem.now result }
+    ensures finisher { IsFinishedBy parts.finisher result }
 {
     let _pattern = problem.pattern();
     let _target = problem.target();
@@ -102,7 +103,8 @@ impl<'a> ProofMaker<OwnerLog<'a>> for KeepsLines<'a> {
         requires there { finisher ≤ length logs.items }
         requires refutes { IsFinisher (λ l. Refutes l.kept.lines.now l.kept.journal
             self.now.problem.now rows.now) logs.items finisher }
-        ensures { IfOk result (IsProven true self.now.problem.now) }
+        ensures proven { IfOk result (IsProven true self.now.problem.now) }
+        ensures finisher { IfOk result (IsFinishedBy finisher) }
     {
         let rows = Vec::from_slice(alloc, rows)?;
         let journals = journals_of(alloc, logs)?;

@@ -4,7 +4,7 @@ ghost use Rattle.std.specs.Prelude.{◌≡◌, ℕ, ◌≤◌, Bool, true, false
 ghost use Rattle.graph_theory.specs.Embedding.{Problem};
 ghost use Rattle.search_theory.specs.Account.{fresh};
 ghost use Rattle.nogood_book.specs.declared.row.Row.{Row as TheRow};
-ghost use Rattle.proof_collection.specs.Proofs.{IsProven};
+ghost use Rattle.proof_collection.specs.Proofs.{IsFinishedBy, IsProven};
 ghost use Rattle.proof_collection.specs.Making.{HasNone, AreBy, AreOfOwners, IsFinisher};
 
 use crate::proof::Proof;
@@ -51,7 +51,8 @@ pub trait ProofMaker<L: ProofLogger> {
         requires there { finisher ≤ length logs.items }
         requires refutes { IsFinisher (λ l. L.refutes l (problem self.now) rows.now)
             logs.items finisher }
-        ensures { IfOk result (IsProven (logged self.now) (problem self.now)) };
+        ensures proven { IfOk result (IsProven (logged self.now) (problem self.now)) }
+        ensures finisher { IfOk result (IsFinishedBy finisher) };
 }
 
 /// Makes loggers that keep nothing.
@@ -87,9 +88,10 @@ impl<'a> ProofMaker<Unlogged> for KeepsNothing<'a> {
         _alloc: Global,
         _rows: &[Row],
         _logs: Vec<Unlogged>,
-        _finisher: u8,
+        finisher: u8,
     ) -> Result<Proof, AllocError>
-        ensures { IfOk result (IsProven false self.now.problem.now) }
+        ensures proven { IfOk result (IsProven false self.now.problem.now) }
+        ensures finisher { IfOk result (IsFinishedBy finisher) }
     {
         Ok(Proof::Unlogged)
     }

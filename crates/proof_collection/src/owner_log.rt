@@ -10,8 +10,8 @@ use graph_rows::Problem;
 use journals::Journal;
 use line_cache::LineCache;
 use nogood_book::Row;
-use proof_logger::{DeadEnd, ProofLogger};
-use recorder::Causes;
+use proof_logger::ProofLogger;
+use recorder::{Causes, DeadEnd};
 use search_journal::SearchJournal;
 use std::alloc::{AllocError, Global};
 

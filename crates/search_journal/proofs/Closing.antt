@@ -28,18 +28,16 @@ use Rattle.journal_theory.proofs.Placing.{take_all, get_snoc}
 use Rattle.journals.specs.Keeping.{Keeping}
 use Rattle.log_growth.specs.Frames.{Frame, IsFrameOf, IsNamed, AreNamed, After, Goes}
 use Rattle.log_growth.proofs.Rows.{frame_is, row_named}
-use Rattle.proof_logger.specs.declared.logger.DeadEnd.{DeadEnd}
-use Rattle.proof_logger.specs.declared.logger.DeadEnd.TheVariants as told
+use Rattle.recorder.specs.declared.change.DeadEnd.{DeadEnd}
+use Rattle.recorder.specs.declared.change.DeadEnd.TheVariants as told
 use Rattle.proof_logger.specs.Logging.{IsExhausted, EndsPath, AreGuessed as AreTold, Closed}
-use Rattle.dead_paths.specs.declared.dead_line.PathEnd.{PathEnd}
 use Rattle.dead_paths.specs.Making.{AreRowsNamed}
 use Rattle.dead_paths.specs.Explaining.{end_by, IsEndIn, AreRefuted, Knowing, IsBegun, IsDeadName, IsLastOf}
 use Rattle.search_journal.specs.declared.refuted.Refuted.{Refuted}
-use Rattle.search_journal.specs.Ends.{end_as}
 use Rattle.search_journal.specs.Closing.{IsLined}
 use Rattle.search_journal.specs.Lines.{log_rows, row_clause, row_frame, StandsBeside, Steps, Refutes}
 use Rattle.search_journal.specs.Entries.{AreFrom, AreBelow, AreRising, IsEntry, AreEntries, HasEntry, AreCovered, IsFreshWithout, entry_ref, entry_refs, entry_values, Writes}
-use Rattle.search_journal.specs.Numbers.{is_by, noted_ref, row_ref}
+use Rattle.search_journal.specs.Numbers.{RowsBelow, is_by, noted_ref, row_ref}
 use Rattle.search_journal.proofs.Levels.{level_within, length-path_of, path_of_more}
 use Rattle.search_journal.proofs.Lists.{has_drop, entries_drop}
 use Rattle.search_journal.proofs.Frames.{own_found, own_named, log_own, beside_on}
@@ -110,7 +108,7 @@ IsEndAt a (told.Failed f) = Unit {0}
 IsEndAt a (told.Exhausted p) = IsAt a.vertex p
 
 pub refuted_named : (q : Problem) (rows : List Row) (changes : Option (List Change)) (a : Account) (told_short short : Option CountedSet) (end : DeadEnd) (w : Frame) (forms : List Form) (owner : ℕ) (es : List Refuted) → owner ≡ w.owner
-    → AreEntries q a forms es → AreFrom (length (path a)) es → EndsPath q rows changes told_short a end → AreRefuted q (path a) (end_by (end_as end) short (entry_values es)) w (entry_refs owner es) forms
+    → AreEntries q a forms es → AreFrom (length (path a)) es → EndsPath q rows changes told_short a end → AreRefuted q (path a) (end_by end short (entry_values es)) w (entry_refs owner es) forms
 refuted_named q rows changes a told_short short (told.Failed (failure.Empty p)) w forms owner es owner_is entries from ends = tt
 refuted_named q rows changes a told_short short (told.Failed (failure.Whole n)) w forms owner es owner_is entries from ends = tt
 refuted_named q rows changes a told_short (Some s) (told.Failed (failure.Short n)) w forms owner es owner_is entries from ends = tt
@@ -141,7 +139,7 @@ none_left q d a p k entries exhausted covered fresh below u here not = exhausted
 
 ends_by : (q : Problem) (cs : List Change) (short : Option CountedSet) (a : Account) (end : DeadEnd) (k : ℕ) (entries : List Refuted) (rows : List Row) → (e : EndsPath q rows (Some cs) short a end)
     → AreCovered a entries → IsFreshWithout a.vertex a.refuted → AreBelow (length (path a)) (take k entries)
-    → EndsBy (end_by (end_as end) short (entry_values (drop k entries))) q e.nogoods e.domains
+    → EndsBy (end_by end short (entry_values (drop k entries))) q e.nogoods e.domains
 ends_by q cs short a (told.Failed f) k entries rows e covered fresh below = told_laws_hold.failed q e.nogoods e.domains cs short f e.ends
 ends_by q cs short a (told.Exhausted p) k entries rows e covered fresh below =
     told_laws_hold.exhausted q e.nogoods e.domains p (entry_values (drop k entries)) (none_left q e.domains a p k entries e.ends covered fresh below)
@@ -149,7 +147,7 @@ ends_by q cs short a (told.Exhausted p) k entries rows e covered fresh below =
 -- The path dies by it.
 pub told_dies : (q : Problem) (rows : List Row) (cs : List Change) (short : Option CountedSet) (a : Account) (end : DeadEnd) (k : ℕ) (entries : List Refuted) → EndsPath q rows (Some cs) short a end → Sound q rows
     → IsPath (path a) → AreInRange q (path a) → AreCovered a entries → IsFreshWithout a.vertex a.refuted → AreBelow (length (path a)) (take k entries)
-    → Dies q rows (path a) cs (end_by (end_as end) short (entry_values (drop k entries)))
+    → Dies q rows (path a) cs (end_by end short (entry_values (drop k entries)))
 told_dies q rows cs short a end k entries e sound distinct range covered fresh below = record {
   sound = sound;
   nogoods = e.nogoods;
@@ -166,7 +164,7 @@ pub told_in_problem : (q : Problem) (rows : List Row) (cs : List Change) (short 
 told_in_problem q rows cs short a end e = told_laws_hold.in_problem q e.nogoods e.domains cs e.is_of.values_is e.told
 
 -- Its numbers are in range.
-pub told_end_in : (q : Problem) (rows : List Row) (cs : List Change) (short : Option CountedSet) (a : Account) (end : DeadEnd) → EndsPath q rows (Some cs) short a end → IsEndIn q rows (end_by (end_as end) short [])
+pub told_end_in : (q : Problem) (rows : List Row) (cs : List Change) (short : Option CountedSet) (a : Account) (end : DeadEnd) → EndsPath q rows (Some cs) short a end → IsEndIn q rows (end_by end short [])
 told_end_in q rows cs short a (told.Exhausted p) e = e.ends.vertex_in
 told_end_in q rows cs short a (told.Failed (failure.Empty p)) e = e.ends.0
 told_end_in q rows cs short a (told.Failed (failure.Whole n)) e = told_laws_hold.end_in_problem q rows e.nogoods e.domains (Whole n) (told_laws_hold.names rows e.nogoods e.holds) e.ends
@@ -211,12 +209,12 @@ steps_after knows lines old new owner numbers entries q rows a Claim w owner_sam
 pub begun : (knows : Problem → Frame → List Form → Type 0) (lines : Problem) (j : Keeping) (owner : ℕ) (numbers : List (ℕ × ℕ)) (entries : List Refuted) (q : Problem) (rows : List Row) (a : Account)
     (changes : Option (List Change)) (told_short short : Option CountedSet) (end : DeadEnd) (k : ℕ) (refs : List Ref) → (w : Writes knows lines j owner numbers entries q rows a) → EndsPath q rows changes told_short a end
     → AreFrom (length (path a)) (drop k entries) → refs ≡ entry_refs owner (drop k entries)
-    → Knowing (knows q (row_frame q rows j.owner)) (IsBegun q rows (row_frame q rows j.owner) (row_ref rows owner numbers) (path a) (end_by (end_as end) short (entry_values (drop k entries))) refs) w.forms
+    → Knowing (knows q (row_frame q rows j.owner)) (IsBegun q rows (row_frame q rows j.owner) (row_ref rows owner numbers) (path a) (end_by end short (entry_values (drop k entries))) refs) w.forms
 begun knows lines j owner numbers entries q rows a changes told_short short end k refs w ends from refs_are = (
   w.known,
   record {
     rows_named = rows_named q rows j w.forms owner numbers w.owner_is w.numbers_are w.beside;
-    refuted_named = subst (λ (rs : List Ref). AreRefuted q (path a) (end_by (end_as end) short (entry_values (drop k entries))) (row_frame q rows j.owner) rs w.forms) (sym refs_are)
+    refuted_named = subst (λ (rs : List Ref). AreRefuted q (path a) (end_by end short (entry_values (drop k entries))) (row_frame q rows j.owner) rs w.forms) (sym refs_are)
         (refuted_named q rows changes a told_short short end (row_frame q rows j.owner) w.forms owner (drop k entries) w.owner_is (entries_drop q a w.forms k entries w.entries_are) from ends);
   },
 )
@@ -260,7 +258,7 @@ failed_after knows later lines old new owner numbers entries q rows a b n k e x 
     writes_failed later lines new owner numbers entries q rows a b w.forms m.more k e w.problem_is
     (beside_on q rows old new w.forms (IsDeadName q (path a) (row_frame q rows old.owner) (later q (row_frame q rows old.owner)) (Ok (Some n))) owner_same notes_same w.beside m)
     (subst (λ (o : ℕ). later q (row_frame q rows o) (w.forms ++ m.more)) (sym owner_same) m.claim.0)
-    (w.owner_is ∙ sym owner_same) (w.numbers_are ∙ sym notes_same) w.rising w.entries_are w.covered from below
+    (w.owner_is ∙ sym owner_same) (w.numbers_are ∙ sym notes_same) (subst (RowsBelow (length rows)) (sym notes_same) w.in_rows) w.rising w.entries_are w.covered from below
     (ap (from_one (w.forms ++ m.more)) number_is ∙ line_found q rows old.owner (path a) (later q (row_frame q rows old.owner)) n (w.forms ++ m.more) m.claim)
     f level_is (value_is ∙ last_value q a b e.level x level_is at f)
 
@@ -277,29 +275,29 @@ lined_for knows later lines q old new owner numbers entries rows a above result 
 
 -- From what the call is promised to do, what it has done.
 pub lined : (knows later : Problem → Frame → List Form → Type 0) (lines : Problem) (old new : Keeping) (owner : ℕ) (numbers : List (ℕ × ℕ)) (entries : List Refuted) (q : Problem) (rows : List Row) (a : Account)
-    (above : ℕ) (result : Result (Option Name) AllocError) (cs : List Change) (short : Option CountedSet) (end : DeadEnd) (xs : List (ℕ × ℕ)) (pe : PathEnd) (refs : List Ref)
-    → xs ≡ path a → pe ≡ end_as end → refs ≡ entry_refs owner (drop above entries) → EndsPath q rows (Some cs) short a end → Sound q rows → IsPath (path a) → AreInRange q (path a)
-    → ((w : Frame) (values : List ℕ) → IsFrameOf q old.owner w → Dies q rows xs cs (end_by pe short values) → AreGuessed xs cs
-    → Goes w (Some old.steps) (Some new.steps) (Knowing (knows q w) (IsBegun q rows w (row_ref rows owner numbers) xs (end_by pe short values) refs)) (IsDeadName q xs w (later q w) result))
+    (above : ℕ) (result : Result (Option Name) AllocError) (cs : List Change) (short : Option CountedSet) (end : DeadEnd) (xs : List (ℕ × ℕ)) (refs : List Ref)
+    → xs ≡ path a → refs ≡ entry_refs owner (drop above entries) → EndsPath q rows (Some cs) short a end → Sound q rows → IsPath (path a) → AreInRange q (path a)
+    → ((w : Frame) (values : List ℕ) → IsFrameOf q old.owner w → Dies q rows xs cs (end_by end short values) → AreGuessed xs cs
+    → Goes w (Some old.steps) (Some new.steps) (Knowing (knows q w) (IsBegun q rows w (row_ref rows owner numbers) xs (end_by end short values) refs)) (IsDeadName q xs w (later q w) result))
     → IsLined knows later lines old new owner numbers entries q rows a above result
-lined knows later lines old new owner numbers entries q rows a above result cs short end xs pe refs xs_is pe_is refs_are ends sound distinct range goes = λ w from below.
-    let dies : Dies q rows (path a) cs (end_by (end_as end) short (entry_values (drop above entries))) =
+lined knows later lines old new owner numbers entries q rows a above result cs short end xs refs xs_is refs_are ends sound distinct range goes = λ w from below.
+    let dies : Dies q rows (path a) cs (end_by end short (entry_values (drop above entries))) =
     told_dies q rows cs short a end above entries ends sound distinct range w.covered w.fresh_level below in
     let before = begun knows lines old owner numbers entries q rows a (Some cs) short short end above refs w ends from refs_are in
-    by xs_is pe_is w dies before
+    by xs_is w dies before
   where
-    by : xs ≡ path a → pe ≡ end_as end → (w : Writes knows lines old owner numbers entries q rows a) → Dies q rows (path a) cs (end_by (end_as end) short (entry_values (drop above entries)))
-        → Knowing (knows q (row_frame q rows old.owner)) (IsBegun q rows (row_frame q rows old.owner) (row_ref rows owner numbers) (path a) (end_by (end_as end) short (entry_values (drop above entries))) refs) w.forms
+    by : xs ≡ path a → (w : Writes knows lines old owner numbers entries q rows a) → Dies q rows (path a) cs (end_by end short (entry_values (drop above entries)))
+        → Knowing (knows q (row_frame q rows old.owner)) (IsBegun q rows (row_frame q rows old.owner) (row_ref rows owner numbers) (path a) (end_by end short (entry_values (drop above entries))) refs) w.forms
         → After (row_frame q rows old.owner) old.steps new.steps w.forms (IsDeadName q (path a) (row_frame q rows old.owner) (later q (row_frame q rows old.owner)) result)
-    by xs_same pe_same w dies before =
+    by xs_same w dies before =
         let frame : IsFrameOf q old.owner (row_frame q rows old.owner) = frame_is q (log_rows rows) (row_clause q rows) [] old.owner in
-        let dies_here : Dies q rows xs cs (end_by pe short (entry_values (drop above entries))) =
-        subst (λ (ys : List (ℕ × ℕ)). Dies q rows ys cs (end_by pe short (entry_values (drop above entries)))) (sym xs_same)
-        (subst (λ (e : PathEnd). Dies q rows (path a) cs (end_by e short (entry_values (drop above entries)))) (sym pe_same) dies) in
+        let dies_here : Dies q rows xs cs (end_by end short (entry_values (drop above entries))) =
+        subst (λ (ys : List (ℕ × ℕ)). Dies q rows ys cs (end_by end short (entry_values (drop above entries)))) (sym xs_same)
+        dies in
         let guessed : AreGuessed xs cs = subst (λ (ys : List (ℕ × ℕ)). AreGuessed ys cs) (sym xs_same) (told_guessed (path a) cs ends.guesses) in
-        let before_here : Knowing (knows q (row_frame q rows old.owner)) (IsBegun q rows (row_frame q rows old.owner) (row_ref rows owner numbers) xs (end_by pe short (entry_values (drop above entries))) refs) w.forms =
-        subst (λ (ys : List (ℕ × ℕ)). Knowing (knows q (row_frame q rows old.owner)) (IsBegun q rows (row_frame q rows old.owner) (row_ref rows owner numbers) ys (end_by pe short (entry_values (drop above entries))) refs) w.forms) (sym xs_same)
-        (subst (λ (e : PathEnd). Knowing (knows q (row_frame q rows old.owner)) (IsBegun q rows (row_frame q rows old.owner) (row_ref rows owner numbers) (path a) (end_by e short (entry_values (drop above entries))) refs) w.forms) (sym pe_same) before) in
+        let before_here : Knowing (knows q (row_frame q rows old.owner)) (IsBegun q rows (row_frame q rows old.owner) (row_ref rows owner numbers) xs (end_by end short (entry_values (drop above entries))) refs) w.forms =
+        subst (λ (ys : List (ℕ × ℕ)). Knowing (knows q (row_frame q rows old.owner)) (IsBegun q rows (row_frame q rows old.owner) (row_ref rows owner numbers) ys (end_by end short (entry_values (drop above entries))) refs) w.forms) (sym xs_same)
+        before in
         subst (λ (ys : List (ℕ × ℕ)). After (row_frame q rows old.owner) old.steps new.steps w.forms (IsDeadName q ys (row_frame q rows old.owner) (later q (row_frame q rows old.owner)) result)) xs_same
         (goes (row_frame q rows old.owner) (entry_values (drop above entries)) frame dies_here guessed w.forms w.beside.stands before_here)
 

@@ -18,16 +18,16 @@ use Rattle.nogood_book.specs.declared.row.RowKind.TheVariants.{Nogood, Step as G
 use Rattle.nogood_book.specs.Places.{is_nogood}
 use Rattle.nogood_book.proofs.Paths.{path_at_more}
 use Rattle.explanation_theory.specs.Reasons.{pairs_clause}
-use Rattle.journal_theory.specs.Journals.{own_name, Finds, HoldsOwn, Row as LogRow, IsNogoodOf, Journaled, GrowsFor, PublishesAt}
+use Rattle.journal_theory.specs.Journals.{own_name, Finds, HoldsOwn, Row as LogRow, IsNogoodOf, Journaled, GrowsFor, PublishesAt, EndsInOwn as LogEnds}
 use Rattle.journal_theory.proofs.Growing.{base_more, growth}
 use Rattle.journals.specs.Keeping.{Keeping}
 use Rattle.log_growth.specs.Frames.{Frame, Stands, IsNamed, After}
 use Rattle.log_growth.specs.Rows.{Widens}
-use Rattle.log_growth.proofs.Rows.{others_of, is_other, journaled_on, stands_wider}
-use Rattle.proof_logger.specs.Logging.{IsNogoodBy, GrowsBeside, Publishes}
+use Rattle.log_growth.proofs.Rows.{others_of, is_other, journaled_on, stands_of, stands_wider}
+use Rattle.proof_logger.specs.Logging.{IsNogoodBy, GrowsBeside, EndsInOwn, Publishes}
 use Rattle.search_journal.specs.Lines.{log_row, log_rows, row_clause, row_frame, StandsBeside}
 use Rattle.search_journal.specs.Numbers.{RowsBelow, RowsRise}
-use Rattle.search_journal.proofs.Numbers.{rise_snoc, below_noted}
+use Rattle.search_journal.proofs.Numbers.{rise_snoc, below_more, below_unnoted}
 
 -- ---- the owner's own names
 
@@ -177,22 +177,45 @@ beside_grown q rows more j forms g beside = record {
   notes = beside.notes;
 }
 
+-- The journal beside the rows without those at the end that its owner keeps for itself.
+ends_in_own : (owner : ℕ) (rows whole : List Row) → EndsInOwn owner rows whole → LogEnds (log_rows rows) (log_rows whole) owner
+ends_in_own owner rows whole e = record {
+  rest = log_rows e.rest;
+  front = ap log_rows e.front ∙ log_more rows e.rest;
+  others = λ k o n apart. let l = e.none_of_others k o apart (own_row whole o k n) in omega (arith, l, length-log_rows rows);
+}
+
+pub beside_without : (q : Problem) (rows whole : List Row) (j : Keeping) (forms : List Form) → EndsInOwn j.owner rows whole → StandsBeside q whole j forms → StandsBeside q rows j forms
+beside_without q rows whole j forms e beside = record {
+  journaled = less;
+  stands = stands_of q (log_rows rows) (row_clause q rows) [] j.owner (record { lines = j.steps; notes = j.notes }) forms less (λ i s at. (beside.stands.fits i s at, beside.stands.ranges i s at)) beside.stands.small;
+  notes = beside.notes;
+}
+  where
+    same : (k : ℕ) → k < length (log_rows rows) → row_clause q rows k ≡ row_clause q whole k
+    same k l = sym (clause_stays q rows e.rest k (omega (arith, l, length-log_rows rows))) ∙ ap (λ (rs : List Row). row_clause q rs k) (sym e.front)
+
+    less : Journaled (encoding q) (log_rows rows) (row_clause q rows) [] j.owner (record { lines = j.steps; notes = j.notes }) forms
+    less = growth.clauses (encoding q) (log_rows rows) (row_clause q whole) (row_clause q rows) [] j.owner (record { lines = j.steps; notes = j.notes }) forms same
+        (growth.without_own (encoding q) (log_rows rows) (log_rows whole) (row_clause q whole) [] j.owner (record { lines = j.steps; notes = j.notes }) forms
+        (ends_in_own j.owner rows whole e) beside.journaled)
+
 -- The journal that notes a row with the number of its clause.
 pub beside_noted : (q : Problem) (a : Account) (level value : ℕ) (rows more : List Row) (old new : Keeping) (forms : List Form) (k n : ℕ) → Publishes a old.owner level value rows more k
-    → from_one forms n ≡ Some (row_clause q more k) → new.owner ≡ old.owner → new.steps ≡ old.steps → new.notes ≡ old.notes ++ (k, n) ∷ []
+    → RowsBelow (length rows) old.notes → from_one forms n ≡ Some (row_clause q more k) → new.owner ≡ old.owner → new.steps ≡ old.steps → new.notes ≡ old.notes ++ (k, n) ∷ []
     → StandsBeside q rows old forms → StandsBeside q more new forms
-beside_noted q a level value rows more old new forms k n p line owner_same steps_same notes_are beside = rw (owner_same, steps_same, notes_are) (record {
+beside_noted q a level value rows more old new forms k n p in_rows line owner_same steps_same notes_are beside = rw (owner_same, steps_same, notes_are) (record {
   journaled = growth.noted (encoding q) (log_rows rows) (log_rows more) (row_clause q more) [] old.owner (record { lines = old.steps; notes = old.notes }) forms k n
       (subst (λ (rs : List Row). Journaled (encoding q) (log_rows rows) (row_clause q rs) [] old.owner (record { lines = old.steps; notes = old.notes }) forms) (sym p.front)
       (clauses_of q rows p.rest old forms beside))
-      (publishes_at a old.owner level value rows more k p) line;
+      (publishes_at a old.owner level value rows more k p) (below_unnoted k old.notes all_before) line;
   stands = subst (λ (rs : List Row). Stands (row_frame q rs old.owner) old.steps forms) (sym p.front)
       (stands_wider (row_frame q rows old.owner) (row_frame q (rows ++ p.rest) old.owner) old.steps forms (rows_widen q rows p.rest old.owner) beside.stands);
   notes = rise_snoc old.notes (k, n) beside.notes all_before;
 })
   where
     all_before : RowsBelow k old.notes
-    all_before = below_noted old.notes k (λ i m is. let l = beside.journaled.notes_in i m is in let b = p.behind in omega (arith, l, b, length-log_rows rows))
+    all_before = below_more (length rows) k old.notes p.behind in_rows
 
 -- The journal that has further lines which stand.
 pub beside_on : (q : Problem) (rows : List Row) (old new : Keeping) (forms : List Form) (Claim : List Form → Type 0) → new.owner ≡ old.owner → new.notes ≡ old.notes
@@ -209,7 +232,7 @@ beside_on q rows old new forms Claim owner_same notes_same beside m = record {
 pub beside_begun : (q : Problem) (rows : List Row) (j : Keeping) → j.steps ≡ [] → j.notes ≡ [] → ((k : ℕ) → IsNogoodBy j.owner rows k → ⊥) → StandsBeside q rows j []
 beside_begun q rows j steps_none notes_none none = rw (steps_none, notes_none) (record {
   journaled = begun;
-  stands = record { journal = begun.journal; rows = λ i k s at names. absurd cc; fits = λ i s at. absurd cc; ranges = λ i s at. absurd cc };
+  stands = record { journal = begun.journal; rows = λ i k s at names. absurd cc; fits = λ i s at. absurd cc; ranges = λ i s at. absurd cc; small = tt };
   notes = tt;
 })
   where

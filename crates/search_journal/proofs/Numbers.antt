@@ -71,14 +71,15 @@ note_none (y ∷ xs) row none =
     ap (λ (b : Bool). let o : Option ℕ = cond b (Some y.1) (note_of xs row) in o) (ne_eqb y.0 row (λ (e : y.0 ≡ row). none 0 y refl e))
     ∙ note_none xs row (λ k x at e. none (suc k) x at e)
 
--- all rows are below what bounds those for which something is noted
-pub below_noted : (xs : List (ℕ × ℕ)) (high : ℕ) → ((k n : ℕ) → note_of xs k ≡ Some n → k < high) → RowsBelow high xs
-below_noted [] high all = tt
-below_noted (y ∷ xs) high all = (
-  all y.0 y.1 (ap (λ (b : Bool). let o : Option ℕ = cond b (Some y.1) (note_of xs y.0) in o) (eq-eqb y.0 y.0 refl)),
-  below_noted xs high (λ k n e. later k n e (cases_eq y.0 k)),
-)
-  where
-    later : (k n : ℕ) → note_of xs k ≡ Some n → (y.0 ≡ k) ⊎ (y.0 ≡ k → ⊥) → k < high
-    later k n e (inl same) = all k y.1 (ap (λ (b : Bool). let o : Option ℕ = cond b (Some y.1) (note_of xs k) in o) (eq-eqb y.0 k same))
-    later k n e (inr apart) = all k n (ap (λ (b : Bool). let o : Option ℕ = cond b (Some y.1) (note_of xs k) in o) (ne_eqb y.0 k apart) ∙ e)
+-- rows that are below one number are below a greater one
+pub below_more : (low high : ℕ) (xs : List (ℕ × ℕ)) → low ≤ high → RowsBelow low xs → RowsBelow high xs
+below_more low high [] le h = tt
+below_more low high (y ∷ xs) le h = let l = h.0 in (omega (arith, l, le), below_more low high xs le h.1)
+
+pub below_snoc : (high : ℕ) (xs : List (ℕ × ℕ)) (x : ℕ × ℕ) → RowsBelow high xs → x.0 < high → RowsBelow high (xs ++ x ∷ [])
+below_snoc high [] x h l = (l, tt)
+below_snoc high (y ∷ xs) x h l = (h.0, below_snoc high xs x h.1 l)
+
+-- nothing is noted for a row that all are below
+pub below_unnoted : (row : ℕ) (xs : List (ℕ × ℕ)) → RowsBelow row xs → note_of xs row ≡ None
+below_unnoted row xs below = note_none xs row (λ k x at e. let l = below_at row xs k x below at in absurd (omega (arith, l, e)))

@@ -10,13 +10,15 @@ use Rattle.journal_theory.proofs.Placing.{from_one_more, take_all}
 use Rattle.journals.specs.Keeping.{Keeping}
 use Rattle.log_growth.specs.Frames.{Frame}
 use Rattle.log_growth.specs.Rows.{Widens}
-use Rattle.proof_logger.specs.Logging.{IsNogoodBy, GrowsBeside, Publishes}
+use Rattle.proof_logger.specs.Logging.{IsNogoodBy, GrowsBeside, EndsInOwn, Publishes}
 use Rattle.search_journal.specs.declared.refuted.Refuted.{Refuted}
 use Rattle.search_journal.specs.Lines.{row_clause, row_frame, StandsBeside, Steps, Refutes}
 use Rattle.search_journal.specs.Entries.{AreFrom, AreBelow, AreRising, IsEntry, AreEntries, HasEntry, AreCovered, Writes}
+use Rattle.search_journal.specs.Numbers.{RowsBelow}
+use Rattle.search_journal.proofs.Numbers.{below_more, below_snoc}
 use Rattle.search_journal.proofs.Levels.{level_within, length-path_of, path_of_more, path_deeper, deeper_vertex, deeper_refuted, failed_vertex, failed_last, failed_refuted}
 use Rattle.search_journal.proofs.Lists.{rising_take, rising_snoc, entries_as, entries_below, entries_take, entries_snoc, has_front, has_last, has_take}
-use Rattle.search_journal.proofs.Frames.{rows_widen, beside_grown, beside_noted, beside_begun}
+use Rattle.search_journal.proofs.Frames.{rows_widen, beside_grown, beside_without, beside_noted, beside_begun}
 
 -- ---- at a guess
 
@@ -39,6 +41,7 @@ writes_deepened knows lines j owner numbers entries q rows a p t at w = record {
   known = w.known;
   owner_is = w.owner_is;
   numbers_are = w.numbers_are;
+  in_rows = w.in_rows;
   fresh_level = refl;
   rising = w.rising;
   entries_are = entries_as q a (deepened a p t) w.forms w.forms entries (deeper_entry q a w.forms p t at) w.entries_are;
@@ -62,6 +65,7 @@ writes_restarted knows lines j owner numbers entries q rows a w = record {
   known = w.known;
   owner_is = w.owner_is;
   numbers_are = w.numbers_are;
+  in_rows = w.in_rows;
   fresh_level = refl;
   rising = tt;
   entries_are = tt;
@@ -77,6 +81,7 @@ writes_begun knows j q rows pattern target budget steps_none notes_none known no
   known = known;
   owner_is = refl;
   numbers_are = sym notes_none;
+  in_rows = subst (RowsBelow (length rows)) (sym notes_none) tt;
   fresh_level = refl;
   rising = tt;
   entries_are = tt;
@@ -96,6 +101,7 @@ writes_grown knows wider lines j owner numbers entries q rows more a g w = recor
       (wider q (row_frame q rows j.owner) (row_frame q (rows ++ g.rest) j.owner) w.forms (rows_widen q rows g.rest j.owner) w.known);
   owner_is = w.owner_is;
   numbers_are = w.numbers_are;
+  in_rows = below_more (length rows) (length more) j.notes (omega (arith, ap (λ (rs : List Row). length rs) g.front, length-append rows g.rest)) w.in_rows;
   fresh_level = w.fresh_level;
   rising = w.rising;
   entries_are = w.entries_are;
@@ -115,6 +121,21 @@ refutes_grown lines j q rows more g r = record {
   plainly_false = r.plainly_false;
 }
 
+-- ---- without rows at the end that the owner keeps for itself
+
+pub steps_without : (lines : Problem) (j : Keeping) (q : Problem) (rows whole : List Row) → EndsInOwn j.owner rows whole → Steps lines j q whole → Steps lines j q rows
+steps_without lines j q rows whole e s = record { problem_is = s.problem_is; forms = s.forms; beside = beside_without q rows whole j s.forms e s.beside }
+
+pub refutes_without : (lines : Problem) (j : Keeping) (q : Problem) (rows whole : List Row) → EndsInOwn j.owner rows whole → Refutes lines j q whole → Refutes lines j q rows
+refutes_without lines j q rows whole e r = record {
+  problem_is = r.problem_is;
+  forms = r.forms;
+  beside = beside_without q rows whole j r.forms e r.beside;
+  last = r.last;
+  last_is = r.last_is;
+  plainly_false = r.plainly_false;
+}
+
 -- ---- as a row is noted
 
 pub writes_noted : (knows : Problem → Frame → List Form → Type 0) → ((q : Problem) (w v : Frame) (forms : List Form) → Widens w v → knows q w forms → knows q v forms)
@@ -125,17 +146,21 @@ pub writes_noted : (knows : Problem → Frame → List Form → Type 0) → ((q 
 writes_noted knows wider lines old new owner numbers entries q rows more a level value k e p owner_same steps_same notes_are w i level_is value_is = record {
   problem_is = w.problem_is;
   forms = w.forms;
-  beside = beside_noted q a level value rows more old new w.forms k e.number p line owner_same steps_same notes_are w.beside;
+  beside = beside_noted q a level value rows more old new w.forms k e.number p w.in_rows line owner_same steps_same notes_are w.beside;
   known = rw owner_same (subst (λ (rs : List Row). knows q (row_frame q rs old.owner) w.forms) (sym p.front)
       (wider q (row_frame q rows old.owner) (row_frame q (rows ++ p.rest) old.owner) w.forms (rows_widen q rows p.rest old.owner) w.known));
   owner_is = w.owner_is ∙ sym owner_same;
   numbers_are = ap (λ (ns : List (ℕ × ℕ)). ns ++ (k, e.number) ∷ []) w.numbers_are ∙ sym notes_are;
+  in_rows = subst (RowsBelow (length more)) (sym notes_are) (below_snoc (length more) old.notes (k, e.number) (below_more (length rows) (length more) old.notes longer w.in_rows) p.within);
   fresh_level = w.fresh_level;
   rising = w.rising;
   entries_are = w.entries_are;
   covered = w.covered;
 }
   where
+    longer : length rows ≤ length more
+    longer = omega (arith, ap (λ (rs : List Row). length rs) p.front, length-append rows p.rest)
+
     some_of : (m n : ℕ) (o : Option ℕ) → o ≡ Some m → o ≡ Some n → m ≡ n
     some_of m n o a b = cc
 
@@ -151,11 +176,11 @@ writes_noted knows wider lines old new owner numbers entries q rows more a level
 
 -- With the line of the dead path behind the entries above the path's level.
 pub writes_failed : (knows : Problem → Frame → List Form → Type 0) (lines : Problem) (j : Keeping) (owner : ℕ) (numbers : List (ℕ × ℕ)) (entries : List Refuted) (q : Problem) (rows : List Row) (a b : Account)
-    (forms more : List Form) (k : ℕ) (e : Refuted) → lines ≡ q → StandsBeside q rows j (forms ++ more) → knows q (row_frame q rows j.owner) (forms ++ more) → owner ≡ j.owner → numbers ≡ j.notes
+    (forms more : List Form) (k : ℕ) (e : Refuted) → lines ≡ q → StandsBeside q rows j (forms ++ more) → knows q (row_frame q rows j.owner) (forms ++ more) → owner ≡ j.owner → numbers ≡ j.notes → RowsBelow (length rows) j.notes
     → AreRising entries → AreEntries q a forms entries → AreCovered a entries → AreFrom (length (path a)) (drop k entries) → AreBelow (length (path a)) (take k entries)
     → from_one (forms ++ more) e.number ≡ Some (pairs_clause q (path a)) → (f : FailsTo a b) → e.level + 1 ≡ length (path a) → e.value ≡ f.last.value
     → Writes knows lines j owner numbers (take k entries ++ e ∷ []) q rows b
-writes_failed knows lines j owner numbers entries q rows a b forms more k e problem_is beside known owner_is numbers_are rising entries_are covered from below line f level_is value_is =
+writes_failed knows lines j owner numbers entries q rows a b forms more k e problem_is beside known owner_is numbers_are in_rows rising entries_are covered from below line f level_is value_is =
     subst (λ (c : Account). Writes knows lines j owner numbers (take k entries ++ e ∷ []) q rows c) (sym f.new_is) (record {
       problem_is = problem_is;
       forms = forms ++ more;
@@ -163,6 +188,7 @@ writes_failed knows lines j owner numbers entries q rows a b forms more k e prob
       known = known;
       owner_is = owner_is;
       numbers_are = numbers_are;
+      in_rows = in_rows;
       fresh_level = tt;
       rising = rising_snoc (take k entries) e (rising_take k entries rising) (subst (λ (n : ℕ). AreBelow n (take k entries)) (sym level_is) below);
       entries_are = entries_snoc q after (forms ++ more) (take k entries) e

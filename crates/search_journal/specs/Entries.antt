@@ -1,6 +1,6 @@
 -- The refuted values of an account, each with the number of its line.
 
-use Rattle.std.specs.Prelude.{◌≡◌, ℕ, ◌<◌, ◌≤◌, ◌⊎◌, List, [], ◌∷◌, ◌++◌, Contains, take, map, Option, Some, None}
+use Rattle.std.specs.Prelude.{◌≡◌, ℕ, ◌<◌, ◌≤◌, ◌⊎◌, List, [], ◌∷◌, ◌++◌, length, Contains, take, map, Option, Some, None}
 use Rattle.graph_theory.specs.Embedding.{Problem}
 use Rattle.search_theory.specs.Account.{Account, path, level_at}
 use Rattle.proof_theory.specs.Forms.{Form}
@@ -13,6 +13,7 @@ use Rattle.journals.specs.Keeping.{Keeping}
 use Rattle.log_growth.specs.Frames.{Frame}
 use Rattle.search_journal.specs.declared.refuted.Refuted.{Refuted}
 use Rattle.search_journal.specs.Lines.{row_frame, StandsBeside}
+use Rattle.search_journal.specs.Numbers.{RowsBelow}
 
 -- ---- levels
 
@@ -75,7 +76,7 @@ entry_values es = map entry_value es
 
 -- ---- what stands
 
--- Lines stand beside the rows, the maker knows what it has to of their forms, the numbers of the rows are those that are noted, and the entries are those of the account.
+-- Lines stand beside the rows, the maker knows what it has to of their forms, the numbers of the rows are those that are noted, each noted row is one of the rows, and the entries are those of the account.
 pub record Writes (knows : Problem → Frame → List Form
     → Type 0) (lines : Problem) (j : Keeping) (owner : ℕ) (numbers : List (ℕ
     × ℕ)) (entries : List Refuted) (q : Problem) (rows : List Row) (a : Account) : Type 0 where
@@ -85,6 +86,7 @@ pub record Writes (knows : Problem → Frame → List Form
   pub known : knows q (row_frame q rows j.owner) forms
   pub owner_is : owner ≡ j.owner
   pub numbers_are : numbers ≡ j.notes
+  pub in_rows : RowsBelow (length rows) j.notes
   pub fresh_level : IsFreshWithout a.vertex a.refuted
   pub rising : AreRising entries
   pub entries_are : AreEntries q a forms entries

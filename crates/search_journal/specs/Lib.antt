@@ -1,5 +1,4 @@
 pub mod Lines
 pub mod Entries
 pub mod Numbers
-pub mod Ends
 pub mod Closing

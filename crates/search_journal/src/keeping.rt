@@ -12,33 +12,22 @@ ghost use Rattle.dead_paths.specs.Explaining.{IsLastOf};
 ghost use Rattle.search_journal.specs.Lines.{Steps, Refutes};
 ghost use Rattle.search_journal.specs.Entries.{entry_refs, Writes};
 ghost use Rattle.search_journal.specs.Closing.{IsLined};
-ghost use Rattle.search_journal.specs.Ends.{end_as};
 
 use crate::entries::{count_above, entry_of, refs_of};
 use crate::refuted::Refuted;
 use crate::row_numbers::{OwnNames, RowNumbers};
-use dead_paths::{Basis, DeadPath, Ground, LineMaker, PathEnd, Scratch, explain};
+use dead_paths::{Basis, DeadPath, Ground, LineMaker, Scratch, explain};
 use fail_account::Account;
 use graph_rows::Problem;
 use journals::{Journal, Keeper};
 use log_theory::{Name, Ref};
 use nogood_book::Row;
-use proof_logger::{DeadEnd, ProofLogger};
-use recorder::{Causes, KeptChanges};
+use proof_logger::ProofLogger;
+use recorder::{Causes, DeadEnd, KeptChanges};
 use std::alloc::{AllocError, Global};
 
 /// A book has no more rows.
 const MOST_ROWS: usize = 4194304;
-
-/// The end as the lines of dead paths have it.
-fn end_of(end: DeadEnd) -> PathEnd
-    ensures { result ≡ end_as end }
-{
-    match end {
-        DeadEnd::Failed(failure) => PathEnd::Failed(failure),
-        DeadEnd::Exhausted(p) => PathEnd::Exhausted(p),
-    }
-}
 
 /// The last pair, if there is one.
 fn last_pair(path: &[(u16, u16)]) -> Option<(u16, u16)>
@@ -161,7 +150,7 @@ impl<'a, M: LineMaker> SearchJournal<'a, M> {
         let dead = DeadPath {
             path: account.path(),
             entries: kept.entries,
-            end: end_of(end),
+            end,
             short: kept.short,
             refuted,
         };

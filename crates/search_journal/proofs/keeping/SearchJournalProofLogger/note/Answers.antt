@@ -1,13 +1,11 @@
 use Rattle.std.proofs.Common.{ℕ, ◌≡◌, ◌≤◌, List, length, Some, subst, sym, ap, ◌∙◌, arith}
 use Rattle.std.specs.Prelude.{slice_get}
 use Rattle.log_theory.specs.declared.step.Step.{Step}
-use Rattle.journal_theory.specs.Journals.{note_of}
 use Rattle.search_journal.specs.declared.refuted.Refuted.{Refuted}
 use Rattle.search_journal.specs.Numbers.{RowsBelow}
 use Rattle.search_journal.specs.Entries.{HasEntry, Writes}
 use Rattle.search_journal.proofs.Lists.{entries_at}
-use Rattle.search_journal.proofs.Numbers.{below_noted}
-use Rattle.search_journal.proofs.Frames.{length-log_rows}
+use Rattle.search_journal.proofs.Numbers.{below_more}
 use Rattle.search_journal.proofs.Writing.{writes_noted}
 use Rattle.search_journal.proofs.keeping.SearchJournalProofLogger.note.Goals as goal
 
@@ -23,8 +21,7 @@ returns-clause-noted g c = λ q rows more w p.
     let here = c.in-Some.ensures.some in
     let at = subst (λ (es : List Refuted). slice_get es place.0 ≡ Some e) c.deref.ensures.value place.1 in
     let behind : length rows ≤ c.args.row = p.behind in
-    let below : RowsBelow c.args.row j.numbers.notes = below_noted j.numbers.notes c.args.row (λ k n is.
-    let l = w.beside.journaled.notes_in k n (ap (λ (ns : List (ℕ × ℕ)). note_of ns k) (sym w.numbers_are) ∙ is) in omega (arith, l, behind, length-log_rows rows)) in
+    let below : RowsBelow c.args.row j.numbers.notes = subst (RowsBelow c.args.row) (sym w.numbers_are) (below_more (length rows) c.args.row j.journal.notes behind w.in_rows) in
     let noted = writes_noted (g.M.LineMaker.knows j.maker) (g.met.M.LineMaker.wider j.maker) j.lines.now j.journal c.note.new.self j.numbers.owner j.numbers.notes j.entries.items q rows more a
     c.args.level c.args.value c.args.row e p c.note.ensures.owner (some_steps c.note.new.self.steps j.journal.steps c.note.ensures.kept) c.note.ensures.noted w
     (entries_at q a w.forms j.entries.items place.0 e w.entries_are at) (here.0 ∙ c.from.ensures) here.1 in

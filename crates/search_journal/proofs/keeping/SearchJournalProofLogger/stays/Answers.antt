@@ -1,4 +1,4 @@
-use Rattle.search_journal.proofs.Writing.{writes_deepened, writes_grown, steps_grown, refutes_grown}
+use Rattle.search_journal.proofs.Writing.{writes_deepened, writes_grown, steps_grown, refutes_grown, steps_without, refutes_without}
 use Rattle.search_journal.proofs.keeping.SearchJournalProofLogger.stays.Goals as goal
 
 pub returns-clause-guess : goal.returns-clause-guess
@@ -14,3 +14,9 @@ returns-clause-steps_grown g c = λ q rows more grows s. steps_grown c.args.self
 
 pub returns-clause-refutes_grown : goal.returns-clause-refutes_grown
 returns-clause-refutes_grown g c = λ q rows more grows r. refutes_grown c.args.self.now.lines.now c.args.self.now.journal q rows more grows r
+
+pub returns-clause-steps_without_own : goal.returns-clause-steps_without_own
+returns-clause-steps_without_own g c = λ q rows whole ends s. steps_without c.args.self.now.lines.now c.args.self.now.journal q rows whole ends s
+
+pub returns-clause-refutes_without_own : goal.returns-clause-refutes_without_own
+returns-clause-refutes_without_own g c = λ q rows whole ends r. refutes_without c.args.self.now.lines.now c.args.self.now.journal q rows whole ends r
