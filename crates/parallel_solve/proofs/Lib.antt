@@ -4,3 +4,4 @@ mod Gathering
 mod Runs
 mod Told
 mod Growth
+mod Concluding

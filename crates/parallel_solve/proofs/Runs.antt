@@ -15,12 +15,12 @@ pub at_place : {X : Type 0} (P : X → Type 0) (xs : List X) (i : ℕ) (x : X) �
 at_place P xs i x all is = subst P (get_or_from_slice_get xs i x x is) (all i x (slice_get_within xs i x is))
 
 -- what stands there once one more is there
-before_last : {X : Type 0} (xs : List X) (x : X) (i : ℕ) → i < length xs → slice_get (xs ++ x ∷ []) i ≡ slice_get xs i
+pub before_last : {X : Type 0} (xs : List X) (x : X) (i : ℕ) → i < length xs → slice_get (xs ++ x ∷ []) i ≡ slice_get xs i
 before_last [] x i lt = absurd (omega (arith, lt))
 before_last (y ∷ ys) x zero lt = refl
 before_last (y ∷ ys) x (suc i) lt = before_last ys x i (omega (arith, lt))
 
-at_last : {X : Type 0} (xs : List X) (x : X) → slice_get (xs ++ x ∷ []) (length xs) ≡ Some x
+pub at_last : {X : Type 0} (xs : List X) (x : X) → slice_get (xs ++ x ∷ []) (length xs) ≡ Some x
 at_last [] x = refl
 at_last (y ∷ ys) x = at_last ys x
 

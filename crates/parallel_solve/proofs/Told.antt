@@ -9,7 +9,7 @@ use Rattle.nogood_book.specs.declared.row.Row.{Row}
 use Rattle.recorder.specs.declared.change.Failure.{Failure}
 use Rattle.recorder.specs.Recording.{Change, CountedSet, KeepsSame}
 use Rattle.propagation.proofs.Holding.{holds_none}
-use Rattle.proof_logger.specs.declared.logger.DeadEnd.TheVariants.{Failed}
+use Rattle.recorder.specs.declared.change.DeadEnd.TheVariants.{Failed}
 use Rattle.proof_logger.specs.Logging.{EndsPath, IsNogoodBy}
 use Rattle.restart_search.specs.Logging.{IsTold}
 use Rattle.restart_search.specs.Searching.{RootFails}

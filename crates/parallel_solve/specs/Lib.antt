@@ -3,3 +3,4 @@ pub mod Solving
 pub mod Teaming
 pub mod Gathering
 pub mod Teams
+pub mod Concluding

@@ -10,13 +10,19 @@ use Rattle.parallel_solve.specs.declared.answers.Settings.{Settings}
 use Rattle.parallel_solve.specs.declared.answers.Solved.{Solved}
 use Rattle.parallel_solve.specs.declared.answers.Solved.TheVariants.{Yes, NoEmbedding, Unknown, NoMemory}
 
+-- From 1 to 64 workers are asked for, each with a budget below 2^63, and a book of at most 4,194,304 rows.
+pub record IsWithinBounds (s : Settings) : Type 0 where
+  pub some : 1 ≤ s.threads
+  pub few : s.threads ≤ 64
+  pub budget : s.budget < 2 ^ 63
+  pub rows : s.rows ≤ 4194304
+
 -- One worker is asked for in both, and a log in both or in neither.
 pub record IsShortOf (short s : Settings) : Type 0 where
   pub one : s.threads ≡ 1
   pub threads : short.threads ≡ 1
   pub prove : short.prove ≡ s.prove
-  pub budget : short.budget < 2 ^ 63
-  pub rows : short.rows ≤ 4194304
+  pub bounds : IsWithinBounds short
 
 -- So many workers spent their budget, which is less than enough, each where a guess was due: these are their accounts.
 pub record AreSpent (q : Problem) (workers budget : ℕ) (accounts : List Account) : Type 0 where

@@ -1,6 +1,7 @@
 -- The workers of one solve: before they run, after it, and what their outcomes say together.
 
-use Rattle.std.specs.Prelude.{◌≡◌, ◌≢◌, ◌⊎◌, ℕ, ◌<◌, ◌≤◌, true, List, [], ◌∷◌, length, All, Option, Some, IfSome, unwrap_or}
+use Rattle.std.specs.Prelude.{◌≡◌, ◌≢◌, ◌⊎◌, ℕ, ◌<◌, ◌≤◌, Bool, true, false, List, [], ◌∷◌, length, All, Option, Some, IfSome, Vec, unwrap_or}
+use Rattle.std.specs.Global.{Global}
 use Rattle.std.specs.List.{Any}
 use Rattle.graph_theory.specs.Graph.{size}
 use Rattle.graph_theory.specs.Embedding.{Problem, Embeds, HasNone}
@@ -8,7 +9,7 @@ use Rattle.search_theory.specs.Bounds.{enough}
 use Rattle.search_theory.specs.Account.{Account, Honest, Spends}
 use Rattle.nogood_book.specs.declared.row.Row.{Row}
 use Rattle.nogood_book.specs.Seats.{BookName, SeatName, IsSeatOf, facts_of}
-use Rattle.proof_logger.specs.Logging.{GrowsBeside}
+use Rattle.proof_logger.specs.Logging.{EndsInOwn, GrowsBeside}
 use Rattle.restart_search.specs.declared.outcome.Outcome.{Outcome}
 use Rattle.restart_search.specs.declared.outcome.Outcome.TheVariants.{Found, Refuted, Spent, Stopped, NoMemory}
 use Rattle.restart_search.specs.declared.outcome.Stage.TheVariants.{Over}
@@ -32,7 +33,7 @@ pub record IsJob {K : Type 0} (owner : K
   pub owner_is : owner w.log ≡ w.number
   pub goes_on : w.stage ≢ Over
 
--- The worker has run to this outcome, and its log says so beside the rows that its seat has seen.
+-- The worker has run to this outcome, and its log says so beside the rows that its seat has, of the book and its own.
 pub record HasRun {K : Type 0} (owner : K → ℕ) (steps refutes : K → Problem → List Row
     → Type 0) (b : BookName) (q : Problem) (budget : ℕ) (w : Search SeatName K)
     (o : Outcome) : Type 0 where
@@ -76,6 +77,21 @@ AreSettled outcome xs = Any (λ x. Decides (outcome x)) xs
 
 -- ---- who refuted
 
+-- The embedding that was found last, after one more outcome; and whether all were spent.
+abbrev pub map_by : Option (Vec ℕ Global) → Outcome → Option (Vec ℕ Global)
+map_by map (Found m) = Some m
+map_by map Refuted = map
+map_by map Spent = map
+map_by map (Stopped n) = map
+map_by map NoMemory = map
+
+abbrev pub spent_by : Bool → Outcome → Bool
+spent_by spent (Found m) = false
+spent_by spent Refuted = false
+spent_by spent Spent = spent
+spent_by spent (Stopped n) = false
+spent_by spent NoMemory = false
+
 -- The first that refuted, after one more of this number.
 abbrev pub refuted_by : Option ℕ → ℕ → Outcome → Option ℕ
 refuted_by refuted number (Found m) = refuted
@@ -96,3 +112,8 @@ pub record IsRefuter {X : Type 0} (refutes : X → Type 0) (xs : List X) (number
 abbrev pub StaysBeside : ℕ → (Problem → List Row → Type 0) → Type 0
 StaysBeside owner says = (q : Problem) (rows more : List Row) → GrowsBeside owner rows more
     → says q rows → says q more
+
+-- What is so beside some rows of a problem is so without those at the end that the owner keeps for itself.
+abbrev pub StaysWithoutOwn : ℕ → (Problem → List Row → Type 0) → Type 0
+StaysWithoutOwn owner says = (q : Problem) (rows whole : List Row) → EndsInOwn owner rows whole
+    → says q whole → says q rows

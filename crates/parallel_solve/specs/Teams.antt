@@ -15,7 +15,7 @@ pub record IsTeam {K T : Type 0} (owner : K → ℕ) (q : Problem) (threads budg
   pub numbers : AreOfOwners (λ w. w.number) t.jobs.items
   pub count : length t.jobs.items ≡ threads
   pub of : IsSeatOf t.book t.first
-  pub made : HasMade (threads + 1) t.first.view
+  pub made : HasMade (threads + 1) t.first
   pub no_accounts : t.accounts.items ≡ []
   pub room : threads ≤ vec_capacity t.accounts
   pub no_logs : t.logs.items ≡ []

@@ -8,8 +8,8 @@
 //! is the same for every number of workers. Which embedding is found can differ.
 //!
 //! Workers that differ in their random choices and share nogoods at restarts are those of Archibald et al. (2019). Each
-//! worker takes memory for its domains, its nogoods, 16 bytes for each row of the book, and its part of 64 MiB of rows. A log
-//! also takes the encoding and the lines of each dead path.
+//! worker takes memory for its domains, its nogoods, 16 bytes for each row of the book and for each row that it keeps for itself
+//! once the book is full, and its part of 64 MiB of rows. A log also takes the encoding and the lines of each dead path.
 #![tactic(auto)]
 
 pub mod answers;

@@ -7,7 +7,7 @@ ghost use Rattle.domain_bits.specs.Removals.{full};
 ghost use Rattle.recorder.specs.Telling.{Tells};
 ghost use Rattle.restart_search.specs.Searching.{RootFails};
 ghost use Rattle.proof_collection.specs.Proofs.{IsProven};
-ghost use Rattle.parallel_solve.specs.Solving.{IsShortOf, IsSolved};
+ghost use Rattle.parallel_solve.specs.Solving.{IsShortOf, IsSolved, IsWithinBounds};
 ghost use Rattle.parallel_solve.specs.Teams.{IsTeam};
 
 use crate::answers::{Settings, Solved};
@@ -21,8 +21,8 @@ use graph_rows::Problem;
 use pair_supports::{MOST_WORDS, PairKinds};
 use pb_encoding::Encoding;
 use proof_collection::{KeepsLines, KeepsNothing, OwnerLog, Proof, ProofMaker};
-use proof_logger::{DeadEnd, ProofLogger, Unlogged};
-use recorder::{Causes, Failure, Silent};
+use proof_logger::{ProofLogger, Unlogged};
+use recorder::{Causes, DeadEnd, Failure, Silent};
 use restart_search::root::{Rooted, root as take_root};
 use std::alloc::{AllocError, Global};
 use std::thread::Threads;
@@ -59,10 +59,7 @@ fn short_of(q: &Problem, s: &Settings) -> Option<Settings>
 /// worker its domains, the watches of its nogoods, 16 bytes for each row of the book, and its part of 64 MiB for rows of pairs;
 /// where a log is kept, also the encoding, the rows of values that share neighbours, and the lines of each dead path.
 pub fn solve<R: Threads + Sync>(rt: &R, alloc: Global, q: &Problem, s: &Settings) -> Solved
-    requires some { 1 ≤ s.now.threads }
-    requires few { s.now.threads ≤ 64 }
-    requires budget { s.now.budget < 2 ^ 63 }
-    requires rows { s.now.rows ≤ 4194304 }
+    requires bounds { IsWithinBounds s.now }
     ensures { IsSolved result q.now s.now.threads s.now.budget s.now.prove }
 {
     if let Some(short) = short_of(q, s) {
@@ -104,10 +101,7 @@ pub fn solve_with<R: Threads + Sync, G: Gate + Sync>(
     s: &Settings,
     gate: &G,
 ) -> Solved
-    requires some { 1 ≤ s.now.threads }
-    requires few { s.now.threads ≤ 64 }
-    requires budget { s.now.budget < 2 ^ 63 }
-    requires rows { s.now.rows ≤ 4194304 }
+    requires bounds { IsWithinBounds s.now }
     ensures { IsSolved result q.now s.now.threads s.now.budget s.now.prove }
 {
     if s.prove {
@@ -125,10 +119,7 @@ fn solve_with_proof<R: Threads + Sync, G: Gate + Sync>(
     s: &Settings,
     gate: &G,
 ) -> Solved
-    requires some { 1 ≤ s.now.threads }
-    requires few { s.now.threads ≤ 64 }
-    requires budget { s.now.budget < 2 ^ 63 }
-    requires rows { s.now.rows ≤ 4194304 }
+    requires bounds { IsWithinBounds s.now }
     ensures { IsSolved result q.now s.now.threads s.now.budget true }
 {
     let Ok(lines) = Encoding::new(alloc, q) else {
@@ -156,10 +147,7 @@ where
     requires maker { M.problem maker.now ≡ q.now }
     requires told { Tells q.now None (full (size q.now.pattern) (size q.now.target))
         (L.Told.changes told) }
-    requires some { 1 ≤ s.now.threads }
-    requires few { s.now.threads ≤ 64 }
-    requires budget { s.now.budget < 2 ^ 63 }
-    requires rows { s.now.rows ≤ 4194304 }
+    requires bounds { IsWithinBounds s.now }
     ensures { IsSolved result q.now s.now.threads s.now.budget (M.logged maker.now) }
 {
     let Ok(kinds) = PairKinds::new(alloc, q) else {
@@ -182,8 +170,7 @@ where
 fn search_alone(alloc: Global, q: &Problem, s: &Settings) -> Solved
     requires one { s.now.threads ≡ 1 }
     requires unlogged { s.now.prove ≡ false }
-    requires budget { s.now.budget < 2 ^ 63 }
-    requires rows { s.now.rows ≤ 4194304 }
+    requires bounds { IsWithinBounds s.now }
     ensures { IsSolved result q.now 1 s.now.budget false }
 {
     let maker = KeepsNothing::new(q);
@@ -213,10 +200,7 @@ fn team_of<'a, L: ProofLogger, M: ProofMaker<L>>(
     requires maker { M.problem root.now.maker.now ≡ root.now.q.now }
     requires told { Tells root.now.q.now None
         (full (size root.now.q.now.pattern) (size root.now.q.now.target)) (L.Told.changes told) }
-    requires some { 1 ≤ root.now.settings.now.threads }
-    requires few { root.now.settings.now.threads ≤ 64 }
-    requires budget { root.now.settings.now.budget < 2 ^ 63 }
-    requires rows { root.now.settings.now.rows ≤ 4194304 }
+    requires bounds { IsWithinBounds root.now.settings.now }
     ensures team { IfOk result (IsTeam L.owner root.now.q.now root.now.settings.now.threads
         root.now.settings.now.budget) }
     ensures answer { IfErr result (λ answer. IsSolved answer root.now.q.now
@@ -279,8 +263,7 @@ fn decide_beside<'a, R: Threads + Sync, G: Gate + Sync, L: ProofLogger + Send, M
 where
     L::Told: Send,
     requires maker { M.problem root.now.maker.now ≡ root.now.q.now }
-    requires some { 1 ≤ root.now.settings.now.threads }
-    requires few { root.now.settings.now.threads ≤ 64 }
+    requires bounds { IsWithinBounds root.now.settings.now }
     requires team { IsTeam L.owner root.now.q.now root.now.settings.now.threads
         root.now.settings.now.budget team }
     ensures { IsSolved result root.now.q.now root.now.settings.now.threads
@@ -306,8 +289,7 @@ fn decide_in_turn<'a, L: ProofLogger, M: ProofMaker<L>>(
     team: Team<'a, L>,
 ) -> Solved
     requires maker { M.problem root.now.maker.now ≡ root.now.q.now }
-    requires some { 1 ≤ root.now.settings.now.threads }
-    requires few { root.now.settings.now.threads ≤ 64 }
+    requires bounds { IsWithinBounds root.now.settings.now }
     requires team { IsTeam L.owner root.now.q.now root.now.settings.now.threads
         root.now.settings.now.budget team }
     ensures { IsSolved result root.now.q.now root.now.settings.now.threads

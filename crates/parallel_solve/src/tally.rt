@@ -4,9 +4,10 @@ ghost use Rattle.std.specs.Prelude.{◌≡◌, [], ◌∷◌, ◌++◌, ◌≤�
 ghost use Rattle.nogood_book.specs.Seats.{IsHonest, IsSeatOf};
 ghost use Rattle.restart_search.specs.Searching.{Ends};
 ghost use Rattle.proof_collection.specs.Making.{AreBy, AreOfOwners};
+ghost use Rattle.parallel_solve.specs.Concluding.{HasHeard, IsConclusion, IsToldBy};
 ghost use Rattle.parallel_solve.specs.Gathering.{HasMade, Keeps, RowsCame, TookIn};
 ghost use Rattle.parallel_solve.specs.Solving.{IsSolved};
-ghost use Rattle.parallel_solve.specs.Teaming.{HasRun, IsRefuter, IsTally, refuted_by, StaysBeside};
+ghost use Rattle.parallel_solve.specs.Teaming.{AreSettled, HasRun, IsRefuter, IsTally, map_by, refuted_by, spent_by, StaysBeside, StaysWithoutOwn};
 
 use crate::answers::Solved;
 use crate::running::Done;
@@ -36,7 +37,9 @@ fn hear(tally: &mut Tally, q: &Problem, budget: u64, number: u8, account: Accoun
     requires budget { account.budget ≡ budget }
     requires room { length tally.old.accounts.items < vec_capacity tally.old.accounts }
     ensures tally { IsTally q.now budget tally.new }
+    ensures map { tally.new.map ≡ map_by tally.old.map outcome.entry }
     ensures refuted { tally.new.refuted ≡ refuted_by tally.old.refuted number outcome.entry }
+    ensures spent { tally.new.spent ≡ spent_by tally.old.spent outcome.entry }
     ensures count { length tally.new.accounts.items ≡ length tally.old.accounts.items + 1 }
     ensures room { vec_capacity tally.new.accounts ≡ vec_capacity tally.old.accounts }
 {
@@ -51,15 +54,15 @@ fn hear(tally: &mut Tally, q: &Problem, budget: u64, number: u8, account: Accoun
     tally.spent = false;
 }
 
-/// Takes a worker's seat into the first one. It takes no memory.
+/// Takes a worker's seat into the first one, without the rows that it keeps for itself. It takes no memory.
 fn take_in(book: &RowBook, first: &mut BookSeat, seat: BookSeat)
     requires first { IsSeatOf book.now first.old }
     requires told { IsHonest first.old }
     requires seat { IsSeatOf book.now seat }
     ensures first { IsSeatOf book.now first.new }
     ensures told { IsHonest first.new }
-    ensures taken { TookIn seat.view first.new.view }
-    ensures kept { Keeps first.old.view first.new.view }
+    ensures taken { TookIn seat first.new }
+    ensures kept { Keeps first.old first.new }
 {
     let _rows = seat.rows();
     book.gather(first, seat);
@@ -83,16 +86,18 @@ fn take_one<'a, L: ProofLogger>(
     requires honest { IsHonest first.old }
     requires ran { HasRun L.owner L.steps L.refutes book.now q.now budget one.worker one.outcome }
     ensures tally { IsTally q.now budget tally.new }
+    ensures map { tally.new.map ≡ map_by tally.old.map one.entry.outcome }
     ensures refuted { tally.new.refuted
         ≡ refuted_by tally.old.refuted one.entry.worker.number one.entry.outcome }
+    ensures spent { tally.new.spent ≡ spent_by tally.old.spent one.entry.outcome }
     ensures count { length tally.new.accounts.items ≡ length tally.old.accounts.items + 1 }
     ensures room { vec_capacity tally.new.accounts ≡ vec_capacity tally.old.accounts }
     ensures logs { logs.new.items ≡ logs.old.items ++ one.entry.worker.log ∷ [] }
     ensures log_room { vec_capacity logs.new ≡ vec_capacity logs.old }
     ensures of { IsSeatOf book.now first.new }
     ensures honest { IsHonest first.new }
-    ensures taken { TookIn one.entry.worker.seat.view first.new.view }
-    ensures kept { Keeps first.old.view first.new.view }
+    ensures taken { TookIn one.entry.worker.seat first.new }
+    ensures kept { Keeps first.old first.new }
 {
     let Done { worker, outcome } = one;
     let number = worker.number();
@@ -117,7 +122,7 @@ fn gather_all<'a, L: ProofLogger>(
     requires no_logs { logs.old.items ≡ [] }
     requires log_room { length done.items ≤ vec_capacity logs.old }
     requires of { IsSeatOf book.now first.old }
-    requires made { HasMade (length done.items + 1) first.old.view }
+    requires made { HasMade (length done.items + 1) first.old }
     requires ran { All
         (λ d. HasRun L.owner L.steps L.refutes book.now q.now budget d.worker d.outcome)
         done.items }
@@ -127,7 +132,9 @@ fn gather_all<'a, L: ProofLogger>(
     ensures logs { logs.new.items ≡ map (λ d. d.worker.log) done.entry.items }
     ensures refuter { IfSome result.refuted
         (IsRefuter (λ d. L.refutes d.worker.log q.now d.worker.facts.seen) done.entry.items) }
+    ensures heard { HasHeard (λ d. d.outcome) done.entry.items result }
     ensures of { IsSeatOf book.now first.new }
+    ensures alone { first.new.own ≡ [] }
     ensures grown { All (λ d. RowsCame first.new.view.seen d.worker) done.entry.items }
     ensures authors { AreBy (length done.entry.items) first.new.view.seen }
 {
@@ -144,10 +151,12 @@ fn gather_all<'a, L: ProofLogger>(
     tally
 }
 
-/// That what each log says stays so as rows of others come. Cost: none.
+/// That what each log says stays so as rows of others come, and without the rows that its owner keeps for itself. Cost: none.
 fn all_stay<L: ProofLogger>(logs: &[L])
     ensures steps { All (λ l. StaysBeside (L.owner l) (L.steps l)) logs.now }
     ensures refutes { All (λ l. StaysBeside (L.owner l) (L.refutes l)) logs.now }
+    ensures steps_alone { All (λ l. StaysWithoutOwn (L.owner l) (L.steps l)) logs.now }
+    ensures refutes_alone { All (λ l. StaysWithoutOwn (L.owner l) (L.refutes l)) logs.now }
 {
     for log in logs {
         log.stays();
@@ -175,7 +184,9 @@ fn answer<L: ProofLogger, M: ProofMaker<L>>(
     requires steps { All (λ l. L.steps l q.now rows.now) logs.items }
     requires refuter { IfSome tally.refuted
         (IsRefuter (λ l. L.refutes l q.now rows.now) logs.items) }
-    ensures { IsSolved result q.now (length tally.accounts.items) budget (M.logged maker.now) }
+    ensures solved { IsSolved result q.now (length tally.accounts.items) budget
+        (M.logged maker.now) }
+    ensures told { IsToldBy tally result }
 {
     let Tally {
         map,
@@ -215,14 +226,16 @@ pub(crate) fn conclude<'a, L: ProofLogger, M: ProofMaker<L>>(
     requires some { 0 < length done.items }
     requires few { length done.items ≤ 64 }
     requires of { IsSeatOf book.now first.old }
-    requires made { HasMade (length done.items + 1) first.old.view }
+    requires made { HasMade (length done.items + 1) first.old }
     requires ran { All
         (λ d. HasRun L.owner L.steps L.refutes book.now root.now.q.now
         root.now.settings.now.budget d.worker d.outcome)
         done.items }
     requires numbers { AreOfOwners (λ d. d.worker.number) done.items }
-    ensures { IsSolved result root.now.q.now (length done.entry.items)
+    requires settled { AreSettled (λ d. d.outcome) done.items }
+    ensures solved { IsSolved result root.now.q.now (length done.entry.items)
         root.now.settings.now.budget (M.logged root.now.maker.now) }
+    ensures concluded { IsConclusion (λ d. d.outcome) done.entry.items result }
 {
     let q = root.q;
     let budget = root.settings.budget;

@@ -1,6 +1,6 @@
 //! The workers of one solve, and what they share, as they are before they run.
 
-ghost use Rattle.std.specs.Prelude.{◌≡◌, [], ◌≤◌, ◌<◌, ◌^◌, ◌+◌, None, length, All, IfOk, OnOk, vec_capacity};
+ghost use Rattle.std.specs.Prelude.{◌≡◌, [], ◌≤◌, ◌+◌, None, length, All, IfOk, OnOk, vec_capacity};
 ghost use Rattle.graph_theory.specs.Graph.{size};
 ghost use Rattle.search_theory.specs.Account.{fresh};
 ghost use Rattle.recorder.specs.Telling.{IsOf};
@@ -9,6 +9,7 @@ ghost use Rattle.restart_search.specs.Searching.{AtRest};
 ghost use Rattle.restart_search.specs.Logging.{IsTold};
 ghost use Rattle.proof_collection.specs.Making.{AreOfOwners};
 ghost use Rattle.parallel_solve.specs.Gathering.{HasMade};
+ghost use Rattle.parallel_solve.specs.Solving.{IsWithinBounds};
 ghost use Rattle.parallel_solve.specs.Teaming.{IsJob};
 ghost use Rattle.parallel_solve.specs.Teams.{IsTeam};
 
@@ -56,10 +57,9 @@ fn equip<'a, M, R: Recorder>(
     requires is_of { IsOf root.now.q.now domains.now }
     requires rest { AtRest root.now.q.now [] domains.now }
     requires told { IsTold root.now.q.now None domains.now [] [] (R.changes told.now) }
-    requires threads { 1 ≤ root.now.settings.now.threads }
+    requires bounds { IsWithinBounds root.now.settings.now }
     requires some { 1 ≤ number }
     requires few { number ≤ 64 }
-    requires budget { root.now.settings.now.budget < 2 ^ 63 }
     ensures problem { IfOk result (λ e. e.problem ≡ root.now.q.now) }
     ensures number { IfOk result (λ e. e.number ≡ number) }
     ensures account { IfOk result
@@ -93,20 +93,19 @@ fn make_job<'a, L: ProofLogger, M: ProofMaker<L>>(
     requires rest { AtRest root.now.q.now [] domains.now }
     requires told { IsTold root.now.q.now None domains.now [] [] (L.Told.changes told.now) }
     requires maker { M.problem root.now.maker.now ≡ root.now.q.now }
-    requires threads { 1 ≤ root.now.settings.now.threads }
+    requires bounds { IsWithinBounds root.now.settings.now }
     requires some { 1 ≤ number }
     requires few { number ≤ 64 }
-    requires budget { root.now.settings.now.budget < 2 ^ 63 }
     requires book { book.now.problem ≡ root.now.q.now }
     requires of { IsSeatOf book.now first.old }
-    requires made { HasMade number first.old.view }
+    requires made { HasMade number first.old }
     requires unseen { first.old.view.seen ≡ [] }
     ensures job { IfOk result
         (λ w. IsJob L.owner book.now root.now.q.now root.now.settings.now.budget w) }
     ensures number { IfOk result (λ w. w.number ≡ number) }
     ensures of { IsSeatOf book.now first.new }
     ensures unseen { first.new.view.seen ≡ [] }
-    ensures made { OnOk result (HasMade (number + 1) first.new.view) }
+    ensures made { OnOk result (HasMade (number + 1) first.new) }
 {
     let alloc = root.alloc;
     let log = root.maker.logger(alloc, number)?;
@@ -129,12 +128,10 @@ fn make_jobs<'a, L: ProofLogger, M: ProofMaker<L>>(
     requires rest { AtRest root.now.q.now [] domains.now }
     requires told { IsTold root.now.q.now None domains.now [] [] (L.Told.changes told.now) }
     requires maker { M.problem root.now.maker.now ≡ root.now.q.now }
-    requires some { 1 ≤ root.now.settings.now.threads }
-    requires few { root.now.settings.now.threads ≤ 64 }
-    requires budget { root.now.settings.now.budget < 2 ^ 63 }
+    requires bounds { IsWithinBounds root.now.settings.now }
     requires book { book.now.problem ≡ root.now.q.now }
     requires of { IsSeatOf book.now first.old }
-    requires made { HasMade 1 first.old.view }
+    requires made { HasMade 1 first.old }
     requires unseen { first.old.view.seen ≡ [] }
     requires none { jobs.old.items ≡ [] }
     ensures jobs { All
@@ -143,7 +140,7 @@ fn make_jobs<'a, L: ProofLogger, M: ProofMaker<L>>(
     ensures numbers { AreOfOwners (λ w. w.number) jobs.new.items }
     ensures count { OnOk result (length jobs.new.items ≡ root.now.settings.now.threads) }
     ensures of { IsSeatOf book.now first.new }
-    ensures made { OnOk result (HasMade (root.now.settings.now.threads + 1) first.new.view) }
+    ensures made { OnOk result (HasMade (root.now.settings.now.threads + 1) first.new) }
 {
     for worker in 0..root.settings.threads {
         jobs.reserve(1)?;
@@ -174,10 +171,7 @@ pub(crate) fn make_team<'a, L: ProofLogger, M: ProofMaker<L>>(
     requires rest { AtRest root.now.q.now [] domains }
     requires told { IsTold root.now.q.now None domains [] [] (L.Told.changes told) }
     requires maker { M.problem root.now.maker.now ≡ root.now.q.now }
-    requires some { 1 ≤ root.now.settings.now.threads }
-    requires few { root.now.settings.now.threads ≤ 64 }
-    requires budget { root.now.settings.now.budget < 2 ^ 63 }
-    requires rows { root.now.settings.now.rows ≤ 4194304 }
+    requires bounds { IsWithinBounds root.now.settings.now }
     ensures { IfOk result (IsTeam L.owner root.now.q.now root.now.settings.now.threads
         root.now.settings.now.budget) }
 {

@@ -16,17 +16,17 @@ pub conclude-requires-clause-log_room : goal.conclude-requires-clause-log_room
 conclude-requires-clause-log_room g c = omega (arith, c.in-Ok.ensures.count, c.requires.team.count, c.requires.team.log_room)
 
 pub conclude-requires-clause-some : goal.conclude-requires-clause-some
-conclude-requires-clause-some g c = omega (arith, c.in-Ok.ensures.count, c.requires.team.count, c.requires.some)
+conclude-requires-clause-some g c = omega (arith, c.in-Ok.ensures.count, c.requires.team.count, c.requires.bounds.some)
 
 pub conclude-requires-clause-few : goal.conclude-requires-clause-few
-conclude-requires-clause-few g c = omega (arith, c.in-Ok.ensures.count, c.requires.team.count, c.requires.few)
+conclude-requires-clause-few g c = omega (arith, c.in-Ok.ensures.count, c.requires.team.count, c.requires.bounds.few)
 
 pub conclude-requires-clause-of : goal.conclude-requires-clause-of
 conclude-requires-clause-of g c = c.requires.team.of
 
 pub conclude-requires-clause-made : goal.conclude-requires-clause-made
 conclude-requires-clause-made g c =
-    subst (λ (n : ℕ). HasMade (n + 1) c.args.team.first.view) (sym (c.in-Ok.ensures.count ∙ c.requires.team.count)) c.requires.team.made
+    subst (λ (n : ℕ). HasMade (n + 1) c.args.team.first) (sym (c.in-Ok.ensures.count ∙ c.requires.team.count)) c.requires.team.made
 
 pub conclude-requires-clause-ran : goal.conclude-requires-clause-ran
 conclude-requires-clause-ran g c = c.in-Ok.ensures.ran
@@ -36,4 +36,7 @@ conclude-requires-clause-numbers g c = c.in-Ok.ensures.numbers
 
 pub returns-in-Ok : goal.returns-in-Ok
 returns-in-Ok g c =
-    subst (λ (n : ℕ). IsSolved c.conclude.result c.args.root.now.q.now n c.args.root.now.settings.now.budget (g.M.ProofMaker.logged c.args.root.now.maker.now)) (c.in-Ok.ensures.count ∙ c.requires.team.count) c.conclude.ensures
+    subst (λ (n : ℕ). IsSolved c.conclude.result c.args.root.now.q.now n c.args.root.now.settings.now.budget (g.M.ProofMaker.logged c.args.root.now.maker.now)) (c.in-Ok.ensures.count ∙ c.requires.team.count) c.conclude.ensures.solved
+
+pub conclude-requires-clause-settled : goal.conclude-requires-clause-settled
+conclude-requires-clause-settled g c = c.in-Ok.ensures.settled

@@ -14,5 +14,5 @@ of_workers-requires-clause-refutes g c =
     let refuter = subst (λ (o : Option ℕ). IfSome o (IsRefuter (λ (l : g.row.L.Denot). g.L.ProofLogger.refutes l c.args.q.now c.args.rows.now) c.args.logs.items)) c.in-Some-refuted.is c.requires.refuter in
     subst (λ (p : Problem). IsFinisher (λ (l : g.row.L.Denot). g.L.ProofLogger.refutes l p c.args.rows.now) c.args.logs.items c.in-Some-refuted.finisher) (sym c.requires.maker) refuter.finisher
 
-pub returns-then-spent : goal.returns-then-spent
-returns-then-spent g c = all_spent c.args.q.now c.args.budget c.args.tally.accounts.items c.requires.some (c.requires.tally.spent_of c.if-spent.true)
+pub returns-then-spent-clause-solved : goal.returns-then-spent-clause-solved
+returns-then-spent-clause-solved g c = all_spent c.args.q.now c.args.budget c.args.tally.accounts.items c.requires.some (c.requires.tally.spent_of c.if-spent.true)

@@ -3,8 +3,10 @@ use Rattle.std.specs.Prelude.{All, IfSome, slice_index_or}
 use Rattle.std.specs.Vec.Iter.{into_iter_items}
 use Rattle.std.proofs.lemmas.List.Elements.{All-push}
 use Rattle.parallel_solve.specs.declared.running.Done.{Done}
+use Rattle.parallel_solve.specs.Concluding.{HasHeard}
 use Rattle.parallel_solve.specs.Gathering.{TookIn}
 use Rattle.parallel_solve.specs.Teaming.{HasRun, IsRefuter}
+use Rattle.parallel_solve.proofs.Concluding.{heard_push}
 use Rattle.parallel_solve.proofs.Gathering.{authors, rows_came}
 use Rattle.parallel_solve.proofs.Growth.{refuter_heard}
 use Rattle.parallel_solve.proofs.Runs.{at_place, one_there, nothing_left, pushed_map}
@@ -20,6 +22,7 @@ loop-one-init g c = record {
   logs = c.requires.no_logs;
   log_room = c.requires.log_room;
   refuter = tt;
+  heard = record { found = λ none k d lt. absurd (omega (arith, lt)); refuter = λ k d lt. absurd (omega (arith, lt)); unspent = λ e. cc };
   of = c.requires.of;
   honest = c.rows-rows.ensures.honest;
   made = c.requires.made;
@@ -55,10 +58,12 @@ loop-one-preserved g c =
       log_room = omega (arith, c.take_one.ensures.log_room, before.log_room);
       refuter = subst (λ (o : Option ℕ). IfSome o (IsRefuter refutes (at.yielded ++ one ∷ []))) (sym c.take_one.ensures.refuted)
           (refuter_heard refutes at.yielded one at.tally.refuted one.worker.number one.outcome number ran.refutes_of before.refuter);
+      heard = heard_push (λ (d : Done g.row.L.Denot g.row.L-Told.Denot). d.outcome) at.yielded one at.tally c.take_one.new.tally one.worker.number number before.heard
+          c.take_one.ensures.map c.take_one.ensures.refuted c.take_one.ensures.spent;
       of = c.take_one.ensures.of;
       honest = c.take_one.ensures.honest;
       made = c.take_one.ensures.kept.made _ before.made;
-      taken = All-push (λ (d : Done g.row.L.Denot g.row.L-Told.Denot). TookIn d.worker.seat.view c.take_one.new.first.view) at.yielded one (λ k d k_in. c.take_one.ensures.kept.taken _ (before.taken k d k_in)) c.take_one.ensures.taken;
+      taken = All-push (λ (d : Done g.row.L.Denot g.row.L-Told.Denot). TookIn d.worker.seat c.take_one.new.first) at.yielded one (λ k d k_in. c.take_one.ensures.kept.taken _ (before.taken k d k_in)) c.take_one.ensures.taken;
     }
 
 pub returns-clause-count : goal.returns-clause-count
@@ -79,15 +84,21 @@ returns-clause-refuter g c =
     let all : c.loop-one.yielded ≡ c.args.done.items = sym (append-nil c.loop-one.yielded) ∙ (ap (λ (ds : List (Done g.row.L.Denot g.row.L-Told.Denot)). c.loop-one.yielded ++ ds) (sym none) ∙ c.loop-one.invariant.whole) in
     subst (λ (ds : List (Done g.row.L.Denot g.row.L-Told.Denot)). IfSome c.loop-one.tally.refuted (IsRefuter (λ (d : Done g.row.L.Denot g.row.L-Told.Denot). g.L.ProofLogger.refutes d.worker.log c.args.q.now d.worker.facts.seen) ds)) all c.loop-one.invariant.refuter
 
+pub returns-clause-heard : goal.returns-clause-heard
+returns-clause-heard g c =
+    let none : into_iter_items c.loop-one.one-iterator ≡ [] = nothing_left _ (sym c.in-None.ensures.steps.0 ∙ c.loop-one.invariant.left) in
+    let all : c.loop-one.yielded ≡ c.args.done.items = sym (append-nil c.loop-one.yielded) ∙ (ap (λ (ds : List (Done g.row.L.Denot g.row.L-Told.Denot)). c.loop-one.yielded ++ ds) (sym none) ∙ c.loop-one.invariant.whole) in
+    subst (λ (ds : List (Done g.row.L.Denot g.row.L-Told.Denot)). HasHeard (λ (d : Done g.row.L.Denot g.row.L-Told.Denot). d.outcome) ds c.loop-one.tally) all c.loop-one.invariant.heard
+
 pub returns-clause-grown : goal.returns-clause-grown
 returns-clause-grown g c =
     let none : into_iter_items c.loop-one.one-iterator ≡ [] = nothing_left _ (sym c.in-None.ensures.steps.0 ∙ c.loop-one.invariant.left) in
     let all : c.loop-one.yielded ≡ c.args.done.items = sym (append-nil c.loop-one.yielded) ∙ (ap (λ (ds : List (Done g.row.L.Denot g.row.L-Told.Denot)). c.loop-one.yielded ++ ds) (sym none) ∙ c.loop-one.invariant.whole) in
-    let taken = subst (All (λ (d : Done g.row.L.Denot g.row.L-Told.Denot). TookIn d.worker.seat.view c.loop-one.first.view)) all c.loop-one.invariant.taken in
+    let taken = subst (All (λ (d : Done g.row.L.Denot g.row.L-Told.Denot). TookIn d.worker.seat c.loop-one.first)) all c.loop-one.invariant.taken in
     λ k d k_in.
     let ran = c.requires.ran k d k_in in
     let worker = (slice_index_or c.args.done.items k d).worker in
-    rows_came worker.problem worker.number worker.facts worker.seat c.loop-one.first ran.seat_for ran.facts_are c.loop-one.invariant.honest (taken k d k_in)
+    rows_came worker.problem worker c.loop-one.first ran.seat_for ran.facts_are c.loop-one.invariant.honest (taken k d k_in)
 
 pub returns-clause-authors : goal.returns-clause-authors
 returns-clause-authors g c = authors (length c.args.done.items) c.loop-one.first c.loop-one.invariant.honest c.loop-one.invariant.made

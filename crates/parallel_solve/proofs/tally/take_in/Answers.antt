@@ -11,7 +11,7 @@ returns-clause-first c =
     }
 
 pub returns-clause-taken : goal.returns-clause-taken
-returns-clause-taken c = took_in c.args.first.now c.args.seat c.gather.new.into.view c.requires.told c.rows-rows.ensures.honest c.gather.ensures.gathered
+returns-clause-taken c = took_in c.args.first.now c.args.seat c.gather.new.into c.requires.told c.rows-rows.ensures.honest c.gather.ensures.gathered
 
 pub returns-clause-kept : goal.returns-clause-kept
-returns-clause-kept c = keeps c.args.first.now c.args.seat.view c.gather.new.into.view c.requires.told c.gather.ensures.gathered
+returns-clause-kept c = keeps c.args.first.now c.gather.new.into c.args.seat.view c.requires.told c.gather.ensures.same.own c.gather.ensures.gathered

@@ -22,4 +22,4 @@ pub returns-clause-logs : goal.returns-clause-logs
 returns-clause-logs g c = c.push_reserved.ensures.items ∙ ap (λ (l : g.row.L.Denot). c.args.logs.now.items ++ l ∷ []) c.into_parts-account.ensures.log
 
 pub returns-clause-taken : goal.returns-clause-taken
-returns-clause-taken g c = subst (λ (s : SeatName). TookIn s.view c.take_in.new.first.view) c.into_parts-account.ensures.seat c.take_in.ensures.taken
+returns-clause-taken g c = subst (λ (s : SeatName). TookIn s c.take_in.new.first) c.into_parts-account.ensures.seat c.take_in.ensures.taken

@@ -11,6 +11,6 @@ invariant-loop-worker g l = record {
   numbers : AreOfOwners (λ w. w.number) l.jobs.items;
   count : length l.jobs.items ≡ l.worker;
   of : IsSeatOf l.book l.first;
-  made : HasMade (l.worker + 1) l.first.view;
+  made : HasMade (l.worker + 1) l.first;
   unseen : l.first.view.seen ≡ [];
 }
