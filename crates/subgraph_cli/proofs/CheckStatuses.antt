@@ -217,6 +217,14 @@ untold_says NoMemory (NotAccepted line cause) m text e l out says held told = ab
 untold_says (Refused role fault) (Accepted claim) m text e l out says held told = absurd told
 untold_says (Refused role fault) (NotAccepted line cause) m text e l out says held told = absurd told
 
+-- Telling a claim stops for the output alone.
+pub claim_cause : (s : Stop) (checked : Checked) (out : Stream) (blame : Disk → Type 0) (d : Disk) → ToldSays (Err s) checked out → HasCause s blame d
+claim_cause OutputFault checked out blame d told = tt
+claim_cause NoMemory checked out blame d told = tt
+claim_cause (Refused role fault) checked out blame d told = tt
+claim_cause FilesFault (Accepted claim) out blame d told = absurd told
+claim_cause FilesFault (NotAccepted line cause) out blame d told = absurd told
+
 -- ---- the verdict of a log
 
 is_claim : (claim : Claim) → IsClaim (verdict_of_claim claim)

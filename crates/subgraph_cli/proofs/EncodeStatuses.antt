@@ -11,7 +11,7 @@ use Rattle.subgraph_cli.specs.Disk.{Disk}
 use Rattle.subgraph_cli.specs.Streams.{Stream, IsAsBefore, Tells}
 use Rattle.subgraph_cli.specs.Outcomes.{outcome}
 use Rattle.subgraph_cli.specs.Questions.{Asks, IsFirstRefused}
-use Rattle.subgraph_cli.specs.Stops.{SparesInParts, TellsStop, IsOfFiles}
+use Rattle.subgraph_cli.specs.Stops.{HasCause, SparesInParts, TellsStop, IsOfFiles}
 use Rattle.subgraph_cli.specs.Solving.{IsOrStops}
 use Rattle.subgraph_cli.specs.Encoded.{IsEncoded, StopsInEncoding, WritingSays, EncodeSays, EncodeStatus, encode_status}
 use Rattle.subgraph_cli.specs.declared.stop.Role.{Role}
@@ -26,6 +26,14 @@ loading_spares_parts FilesFault out of_files kept = kept
 loading_spares_parts OutputFault out of_files kept = absurd of_files
 loading_spares_parts (Refused role fault) out of_files kept = kept
 loading_spares_parts NoMemory out of_files kept = tt
+
+-- Writing the encoding stops for no file.
+pub writing_cause : (r : Result Unit Stop) (q : Problem) (out : Stream) (blame : Disk → Type 0) (d : Disk) → WritingSays r q out → IfErr r (λ (s : Stop). HasCause s blame d)
+writing_cause (Ok done) q out blame d says = tt
+writing_cause (Err OutputFault) q out blame d says = tt
+writing_cause (Err NoMemory) q out blame d says = tt
+writing_cause (Err FilesFault) q out blame d says = absurd says
+writing_cause (Err (Refused role fault)) q out blame d says = absurd says
 
 -- What writing the encoding of the problem that the files ask says is what an encode says.
 pub writing_says : (r : Result Unit Stop) (q : Problem) (w : EncodeWords) (p t : Option (List ℕ)) (out : Stream)

@@ -12,5 +12,6 @@ pub mod TrimLeaving
 pub mod DemoStatuses
 pub mod Ends
 pub mod Passing
+pub mod Leaving
 pub mod Complete
 pub mod Runs

@@ -1,9 +1,8 @@
 -- The logs of answers.
 
-use Rattle.std.specs.Prelude.{◌≡◌, ℕ, true, List, [], ◌∷◌, Option, Some, None, is_some, IsTrue, IfSome, refl}
+use Rattle.std.specs.Prelude.{◌≡◌, ℕ, true, List, [], ◌∷◌, Option, Some, is_some, refl}
 use Rattle.std.proofs.Common.{subst, ap, sym}
 use Rattle.graph_theory.specs.Embedding.{Problem}
-use Rattle.graph_theory.specs.declared.lad_text.LadKind.{LadKind}
 use Rattle.log_theory.specs.declared.profile.Profile.{Profile}
 use Rattle.log_theory.specs.declared.step.Step.{Step}
 use Rattle.log_theory.specs.declared.step.Verdict.TheVariants.{Satisfiable}

@@ -1,7 +1,7 @@
 -- What leaving a trimmed log says of a trim.
 
-use Rattle.std.specs.Prelude.{◌≡◌, ℕ, ◌⊎◌, List, Option, Result, Ok, Err, IsTrue}
-use Rattle.std.proofs.Common.{inl, inr}
+use Rattle.std.specs.Prelude.{ℕ, List, Option, Result, Ok, Err, IfErr, IsTrue}
+use Rattle.std.proofs.Common.{inr}
 use Rattle.log_theory.specs.OpbText.{OpbModel}
 use Rattle.log_theory.specs.TextLaws.{AnswerLaws}
 use Rattle.log_theory.specs.Acceptance.{Accepts}
@@ -13,7 +13,7 @@ use Rattle.subgraph_cli.specs.Disk.{Disk}
 use Rattle.subgraph_cli.specs.Streams.{Stream, Got}
 use Rattle.subgraph_cli.specs.Stops.{HasCause}
 use Rattle.subgraph_cli.specs.Checking.{Holds}
-use Rattle.subgraph_cli.specs.Trimming.{IsTrimmedLog, IsKept, IsCut, IsWritingOf, IsFaultOfTrim, TrimSays, LeftSays, kept_text}
+use Rattle.subgraph_cli.specs.Trimming.{IsTrimmedLog, IsKept, IsWritingOf, IsFaultOfTrim, TrimSays, CountSays, LeftSays, kept_text}
 use Rattle.subgraph_cli.specs.declared.stop.Stop.{Stop}
 use Rattle.subgraph_cli.specs.declared.stop.Stop.TheVariants.{Refused, FilesFault, OutputFault, NoMemory}
 
@@ -53,6 +53,14 @@ left_cause FilesFault w text kept made d out trimmed says cause = record {
 left_cause OutputFault w text kept made d out trimmed says cause = tt
 left_cause (Refused role fault) w text kept made d out trimmed says cause = tt
 left_cause NoMemory w text kept made d out trimmed says cause = tt
+
+-- Telling how much is kept stops for the output alone.
+pub count_cause : (r : Result Unit Stop) (kept made : ℕ) (out : Stream) (blame : Disk → Type 0) (d : Disk) → CountSays r kept made out → IfErr r (λ (s : Stop). HasCause s blame d)
+count_cause (Ok done) kept made out blame d says = tt
+count_cause (Err OutputFault) kept made out blame d says = tt
+count_cause (Err FilesFault) kept made out blame d says = absurd says
+count_cause (Err NoMemory) kept made out blame d says = tt
+count_cause (Err (Refused role fault)) kept made out blame d says = tt
 
 -- Where it is left, the third file holds it, and how much it keeps was written.
 pub left_whole : (w : TrimWords) (e l : Option (List ℕ)) (text : List ℕ) (kept made : ℕ) (d : Disk) (out : Stream)

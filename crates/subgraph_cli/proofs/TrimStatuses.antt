@@ -1,7 +1,7 @@
 -- What the status of a trim says, by the cases of its end.
 
 use Rattle.std.specs.Prelude.{◌≡◌, ℕ, ◌⊎◌, List, Option, Result, Ok, Err, IfErr, refl}
-use Rattle.std.proofs.Common.{sym, subst, ap, ◌∙◌, inl, inr, arith}
+use Rattle.std.proofs.Common.{sym, subst, ◌∙◌, inl, inr, arith}
 use Rattle.log_theory.specs.OpbText.{OpbModel}
 use Rattle.log_theory.specs.declared.step.Cause.{Cause}
 use Rattle.log_theory.specs.declared.step.Verdict.{Verdict}

@@ -1,12 +1,18 @@
 -- What a `demo` answers.
 
-use Rattle.std.specs.Prelude.{◌≡◌, ℕ, ◌≤◌, ◌⊎◌, Bool, true, false, ◌&&◌, List, [], ◌++◌, Result, Ok, Err, codes}
+use Rattle.std.specs.Prelude.{◌≡◌, ◌≢◌, ℕ, ◌≤◌, ◌⊎◌, Bool, true, false, ◌&&◌, List, [], ◌++◌, length, Result, Ok, Err, codes}
 use Rattle.graph_theory.specs.Graph.{size}
 use Rattle.graph_theory.specs.Embedding.{Problem}
 use Rattle.encoding_theory.specs.Variables.{variables}
 use Rattle.encoding_theory.specs.Encoding.{encoding}
+use Rattle.log_theory.specs.declared.profile.Profile.TheVariants.{Hinted}
+use Rattle.log_theory.specs.declared.step.Verdict.{Verdict}
 use Rattle.log_theory.specs.declared.step.Verdict.TheVariants.{Unsatisfiable}
+use Rattle.log_theory.specs.Verdicts.{verdict_of}
 use Rattle.log_theory.specs.Acceptance.{Accepts}
+use Rattle.merged_log.specs.Profiles.{in_profile}
+use Rattle.merged_log.specs.Steps.{log_text, refutation}
+use Rattle.proof_collection.specs.declared.proof.Logged.{Logged}
 use Rattle.search_theory.specs.Bounds.{enough}
 use Rattle.search_theory.specs.Account.{Account}
 use Rattle.parallel_solve.specs.Solving.{AreSpent}
@@ -49,9 +55,24 @@ ShowsOne (Ok false) description w old new = (more : List Account) × IsSpentOn d
     × (new ≡ old ++ more)
 ShowsOne (Err stop) description w old new = Unit {0}
 
--- A log is accepted over the encoding of the problem as a refutation.
+-- The text of a log of these parts, with its hints, over the encoding of the problem.
+abbrev pub refuted_log : Problem → Logged → List ℕ
+refuted_log q parts = in_profile Hinted (log_text (refutation (length (encoding q))
+    parts.journals.items parts.rows.items parts.finisher))
+
+-- What is told of a verdict: whether it is that no solution exists.
+abbrev pub TellsRefuted : Bool → Verdict → Type 0
+TellsRefuted true v = v ≡ Unsatisfiable
+TellsRefuted false v = v ≢ Unsatisfiable
+
+-- The verdict on this text, over the encoding of the problem, is that no solution exists: the text is a log that is accepted.
+pub record IsRefutedBy (q : Problem) (log : List ℕ) : Type 0 where
+  pub verdict : verdict_of (variables q) (encoding q) log ≡ Unsatisfiable
+  pub accepts : Accepts (variables q) (encoding q) log Unsatisfiable
+
+-- There is such a log.
 abbrev pub HasRefutation : Problem → Type 0
-HasRefutation q = (log : List ℕ) × Accepts (variables q) (encoding q) log Unsatisfiable
+HasRefutation q = (log : List ℕ) × IsRefutedBy q log
 
 -- Where the cycle was decided, its problem has such a log.
 abbrev pub IsLogged : Bool → DemoWords → Type 0

@@ -3,6 +3,7 @@ pub mod Disk
 pub mod Streams
 pub mod Outcomes
 pub mod Stops
+pub mod Leaving
 pub mod Questions
 pub mod Proving
 pub mod Solving

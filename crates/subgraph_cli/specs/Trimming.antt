@@ -1,6 +1,6 @@
 -- What a `trim` answers.
 
-use Rattle.std.specs.Prelude.{◌≡◌, ℕ, ◌≤◌, ◌^◌, ◌⊎◌, IsTrue, List, length, ◌++◌, ◌∷◌, [], Bool, Option, Some, Result, Ok, Err, codes}
+use Rattle.std.specs.Prelude.{◌≡◌, ℕ, ◌⊎◌, IsTrue, List, ◌++◌, ◌∷◌, [], Option, Some, Result, Ok, Err, codes}
 use Rattle.std.specs.Fmt.{decimal}
 use Rattle.log_theory.specs.OpbText.{OpbModel}
 use Rattle.log_theory.specs.declared.step.Cause.{Cause}
@@ -8,7 +8,6 @@ use Rattle.log_theory.specs.declared.step.Verdict.{Verdict}
 use Rattle.log_theory.specs.declared.step.Verdict.TheVariants as verdict
 use Rattle.log_theory.specs.Verdicts.{verdict_of, IsClaim}
 use Rattle.log_theory.specs.Acceptance.{Accepts}
-use Rattle.outer_io.specs.Faults.{Use}
 use Rattle.outer_io.specs.declared.fault.Purpose.TheVariants.{Writing}
 use Rattle.proof_files.specs.OneFile.{IsCutShort}
 use Rattle.proof_trim.specs.Trimmed.{IsTrimmed}
@@ -18,7 +17,7 @@ use Rattle.subgraph_cli.specs.Lines.{log_text, refusal_text, stop_text, stop_sta
 use Rattle.subgraph_cli.specs.Streams.{Stream, IsAsBefore, Got, GotFront, Tells}
 use Rattle.subgraph_cli.specs.Outcomes.{Outcome}
 use Rattle.subgraph_cli.specs.Solving.{IsOrStops}
-use Rattle.subgraph_cli.specs.Checking.{HoldsModel, HoldsLog, HoldsNoLog, Holds, IsFirstOfCheck, IsRefusedLog, verdict_of_claim}
+use Rattle.subgraph_cli.specs.Checking.{HoldsModel, HoldsNoLog, Holds, IsFirstOfCheck, IsRefusedLog, verdict_of_claim}
 use Rattle.subgraph_cli.specs.declared.stop.Role.{Role}
 use Rattle.subgraph_cli.specs.declared.stop.Role.TheVariants.{Log}
 use Rattle.subgraph_cli.specs.declared.stop.TextFault.{TextFault}

@@ -5,9 +5,10 @@ ghost use Rattle.encoding_theory.specs.Variables.{variables};
 ghost use Rattle.encoding_theory.specs.Encoding.{encoding as encoding_of};
 ghost use Rattle.log_theory.specs.declared.step.Verdict.TheVariants.{Unsatisfiable};
 ghost use Rattle.log_theory.specs.Acceptance.{Accepts};
+ghost use Rattle.log_theory.specs.Verdicts.{verdict_of};
 ghost use Rattle.pb_encoding.specs.Model.{model_of};
 ghost use Rattle.proof_collection.specs.Proofs.{IsProof};
-ghost use Rattle.subgraph_cli.specs.Demonstrating.{HasRefutation};
+ghost use Rattle.subgraph_cli.specs.Demonstrating.{IsRefutedBy, TellsRefuted, refuted_log};
 
 use crate::stop::Stop;
 use graph_rows::problem::Problem;
@@ -57,38 +58,36 @@ fn log_of(
 ) -> Result<TextBuffer, Failed>
     requires same { encoding.now ≡ q.now }
     requires proof { IsProof q.now parts.now }
-    ensures { IfOk result (λ log.
-        Accepts (variables q.now) (encoding_of q.now) log.bytes Unsatisfiable) }
+    ensures text { IfOk result (λ log. log.bytes ≡ refuted_log q.now parts.now) }
+    ensures accepted { Accepts (variables q.now) (encoding_of q.now)
+        (refuted_log q.now parts.now) Unsatisfiable }
 {
     let mut log = TextBuffer::new(alloc);
     write_refuted(Profile::Hinted, q, encoding, parts, &mut log)?;
     Ok(log)
 }
 
-/// Checks a log that is accepted, as anyone could: no other answer can come.
-fn check_log(alloc: Global, q: &Problem, model: &Model, log: &[u8]) -> Result<(), Stop>
-    requires model { model.now ≡ model_of q.now }
-    requires log { Accepts (variables q.now) (encoding_of q.now) log.now Unsatisfiable }
-    ensures accepted { OnOk result (HasRefutation q.now) }
+/// Whether a log refutes its model, as the checker finds. Nothing is known of the log before.
+fn is_refuted(alloc: Global, model: &Model, log: &[u8]) -> Result<bool, Stop>
+    ensures told { IfOk result (λ refuted. TellsRefuted refuted
+        (verdict_of model.now.variables model.now.constraints log.now)) }
     ensures memory { IfErr result (λ stop. stop ≡ Stop.NoMemory) }
 {
-    answer_laws();
     match check(alloc, model, log) {
-        Verdict::Unsatisfiable => Ok(()),
+        Verdict::Unsatisfiable => Ok(true),
         Verdict::NoMemory => Err(Stop::NoMemory),
-        Verdict::Satisfiable => unreachable!(),
-        Verdict::Undecided => unreachable!(),
-        Verdict::Refused { .. } => unreachable!(),
+        Verdict::Satisfiable | Verdict::Undecided | Verdict::Refused { .. } => Ok(false),
     }
 }
 
-/// Writes the log of a refutation to memory, and checks it over the encoding of the problem. The memory taken is that of the log, of the
-/// encoding and of what the log makes.
+/// Writes the log of a refutation to memory, and checks it over the encoding of the problem, as anyone could: no answer but
+/// that it refutes can come. The memory taken is that of the log, of the encoding and of what the log makes.
 pub(crate) fn accept(alloc: Global, q: &Problem, parts: &Logged) -> Result<(), Stop>
     requires { IsProof q.now parts.now }
-    ensures accepted { OnOk result (HasRefutation q.now) }
+    ensures accepted { OnOk result (IsRefutedBy q.now (refuted_log q.now parts.now)) }
     ensures memory { IfErr result (λ stop. stop ≡ Stop.NoMemory) }
 {
+    answer_laws();
     let Ok(encoding) = Encoding::new(alloc, q) else {
         return Err(Stop::NoMemory);
     };
@@ -98,5 +97,9 @@ pub(crate) fn accept(alloc: Global, q: &Problem, parts: &Logged) -> Result<(), S
     let Ok(log) = log_of(alloc, q, &encoding, parts) else {
         return Err(Stop::NoMemory);
     };
-    check_log(alloc, q, &model, log.as_slice())
+    match is_refuted(alloc, &model, log.as_slice()) {
+        Ok(true) => Ok(()),
+        Ok(false) => unreachable!(),
+        Err(_) => Err(Stop::NoMemory),
+    }
 }

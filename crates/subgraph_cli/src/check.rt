@@ -1,11 +1,12 @@
 //! The command `check`. It knows nothing of graphs: a model, a log, and the verdict of one over the other.
 
-ghost use Rattle.std.specs.Prelude.{◌≡◌, ◌⊎◌, IsTrue, IfErr, IsErrOf};
+ghost use Rattle.std.specs.Prelude.{◌≡◌, IsTrue, IfErr};
 ghost use Rattle.subgraph_cli.specs.Accepted.{ProofsAreAccepted};
-ghost use Rattle.subgraph_cli.specs.Disk.{disk, IsReadingOf, KeepsFiles};
+ghost use Rattle.subgraph_cli.specs.Disk.{IsReadingOf};
 ghost use Rattle.subgraph_cli.specs.Checking.{CheckSays, ModelSays, JudgedSays, TellsVerdict, ToldSays, KeepsWhenRefused, IsFaultOfCheck, claim_text};
-ghost use Rattle.subgraph_cli.specs.Stops.{HasCause, IsOfFiles, SparesOutput};
-ghost use Rattle.subgraph_cli.specs.Streams.{stream, IsSameSink};
+ghost use Rattle.subgraph_cli.specs.Stops.{IsOfFiles, SparesOutput};
+ghost use Rattle.subgraph_cli.specs.Streams.{stream};
+ghost use Rattle.subgraph_cli.specs.Leaving.{OnlyReads, OnlyPrints};
 
 use crate::stop::{Role, Stop, TextFault};
 use command_line::{CheckWords, FileName};
@@ -57,10 +58,8 @@ pub(crate) fn load_model<F: Files>(
 ) -> Result<Model, Stop>
     ensures says { IsTrue (F.tells files.old) → ModelSays result (F.content files.old name.now) }
     ensures loading { IfErr result IsOfFiles }
-    ensures cause { IfErr result (λ stop. HasCause stop (IsReadingOf name.now)
-        (disk F.tells F.content F.faults F.fault_at files.old files.new)) }
-    ensures quiet { IsErrOf result Stop.FilesFault ⊎ (F.faults files.new ≡ F.faults files.old) }
-    ensures files { KeepsFiles F.tells F.content F.faults files.old files.new }
+    ensures files { OnlyReads F.tells F.content F.faults F.fault_at (IsReadingOf name.now) result
+        files.old files.new }
 {
     let bytes = match load(alloc, files, name.as_str(), PROOF_LIMIT) {
         Ok(bytes) => bytes,
@@ -106,10 +105,8 @@ fn judge<F: Files>(
     ensures says { IsTrue (F.tells files.old)
         → JudgedSays result model.now (F.content files.old name.now) }
     ensures loading { IfErr result IsOfFiles }
-    ensures cause { IfErr result (λ stop. HasCause stop (IsReadingOf name.now)
-        (disk F.tells F.content F.faults F.fault_at files.old files.new)) }
-    ensures quiet { IsErrOf result Stop.FilesFault ⊎ (F.faults files.new ≡ F.faults files.old) }
-    ensures files { KeepsFiles F.tells F.content F.faults files.old files.new }
+    ensures files { OnlyReads F.tells F.content F.faults F.fault_at (IsReadingOf name.now) result
+        files.old files.new }
 {
     log_laws();
     answer_laws();
@@ -134,10 +131,8 @@ fn claim_line(claim: Claim) -> &'static [u8]
 /// Writes what an accepted log claims.
 fn tell_claim<O: Sink>(checked: Checked, out: &mut O) -> Result<(), Stop>
     ensures says { ToldSays result checked (stream O.spot O.contents O.faults out.old out.new) }
-    ensures spares { IfErr result (λ stop. SparesOutput stop
-        (stream O.spot O.contents O.faults out.old out.new)) }
-    ensures quiet { IsErrOf result Stop.OutputFault ⊎ (O.faults out.new ≡ O.faults out.old) }
-    ensures sink { IsSameSink O.spot O.rest O.faults out.old out.new }
+    ensures output { OnlyPrints O.spot O.contents O.rest O.faults SparesOutput result
+        out.old out.new }
 {
     match checked {
         Checked::NotAccepted { .. } => Ok(()),
@@ -160,15 +155,11 @@ pub fn check<F: Files, O: Sink>(
     ensures says { IsTrue (F.tells files.old)
         → CheckSays result (F.content files.old words.now.encoding)
         (F.content files.old words.now.log) (stream O.spot O.contents O.faults out.old out.new) }
-    ensures cause { IfErr result (λ stop. HasCause stop (IsFaultOfCheck words.now)
-        (disk F.tells F.content F.faults F.fault_at files.old files.new)) }
-    ensures spares { IfErr result (λ stop. SparesOutput stop
-        (stream O.spot O.contents O.faults out.old out.new)) }
     ensures refused { KeepsWhenRefused result (stream O.spot O.contents O.faults out.old out.new) }
-    ensures quiet { IsErrOf result Stop.FilesFault ⊎ (F.faults files.new ≡ F.faults files.old) }
-    ensures quiet_output { IsErrOf result Stop.OutputFault ⊎ (O.faults out.new ≡ O.faults out.old) }
-    ensures files { KeepsFiles F.tells F.content F.faults files.old files.new }
-    ensures sink { IsSameSink O.spot O.rest O.faults out.old out.new }
+    ensures files { OnlyReads F.tells F.content F.faults F.fault_at (IsFaultOfCheck words.now)
+        result files.old files.new }
+    ensures output { OnlyPrints O.spot O.contents O.rest O.faults SparesOutput result
+        out.old out.new }
 {
     let model = load_model(alloc, files, &words.encoding)?;
     let checked = judge(alloc, &model, files, &words.log)?;

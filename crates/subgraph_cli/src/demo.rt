@@ -1,11 +1,12 @@
 //! The command `demo`.
 
-ghost use Rattle.std.specs.Prelude.{◌≡◌, ◌++◌, ◌⊎◌, false, [], IfOk, IfErr, IsErrOf};
+ghost use Rattle.std.specs.Prelude.{◌≡◌, ◌++◌, false, [], IfOk, IfErr};
 ghost use Rattle.command_line.specs.CommandLine.{IsDemoInRange};
 ghost use Rattle.demo_instances.specs.SeedProblems.{IsPlanted, IsCycle};
 ghost use Rattle.subgraph_cli.specs.Demonstrating.{ShowsOne, IsLogged, DemoSays, shown_text};
 ghost use Rattle.subgraph_cli.specs.Stops.{SparesOutput};
-ghost use Rattle.subgraph_cli.specs.Streams.{stream, IsSameSink};
+ghost use Rattle.subgraph_cli.specs.Streams.{stream};
+ghost use Rattle.subgraph_cli.specs.Leaving.{OnlyPrints};
 
 use crate::accepting::accept;
 use crate::kept::keep;
@@ -185,10 +186,8 @@ pub fn demo<R: Threads + Sync, O: Sink>(
     requires empty { spent.old.items ≡ [] }
     ensures says { DemoSays result asked.now spent.new.items
         (stream O.spot O.contents O.faults out.old out.new) }
-    ensures spares { IfErr result (λ stop. SparesOutput stop
-        (stream O.spot O.contents O.faults out.old out.new)) }
-    ensures quiet { IsErrOf result Stop.OutputFault ⊎ (O.faults out.new ≡ O.faults out.old) }
-    ensures sink { IsSameSink O.spot O.rest O.faults out.old out.new }
+    ensures output { OnlyPrints O.spot O.contents O.rest O.faults SparesOutput result
+        out.old out.new }
 {
     let Ok(words) = Words::new(alloc, asked.seed) else {
         return Err(Stop::NoMemory);

@@ -1,11 +1,11 @@
 //! The command `encode`.
 
-ghost use Rattle.std.specs.Prelude.{◌≡◌, ◌⊎◌, IsTrue, IfErr, IsErrOf};
-ghost use Rattle.subgraph_cli.specs.Disk.{disk, KeepsFiles};
+ghost use Rattle.std.specs.Prelude.{IsTrue};
 ghost use Rattle.subgraph_cli.specs.Encoded.{EncodeSays, WritingSays};
 ghost use Rattle.subgraph_cli.specs.Questions.{IsFaultOfTwo};
-ghost use Rattle.subgraph_cli.specs.Stops.{HasCause, SparesInParts};
-ghost use Rattle.subgraph_cli.specs.Streams.{stream, IsSameSink};
+ghost use Rattle.subgraph_cli.specs.Stops.{SparesInParts};
+ghost use Rattle.subgraph_cli.specs.Streams.{stream};
+ghost use Rattle.subgraph_cli.specs.Leaving.{OnlyReads, OnlyPrints};
 
 use crate::question::load_problem;
 use crate::stop::Stop;
@@ -20,10 +20,8 @@ use std::alloc::Global;
 /// Writes the encoding of a problem, a line at a time.
 fn write_encoding<O: Sink>(alloc: Global, q: &Problem, out: &mut O) -> Result<(), Stop>
     ensures says { WritingSays result q.now (stream O.spot O.contents O.faults out.old out.new) }
-    ensures spares { IfErr result (λ stop. SparesInParts stop
-        (stream O.spot O.contents O.faults out.old out.new)) }
-    ensures quiet { IsErrOf result Stop.OutputFault ⊎ (O.faults out.new ≡ O.faults out.old) }
-    ensures sink { IsSameSink O.spot O.rest O.faults out.old out.new }
+    ensures output { OnlyPrints O.spot O.contents O.rest O.faults SparesInParts result
+        out.old out.new }
 {
     let Ok(encoding) = Encoding::new(alloc, q) else {
         return Err(Stop::NoMemory);
@@ -46,15 +44,10 @@ pub fn encode<F: Files, O: Sink>(
     ensures says { IsTrue (F.tells files.old)
         → EncodeSays result words.now (F.content files.old words.now.pattern)
         (F.content files.old words.now.target) (stream O.spot O.contents O.faults out.old out.new) }
-    ensures cause { IfErr result (λ stop. HasCause stop
-        (IsFaultOfTwo words.now.pattern words.now.target words.now.ask)
-        (disk F.tells F.content F.faults F.fault_at files.old files.new)) }
-    ensures spares { IfErr result (λ stop. SparesInParts stop
-        (stream O.spot O.contents O.faults out.old out.new)) }
-    ensures quiet { IsErrOf result Stop.FilesFault ⊎ (F.faults files.new ≡ F.faults files.old) }
-    ensures quiet_output { IsErrOf result Stop.OutputFault ⊎ (O.faults out.new ≡ O.faults out.old) }
-    ensures files { KeepsFiles F.tells F.content F.faults files.old files.new }
-    ensures sink { IsSameSink O.spot O.rest O.faults out.old out.new }
+    ensures files { OnlyReads F.tells F.content F.faults F.fault_at (IsFaultOfTwo words.now.pattern
+        words.now.target words.now.ask) result files.old files.new }
+    ensures output { OnlyPrints O.spot O.contents O.rest O.faults SparesInParts result
+        out.old out.new }
 {
     let EncodeWords {
         pattern,

@@ -1,12 +1,12 @@
 //! One text written to a file.
 
-ghost use Rattle.std.specs.Prelude.{◌≡◌, ◌≤◌, ◌⊎◌, false, length, IsTrue, OnOk, OnErr, IfErr, IsErrOf, Some};
+ghost use Rattle.std.specs.Prelude.{◌≡◌, ◌≤◌, false, length, IsTrue, OnOk, OnErr, IfErr, Some};
 ghost use Rattle.outer_io.specs.KnownText.{Wrote};
 ghost use Rattle.proof_files.specs.OneFile.{IsCutShort, FailsAt, KeepsAllBut};
 ghost use Rattle.subgraph_cli.specs.Disk.{disk};
-ghost use Rattle.subgraph_cli.specs.Stops.{HasCause};
 ghost use Rattle.subgraph_cli.specs.Deciding.{IsOfWriting};
 ghost use Rattle.subgraph_cli.specs.Trimming.{OutSays, IsWritingOf};
+ghost use Rattle.subgraph_cli.specs.Leaving.{OnlyWrites};
 
 use crate::stop::Stop;
 use outer_io::fault::Failed;
@@ -68,10 +68,8 @@ pub(crate) fn leave_text<F: Files>(
     ensures says { IsTrue (F.tells files.old) → OutSays result name.now text.now
         (disk F.tells F.content F.faults F.fault_at files.old files.new) }
     ensures writing { IfErr result IsOfWriting }
-    ensures cause { IfErr result (λ stop. HasCause stop (IsWritingOf name.now)
-        (disk F.tells F.content F.faults F.fault_at files.old files.new)) }
-    ensures quiet { IsErrOf result Stop.FilesFault ⊎ (F.faults files.new ≡ F.faults files.old) }
-    ensures files { KeepsAllBut F.tells F.content F.faults name.now files.old files.new }
+    ensures files { OnlyWrites F.tells F.content F.faults F.fault_at (λ file. file ≡ name.now)
+        (IsWritingOf name.now) result files.old files.new }
 {
     let Ok(mut room) = PieceRoom::new(alloc) else {
         return Err(Stop::NoMemory);

@@ -1,12 +1,12 @@
 //! The files that show an answer of `solve`.
 
-ghost use Rattle.std.specs.Prelude.{◌≡◌, ◌⊎◌, true, is_some, IsTrue, IfErr, IsErrOf};
+ghost use Rattle.std.specs.Prelude.{true, is_some, IsTrue, IfErr};
 ghost use Rattle.command_line.specs.CommandLine.{IsSolveInRange};
 ghost use Rattle.proof_files.specs.Findings.{IsFound};
 ghost use Rattle.subgraph_cli.specs.Deciding.{IsRight, IsFindingOf, LeavingSays, IsOfWriting};
-ghost use Rattle.subgraph_cli.specs.Disk.{disk, KeepsAllBut};
+ghost use Rattle.subgraph_cli.specs.Disk.{disk};
 ghost use Rattle.subgraph_cli.specs.Proving.{IsOfProof, IsWritingOfProof};
-ghost use Rattle.subgraph_cli.specs.Stops.{HasCause};
+ghost use Rattle.subgraph_cli.specs.Leaving.{OnlyWrites};
 
 use crate::deciding::Answer;
 use crate::stop::Stop;
@@ -46,11 +46,8 @@ pub(crate) fn leave_proof<F: Files>(
         → LeavingSays result answer.now q.now words.now.prove
         (disk F.tells F.content F.faults F.fault_at files.old files.new) }
     ensures writing { IfErr result IsOfWriting }
-    ensures cause { IfErr result (λ stop. HasCause stop (IsWritingOfProof words.now.prove)
-        (disk F.tells F.content F.faults F.fault_at files.old files.new)) }
-    ensures quiet { IsErrOf result Stop.FilesFault ⊎ (F.faults files.new ≡ F.faults files.old) }
-    ensures files { KeepsAllBut F.tells F.content F.faults (IsOfProof words.now.prove)
-        files.old files.new }
+    ensures files { OnlyWrites F.tells F.content F.faults F.fault_at (IsOfProof words.now.prove)
+        (IsWritingOfProof words.now.prove) result files.old files.new }
 {
     let Some(names) = &words.prove else {
         return Ok(());

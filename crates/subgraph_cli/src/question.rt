@@ -1,10 +1,11 @@
 //! The problem that the files ask.
 
-ghost use Rattle.std.specs.Prelude.{◌≡◌, ◌≤◌, ◌⊎◌, [], length, IsTrue, IfOk, IfErr, IsErrOf};
+ghost use Rattle.std.specs.Prelude.{◌≡◌, ◌≤◌, [], length, IsTrue, IfOk, IfErr};
 ghost use Rattle.graph_theory.specs.Graph.{size};
-ghost use Rattle.subgraph_cli.specs.Disk.{disk, IsReadingOf, KeepsFiles};
+ghost use Rattle.subgraph_cli.specs.Disk.{IsReadingOf};
 ghost use Rattle.subgraph_cli.specs.Questions.{AskSays, RoleSays, PairsSay, HaveVertices, IsFaultOfTwo, stop_of_graph, problem_of as asked_of};
-ghost use Rattle.subgraph_cli.specs.Stops.{HasCause, IsOfFiles};
+ghost use Rattle.subgraph_cli.specs.Stops.{IsOfFiles};
+ghost use Rattle.subgraph_cli.specs.Leaving.{OnlyReads};
 
 use crate::stop::{Role, Stop, TextFault};
 use command_line::{AskWords, FileName};
@@ -52,10 +53,8 @@ fn graph_of<F: Files>(
         → RoleSays result role (F.content files.old name.now) ask.now.format most }
     ensures few { IfOk result (λ g. size g ≤ most) }
     ensures loading { IfErr result IsOfFiles }
-    ensures cause { IfErr result (λ stop. HasCause stop (IsReadingOf name.now)
-        (disk F.tells F.content F.faults F.fault_at files.old files.new)) }
-    ensures quiet { IsErrOf result Stop.FilesFault ⊎ (F.faults files.new ≡ F.faults files.old) }
-    ensures files { KeepsFiles F.tells F.content F.faults files.old files.new }
+    ensures files { OnlyReads F.tells F.content F.faults F.fault_at (IsReadingOf name.now) result
+        files.old files.new }
 {
     match load_graph(alloc, files, name.as_str(), ask.format(), most) {
         Ok(graph) => Ok(graph),
@@ -140,11 +139,8 @@ pub fn load_problem<F: Files>(
         → AskSays result (F.content files.old pattern.now)
         (F.content files.old target.now) ask.now }
     ensures loading { IfErr result IsOfFiles }
-    ensures cause { IfErr result (λ stop. HasCause stop
-        (IsFaultOfTwo pattern.now target.now ask.now)
-        (disk F.tells F.content F.faults F.fault_at files.old files.new)) }
-    ensures quiet { IsErrOf result Stop.FilesFault ⊎ (F.faults files.new ≡ F.faults files.old) }
-    ensures files { KeepsFiles F.tells F.content F.faults files.old files.new }
+    ensures files { OnlyReads F.tells F.content F.faults F.fault_at (IsFaultOfTwo pattern.now
+        target.now ask.now) result files.old files.new }
 {
     let pattern = graph_of(alloc, files, pattern, ask, Role::Pattern, PATTERN_LIMIT)?;
     let pairs = asked_pairs(alloc, &pattern, ask)?;

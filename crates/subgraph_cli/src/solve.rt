@@ -1,14 +1,15 @@
 //! The command `solve`.
 
-ghost use Rattle.std.specs.Prelude.{◌≡◌, ◌⊎◌, [], IsTrue, IfErr, IsErrOf};
+ghost use Rattle.std.specs.Prelude.{◌≡◌, [], IsTrue};
 ghost use Rattle.command_line.specs.CommandLine.{IsSolveInRange};
-ghost use Rattle.subgraph_cli.specs.Disk.{disk, KeepsAllBut};
+ghost use Rattle.subgraph_cli.specs.Disk.{disk};
 ghost use Rattle.subgraph_cli.specs.Deciding.{TellingSays};
 ghost use Rattle.subgraph_cli.specs.Proving.{IsOfProof, IsFaultOfSolve};
 ghost use Rattle.subgraph_cli.specs.Questions.{Asks};
 ghost use Rattle.subgraph_cli.specs.Solving.{SolveSays, OneVerdict};
-ghost use Rattle.subgraph_cli.specs.Stops.{HasCause, SparesOutput};
-ghost use Rattle.subgraph_cli.specs.Streams.{stream, IsSameSink};
+ghost use Rattle.subgraph_cli.specs.Stops.{SparesOutput};
+ghost use Rattle.subgraph_cli.specs.Streams.{stream};
+ghost use Rattle.subgraph_cli.specs.Leaving.{OnlyWrites, OnlyPrints};
 
 use crate::deciding::{Answer, decide};
 use crate::proving::leave_proof;
@@ -38,10 +39,8 @@ pub enum Decision {
 fn tell<O: Sink>(answer: &Answer, out: &mut O) -> Result<Decision, Stop>
     ensures says { TellingSays result answer.now
         (stream O.spot O.contents O.faults out.old out.new) }
-    ensures spares { IfErr result (λ stop. SparesOutput stop
-        (stream O.spot O.contents O.faults out.old out.new)) }
-    ensures quiet { IsErrOf result Stop.OutputFault ⊎ (O.faults out.new ≡ O.faults out.old) }
-    ensures sink { IsSameSink O.spot O.rest O.faults out.old out.new }
+    ensures output { OnlyPrints O.spot O.contents O.rest O.faults SparesOutput result
+        out.old out.new }
 {
     let (written, decision) = match answer {
         Answer::Yes(map) => (write_mapping(map, out), Decision::Yes),
@@ -69,15 +68,10 @@ fn solve_problem<R: Threads + Sync, F: Files, O: Sink>(
     requires asks { IsTrue (F.tells files.old)
         → Asks (F.content files.old words.now.pattern) (F.content files.old words.now.target)
         words.now.ask q.now }
-    ensures cause { IfErr result (λ stop. HasCause stop (IsFaultOfSolve words.now)
-        (disk F.tells F.content F.faults F.fault_at files.old files.new)) }
-    ensures spares { IfErr result (λ stop. SparesOutput stop
-        (stream O.spot O.contents O.faults out.old out.new)) }
-    ensures quiet { IsErrOf result Stop.FilesFault ⊎ (F.faults files.new ≡ F.faults files.old) }
-    ensures quiet_output { IsErrOf result Stop.OutputFault ⊎ (O.faults out.new ≡ O.faults out.old) }
-    ensures files { KeepsAllBut F.tells F.content F.faults (IsOfProof words.now.prove)
-        files.old files.new }
-    ensures sink { IsSameSink O.spot O.rest O.faults out.old out.new }
+    ensures files { OnlyWrites F.tells F.content F.faults F.fault_at (IsOfProof words.now.prove)
+        (IsFaultOfSolve words.now) result files.old files.new }
+    ensures output { OnlyPrints O.spot O.contents O.rest O.faults SparesOutput result
+        out.old out.new }
     ensures says { IsTrue (F.tells files.old)
         → SolveSays result words.now (F.content files.old words.now.pattern)
         (F.content files.old words.now.target) spent.new.items
@@ -106,15 +100,10 @@ pub fn solve<R: Threads + Sync, F: Files, O: Sink>(
         (F.content files.old words.now.target) spent.new.items
         (disk F.tells F.content F.faults F.fault_at files.old files.new)
         (stream O.spot O.contents O.faults out.old out.new) }
-    ensures cause { IfErr result (λ stop. HasCause stop (IsFaultOfSolve words.now)
-        (disk F.tells F.content F.faults F.fault_at files.old files.new)) }
-    ensures spares { IfErr result (λ stop. SparesOutput stop
-        (stream O.spot O.contents O.faults out.old out.new)) }
-    ensures quiet { IsErrOf result Stop.FilesFault ⊎ (F.faults files.new ≡ F.faults files.old) }
-    ensures quiet_output { IsErrOf result Stop.OutputFault ⊎ (O.faults out.new ≡ O.faults out.old) }
-    ensures files { KeepsAllBut F.tells F.content F.faults (IsOfProof words.now.prove)
-        files.old files.new }
-    ensures sink { IsSameSink O.spot O.rest O.faults out.old out.new }
+    ensures files { OnlyWrites F.tells F.content F.faults F.fault_at (IsOfProof words.now.prove)
+        (IsFaultOfSolve words.now) result files.old files.new }
+    ensures output { OnlyPrints O.spot O.contents O.rest O.faults SparesOutput result
+        out.old out.new }
 {
     let SolveWords {
         pattern,

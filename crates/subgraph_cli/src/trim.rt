@@ -1,13 +1,14 @@
 //! The command `trim`. It knows nothing of graphs: a model, a log, and the trimmed log.
 
-ghost use Rattle.std.specs.Prelude.{◌≡◌, ◌⊎◌, IsTrue, IfErr, IfOk, IsErrOf};
+ghost use Rattle.std.specs.Prelude.{◌≡◌, IsTrue, IfErr, IfOk};
 ghost use Rattle.outer_io.specs.KnownText.{Wrote};
 ghost use Rattle.outer_io.specs.Sinks.{HasBlame};
-ghost use Rattle.subgraph_cli.specs.Disk.{disk, IsReadingOf, KeepsFiles, KeepsAllBut};
-ghost use Rattle.subgraph_cli.specs.Stops.{HasCause, IsOfFiles, SparesOutput};
-ghost use Rattle.subgraph_cli.specs.Streams.{stream, IsSameSink};
+ghost use Rattle.subgraph_cli.specs.Disk.{disk, IsReadingOf};
+ghost use Rattle.subgraph_cli.specs.Stops.{IsOfFiles, SparesOutput};
+ghost use Rattle.subgraph_cli.specs.Streams.{stream};
 ghost use Rattle.subgraph_cli.specs.Checking.{Holds, HoldsLog};
 ghost use Rattle.subgraph_cli.specs.Trimming.{kept_text, NoLog, NotBoth, IsReadingOfTwo, IsWritingOf, IsFaultOfTrim, TrimSays, KeepsWhenShort, CountSays, LeftSays};
+ghost use Rattle.subgraph_cli.specs.Leaving.{OnlyReads, OnlyWrites, OnlyPrints};
 
 use crate::check::{PROOF_LIMIT, load_model, refused};
 use crate::out_file::leave_text;
@@ -40,10 +41,8 @@ fn load_log<F: Files>(alloc: Global, files: &mut F, name: &FileName) -> Result<V
     ensures refused { IfErr result (λ stop. IsTrue (F.tells files.old)
         → NoLog stop (F.content files.old name.now)) }
     ensures loading { IfErr result IsOfFiles }
-    ensures cause { IfErr result (λ stop. HasCause stop (IsReadingOf name.now)
-        (disk F.tells F.content F.faults F.fault_at files.old files.new)) }
-    ensures quiet { IsErrOf result Stop.FilesFault ⊎ (F.faults files.new ≡ F.faults files.old) }
-    ensures files { KeepsFiles F.tells F.content F.faults files.old files.new }
+    ensures files { OnlyReads F.tells F.content F.faults F.fault_at (IsReadingOf name.now) result
+        files.old files.new }
 {
     match load(alloc, files, name.as_str(), PROOF_LIMIT) {
         Ok(bytes) => Ok(bytes),
@@ -66,10 +65,8 @@ fn load_both<F: Files>(
         → NotBoth stop (F.content files.old words.now.encoding)
         (F.content files.old words.now.log)) }
     ensures loading { IfErr result IsOfFiles }
-    ensures cause { IfErr result (λ stop. HasCause stop (IsReadingOfTwo words.now)
-        (disk F.tells F.content F.faults F.fault_at files.old files.new)) }
-    ensures quiet { IsErrOf result Stop.FilesFault ⊎ (F.faults files.new ≡ F.faults files.old) }
-    ensures files { KeepsFiles F.tells F.content F.faults files.old files.new }
+    ensures files { OnlyReads F.tells F.content F.faults F.fault_at (IsReadingOfTwo words.now)
+        result files.old files.new }
 {
     let model = load_model(alloc, files, &words.encoding)?;
     let log = load_log(alloc, files, &words.log)?;
@@ -93,10 +90,8 @@ fn put_kept<O: Sink>(kept: u64, made: u64, out: &mut O) -> Result<(), Failed>
 fn tell_kept<O: Sink>(kept: u64, made: u64, out: &mut O) -> Result<(), Stop>
     ensures says { CountSays result kept made
         (stream O.spot O.contents O.faults out.old out.new) }
-    ensures spares { IfErr result (λ stop. SparesOutput stop
-        (stream O.spot O.contents O.faults out.old out.new)) }
-    ensures quiet { IsErrOf result Stop.OutputFault ⊎ (O.faults out.new ≡ O.faults out.old) }
-    ensures sink { IsSameSink O.spot O.rest O.faults out.old out.new }
+    ensures output { OnlyPrints O.spot O.contents O.rest O.faults SparesOutput result
+        out.old out.new }
 {
     match put_kept(kept, made, out) {
         Ok(()) => Ok(()),
@@ -115,15 +110,10 @@ fn leave<F: Files, O: Sink>(
     ensures says { IsTrue (F.tells files.old) → LeftSays result words.now kept.now.text.bytes
         kept.now.kept kept.now.made (disk F.tells F.content F.faults F.fault_at files.old files.new)
         (stream O.spot O.contents O.faults out.old out.new) }
-    ensures cause { IfErr result (λ stop. HasCause stop (IsWritingOf words.now.out)
-        (disk F.tells F.content F.faults F.fault_at files.old files.new)) }
-    ensures spares { IfErr result (λ stop. SparesOutput stop
-        (stream O.spot O.contents O.faults out.old out.new)) }
-    ensures quiet { IsErrOf result Stop.FilesFault ⊎ (F.faults files.new ≡ F.faults files.old) }
-    ensures quiet_output { IsErrOf result Stop.OutputFault ⊎ (O.faults out.new ≡ O.faults out.old) }
-    ensures files { KeepsAllBut F.tells F.content F.faults (λ file. file ≡ words.now.out)
-        files.old files.new }
-    ensures sink { IsSameSink O.spot O.rest O.faults out.old out.new }
+    ensures files { OnlyWrites F.tells F.content F.faults F.fault_at (λ file. file ≡ words.now.out)
+        (IsWritingOf words.now.out) result files.old files.new }
+    ensures output { OnlyPrints O.spot O.contents O.rest O.faults SparesOutput result
+        out.old out.new }
 {
     leave_text(alloc, kept.text.as_slice(), words.out.as_str(), files)?;
     tell_kept(kept.kept as u64, kept.made as u64, out)
@@ -144,16 +134,11 @@ pub fn trim<F: Files, O: Sink>(
         (F.content files.old words.now.log)
         (disk F.tells F.content F.faults F.fault_at files.old files.new)
         (stream O.spot O.contents O.faults out.old out.new) }
-    ensures cause { IfErr result (λ stop. HasCause stop (IsFaultOfTrim words.now)
-        (disk F.tells F.content F.faults F.fault_at files.old files.new)) }
-    ensures spares { IfErr result (λ stop. SparesOutput stop
-        (stream O.spot O.contents O.faults out.old out.new)) }
     ensures refused { KeepsWhenShort result (stream O.spot O.contents O.faults out.old out.new) }
-    ensures quiet { IsErrOf result Stop.FilesFault ⊎ (F.faults files.new ≡ F.faults files.old) }
-    ensures quiet_output { IsErrOf result Stop.OutputFault ⊎ (O.faults out.new ≡ O.faults out.old) }
-    ensures files { KeepsAllBut F.tells F.content F.faults (λ file. file ≡ words.now.out)
-        files.old files.new }
-    ensures sink { IsSameSink O.spot O.rest O.faults out.old out.new }
+    ensures files { OnlyWrites F.tells F.content F.faults F.fault_at (λ file. file ≡ words.now.out)
+        (IsFaultOfTrim words.now) result files.old files.new }
+    ensures output { OnlyPrints O.spot O.contents O.rest O.faults SparesOutput result
+        out.old out.new }
 {
     answer_laws();
     let (model, log) = load_both(alloc, words, files)?;

@@ -1,10 +1,11 @@
 //! The command `verify`.
 
-ghost use Rattle.std.specs.Prelude.{◌≡◌, ◌⊎◌, IsTrue, IfErr, IsErrOf};
-ghost use Rattle.subgraph_cli.specs.Disk.{disk, IsReadingOf, KeepsFiles};
+ghost use Rattle.std.specs.Prelude.{◌≡◌, IsTrue, IfErr};
+ghost use Rattle.subgraph_cli.specs.Disk.{IsReadingOf};
 ghost use Rattle.subgraph_cli.specs.Verifying.{VerifySays, MappingSays, IsFaultOfThree, KeepsWhenBad};
-ghost use Rattle.subgraph_cli.specs.Stops.{HasCause, IsOfFiles, SparesOutput};
-ghost use Rattle.subgraph_cli.specs.Streams.{stream, IsSameSink};
+ghost use Rattle.subgraph_cli.specs.Stops.{IsOfFiles, SparesOutput};
+ghost use Rattle.subgraph_cli.specs.Streams.{stream};
+ghost use Rattle.subgraph_cli.specs.Leaving.{OnlyReads, OnlyPrints};
 
 use crate::question::load_problem;
 use crate::stop::{Role, Stop, TextFault};
@@ -41,10 +42,8 @@ fn refused(fault: TextFault) -> Stop
 fn load_map<F: Files>(alloc: Global, files: &mut F, name: &FileName) -> Result<Vec<u32>, Stop>
     ensures says { IsTrue (F.tells files.old) → MappingSays result (F.content files.old name.now) }
     ensures loading { IfErr result IsOfFiles }
-    ensures cause { IfErr result (λ stop. HasCause stop (IsReadingOf name.now)
-        (disk F.tells F.content F.faults F.fault_at files.old files.new)) }
-    ensures quiet { IsErrOf result Stop.FilesFault ⊎ (F.faults files.new ≡ F.faults files.old) }
-    ensures files { KeepsFiles F.tells F.content F.faults files.old files.new }
+    ensures files { OnlyReads F.tells F.content F.faults F.fault_at (IsReadingOf name.now) result
+        files.old files.new }
 {
     let bytes = match load(alloc, files, name.as_str(), FILE_LIMIT) {
         Ok(bytes) => bytes,
@@ -71,15 +70,11 @@ pub fn verify<F: Files, O: Sink>(
         → VerifySays result words.now (F.content files.old words.now.pattern)
         (F.content files.old words.now.target) (F.content files.old words.now.mapping)
         (stream O.spot O.contents O.faults out.old out.new) }
-    ensures cause { IfErr result (λ stop. HasCause stop (IsFaultOfThree words.now)
-        (disk F.tells F.content F.faults F.fault_at files.old files.new)) }
-    ensures spares { IfErr result (λ stop. SparesOutput stop
-        (stream O.spot O.contents O.faults out.old out.new)) }
     ensures bad { KeepsWhenBad result (stream O.spot O.contents O.faults out.old out.new) }
-    ensures quiet { IsErrOf result Stop.FilesFault ⊎ (F.faults files.new ≡ F.faults files.old) }
-    ensures quiet_output { IsErrOf result Stop.OutputFault ⊎ (O.faults out.new ≡ O.faults out.old) }
-    ensures files { KeepsFiles F.tells F.content F.faults files.old files.new }
-    ensures sink { IsSameSink O.spot O.rest O.faults out.old out.new }
+    ensures files { OnlyReads F.tells F.content F.faults F.fault_at (IsFaultOfThree words.now)
+        result files.old files.new }
+    ensures output { OnlyPrints O.spot O.contents O.rest O.faults SparesOutput result
+        out.old out.new }
 {
     let VerifyWords {
         pattern,

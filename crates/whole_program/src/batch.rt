@@ -1,11 +1,11 @@
 //! The command `batch`.
 
-ghost use Rattle.std.specs.Prelude.{◌≡◌, ◌⊎◌, [], IsTrue, IfErr, IsErrOf};
+ghost use Rattle.std.specs.Prelude.{◌≡◌, [], IsTrue};
 ghost use Rattle.command_line.specs.Batch.{IsBatchInRange};
-ghost use Rattle.whole_program.specs.Batches.{is_decided, are_decided, batched_of, batch_status, BatchSays, IsFaultOfBatch, DecidesAsAlone, TellingBatch};
-ghost use Rattle.subgraph_cli.specs.Disk.{disk, KeepsFiles};
-ghost use Rattle.subgraph_cli.specs.Stops.{HasCause, SparesOutput, TellsStop};
+ghost use Rattle.whole_program.specs.Batches.{is_decided, are_decided, batch_status, BatchSays, IsFaultOfBatch, DecidesAsAlone, TellingBatch};
+ghost use Rattle.subgraph_cli.specs.Stops.{SparesOutput, TellsStop};
 ghost use Rattle.subgraph_cli.specs.Streams.{stream, IsSameSink};
+ghost use Rattle.subgraph_cli.specs.Leaving.{OnlyReads, OnlyPrints};
 
 use crate::deciding::decide_all;
 use crate::jobs::load_jobs;
@@ -53,10 +53,8 @@ fn are_decided(verdicts: &[JobVerdict]) -> bool
 fn tell<O: Sink>(verdicts: &[JobVerdict], out: &mut O) -> Result<Batched, Stop>
     ensures says { TellingBatch result verdicts.now
         (stream O.spot O.contents O.faults out.old out.new) }
-    ensures spares { IfErr result (λ stop. SparesOutput stop
-        (stream O.spot O.contents O.faults out.old out.new)) }
-    ensures quiet { IsErrOf result Stop.OutputFault ⊎ (O.faults out.new ≡ O.faults out.old) }
-    ensures sink { IsSameSink O.spot O.rest O.faults out.old out.new }
+    ensures output { OnlyPrints O.spot O.contents O.rest O.faults SparesOutput result
+        out.old out.new }
 {
     let batched = if are_decided(verdicts) {
         Batched::AllDecided
@@ -85,14 +83,10 @@ pub fn batch<R: Threads + Wait + Sync, F: Files, O: Sink>(
     ensures says { IsTrue (F.tells files.old)
         → BatchSays result words.now (F.content files.old) spent.new.items
         (stream O.spot O.contents O.faults out.old out.new) }
-    ensures cause { IfErr result (λ stop. HasCause stop (IsFaultOfBatch words.now)
-        (disk F.tells F.content F.faults F.fault_at files.old files.new)) }
-    ensures spares { IfErr result (λ stop. SparesOutput stop
-        (stream O.spot O.contents O.faults out.old out.new)) }
-    ensures quiet { IsErrOf result Stop.FilesFault ⊎ (F.faults files.new ≡ F.faults files.old) }
-    ensures quiet_output { IsErrOf result Stop.OutputFault ⊎ (O.faults out.new ≡ O.faults out.old) }
-    ensures files { KeepsFiles F.tells F.content F.faults files.old files.new }
-    ensures sink { IsSameSink O.spot O.rest O.faults out.old out.new }
+    ensures files { OnlyReads F.tells F.content F.faults F.fault_at (IsFaultOfBatch words.now)
+        result files.old files.new }
+    ensures output { OnlyPrints O.spot O.contents O.rest O.faults SparesOutput result
+        out.old out.new }
 {
     let jobs = match load_list(alloc, files, &words.list) {
         Ok(jobs) => jobs,

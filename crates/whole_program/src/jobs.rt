@@ -1,11 +1,11 @@
 //! The problems of the jobs of a batch.
 
-ghost use Rattle.std.specs.Prelude.{◌≡◌, ◌≤◌, ◌+◌, ◌⊎◌, IsTrue, IfOk, IfErr, IsErrOf, length, map, string_bytes};
+ghost use Rattle.std.specs.Prelude.{◌≡◌, ◌≤◌, ◌+◌, IsTrue, IfOk, IfErr, length, map, string_bytes};
 ghost use Rattle.job_list.specs.Jobs.{text_of};
-ghost use Rattle.subgraph_cli.specs.Disk.{disk, KeepsFiles};
 ghost use Rattle.whole_program.specs.Jobs.{JobSays, JobsSay, HasNames, AreJobs, IsFaultOfJobs, job_ask, stop_of_job};
 ghost use Rattle.subgraph_cli.specs.Questions.{IsFaultOfTwo};
-ghost use Rattle.subgraph_cli.specs.Stops.{HasCause, IsOfFiles};
+ghost use Rattle.subgraph_cli.specs.Stops.{IsOfFiles};
+ghost use Rattle.subgraph_cli.specs.Leaving.{OnlyReads};
 
 use command_line::{AskWords, FileName};
 use graph_rows::problem::Problem;
@@ -62,12 +62,9 @@ fn load_job<F: Files>(
     ensures says { IsTrue (F.tells files.old)
         → JobSays result number (text_of job.now) (F.content files.old) kind }
     ensures loading { IfErr result IsOfFiles }
-    ensures cause { IfErr result (λ stop. HasCause stop
-        (IsFaultOfTwo (string_bytes job.now.pattern) (string_bytes job.now.target)
-        (job_ask kind (text_of job.now)))
-        (disk F.tells F.content F.faults F.fault_at files.old files.new)) }
-    ensures quiet { IsErrOf result Stop.FilesFault ⊎ (F.faults files.new ≡ F.faults files.old) }
-    ensures files { KeepsFiles F.tells F.content F.faults files.old files.new }
+    ensures files { OnlyReads F.tells F.content F.faults F.fault_at (IsFaultOfTwo (string_bytes
+        job.now.pattern) (string_bytes job.now.target) (job_ask kind (text_of job.now))) result
+        files.old files.new }
 {
     let pattern = file_named(&job.pattern);
     let target = file_named(&job.target);
@@ -90,10 +87,8 @@ pub(crate) fn load_jobs<F: Files>(
         → JobsSay result (map text_of jobs.now) (F.content files.old) kind }
     ensures few { IfOk result (λ v. length v.items ≤ 1000) }
     ensures loading { IfErr result IsOfFiles }
-    ensures cause { IfErr result (λ stop. HasCause stop (IsFaultOfJobs (map text_of jobs.now) kind)
-        (disk F.tells F.content F.faults F.fault_at files.old files.new)) }
-    ensures quiet { IsErrOf result Stop.FilesFault ⊎ (F.faults files.new ≡ F.faults files.old) }
-    ensures files { KeepsFiles F.tells F.content F.faults files.old files.new }
+    ensures files { OnlyReads F.tells F.content F.faults F.fault_at (IsFaultOfJobs (map text_of
+        jobs.now) kind) result files.old files.new }
 {
     let mut problems = Vec::new(alloc);
     for i in 0..jobs.len() {

@@ -1,10 +1,11 @@
 //! The list of the jobs of a batch.
 
-ghost use Rattle.std.specs.Prelude.{◌≡◌, ◌⊎◌, IsTrue, IfOk, IfErr, IsErrOf, map};
+ghost use Rattle.std.specs.Prelude.{◌≡◌, IsTrue, IfOk, IfErr, map};
 ghost use Rattle.job_list.specs.Jobs.{text_of};
-ghost use Rattle.subgraph_cli.specs.Disk.{disk, IsReadingOf, KeepsFiles};
+ghost use Rattle.subgraph_cli.specs.Disk.{IsReadingOf};
 ghost use Rattle.whole_program.specs.Jobs.{ListSays, AreJobs};
-ghost use Rattle.subgraph_cli.specs.Stops.{HasCause, IsOfFiles};
+ghost use Rattle.subgraph_cli.specs.Stops.{IsOfFiles};
+ghost use Rattle.subgraph_cli.specs.Leaving.{OnlyReads};
 
 use command_line::FileName;
 use job_list::{Job, ListFault, read_jobs};
@@ -36,10 +37,8 @@ pub(crate) fn load_list<F: Files>(
     ensures says { IsTrue (F.tells files.old) → ListSays result (F.content files.old name.now) }
     ensures jobs { IfOk result (λ jobs. AreJobs (map text_of jobs.items)) }
     ensures loading { IfErr result IsOfFiles }
-    ensures cause { IfErr result (λ stop. HasCause stop (IsReadingOf name.now)
-        (disk F.tells F.content F.faults F.fault_at files.old files.new)) }
-    ensures quiet { IsErrOf result Stop.FilesFault ⊎ (F.faults files.new ≡ F.faults files.old) }
-    ensures files { KeepsFiles F.tells F.content F.faults files.old files.new }
+    ensures files { OnlyReads F.tells F.content F.faults F.fault_at (IsReadingOf name.now) result
+        files.old files.new }
 {
     let bytes = match load(alloc, files, name.as_str(), LIST_LIMIT) {
         Ok(bytes) => bytes,

@@ -1,7 +1,7 @@
 -- What a verdict of the file says, as the program tells it.
 
 use Rattle.std.specs.Prelude.{ℕ, ◌^◌, List}
-use Rattle.std.proofs.Common.{subst}
+use Rattle.std.proofs.Common.{subst, rules}
 use Rattle.log_theory.specs.Verdicts.{verdict_of}
 use Rattle.proof_checker.specs.Filed.{FileSays}
 use Rattle.proof_checker.specs.declared.log_file.Checked.TheVariants.{Verdict as Judged}
@@ -19,7 +19,11 @@ returns-in-Verdict-clause-says g c tells =
 pub returns-in-Verdict-clause-loading : goal.returns-in-Verdict-clause-loading
 returns-in-Verdict-clause-loading g c = verdict_loads c.told.result c.in-Verdict.verdict c.told.ensures
 
-pub returns-in-Verdict-clause-cause : goal.returns-in-Verdict-clause-cause
-returns-in-Verdict-clause-cause g c =
-    verdict_causes c.told.result c.in-Verdict.verdict (IsReadingOf c.args.name.now)
-    (disk g.F.Files.tells g.F.Files.content g.F.Files.faults g.F.Files.fault_at c.args.files.now c.check_file.new.files) c.told.ensures
+pub returns-in-Verdict-clause-files : goal.returns-in-Verdict-clause-files
+returns-in-Verdict-clause-files g c =
+    record {
+      kept = search rules;
+      cause = verdict_causes c.told.result c.in-Verdict.verdict (IsReadingOf c.args.name.now)
+          (disk g.F.Files.tells g.F.Files.content g.F.Files.faults g.F.Files.fault_at c.args.files.now c.check_file.new.files) c.told.ensures;
+      quiet = search rules;
+    }

@@ -17,4 +17,4 @@ returns-in-Unknown-clause-shows g c =
     }
 
 pub returns-in-Ok-clause-logged : goal.returns-in-Ok-clause-logged
-returns-in-Ok-clause-logged g c = (c.args.q.now, c.requires.cycle, c.in-Ok.ensures.accepted)
+returns-in-Ok-clause-logged g c = (c.args.q.now, c.requires.cycle, (_, c.in-Ok.ensures.accepted))

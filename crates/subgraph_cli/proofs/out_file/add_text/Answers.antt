@@ -2,7 +2,7 @@
 use Rattle.std.proofs.Common.{rules, ◌≡◌, ◌∙◌, ap}
 use Rattle.std.proofs.lemmas.Result.{err_from_is_err_and}
 use Rattle.outer_io.specs.Sinks.{Spot}
-use Rattle.outer_io.proofs.HeldBytes.{stops_in_file, flushed}
+use Rattle.outer_io.proofs.HeldBytes.{stops_in_file}
 use Rattle.subgraph_cli.proofs.out_file.add_text.Goals as goal
 
 pub returns-in_err-put-clause-text : goal.returns-in_err-put-clause-text

@@ -5,5 +5,5 @@ use Rattle.subgraph_cli.proofs.program.run_verify.Goals as goal
 
 pub returns-clause-ran : goal.returns-clause-ran
 returns-clause-ran g c accounts =
-    verify_ran c.text_laws.ensures c.mapping_laws.ensures c.verify-ended.result _ accounts _ _ _ _ c.verify-ended.ensures.says c.verify-ended.ensures.cause
-    c.verify-ended.ensures.spares c.verify-ended.ensures.bad c.verify-ended.ensures.quiet c.verify-ended.ensures.quiet_output c.end_verify.ensures.line c.end_verify.ensures.status
+    verify_ran c.text_laws.ensures c.mapping_laws.ensures c.verify-ended.result _ accounts _ _ _ _ c.verify-ended.ensures.says c.verify-ended.ensures.files.cause
+    c.verify-ended.ensures.output.spares c.verify-ended.ensures.bad c.verify-ended.ensures.files.quiet c.verify-ended.ensures.output.quiet c.end_verify.ensures.line c.end_verify.ensures.status

@@ -1,8 +1,6 @@
 -- Named pairs of vertices that stand in the pattern are an order.
 
-use Rattle.std.proofs.Common.{◌≡◌, List, ℕ, sym, subst}
-use Rattle.graph_theory.specs.Graph.{Graph, size}
-use Rattle.graph_rows.specs.Orders.{IsOrder}
+use Rattle.std.proofs.Common.{List, ℕ, subst}
 use Rattle.command_line.specs.Pairs.{AreNamed}
 use Rattle.subgraph_cli.proofs.Asking.{order_of}
 use Rattle.subgraph_cli.proofs.question.problem_of.Goals as goal
