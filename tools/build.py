@@ -1,5 +1,6 @@
 #!/usr/bin/env python3
-"""Proves the crates below a program side by side, and then builds the program; `./subgraph` calls it.
+"""Proves the crates below a program or a static library side by side, and then builds it; `./subgraph` and `make lib`
+call it.
 
     tools/build.py [CRATE] [--at-once N] [--trial WORDS]
 
@@ -9,8 +10,8 @@ checkout at a time, each is proved in a copy of its own under out/, where the li
 those that are built already, and what came out of it is put into its own folder. The program itself is built last. A crate
 whose text and whose libraries have not changed since is left alone.
 
-The status is 0 where the program stands in crates/CRATE/out and is of today's sources. Else it is 1, the end of what `rt`
-said is on standard error, all of it in out/build, and there is no program.
+The status is 0 where the program, or libCRATE.a, stands in crates/CRATE/out and is of today's sources. Else it is 1, the
+end of what `rt` said is on standard error, all of it in out/build, and there is no program and no library.
 """
 from __future__ import annotations
 
@@ -52,6 +53,16 @@ def listed() -> List[str]:
 def name_in(line: str) -> str:
     """The crate that a line lists."""
     return line.partition(":")[0].split()[0]
+
+
+def is_static(name: str) -> bool:
+    """Is the crate a static library?"""
+    return any(it.partition(":")[0].split()[:2] == [name, "staticlib"] for it in listed())
+
+
+def made_by(name: str) -> Path:
+    """What is built of a program or a static library."""
+    return CRATES / name / "out" / (f"lib{name}.a" if is_static(name) else name)
 
 
 def dependencies() -> Dict[str, List[str]]:
@@ -202,13 +213,14 @@ class Build:
             raise Failed(f"{name}: `{' '.join(words)}` ended with status {status}:\n{tail(log)}")
 
     def _build_program(self) -> None:
-        """Builds the program and has it answer something, so that what stands there is what was built now."""
+        """Builds the program and has it answer something, so that what stands there is what was built now; or the library."""
+        words = ["rt", "lib"] if is_static(self.program) else ["rt", "run", "--", *self.trial]
         try:
-            self._call(self.program, CRATES / self.program, ["rt", "run", "--", *self.trial])
+            self._call(self.program, CRATES / self.program, words)
         except BaseException:
             self.stop()
             raise
-        if not os.access(CRATES / self.program / "out" / self.program, os.X_OK):
+        if not made_by(self.program).is_file():
             raise Failed(f"{self.program}: nothing was built:\n{tail(ROOM / f'{self.program}.log')}")
 
 
@@ -267,14 +279,14 @@ def main() -> int:
             Build(asked.crate, asked.at_once, asked.trial.split()).run()
             built = True
         except (Failed, OSError, subprocess.CalledProcessError) as error:
-            say(f"the program could not be built. {error}")
+            say(f"{asked.crate} could not be built. {error}")
             return 1
         except KeyboardInterrupt:
             say("interrupted; what is proved by now is kept")
             return 130
         finally:
             if not built:
-                (CRATES / asked.crate / "out" / asked.crate).unlink(missing_ok=True)
+                made_by(asked.crate).unlink(missing_ok=True)
     return 0
 
 

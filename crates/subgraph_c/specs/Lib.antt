@@ -1,0 +1,6 @@
+pub mod Asking
+pub mod Reports
+pub mod Deciding
+pub mod Verifying
+pub mod Checking
+pub mod Encoding
