@@ -12,6 +12,7 @@ program is proved. This package writes its questions and reads its answers, and 
 """
 from .errors import (
     Fault,
+    LibraryMissing,
     LogRefused,
     NotACommand,
     NotAvailable,
@@ -36,6 +37,7 @@ __all__ = [
     "Fault",
     "Graph",
     "GraphMatcher",
+    "LibraryMissing",
     "LogRefused",
     "NotACommand",
     "NotAvailable",

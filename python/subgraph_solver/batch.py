@@ -7,10 +7,11 @@ import tempfile
 from dataclasses import dataclass
 from typing import Any, Dict, Iterable, Iterator, List, Optional, Sequence, Tuple, Union
 
+from .asking import GREATEST_BUDGET, same_directions
 from .errors import SubgraphError, TextRefused, error_of
 from .graph import EdgeLabel, Graph, Name, NodeLabel, as_graph, lad_format, lad_text, label_numbering, labelled_alike
 from .program import find_program, run
-from .questions import GREATEST_BUDGET, StrPath, _options, same_directions
+from .questions import StrPath, _options
 
 #: The most questions of one run, and about the most bytes that its graphs take in the program: more are cut into several runs.
 MOST_JOBS = 1000
@@ -103,7 +104,8 @@ def batch(
     program : path, optional
         As `find` has it.
     book : int, optional
-        How many rows of refuted paths each search keeps, from 0 to 4,194,304; the default is 65,536.
+        For how many rows of refuted paths each search makes a book, from 0 to 4,194,304; the default is 65,536. It keeps
+        further rows behind them.
     format : str
         The format of all LAD files that are named: ``lad``, ``vertexlabelledlad``, ``directedlad`` or ``labelledlad``.
 

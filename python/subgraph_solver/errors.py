@@ -26,6 +26,10 @@ class ProgramMissing(SubgraphError):
     """The program is not there. The message says how to build it."""
 
 
+class LibraryMissing(SubgraphError):
+    """The variable ``SUBGRAPH_LIBRARY`` names a file that is not the library, or is of another version."""
+
+
 class NotAvailable(SubgraphError, NotImplementedError):
     """The program does not decide questions of this kind."""
 

@@ -29,12 +29,12 @@ def map_options(pattern: Graph, induced: bool, map: str, less: Iterable[Pair]) -
     words = ["--induced"] if induced else []
     if map != "injective":
         words += ["--map", map]
-    pairs = less_word(pattern, less)
+    pairs = ":".join(f"{a},{b}" for a, b in less_places(pattern, less))
     return words + (["--less", pairs] if pairs else [])
 
 
-def less_word(pattern: Graph, less: Iterable[Pair]) -> str:
-    """The pairs by their places, as the program reads them; an empty text if there are none."""
+def less_places(pattern: Graph, less: Iterable[Pair]) -> List[Tuple[int, int]]:
+    """The pairs by the places of their vertices in the pattern."""
     pairs = []
     for first, second in less:
         strange = [name for name in (first, second) if name not in pattern.number]
@@ -42,7 +42,7 @@ def less_word(pattern: Graph, less: Iterable[Pair]) -> str:
             raise ValueError(f"the pattern has no vertex {strange[0]!r}, which `less` names")
         if first == second:
             raise ValueError(f"a pair of `less` has the vertex {first!r} twice")
-        pairs.append(f"{pattern.number[first]},{pattern.number[second]}")
+        pairs.append((pattern.number[first], pattern.number[second]))
     if len(pairs) > MOST_PAIRS:
         raise ValueError(f"`less` has {len(pairs)} pairs, and at most {MOST_PAIRS} are allowed")
-    return ":".join(pairs)
+    return pairs

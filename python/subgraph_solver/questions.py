@@ -5,25 +5,24 @@ import os
 import re
 import shutil
 import tempfile
-from contextlib import contextmanager
 from dataclasses import dataclass
 from pathlib import Path
-from typing import Any, Callable, Dict, Iterable, Iterator, List, Literal, Mapping, Optional, Tuple, Union, overload
+from typing import Any, Callable, Dict, Iterable, List, Literal, Mapping, Optional, Tuple, Union, overload
 
+from .asking import GREATEST_BUDGET, question_of
 from .errors import SubgraphError, Undecided, error_of
-from .graph import EdgeLabel, Graph, Name, NodeLabel, as_graph, edge_label_numbers, label_numbers, lad_format, lad_text
-from .maps import Map, Pair, map_options
+from .graph import EdgeLabel, Name, NodeLabel
+from .library import GoesOn, find_by, find_library, verify_by
+from .maps import Map, Pair
 from .program import Progress, Teller, find_program, run
 
 StrPath = Union[str, "os.PathLike[str]"]
 #: Is progress told, and to which function?
 Told = Union[bool, Callable[[Progress], None]]
-#: The budget if none is named: the greatest that the program takes.
-GREATEST_BUDGET = (1 << 63) - 1
 #: The first slice of the budget when progress is told. Each later one is twice as large.
 FIRST_SLICE = 1 << 12
-#: The book of several threads if none is named. The program's own default is 65,536 rows; once they are full nothing more is
-#: learned, and several threads can then be slower than one.
+#: The book of several threads if none is named. The program's own default is 65,536 rows; once they are full each thread keeps
+#: its further rows for itself, and several do some of their work twice.
 LARGE_BOOK = 1 << 20
 
 
@@ -48,57 +47,9 @@ class Proof:
         return False
 
 
-class _Files:
-    """Two graphs as files of a folder, and the words that name them to the program, with those of the map that is asked for."""
-
-    def __init__(self, folder: str, pattern: Graph, target: Graph, asked: List[str]) -> None:
-        self.folder = folder
-        self.pattern = pattern
-        self.target = target
-        same_directions(pattern, target)
-        numbers, edge_numbers = label_numbers(pattern, target), edge_label_numbers(pattern, target)
-        self.format = lad_format(pattern.directed, numbers is not None, edge_numbers is not None)
-        paths = []
-        for name, graph in self._graphs():
-            paths.append(os.path.join(folder, f"{name}.lad"))
-            with open(paths[-1], "w", encoding="ascii", newline="\n") as file:
-                file.write(lad_text(graph, numbers, edge_numbers))
-        kind = [] if self.format == "lad" else ["--format", self.format]
-        self.words = [*asked, *kind, *paths]
-
-    def _graphs(self) -> Tuple[Tuple[str, Graph], ...]:
-        return ("pattern", self.pattern), ("target", self.target)
-
-
-def same_directions(pattern: Graph, target: Graph) -> None:
-    """Refuses two graphs of which one has directions."""
-    if pattern.directed != target.directed:
-        both = ("pattern", pattern), ("target", target)
-        kinds = [f"the {it} is {'' if graph.directed else 'un'}directed" for it, graph in both]
-        raise ValueError(f"{kinds[0]}, and {kinds[1]}: give both directions, or neither")
-
-
-@contextmanager
-def _files(
-    pattern: Any,
-    target: Any,
-    labels: Tuple[NodeLabel, EdgeLabel],
-    induced: bool,
-    map: Map,
-    less: Iterable[Pair],
-) -> Iterator[_Files]:
-    graphs = [as_graph(it, *labels) for it in (pattern, target)]
-    asked = map_options(graphs[0], induced, map, less)
-    with tempfile.TemporaryDirectory(prefix="subgraph-") as folder:
-        yield _Files(folder, graphs[0], graphs[1], asked)
-
-
-def _images(files: _Files, out: str) -> Dict[Name, Name]:
-    images: Dict[Name, Name] = {}
-    for line in out.splitlines()[1:]:
-        p, t = line.split(" -> ")
-        images[files.pattern.names[int(p)]] = files.target.names[int(t)]
-    return images
+def _images(out: Optional[str]) -> Optional[List[int]]:
+    """The images in the output of `solve`, in the order of the pattern's vertices; ``None`` if there is none."""
+    return None if out is None else [int(line.split(" -> ")[1]) for line in out.splitlines()[1:]]
 
 
 @overload
@@ -184,11 +135,12 @@ def find(
         that gets a `Progress`. The search is then run with budgets that double, from its beginning each time. This
         takes up to twice as long, and the answer is the same.
     program : path, optional
-        The program to ask; `find_program` says which one is the default.
+        The program to ask; `find_program` says which one is the default. If none is named, and neither several threads nor
+        a proof nor progress is asked for, the library is asked, where `find_library` finds it; with the same answer.
     book : int, optional
         How many rows of refuted paths the threads share, from 0 to 4,194,304. With more than one thread the default is
-        1,048,576, with one thread the program's own, 65,536. Name more rows for a long search: once they are full,
-        nothing more is learned. A row takes 24 bytes, and 16 more for each thread.
+        1,048,576, with one thread the program's own, 65,536. Name more rows for a long search by several threads:
+        once they are full each thread keeps its further rows for itself. A row takes 24 bytes, and 16 more for each thread.
     map : {"injective", "local", "any"}
         Which images have to differ: those of any two vertices; those of the neighbours of each vertex, while others may
         share an image; or none. An induced copy is ``"injective"``.
@@ -208,8 +160,16 @@ def find(
     SubgraphError
         Anything else; each status of the program has an exception of its own.
     """
+    question = question_of(pattern, target, (node_label, edge_label), induced, map, less)
+    by_program = program is not None or threads not in (None, 1) or prove is not False or bool(progress)
+    library = None if by_program else find_library()
+    if library is not None:
+        try:
+            return question.named(find_by(library, question, seed, budget, book))
+        except GoesOn:
+            pass
     asked = find_program(program)
-    with _files(pattern, target, (node_label, edge_label), induced, map, less) as files:
+    with question.files() as files:
         options = _options(seed=seed, threads=threads, book=_rows(book, threads))
         proof = _proof_paths(prove, files.folder)
         if proof is not None:
@@ -219,9 +179,9 @@ def find(
             answer = _in_slices(asked, words, budget, threads, progress)
         else:
             answer = _solve(asked, words, budget, threads)
-        if answer is not None:
-            return _images(files, answer)
-        return None if proof is None else _kept(asked, proof, prove)
+        if answer is not None or proof is None:
+            return question.named(_images(answer))
+        return _kept(asked, proof, prove)
 
 
 def _rows(book: Optional[int], threads: Optional[int]) -> Optional[int]:
@@ -319,19 +279,22 @@ def verify(
     ValueError
         The mapping names a vertex that the pattern or the target does not have.
     """
+    question = question_of(pattern, target, (node_label, edge_label), induced, map, less)
+    for names, graph, which in ((mapping, question.pattern, "pattern"), (mapping.values(), question.target, "target")):
+        strange = [name for name in names if name not in graph.number]
+        if strange:
+            raise ValueError(f"the {which} has no vertex {strange[0]!r}")
+    if len(mapping) < len(question.pattern):
+        return False
+    images = [question.target.number[mapping[name]] for name in question.pattern.names]
+    library = find_library() if program is None else None
+    if library is not None:
+        return verify_by(library, question, images)
     asked = find_program(program)
-    with _files(pattern, target, (node_label, edge_label), induced, map, less) as files:
-        for names, graph, which in ((mapping, files.pattern, "pattern"), (mapping.values(), files.target, "target")):
-            strange = [name for name in names if name not in graph.number]
-            if strange:
-                raise ValueError(f"the {which} has no vertex {strange[0]!r}")
-        if len(mapping) < len(files.pattern):
-            return False
+    with question.files() as files:
         path = os.path.join(files.folder, "mapping.txt")
         with open(path, "w", encoding="ascii", newline="\n") as file:
-            file.write("yes\n")
-            for p, name in enumerate(files.pattern.names):
-                file.write(f"{p} -> {files.target.number[mapping[name]]}\n")
+            file.write("yes\n" + "".join(f"{p} -> {t}\n" for p, t in enumerate(images)))
         words = ["verify", *files.words, path]
         status, out, line = run(asked, words)
     if status == 0 and out == "embedding\n":
@@ -368,7 +331,7 @@ def encode(
         the order of the graphs' names.
     """
     asked = find_program(program)
-    with _files(pattern, target, (node_label, edge_label), induced, map, less) as files:
+    with question_of(pattern, target, (node_label, edge_label), induced, map, less).files() as files:
         words = ["encode", *files.words]
         with open(path, "wb") as file:
             status, _, line = run(asked, words, out=file)

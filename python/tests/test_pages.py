@@ -30,12 +30,14 @@ class Pages(unittest.TestCase):
         self.assertEqual(doctest.testfile(README, module_relative=False).failed, 0)
 
     @needs("networkx")
-    def test_formats(self) -> None:
-        page = os.path.join(TOP, "docs", "FORMATS.md")
-        if not os.path.isfile(page):
-            self.skipTest("the package stands without its repository")
-        failed, tried = doctest.testfile(page, module_relative=False)
-        self.assertEqual((failed, tried > 0), (0, True))
+    def test_other_pages(self) -> None:
+        for name in ("FORMATS.md", "LIBRARY.md"):
+            page = os.path.join(TOP, "docs", name)
+            if not os.path.isfile(page):
+                self.skipTest("the package stands without its repository")
+            with self.subTest(name):
+                failed, tried = doctest.testfile(page, module_relative=False)
+                self.assertEqual((failed, tried > 0), (0, True))
 
 
 class Version(unittest.TestCase):
