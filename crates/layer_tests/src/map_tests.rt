@@ -1,14 +1,11 @@
 //! Whole searches for maps that need not be injective, and for images in order.
 
-ghost use Rattle.std.specs.Prelude.{◌≡◌, true, IfOk};
-ghost use Rattle.graph_rows.specs.Orders.{IsOrder};
-
 use crate::search_tests::{End, search_for};
 use graph_rows::Problem;
 use graph_theory::embedding::Maps;
 use std::alloc::{AllocError, Global};
 use std::test::Fail;
-use test_support::{EDGE, Example, FOUR_CYCLE, PATH, TRIANGLE, all_hold, graph};
+use test_support::{EDGE, Example, FOUR_CYCLE, PATH, TRIANGLE, all_hold, graph, order_of};
 
 const FIVE_CYCLE: &[u8] = b"5 2 1 4 2 0 2 2 1 3 2 2 4 2 3 0";
 
@@ -27,35 +24,6 @@ const FIVE_CLIQUE: &[u8] = b"5 4 1 2 3 4 4 0 2 3 4 4 0 1 3 4 4 0 1 2 4 4 0 1 2 3
 /// Eight vertices, each beside each other but those of its pair: four colours are enough, and three are not.
 const FOUR_PAIRS: &[u8] =
     b"8 6 2 3 4 5 6 7 6 2 3 4 5 6 7 6 0 1 4 5 6 7 6 0 1 4 5 6 7 6 0 1 2 3 6 7 6 0 1 2 3 6 7 6 0 1 2 3 4 5 6 0 1 2 3 4 5";
-
-/// Whether a problem of so many pattern vertices may ask that the images of these pairs be in order.
-fn is_order(pairs: &[(u16, u16)], vertices: u16) -> bool
-    ensures { result ≡ true → IsOrder vertices pairs.now }
-{
-    if pairs.len() > 64 {
-        return false;
-    }
-    for x in pairs {
-        if x.0 >= vertices || x.1 >= vertices || x.0 == x.1 {
-            return false;
-        }
-    }
-    true
-}
-
-/// Such pairs, in memory of their own.
-fn order_of(
-    alloc: Global,
-    pairs: &[(u16, u16)],
-    vertices: u16,
-) -> Result<Vec<(u16, u16)>, AllocError>
-    ensures { IfOk result (λ order. IsOrder vertices order.items) }
-{
-    if !is_order(pairs, vertices) {
-        return Err(AllocError);
-    }
-    Vec::from_slice(alloc, pairs)
-}
 
 /// A search: its pattern and target, which images have to differ, which pairs of vertices are to have theirs in order, and how the run ends.
 struct Mapped(

@@ -118,13 +118,21 @@ static ALONG: [Along; 9] = [
 ];
 
 /// Searches for five vertices that are beside each other.
-static LONG: [Searched; 3] = [
+static LONG: [Searched; 4] = [
     Searched(
         FIVE_CLIQUE,
         FOUR_PAIRS,
         false,
         200,
         4096,
+        End::Spent(200, true),
+    ),
+    Searched(
+        FIVE_CLIQUE,
+        FOUR_PAIRS,
+        false,
+        200,
+        0,
         End::Spent(200, true),
     ),
     Searched(FIVE_CLIQUE, FOUR_PAIRS, false, 100000, 4096, End::None),
@@ -270,6 +278,76 @@ fn a_budget_that_suffices_is_not_spent(rt: HostRuntime) {
 #[test]
 fn a_search_leaves_rows_and_goes_on_over_restarts(rt: HostRuntime) -> Result<(), Fail> {
     all_hold(&rt, rt.alloc(), &LONG)
+}
+
+/// How often a worker fails that refutes the problem by itself over a book of so many rows.
+fn fails_over<'a>(
+    alloc: Global,
+    q: &'a Problem,
+    kinds: &'a PairKinds<'a>,
+    domains: &Domains<WordTrail>,
+    rows: u16,
+) -> Result<Option<u64>, AllocError>
+    requires problem { kinds.now.problem ≡ q.now }
+    requires is_of { IsOf q.now domains.now }
+    requires rest { AtRest q.now [] domains.now }
+{
+    let copy = domains.copy(alloc)?;
+    let (book, mut worker) = worker_over(alloc, q, kinds, copy, 100000, rows)?;
+    let outcome = worker.run(alloc, &book, None, &OpenGate);
+    let refutes = matches!(outcome, Outcome::Refuted);
+    let (account, _seat, _log) = worker.into_parts();
+    Ok(if refutes { Some(account.fails()) } else { None })
+}
+
+/// Whether it fails as often over books of no, one and five rows as over one that has room for all its rows.
+fn fails_alike<'a>(
+    alloc: Global,
+    q: &'a Problem,
+    kinds: &'a PairKinds<'a>,
+    domains: &Domains<WordTrail>,
+) -> Result<bool, AllocError>
+    requires problem { kinds.now.problem ≡ q.now }
+    requires is_of { IsOf q.now domains.now }
+    requires rest { AtRest q.now [] domains.now }
+{
+    let whole = fails_over(alloc, q, kinds, domains, 65535)?;
+    Ok(
+        whole.is_some()
+            && fails_over(alloc, q, kinds, domains, 0)? == whole
+            && fails_over(alloc, q, kinds, domains, 1)? == whole
+            && fails_over(alloc, q, kinds, domains, 5)? == whole,
+    )
+}
+
+/// The same, from the root on.
+fn fails_alike_from_root<'a>(
+    alloc: Global,
+    q: &'a Problem,
+    kinds: &'a PairKinds<'a>,
+) -> Result<bool, AllocError>
+    requires { kinds.now.problem ≡ q.now }
+{
+    match root::<WordTrail, Silent>(alloc, q, kinds, WORDS, Silent) {
+        Rooted::Quiet(domains, _) => fails_alike(alloc, q, kinds, &domains),
+        Rooted::Failed(_, _) => Ok(false),
+        Rooted::NoMemory => Err(AllocError),
+    }
+}
+
+/// The same, on five vertices that are beside each other, among four pairs.
+fn five_fail_alike(alloc: Global) -> Result<bool, AllocError> {
+    let Some(q) = problem(alloc, FIVE_CLIQUE, FOUR_PAIRS, false) else {
+        return Ok(false);
+    };
+    let kinds = PairKinds::new(alloc, &q)?;
+    fails_alike_from_root(alloc, &q, &kinds)
+}
+
+#[test]
+fn a_search_fails_as_often_over_any_book(rt: HostRuntime) -> Result<(), Fail> {
+    assert!(rt; five_fail_alike(rt.alloc())?);
+    Ok(())
 }
 
 /// How a worker ends that looks at the cell, and how it ends when it is run again without one, if it was stopped.

@@ -1,6 +1,7 @@
 //! Problems that several workers decide.
 
-ghost use Rattle.std.specs.Prelude.{◌≤◌, ◌<◌, ◌^◌, IsTrue};
+ghost use Rattle.std.specs.Prelude.{IsTrue};
+ghost use Rattle.parallel_solve.specs.Solving.{IsWithinBounds};
 
 use crate::problems::problem;
 use graph_rows::Problem;
@@ -46,8 +47,7 @@ fn settings(threads: u32, budget: u64, rows: u32, prove: bool) -> Settings {
 
 /// Whether a solve may be asked so.
 fn may_be_asked(s: &Settings) -> bool
-    ensures { IsTrue result → (1 ≤ s.now.threads)
-        × ((s.now.threads ≤ 64) × ((s.now.budget < 2 ^ 63) × (s.now.rows ≤ 4194304))) }
+    ensures { IsTrue result → IsWithinBounds s.now }
 {
     s.threads >= 1 && s.threads <= 64 && s.budget < 1 << 63 && s.rows <= 4194304
 }

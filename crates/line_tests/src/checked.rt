@@ -14,7 +14,7 @@ ghost use Rattle.dead_theory.specs.Changes.{IsEndOf, IsInBy, IsInProblem, AreInP
 ghost use Rattle.dead_paths.specs.Explaining.{end_by, IsEndIn};
 
 use bit_rows::has_bit;
-use dead_paths::{Basis, DeadPath, LineMaker, PathEnd, RowNames, Scratch, explain};
+use dead_paths::{Basis, DeadPath, LineMaker, RowNames, Scratch, explain};
 use domain_bits::{Domains, Mark};
 use graph_rows::near::is_near;
 use graph_rows::{Graph, Problem};
@@ -23,7 +23,7 @@ use graph_theory::embedding::Maps;
 use journals::Journal;
 use log_theory::{Name, Ref};
 use nogood_book::{Row, RowKind};
-use recorder::{Cause, Entry, Failure, Place, Side, What};
+use recorder::{Cause, DeadEnd, Entry, Failure, Place, Side, What};
 use std::alloc::{AllocError, Global};
 
 /// How a path ended, with the place of the set that was found short and the centre of its block, or the numbers of the lines of owner 1 against
@@ -40,12 +40,12 @@ pub struct Dead(pub &'static [(u16, u16)], pub &'static [What], pub Ended);
 
 impl Ended {
     /// The same, as a search tells it.
-    fn end(&self) -> PathEnd {
+    fn end(&self) -> DeadEnd {
         match self {
-            Ended::Empty(p) => PathEnd::Failed(Failure::Empty(*p)),
-            Ended::Whole(name) => PathEnd::Failed(Failure::Whole(*name)),
-            Ended::Short(_, _) => PathEnd::Failed(Failure::Short(0)),
-            Ended::Exhausted(p, _) => PathEnd::Exhausted(*p),
+            Ended::Empty(p) => DeadEnd::Failed(Failure::Empty(*p)),
+            Ended::Whole(name) => DeadEnd::Failed(Failure::Whole(*name)),
+            Ended::Short(_, _) => DeadEnd::Failed(Failure::Short(0)),
+            Ended::Exhausted(p, _) => DeadEnd::Exhausted(*p),
         }
     }
 
@@ -159,6 +159,14 @@ fn is_member(q: &Problem, centre: Option<u16>, p: u16) -> bool
     }
 }
 
+/// Whether there are no more vertices than the pattern has, and no more values than these.
+fn are_few(q: &Problem, vertices: &[u16], values: &[u16]) -> bool
+    ensures vertices { result ≡ true → length vertices.now ≤ size q.now.pattern }
+    ensures values { result ≡ true → length values.now ≤ length vertices.now }
+{
+    vertices.len() <= usize::from(q.pattern().size()) && values.len() <= vertices.len()
+}
+
 /// The same of a set, and it is one of vertices of the pattern, in a block that there is, and of values.
 fn is_set(q: &Problem, numbers: &[u16], centre: Option<u16>, place: Place) -> bool
     ensures { result ≡ true
@@ -168,9 +176,11 @@ fn is_set(q: &Problem, numbers: &[u16], centre: Option<u16>, place: Place) -> bo
         return false;
     }
     let vertices = &numbers[place.start..place.middle];
+    let values = &numbers[place.middle..place.end];
     are_below(vertices, q.pattern().size())
         && are_members(q, centre, vertices)
-        && are_below(&numbers[place.middle..place.end], q.target().size())
+        && are_below(values, q.target().size())
+        && are_few(q, vertices, values)
 }
 
 /// Whether an edge of the pattern leads from one vertex to the other in this direction.
@@ -213,8 +223,11 @@ fn is_crowd(
     if !is_block(q, None) {
         return false;
     }
-    leads_to_all(q, direction, p, &numbers[place.start..place.middle])
-        && are_below(&numbers[place.middle..place.end], q.target().size())
+    let vertices = &numbers[place.start..place.middle];
+    let values = &numbers[place.middle..place.end];
+    leads_to_all(q, direction, p, vertices)
+        && are_below(values, q.target().size())
+        && are_few(q, vertices, values)
 }
 
 /// Whether the vertex is at this end of a pair that is to be in order.
@@ -332,13 +345,13 @@ fn is_end(
     q: &Problem,
     rows: &[Row],
     numbers: &[u16],
-    end: PathEnd,
+    end: DeadEnd,
     short: Option<(Option<u16>, Place)>,
 ) -> bool
     ensures { result ≡ true → IsEndIn q.now rows.now (end_by end (set_at numbers.now short) []) }
 {
     match end {
-        PathEnd::Failed(failure) => match failure {
+        DeadEnd::Failed(failure) => match failure {
             Failure::Empty(p) => p < q.pattern().size(),
             Failure::Whole(name) => is_nogood(rows, name),
             Failure::Short(_) => match short {
@@ -346,7 +359,7 @@ fn is_end(
                 None => false,
             },
         },
-        PathEnd::Exhausted(p) => p < q.pattern().size(),
+        DeadEnd::Exhausted(p) => p < q.pattern().size(),
     }
 }
 

@@ -1,8 +1,5 @@
 //! Small problems, logs over them, and what a checker says of these.
 
-ghost use Rattle.std.specs.Prelude.{◌≡◌, true, IfOk};
-ghost use Rattle.graph_rows.specs.Orders.{IsOrder};
-
 use graph_rows::Problem;
 use graph_theory::embedding::Maps;
 use journals::Journal;
@@ -13,7 +10,7 @@ use outer_io::MemorySink;
 use pb_encoding::Encoding;
 use proof_checker::check;
 use std::alloc::{AllocError, Global};
-use test_support::graph_in;
+use test_support::{graph_in, order_of};
 
 /// A small problem: the texts of its pattern and its target, their kind, and whether the copy is to be induced.
 pub struct Sample(pub &'static [u8], pub &'static [u8], pub LadKind, pub bool);
@@ -41,35 +38,6 @@ impl Sample {
         let target = graph_in(alloc, self.1, self.2)?;
         Some(Problem::new(pattern, target, self.3))
     }
-}
-
-/// Whether a problem of so many pattern vertices may ask that the images of these pairs be in order.
-fn is_order(pairs: &[(u16, u16)], vertices: u16) -> bool
-    ensures { result ≡ true → IsOrder vertices pairs.now }
-{
-    if pairs.len() > 64 {
-        return false;
-    }
-    for x in pairs {
-        if x.0 >= vertices || x.1 >= vertices || x.0 == x.1 {
-            return false;
-        }
-    }
-    true
-}
-
-/// Such pairs, in memory of their own.
-fn order_of(
-    alloc: Global,
-    pairs: &[(u16, u16)],
-    vertices: u16,
-) -> Result<Vec<(u16, u16)>, AllocError>
-    ensures { IfOk result (λ order. IsOrder vertices order.items) }
-{
-    if !is_order(pairs, vertices) {
-        return Err(AllocError);
-    }
-    Vec::from_slice(alloc, pairs)
 }
 
 impl Mapped {

@@ -7,6 +7,8 @@
 #[cfg(test)]
 mod checker_tests;
 #[cfg(test)]
+mod closing_tests;
+#[cfg(test)]
 mod encoding_tests;
 #[cfg(test)]
 mod file_tests;

@@ -27,6 +27,13 @@ e 1.9
 /// A path of three vertices.
 const PATH: &str = "3\n1 1\n2 0 2\n1 1\n";
 
+/// Five vertices, each beside all others.
+const FIVE: &str = "5\n4 1 2 3 4\n4 0 2 3 4\n4 0 1 3 4\n4 0 1 2 4\n4 0 1 2 3\n";
+
+/// Eight vertices, each beside all others but one, so that no five are beside each other: the search for five restarts.
+const FOUR_PAIRS: &str =
+    "8\n6 2 3 4 5 6 7\n6 2 3 4 5 6 7\n6 0 1 4 5 6 7\n6 0 1 4 5 6 7\n6 0 1 2 3 6 7\n6 0 1 2 3 6 7\n6 0 1 2 3 4 5\n6 0 1 2 3 4 5\n";
+
 /// The first line of the encoding of a triangle in a cycle of four vertices.
 const FIRST_LINE: &str = "* #variable= 12 #constraint= 34\n";
 
@@ -75,7 +82,47 @@ fn first_wrong<R: Threads + Wait + Sync>(
     Ok(None)
 }
 
-static SHOWN: [Shown; 22] = [
+static SHOWN: [Shown; 26] = [
+    Shown {
+        line: "subgraph solve p t --book 0 --prove e --log l",
+        pattern: FIVE,
+        target: FOUR_PAIRS,
+        status: 1,
+        out: "none\n",
+        encoding: "* #variable= 40 ",
+        log: "embedding proof 1\n",
+        told: "accepted unsatisfiable\n",
+    },
+    Shown {
+        line: "subgraph solve p t --book 1 --prove e --log l",
+        pattern: FIVE,
+        target: FOUR_PAIRS,
+        status: 1,
+        out: "none\n",
+        encoding: "* #variable= 40 ",
+        log: "embedding proof 1\n",
+        told: "accepted unsatisfiable\n",
+    },
+    Shown {
+        line: "subgraph solve p t --book 5 --prove e --log l",
+        pattern: FIVE,
+        target: FOUR_PAIRS,
+        status: 1,
+        out: "none\n",
+        encoding: "* #variable= 40 ",
+        log: "embedding proof 1\n",
+        told: "accepted unsatisfiable\n",
+    },
+    Shown {
+        line: "subgraph solve p t --book 1 --prove e --log l --threads 3",
+        pattern: FIVE,
+        target: FOUR_PAIRS,
+        status: 1,
+        out: "none\n",
+        encoding: "* #variable= 40 ",
+        log: "embedding proof 1\n",
+        told: "accepted unsatisfiable\n",
+    },
     Shown {
         line: "subgraph solve p t --prove e --log l",
         pattern: TRIANGLE,

@@ -1,5 +1,5 @@
-//! Books of two nogoods for a triangle into a cycle of four: one over words, one under a lock, books with no room, and one seat at another book of
-//! the same problem.
+//! Books of two nogoods for a triangle into a cycle of four: one over words, one under a lock, books with no room, a row that a seat keeps for
+//! itself, and one seat at another book of the same problem.
 
 ghost use Rattle.std.specs.Prelude.{◌≡◌, ◌<◌};
 ghost use Rattle.graph_theory.specs.Graph.{size};
@@ -50,6 +50,24 @@ fn publish<B: Book>(book: &B, seat: &mut B::Seat, q: &Problem, owner: u8, value:
     book.publish(seat, nogood(owner, value))
 }
 
+/// The same at a seat that keeps for itself what its book has no room for.
+fn place<B: Book>(book: &B, seat: &mut B::Seat, q: &Problem, owner: u8, value: u16) -> Published
+    requires fits { B.fits book.now seat.old }
+    requires problem { (B.Seat.shows seat.old).problem ≡ q.now }
+    requires owner { (B.Seat.shows seat.old).owner ≡ owner }
+    requires few { owner < 128 }
+    requires none { HasNone q.now }
+    requires vertex { 0 < size q.now.pattern }
+    requires value { value < size q.now.target }
+    ensures fits { B.fits book.now seat.new }
+    ensures problem { (B.Seat.shows seat.new).problem ≡ q.now }
+    ensures owner { (B.Seat.shows seat.new).owner ≡ owner }
+{
+    let _patterns = q.pattern().size();
+    let _targets = q.target().size();
+    book.place(seat, nogood(owner, value))
+}
+
 /// Whether two seats of owners 1 and 2 at an empty book of two rows come to know each other's
 /// nogoods, and it is full then.
 fn is_shared<B: Book>(book: &B, one: &mut B::Seat, two: &mut B::Seat, q: &Problem) -> bool
@@ -64,6 +82,8 @@ fn is_shared<B: Book>(book: &B, one: &mut B::Seat, two: &mut B::Seat, q: &Proble
     requires value { size q.now.target ≡ 4 }
     ensures fits_one { B.fits book.now one.new }
     ensures fits_two { B.fits book.now two.new }
+    ensures problem { (B.Seat.shows one.new).problem ≡ q.now }
+    ensures owner { (B.Seat.shows one.new).owner ≡ 1 }
 {
     let first = publish(book, one, q, 1, 0);
     let is_unseen = two.rows().is_empty();
@@ -81,7 +101,27 @@ fn is_shared<B: Book>(book: &B, one: &mut B::Seat, two: &mut B::Seat, q: &Proble
         && third == Published::Full
 }
 
-/// Whether a book of words is shared so, and who gathers the seats sees both nogoods.
+/// Whether a seat of owner 1 keeps a third nogood for itself, behind those of a full book of two rows: its owner sees it, a seat of owner 2
+/// does not.
+fn is_kept<B: Book>(book: &B, one: &mut B::Seat, two: &mut B::Seat, q: &Problem) -> bool
+    requires fits_one { B.fits book.now one.old }
+    requires fits_two { B.fits book.now two.old }
+    requires problem { (B.Seat.shows one.old).problem ≡ q.now }
+    requires owner { (B.Seat.shows one.old).owner ≡ 1 }
+    requires none { HasNone q.now }
+    requires vertex { size q.now.pattern ≡ 3 }
+    requires value { size q.now.target ≡ 4 }
+    ensures fits_one { B.fits book.now one.new }
+    ensures fits_two { B.fits book.now two.new }
+{
+    let kept = place(book, one, q, 1, 2);
+    book.catch_up(two);
+    let is_unseen = two.rows() == [nogood(1, 0), nogood(2, 1)].as_slice();
+    let is_seen = one.rows() == [nogood(1, 0), nogood(2, 1), nogood(1, 2)].as_slice();
+    kept == Published::At(2) && is_unseen && is_seen
+}
+
+/// Whether a book of words is shared so, a seat keeps one nogood more for itself, and who gathers the seats sees the two of the book.
 fn is_shared_and_gathered(alloc: Global, q: &Problem) -> Result<bool, AllocError>
     requires sizes { (size q.now.pattern ≡ 3) × (size q.now.target ≡ 4) }
     requires none { HasNone q.now }
@@ -90,9 +130,11 @@ fn is_shared_and_gathered(alloc: Global, q: &Problem) -> Result<bool, AllocError
     let mut one = book.split(alloc, &mut first, 1)?;
     let mut two = book.split(alloc, &mut first, 2)?;
     let is_shared = is_shared(&book, &mut one, &mut two, q);
+    let is_kept = is_kept(&book, &mut one, &mut two, q);
     book.gather(&mut first, one);
     book.gather(&mut first, two);
-    Ok(is_shared && first.rows() == [nogood(1, 0), nogood(2, 1)].as_slice())
+    let are_gathered = first.rows() == [nogood(1, 0), nogood(2, 1)].as_slice();
+    Ok(is_shared && is_kept && are_gathered)
 }
 
 #[test]

@@ -3,10 +3,12 @@
 ghost use Rattle.std.specs.Prelude.{◌≡◌, length};
 
 use bit_rows::{
-    clear, count_both, fill_below, has_bit, keep_counted, keep_equal, next_member, set_bit,
-    unset_bit,
+    are_apart, are_within, clear, count_both, fill_below, has_bit, keep_counted, keep_equal,
+    next_member, set_bit, unset_bit,
 };
+use std::alloc::{AllocError, Global};
 use std::test::Fail;
+use test_support::{Example, all_hold};
 
 /// Whether bits that are set in a row are there, and are counted.
 fn sets_and_counts(row: &mut [u64; 2]) -> bool {
@@ -34,6 +36,30 @@ fn fills(row: &mut [u64; 2]) -> bool {
     fill_below(row, 64);
     unset_bit(row, 63);
     is_filled && row.as_slice() == [u64::MAX >> 1, 0].as_slice()
+}
+
+/// A row of four words, another one, and whether that has all that is in the first, and whether the two have nothing in common.
+struct Beside([u64; 4], [u64; 4], bool, bool);
+
+impl<R> Example<R> for Beside {
+    fn holds(&self, _rt: &R, _alloc: Global) -> Result<bool, AllocError> {
+        let Beside(row, other, is_within, is_apart) = *self;
+        Ok(are_within(&row, &other, 0) == is_within && are_apart(&row, &other, 0) == is_apart)
+    }
+}
+
+static BESIDE: [Beside; 6] = [
+    Beside([1, 2, 4, 8], [3, 3, 5, 9], true, false),
+    Beside([0, 0, 0, 0], [0, 0, 0, 0], true, true),
+    Beside([1, 0, 0, 0], [2, 0, 0, 0], false, true),
+    Beside([0, 1, 0, 0], [1, 2, 0, 0], false, true),
+    Beside([0, 0, 1, 0], [0, 0, 3, 0], true, false),
+    Beside([0, 0, 0, 3], [0, 0, 0, 1], false, false),
+];
+
+#[test]
+fn four_words_at_once_are_held_beside_each_other(rt: HostRuntime) -> Result<(), Fail> {
+    all_hold(&rt, rt.alloc(), &BESIDE)
 }
 
 #[test]

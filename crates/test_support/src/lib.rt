@@ -7,10 +7,12 @@
 
 mod files;
 pub mod models;
+mod orders;
 mod samples;
 mod triangle;
 
 pub use files::{InMemory, files_in_memory};
+pub use orders::order_of;
 pub use samples::{APART, EDGE, FOUR_CYCLE, PATH, TRIANGLE, graph, graph_in, graph_of_size};
 use std::alloc::{AllocError, Global};
 use std::test::Fail;

@@ -1,6 +1,6 @@
 use Rattle.std.proofs.Common.{arith}
-use Rattle.layer_tests.proofs.Ranges.{ordered_more, order_of_all}
-use Rattle.layer_tests.proofs.map_tests.is_order.Goals as goal
+use Rattle.test_support.proofs.Ranges.{ordered_more, order_of_all}
+use Rattle.test_support.proofs.orders.is_order.Goals as goal
 
 pub loop-x-init : goal.loop-x-init
 loop-x-init c = λ k y below at. absurd (omega (arith, below))
