@@ -58,8 +58,8 @@ OPTIONS: List[Tuple[str, str]] = [
     ("--budget N", "At most N failed guesses of each thread, in `batch` of each question, from 1 to 9,223,372,036,854,775,807, the default."),
     (
         "--book N",
-        "The threads share N rows of what they have refuted, from 0 to 4,194,304; the default is 65,536. Once the book is full nothing more is "
-        "learned. For a search of more than a few seconds name 1048576.",
+        "The threads share N rows of what they have refuted, from 0 to 4,194,304; the default is 65,536. Once these are full each thread "
+        "keeps its further rows for itself, up to 4,194,304 with the shared ones. In `batch` each question has N rows of its own. For a search of several threads and more than a few seconds name 1048576.",
     ),
     (
         "--seed N",
