@@ -92,7 +92,7 @@ impl<'a, R: Wait + Sync> Book for LockedShelf<'a, R> {
         seat.write(row)
     }
 
-    /// A seat at the shelf keeps no rows that are not the shelf's.
+    /// A seat at the shelf keeps no rows that are not the shelf's: this is `publish`.
     fn place(&self, seat: &mut ShelfSeat<'a>, row: Row) -> Published {
         match self.publish(seat, row) {
             Published::At(at) => Published::At(at),

@@ -69,8 +69,8 @@ module _ {X : Type 0} (outcome_of : X → Outcome) where
     pub unspent : t.spent ≡ false → Any (λ x. IsUnspent (outcome_of x)) xs
 
   -- A refutation comes where no embedding was found, and its log is finished by the first that refuted.
-  -- That memory was refused is told where no embedding was found, and one refuted, whose proof was refused it, or none did
-  -- and one worker was refused it.
+  -- That memory was refused is told where no embedding was found, and one worker refuted, whose proof was refused it, or none
+  -- refuted and one was refused it.
   abbrev pub IsConclusion : List X → Solved → Type 0
   IsConclusion xs (Yes m) = Unit {0}
   IsConclusion xs (NoEmbedding proof) = NoneFound xs × ((number : ℕ) × IsFirst xs number

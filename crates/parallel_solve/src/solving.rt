@@ -56,7 +56,8 @@ fn short_of(q: &Problem, s: &Settings) -> Option<Settings>
 
 /// Decides a problem by the workers that the settings ask for, which search beside each other and share what they refute. One worker alone
 /// begins at a small problem with a search of 64 fails, for which no book is made. Memory: beside the target's own, for each
-/// worker its domains, the watches of its nogoods, 16 bytes for each row of the book, and its part of 64 MiB for rows of pairs;
+/// worker its domains, the watches of its nogoods, 16 bytes for each row of the book, as much to twice as much for each row that it keeps
+/// behind a full book, and its part of 64 MiB for rows of pairs;
 /// where a log is kept, also the encoding, the rows of values that share neighbours, and the lines of each dead path.
 pub fn solve<R: Threads + Sync>(rt: &R, alloc: Global, q: &Problem, s: &Settings) -> Solved
     requires bounds { IsWithinBounds s.now }

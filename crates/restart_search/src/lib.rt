@@ -9,7 +9,7 @@
 //!
 //! The search is that of the Glasgow subgraph solver (McCreesh, Prosser and Trimble 2020), with restarts and biased values of
 //! Archibald et al. (2019). A guess costs a propagation, and to take it back costs what was removed since. A restart costs a
-//! row of the book for each refuted value and a propagation from the root.
+//! row for each refuted value, in the book or behind it, and a propagation from the root.
 #![tactic(auto)]
 
 mod degrees;

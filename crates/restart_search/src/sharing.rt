@@ -1,4 +1,5 @@
-//! Publishing a position: what a run has refuted goes to the book as rows, before the next run begins.
+//! Publishing a position: what a run has refuted goes to the book as rows, before the next run begins. Where the book is full the rows
+//! stand at the worker's own seat.
 //!
 //! For each level in order there is one nogood for each value refuted there, and then a step for the level's guess, below which the
 //! rows of the next level stand. So the guesses above a nogood are written once, however many nogoods stand below them.

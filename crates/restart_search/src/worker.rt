@@ -295,7 +295,7 @@ impl<'a, S: RowSeat + Drop, T: Trail, L: ProofLogger> Worker<'a, S, T, L> {
 
     /// Searches to an outcome, and offers what it decides to the cell; a refused offer changes nothing. After `Stopped` it may run
     /// again, from the guess that was due. At each restart it publishes all that its position has refuted, in order, and at no other
-    /// moment anything; the rest is lacking only where the book is full, or memory was refused at the last restart.
+    /// moment anything; the rest is lacking only where the seat takes no further row, or memory was refused at the last restart.
     pub fn run<B: Book<Seat = S>, G: Gate>(
         &mut self,
         alloc: Global,

@@ -26,7 +26,7 @@ use proof_logger::ProofLogger;
 use recorder::{Causes, DeadEnd, KeptChanges};
 use std::alloc::{AllocError, Global};
 
-/// A book has no more rows.
+/// A book, with the rows that a seat keeps behind it, has no more rows.
 const MOST_ROWS: usize = 4194304;
 
 /// The last pair, if there is one.

@@ -43,7 +43,7 @@ use std::thread::Threads;
 /// | 1 | `solve` wrote `none`: no embedding exists |
 /// | 2 | `solve` wrote `unknown`: each worker spent its budget; `demo` wrote `unknown` of one of its problems or both |
 /// | 3 | the words are no command |
-/// | 4 | a text is refused, or a pair of images to be in order that names no vertex of the pattern |
+/// | 4 | a text is refused, or a pair of `--less` names a vertex that the pattern has not |
 /// | 5 | a call on the files or the output failed |
 /// | 6 | memory was refused |
 /// | 7 | the mapping is no embedding; the log is not accepted |
