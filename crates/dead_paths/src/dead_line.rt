@@ -22,7 +22,7 @@ use crate::known::fill_at;
 use crate::lines::push_at_least;
 use crate::lookups::part;
 use crate::maker::{Basis, LineMaker, RowNames};
-use crate::needs::{Walk, count_values, need_out, uphold_row};
+use crate::needs::{WalkBack, count_values, need_out, uphold_row};
 use crate::pushes::{push_change, push_nogood, push_set};
 use crate::room::{ChosenEntry, Room, Scratch, fit_rows};
 use crate::walk::choose;
@@ -58,7 +58,7 @@ const NO_NAME: Name = Name {
 
 /// The values that the end rests on are needed.
 fn mark_end(
-    walk: &Walk<'_>,
+    walk: &WalkBack<'_>,
     short: Option<(Option<u16>, Place)>,
     end: DeadEnd,
     marked: &mut [bool],
@@ -241,7 +241,7 @@ fn size_of(q: &Problem) -> usize
 
 /// Chooses the changes that the end rests on.
 fn choose_in(
-    walk: &Walk<'_>,
+    walk: &WalkBack<'_>,
     entries: &[Entry],
     end: (DeadEnd, Option<(Option<u16>, Place)>),
     marked: &mut [bool],
@@ -274,7 +274,7 @@ fn choose_in(
 
 /// The same under a path, by what stands in the scratch.
 fn choose_for(
-    walk: &Walk<'_>,
+    walk: &WalkBack<'_>,
     entries: &[Entry],
     end: (DeadEnd, Option<(Option<u16>, Place)>),
     marked: &mut Vec<bool>,
@@ -403,7 +403,7 @@ pub fn explain<M: LineMaker, N: RowNames, K: Keeper>(
     let q = basis.lines.problem();
     let size = size_of(q);
     fill_at(&mut scratch.at, size, dead.path)?;
-    let walk = Walk {
+    let walk = WalkBack {
         alloc: basis.alloc,
         q,
         sharers: basis.lines.sharers(),

@@ -27,7 +27,7 @@ use std::alloc::{AllocError, Global};
 /// What a walk back reads: the problem, its rows of values that share neighbours, the book's rows, the numbers of sets, and the path's values at
 /// their vertices.
 #[derive(Clone, Copy)]
-pub(crate) struct Walk<'a> {
+pub(crate) struct WalkBack<'a> {
     pub(crate) alloc: Global,
     pub(crate) q: &'a Problem,
     pub(crate) sharers: &'a Sharers<'a>,
@@ -46,7 +46,7 @@ pub(crate) fn count_values(q: &Problem) -> usize
 
 /// All values of the pair's vertex but its own are needed, unless the path has the pair, or the vertex is left out.
 pub(crate) fn uphold(
-    walk: &Walk<'_>,
+    walk: &WalkBack<'_>,
     but: Option<u16>,
     x: (u16, u16),
     marked: &mut [bool],
@@ -73,7 +73,7 @@ pub(crate) fn uphold(
 
 /// The same for each of these pairs.
 fn uphold_all(
-    walk: &Walk<'_>,
+    walk: &WalkBack<'_>,
     but: Option<u16>,
     pairs: &[(u16, u16)],
     marked: &mut [bool],
@@ -99,7 +99,7 @@ fn uphold_all(
 
 /// The same for the pairs of a nogood row.
 pub(crate) fn uphold_row(
-    walk: &Walk<'_>,
+    walk: &WalkBack<'_>,
     name: u32,
     but: Option<u16>,
     marked: &mut [bool],

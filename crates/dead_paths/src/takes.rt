@@ -18,7 +18,7 @@ ghost use Rattle.dead_paths.specs.declared.takes.Choice.TheVariants.{Passed, AsT
 use crate::beside::{Beside, BlockSet, Crowd};
 use crate::lookups::{is_nogood_row, part};
 use crate::needs::{
-    Walk, count_values, end_beside_of, fill_beside, fill_on_side, need_each, uphold, uphold_row,
+    WalkBack, count_values, end_beside_of, fill_beside, fill_on_side, need_each, uphold, uphold_row,
 };
 use crate::room::Room;
 use crate::sets::by_set;
@@ -76,7 +76,7 @@ fn by_guess(q: &Problem, r: u16, t: u16, marked: &mut [bool], needed: &[u64]) ->
 /// Of the needed values edges leave only such as are consistent: what they refuse is needed no more, and that the first vertex is at its value
 /// is. The one row has the needed values of the other vertex, the other those of them that edges leave.
 fn take_by_edges(
-    walk: &Walk<'_>,
+    walk: &WalkBack<'_>,
     beside: Beside,
     marked: &mut [bool],
     needed: &mut [u64],
@@ -107,7 +107,7 @@ fn take_by_edges(
 
 /// The same where more than edges is asked: what is not consistent is needed no more, as far as that is quickly told.
 fn take_all(
-    walk: &Walk<'_>,
+    walk: &WalkBack<'_>,
     beside: Beside,
     marked: &mut [bool],
     needed: &mut [u64],
@@ -145,7 +145,7 @@ fn take_all(
 /// A vertex at its value takes from another what is not consistent with this. Where each needed value that edges do not refuse is consistent,
 /// edges alone are asked.
 fn by_vertex(
-    walk: &Walk<'_>,
+    walk: &WalkBack<'_>,
     beside: Beside,
     marked: &mut [bool],
     needed: &mut [u64],
@@ -195,7 +195,7 @@ fn by_vertex(
 
 /// A nogood takes the value of its pair.
 fn by_nogood(
-    walk: &Walk<'_>,
+    walk: &WalkBack<'_>,
     name: u32,
     r: u16,
     marked: &mut [bool],
@@ -372,7 +372,7 @@ fn by_crowd(
 /// cost; for a value taken by an edge or a crowd one step where it is not needed; for a set the words of each marked vertex's row, with a look
 /// for the vertex among the set's.
 pub(crate) fn go_back(
-    walk: &Walk<'_>,
+    walk: &WalkBack<'_>,
     entry: &Entry,
     marked: &mut [bool],
     needed: &mut [u64],

@@ -10,7 +10,7 @@ ghost use Rattle.dead_theory.specs.Walks.{IsChoice};
 ghost use Rattle.dead_paths.specs.Rooms.{IsFit};
 ghost use Rattle.dead_paths.specs.Choosing.{values_of, AreAt, chosen_in, AreNameable, HasCome};
 
-use crate::needs::Walk;
+use crate::needs::WalkBack;
 use crate::room::{ChosenEntry, Room};
 use crate::takes::{Choice, go_back};
 use recorder::Entry;
@@ -27,7 +27,7 @@ fn put_chosen(chosen: &mut Vec<ChosenEntry>, entry: Entry, by_edges: bool) -> Re
 
 /// One step back: the change is chosen if it may have taken a needed value.
 fn step_back(
-    walk: &Walk<'_>,
+    walk: &WalkBack<'_>,
     entry: &Entry,
     marked: &mut [bool],
     needed: &mut [u64],
@@ -61,7 +61,7 @@ fn step_back(
 
 /// Chooses of the changes those that the needed values rest on, the last one first. Cost: a step back from each change.
 pub(crate) fn choose(
-    walk: &Walk<'_>,
+    walk: &WalkBack<'_>,
     entries: &[Entry],
     marked: &mut [bool],
     needed: &mut [u64],
