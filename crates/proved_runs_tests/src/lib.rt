@@ -14,6 +14,8 @@ mod proof_tests;
 #[cfg(test)]
 mod shown_tests;
 #[cfg(test)]
+mod size_tests;
+#[cfg(test)]
 mod trim_tests;
 #[cfg(test)]
 mod whole_tests;
