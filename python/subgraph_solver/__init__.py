@@ -10,6 +10,7 @@ None
 is spent. Graphs come from networkx, igraph and RDKit, or as plain lists of edges, and the answer is in their names. The
 program is proved. This package writes its questions and reads its answers, and is tested, not proved.
 """
+from .answers import Embedding, Failed, Proof, Unknown
 from .errors import (
     Fault,
     LibraryMissing,
@@ -22,18 +23,22 @@ from .errors import (
     SubgraphError,
     TextRefused,
     Undecided,
+    WorkerLost,
 )
 from .graph import Graph, as_graph
 from .matcher import DiGraphMatcher, GraphMatcher
 from .program import Progress
-from .questions import Proof, check, encode, find, trim, verify
-from .batch import Unknown, batch
+from .prepared import Prepared, prepare
+from .questions import check, encode, find, trim, verify
+from .batch import batch
 from .draw import draw
 from .reading import read_graph
 from .version import VERSION as __version__
 
 __all__ = [
     "DiGraphMatcher",
+    "Embedding",
+    "Failed",
     "Fault",
     "Graph",
     "GraphMatcher",
@@ -42,6 +47,7 @@ __all__ = [
     "NotACommand",
     "NotAvailable",
     "OutOfMemory",
+    "Prepared",
     "ProgramFailed",
     "ProgramMissing",
     "Progress",
@@ -50,12 +56,14 @@ __all__ = [
     "TextRefused",
     "Undecided",
     "Unknown",
+    "WorkerLost",
     "as_graph",
     "batch",
     "check",
     "draw",
     "encode",
     "find",
+    "prepare",
     "read_graph",
     "trim",
     "verify",

@@ -10,7 +10,8 @@ from .draw import draw
 from .errors import SubgraphError, Undecided
 from .graph import Name, as_graph
 from .maps import MAPS
-from .questions import Proof, check, encode, find, trim, verify
+from .answers import Proof
+from .questions import check, encode, find, trim, verify
 from .reading import read_graph
 
 #: The status if the words or the files are at fault, before the program is asked.
@@ -76,7 +77,7 @@ def _by_text(graph: Any) -> Dict[str, Name]:
     return {str(name): name for name in as_graph(graph).names}
 
 
-def _read_mapping(path: str, pattern: Any, target: Any) -> dict:
+def _read_mapping(path: str, pattern: Any, target: Any) -> Dict[Name, Name]:
     """The mapping of lines ``NAME -> NAME``, by the texts of the graphs' names."""
     of_pattern, of_target = _by_text(pattern), _by_text(target)
     mapping = {}
@@ -92,7 +93,7 @@ def _label(names: Optional[List[str]]) -> Any:
     return names[0] if names and len(names) == 1 else names
 
 
-def _find(asked: argparse.Namespace, how: dict, pattern: Any, target: Any) -> int:
+def _find(asked: argparse.Namespace, how: Dict[str, Any], pattern: Any, target: Any) -> int:
     names = ("seed", "budget", "threads", "book", "progress")
     searching = {name: getattr(asked, name) for name in names}
     prove = getattr(asked, "prove", None)

@@ -5,10 +5,12 @@ import os
 import tempfile
 from contextlib import contextmanager
 from dataclasses import dataclass
-from typing import Any, Dict, Iterable, Iterator, List, Optional, Sequence, Tuple
+from typing import Any, Iterable, Iterator, List, Optional, Sequence, Tuple
 
-from .graph import EdgeLabel, Graph, Name, NodeLabel, as_graph, edge_label_numbers, label_numbers, lad_format, lad_text
+from .answers import Embedding
+from .graph import EdgeLabel, Graph, NodeLabel, as_graph, edge_label_numbers, label_numbers, labelled_alike, lad_format, lad_text
 from .maps import Map, Pair, less_places, map_options
+from .prepared import Prepared
 
 #: The budget if none is named: the greatest that the program takes.
 GREATEST_BUDGET = (1 << 63) - 1
@@ -51,9 +53,12 @@ class Question:
                     file.write(text)
             yield Files(folder, [*self.words(), *paths])
 
-    def named(self, images: Optional[Sequence[int]]) -> Optional[Dict[Name, Name]]:
+    def named(self, images: Optional[Sequence[int]]) -> Optional[Embedding]:
         """The images in the names of both graphs, where there are any."""
-        return None if images is None else {p: self.target.names[t] for p, t in zip(self.pattern.names, images)}
+        if images is None:
+            return None
+        named = {p: self.target.names[t] for p, t in zip(self.pattern.names, images)}
+        return Embedding.of(named, self.pattern, self.target)
 
 
 def question_of(
@@ -65,14 +70,26 @@ def question_of(
     less: Iterable[Pair],
 ) -> Question:
     """The question of two graphs, whatever `as_graph` takes."""
-    first, second = (as_graph(it, *labels) for it in (pattern, target))
+    first, second = graphs_of(pattern, target, labels)
     pairs = list(less)
     options = map_options(first, induced, map, pairs)
+    if isinstance(second, Prepared):
+        format, texts = second.format, (second.text_of(first), second.text)
+    else:
+        numbers, edge_numbers = label_numbers(first, second), edge_label_numbers(first, second)
+        format = lad_format(first.directed, numbers is not None, edge_numbers is not None)
+        one, other = (lad_text(it, numbers, edge_numbers).encode("ascii") for it in (first, second))
+        texts = one, other
+    return Question(first, second, format, texts, induced, map, less_places(first, pairs), options)
+
+
+def graphs_of(pattern: Any, target: Any, labels: Tuple[NodeLabel, EdgeLabel]) -> Tuple[Graph, Graph]:
+    """The two graphs of a question, which both have directions, and labels, or neither."""
+    second = as_graph(target, *labels)
+    first = second.pattern(pattern, labels) if isinstance(second, Prepared) else as_graph(pattern, *labels)
     same_directions(first, second)
-    numbers, edge_numbers = label_numbers(first, second), edge_label_numbers(first, second)
-    format = lad_format(first.directed, numbers is not None, edge_numbers is not None)
-    one, other = (lad_text(it, numbers, edge_numbers).encode("ascii") for it in (first, second))
-    return Question(first, second, format, (one, other), induced, map, less_places(first, pairs), options)
+    labelled_alike(first, second)
+    return first, second
 
 
 def same_directions(pattern: Graph, target: Graph) -> None:

@@ -1,75 +1,77 @@
-"""Many questions in few runs of the program."""
+"""Many questions: in few runs of the program, by the library, or on many machines."""
 from __future__ import annotations
 
+import importlib
 import os
-import re
 import tempfile
-from dataclasses import dataclass
-from typing import Any, Dict, Iterable, Iterator, List, Optional, Sequence, Tuple, Union
+import time
+from contextlib import closing
+from pathlib import Path
+from typing import Any, Dict, Generator, Iterable, Iterator, List, Literal, Optional, Sized, Tuple, TypeVar, Union, overload
 
-from .asking import GREATEST_BUDGET, same_directions
-from .errors import SubgraphError, TextRefused, error_of
-from .graph import EdgeLabel, Graph, Name, NodeLabel, as_graph, lad_format, lad_text, label_numbering, labelled_alike
-from .program import find_program, run
-from .questions import StrPath, _options
-
-#: The most questions of one run, and about the most bytes that its graphs take in the program: more are cut into several runs.
-MOST_JOBS = 1000
-MOST_MEMORY = 1 << 30
-#: A pattern, a target and, if it is named, whether an induced copy is asked for.
-Question = Union[Tuple[Any, Any], Tuple[Any, Any, bool]]
-#: A line of the answer.
-LINE = re.compile(r"(\d+): (none|unknown|yes(?: \d+)*)")
-#: A line of a list.
-JOB = re.compile(r"([^ \t\r\n]+) ([^ \t\r\n]+)( induced)?")
-OF_JOB = re.compile(r"job (\d+) (.*)")
-
-
-@dataclass(frozen=True)
-class Unknown:
-    """The answer to a question of a batch whose budget is spent: it is open whether an embedding exists.
-
-    It counts as false. `find` raises `Undecided` in its place.
-
-    Attributes
-    ----------
-    spent : int
-        The failed guesses, which are the budget.
-    """
-
-    spent: int
-
-    def __bool__(self) -> bool:
-        return False
-
+from .answers import Embedding, Failed, Proof, Unknown
+from .cluster import Cluster
+from .graph import EdgeLabel, NodeLabel
+from .jobs import Job, Jobs, Pace, Part, Question, listed
+from .library import Library, library_for
+from .program import StrPath, find_program
+from .runs import How, Said, Texts, said_by, said_of
 
 #: What `batch` answers to one question.
-Answer = Union[Dict[Name, Name], None, Unknown]
+Answer = Union[Embedding, None, Proof, Unknown, Failed]
+#: A part, and what is said of each of its questions.
+Heard = Generator[Tuple[Part, List[Said]], None, None]
+Answers = Generator[Answer, None, None]
+Numbered = Generator[Tuple[int, Answer], None, None]
+It = TypeVar("It")
+Questions = Union[StrPath, Iterable[Question]]
 
 
-@dataclass(frozen=True)
-class _Job:
-    """A question with its number, from 1. Its two sides are paths of LAD files, or two graphs."""
+@overload
+def batch(
+    questions: Questions,
+    induced: bool = ...,
+    node_label: NodeLabel = ...,
+    edge_label: EdgeLabel = ...,
+    seed: Optional[int] = ...,
+    budget: Optional[int] = ...,
+    threads: Optional[int] = ...,
+    program: Optional[StrPath] = ...,
+    book: Optional[int] = ...,
+    format: str = ...,
+    client: Any = ...,
+    prove: Union[bool, StrPath] = ...,
+    progress: bool = ...,
+    as_done: Literal[False] = ...,
+    errors: Optional[str] = ...,
+    piece: Optional[int] = ...,
+) -> Answers: ...
 
-    number: int
-    sides: Tuple[Union[str, Graph], Union[str, Graph]]
-    induced: bool
-    #: The format of the files, and whether vertices and edges have labels of the package's own numbering.
-    kind: Tuple[str, bool, bool]
 
-    def images(self, told: str) -> Optional[Dict[Name, Name]]:
-        """What ``none``, or ``yes`` with the places of the images, says in the names of the two sides."""
-        if told == "none":
-            return None
-        places = [int(it) for it in told.split()[1:]]
-        pattern, target = self.sides
-        if isinstance(pattern, Graph) and isinstance(target, Graph):
-            return {pattern.names[p]: target.names[t] for p, t in enumerate(places)}
-        return dict(enumerate(places))
+@overload
+def batch(
+    questions: Questions,
+    induced: bool = ...,
+    node_label: NodeLabel = ...,
+    edge_label: EdgeLabel = ...,
+    seed: Optional[int] = ...,
+    budget: Optional[int] = ...,
+    threads: Optional[int] = ...,
+    program: Optional[StrPath] = ...,
+    book: Optional[int] = ...,
+    format: str = ...,
+    client: Any = ...,
+    prove: Union[bool, StrPath] = ...,
+    progress: bool = ...,
+    *,
+    as_done: Literal[True],
+    errors: Optional[str] = ...,
+    piece: Optional[int] = ...,
+) -> Numbered: ...
 
 
 def batch(
-    questions: Union[StrPath, Iterable[Question]],
+    questions: Questions,
     induced: bool = False,
     node_label: NodeLabel = None,
     edge_label: EdgeLabel = None,
@@ -79,18 +81,26 @@ def batch(
     program: Optional[StrPath] = None,
     book: Optional[int] = None,
     format: str = "lad",
-) -> List[Answer]:
-    """Finds an embedding for each of many questions.
+    client: Any = None,
+    prove: Union[bool, StrPath] = False,
+    progress: bool = False,
+    as_done: bool = False,
+    errors: Optional[str] = None,
+    piece: Optional[int] = None,
+) -> Union[Answers, Numbered]:
+    """Finds an embedding for each of many questions. The answers come as they are asked for: ``list(batch(..))`` has all.
 
-    The program is started once for 1,000 questions, not once for each, or more often if their graphs take more than 1 GiB
-    together. Nothing is answered before all are decided. All maps are injective, and none are in order: `find` has others.
+    Questions are taken from the iterable in pieces, so memory does not grow with their number. A piece has as many as take
+    about a second, from 1 to 1,000, and fewer if their graphs take more than 1 GiB together. The program is started once for each.
+    All maps are injective, and none are in order: `find` has others.
 
     Parameters
     ----------
     questions : iterable of (pattern, target) or (pattern, target, induced), or a path
         Both sides of a question are graphs, as `find` takes them, or both are paths of LAD files. A graph that several
-        questions name is written once for each run. A path is that of a list: a text with a line for each question, two
-        names of LAD files with a blank between, and behind them a blank and ``induced`` if that is asked.
+        questions of a piece name is written once, and must not change while they are asked. A path is that of a list: a
+        text with a line for each question, two names of LAD files with a blank between, and behind them a blank and
+        ``induced`` if that is asked.
     induced : bool
         Are questions that do not say it themselves about induced copies?
     node_label, edge_label
@@ -100,149 +110,135 @@ def batch(
     budget : int, optional
         The most failed guesses of each question.
     threads : int, optional
-        How many questions are worked on at a time, from 1 to 64. The default is 1. Each is decided by one thread.
+        How many questions a run of the program works on at a time, from 1 to 64. The default is 1. Each is decided by one
+        thread.
     program : path, optional
-        As `find` has it.
+        As `find` has it. If none is named, and neither a client, several threads, proofs nor progress are asked for, the library
+        is asked, where there is one.
     book : int, optional
         For how many rows of refuted paths each search makes a book, from 0 to 4,194,304; the default is 65,536. It keeps
         further rows behind them.
     format : str
         The format of all LAD files that are named: ``lad``, ``vertexlabelledlad``, ``directedlad`` or ``labelledlad``.
+    client : distributed.Client, optional
+        The questions are asked by the workers of its scheduler, each of which has this package and the program. Files are
+        read here.
+    prove : bool or path
+        Is each answer for none a `Proof`? A path names the folder of its files: ``J.opb`` and ``J.proof`` for question J.
+        Otherwise it is a new one, which stays.
+    progress : bool
+        Is a bar shown? It needs `tqdm`: without it there is none.
+    as_done : bool
+        Are questions answered as they are done, each with its number? Without a client that is in their order too.
+    errors : {"raise", "answer"}, optional
+        What becomes of a question that is refused, or at which the program fails: its exception is raised, which is the
+        default without a client; or its answer is `Failed`, and the others are answered.
+    piece : int, optional
+        How many questions each piece has, from 1 to 1,000.
 
     Returns
     -------
-    list
-        One answer for each question, in their order: the image of each pattern vertex, ``None`` if no embedding exists, or
-        `Unknown` if the budget is spent. Vertices of files are numbers from 0.
+    iterator
+        One answer for each question, in their order: the image of each pattern vertex, ``None`` or a `Proof` if no embedding
+        exists, `Unknown` if the budget is spent, or `Failed`. With `as_done` pairs of a question's number, from 1, and its answer.
 
     Raises
     ------
     TextRefused
         A file or the list is refused; `job` is the question's number, from 1.
     SubgraphError
-        Anything else. If one question fails so, none is answered.
+        Anything else.
     """
-    asked = os.path.abspath(find_program(program))
-    if isinstance(questions, (str, os.PathLike)):
-        questions = _listed(questions)
-    options = _options(budget=budget, seed=seed, threads=threads, book=book)
-    unknown = Unknown(GREATEST_BUDGET if budget is None else budget)
-    answers: Dict[int, Answer] = {}
-    for jobs in _runs(_jobs(questions, induced, node_label, edge_label, format)):
-        for job, told in zip(jobs, _run(asked, options, jobs)):
-            answers[job.number] = unknown if told == "unknown" else job.images(told)
-    return [answers[number] for number in sorted(answers)]
+    if errors not in (None, "raise", "answer"):
+        raise ValueError(f"there is no errors={errors!r}: raise, answer")
+    keeps_going = errors == "answer" or (errors is None and client is not None)
+    library = None if client is not None else library_for(program, threads, prove is not False or progress)
+    if client is None and library is None:
+        program = os.path.abspath(find_program(program))
+    named = None if program is None else os.fspath(program)
+    folder = _folder(prove)
+    how = How(named, seed, budget, threads, book, folder is not None, None if client is not None else folder, keeps_going)
+    jobs = Jobs(induced, node_label, edge_label, format, client is not None or library is not None, keeps_going)
+    pace = Pace(piece)
+    parts = jobs.parts(listed(questions) if isinstance(questions, (str, os.PathLike)) else questions, pace)
+    heard = _here(parts, how, pace, library) if client is None else Cluster(client, how, pace, as_done).said(parts)
+    answers, bar = _answers(heard, folder), _bar(questions) if progress else None
+    if as_done:
+        return _shown(answers, bar)
+    return _shown(_in_order(answers), bar)
 
 
-def _listed(path: StrPath) -> Iterator[Question]:
-    """The questions of a list, as the program reads one; it may have any number of lines."""
-    with open(path, encoding="utf-8", newline="\n") as file:
-        for number, line in enumerate(file, 1):
-            found = JOB.fullmatch(line.removesuffix("\n"))
-            if found is None:
-                raise TextRefused(f"list: line {number}: Form")
-            yield (found[1], found[2], True) if found[3] else (found[1], found[2])
+def _folder(prove: Union[bool, StrPath]) -> Optional[Path]:
+    """The folder of the proofs' files, if there are any."""
+    if prove is False:
+        return None
+    if prove is True:
+        return Path(tempfile.mkdtemp(prefix="subgraph-proof-"))
+    Path(prove).mkdir(parents=True, exist_ok=True)
+    return Path(prove).resolve()
 
 
-def _jobs(
-    questions: Iterable[Question], induced: bool, node_label: NodeLabel, edge_label: EdgeLabel, format: str
-) -> List[_Job]:
-    """The questions as jobs. What names one graph several times gets it once."""
-    graphs: Dict[int, Tuple[Any, Graph]] = {}
-
-    def graph_of(source: Any) -> Graph:
-        if id(source) not in graphs:
-            graphs[id(source)] = source, as_graph(source, node_label, edge_label)
-        return graphs[id(source)][1]
-
-    jobs = []
-    for number, (pattern, target, *how) in enumerate(questions, 1):
-        files = [isinstance(it, (str, os.PathLike)) for it in (pattern, target)]
-        apart = bool(how[0]) if how else induced
-        if all(files):
-            sides = tuple(os.path.abspath(os.fspath(it)) for it in (pattern, target))
-            jobs.append(_Job(number, sides, apart, (format, False, False)))
-        elif any(files):
-            raise ValueError(f"question {number} has a file and a graph: give two files or two graphs")
-        else:
-            both = graph_of(pattern), graph_of(target)
-            same_directions(*both)
-            labelled = labelled_alike(*both)
-            jobs.append(_Job(number, both, apart, (lad_format(both[0].directed, *labelled), *labelled)))
-    return jobs
+def _here(parts: Iterator[Part], how: How, pace: Pace, library: Optional[Library]) -> Heard:
+    """What is said on this machine."""
+    for part in parts:
+        begun = time.monotonic()
+        said = said_of(part.chunk, how) if library is None else said_by(library, part.chunk, how)
+        pace.took(len(said), time.monotonic() - begun)
+        yield part, said
 
 
-def _runs(jobs: Sequence[_Job]) -> Iterator[List[_Job]]:
-    """The jobs of one kind together, cut where a run has as many as it may, or graphs as large."""
-    kinds: Dict[Tuple[str, bool, bool], List[_Job]] = {}
-    for job in jobs:
-        kinds.setdefault(job.kind, []).append(job)
-    for alike in kinds.values():
-        part: List[_Job] = []
-        memory = 0
-        for job in alike:
-            more = sum(_size(side) ** 2 // 8 for side in job.sides)
-            if len(part) == MOST_JOBS or part and memory + more > MOST_MEMORY:
-                yield part
-                part, memory = [], 0
-            part.append(job)
-            memory += more
-        yield part
+def _answers(heard: Heard, folder: Optional[Path]) -> Numbered:
+    """The answers, with the numbers of their questions."""
+    with closing(heard):
+        for part, said in heard:
+            yield from part.failed
+            for job, it in zip(part.jobs, said):
+                yield job.number, _named(job, it, folder)
 
 
-def _size(side: Union[str, Graph]) -> int:
-    """The vertices of a graph, for which the program has as many bits each; of a file that says none, 0."""
-    if isinstance(side, Graph):
-        return len(side)
+def _named(job: Job, said: Said, folder: Optional[Path]) -> Answer:
+    if isinstance(said, tuple):
+        return job.named(said)
+    if isinstance(said, Texts):
+        assert folder is not None
+        return said.unpacked(folder, job.number)
+    return said
+
+
+def _in_order(answers: Numbered) -> Answers:
+    """The answers by their numbers, from 1."""
+    early: Dict[int, Answer] = {}
+    number = 1
+    with closing(answers):
+        for at, answer in answers:
+            early[at] = answer
+            while number in early:
+                yield early.pop(number)
+                number += 1
+
+
+def _shown(answers: Generator[It, None, None], bar: Any) -> Generator[It, None, None]:
+    """The answers, each of which moves the bar on."""
+    with closing(answers):
+        try:
+            for answer in answers:
+                if bar is not None:
+                    bar.update()
+                yield answer
+        finally:
+            if bar is not None:
+                bar.close()
+
+
+def _bar(questions: Questions) -> Any:
+    """A bar of `tqdm`, where it is installed. It knows the number of questions if they are a list or have a length."""
     try:
-        with open(side, "rb") as file:
-            words = file.read(64).split()
-    except OSError:
-        return 0
-    return int(words[0]) if words and words[0].isdigit() and len(words[0]) < 6 else 0
-
-
-def _run(program: str, options: List[str], jobs: List[_Job]) -> List[str]:
-    """What the program tells of each job."""
-    with tempfile.TemporaryDirectory(prefix="subgraph-") as folder:
-        _write(folder, jobs)
-        kind = jobs[0].kind[0]
-        words = ["batch", *options, *(["--format", kind] if kind != "lad" else []), "list"]
-        status, out, line = run(program, words, cwd=folder)
-    lines = [LINE.fullmatch(it) for it in out.splitlines()]
-    if status not in (0, 2) or [it and int(it[1]) for it in lines] != list(range(1, len(jobs) + 1)):
-        raise _error(status, line, words, jobs)
-    return [it[2] for it in lines if it]
-
-
-def _write(folder: str, jobs: List[_Job]) -> None:
-    """The list, and beside it each graph once; a file that the caller names gets a link of a name without blanks."""
-    graphs = {id(it): it for job in jobs for it in job.sides if isinstance(it, Graph)}
-    _, has_labels, has_edge_labels = jobs[0].kind
-    numbers = label_numbering(it.labels or () for it in graphs.values()) if has_labels else None
-    of_edges = label_numbering((it.edge_labels or {}).values() for it in graphs.values()) if has_edge_labels else None
-    names: Dict[Union[int, str], str] = {}
-
-    def name_of(side: Union[str, Graph]) -> str:
-        key = id(side) if isinstance(side, Graph) else side
-        if key not in names:
-            names[key] = f"{len(names)}.lad"
-            path = os.path.join(folder, names[key])
-            if isinstance(side, Graph):
-                with open(path, "w", encoding="ascii", newline="\n") as file:
-                    file.write(lad_text(side, numbers, of_edges))
-            else:
-                os.symlink(side, path)
-        return names[key]
-
-    with open(os.path.join(folder, "list"), "w", encoding="ascii", newline="\n") as file:
-        for job in jobs:
-            file.write(f"{name_of(job.sides[0])} {name_of(job.sides[1])}{' induced' * job.induced}\n")
-
-
-def _error(status: int, line: str, words: List[str], jobs: List[_Job]) -> SubgraphError:
-    """The exception for a status that is no answer; a job has the number of its question."""
-    of_job = OF_JOB.fullmatch(line)
-    if of_job and int(of_job[1]) <= len(jobs):
-        line = f"job {jobs[int(of_job[1]) - 1].number} {of_job[2]}"
-    return error_of(status, line, words)
+        tqdm = importlib.import_module("tqdm.auto")
+    except ImportError:
+        return None
+    if isinstance(questions, (str, os.PathLike)):
+        with open(questions, "rb") as file:
+            count: Optional[int] = sum(1 for _ in file)
+    else:
+        count = len(questions) if isinstance(questions, Sized) else None
+    return tqdm.tqdm(total=count, unit=" questions")

@@ -180,7 +180,7 @@ def _scale(panel: _Panel, places: Sequence[Point], high: float) -> float:
     across = (panel.width - 2 * panel.margin()) / max(right - left, 1e-9)
     down = (high - 2 * MARGIN) / max(bottom - top, 1e-9)
     wide = max(right - left, bottom - top, 1e-9)
-    return min(across, down, max(100.0, 90.0 * len(places) ** 0.5 / wide))
+    return min(across, down, max(100.0, 90.0 * math.sqrt(len(places)) / wide))
 
 
 def _height(panel: _Panel, places: Sequence[Point]) -> float:
@@ -209,7 +209,7 @@ def _radius(places: Sequence[Point]) -> float:
         return 16.0
     looked = range(0, len(places), 1 + len(places) // 300)
     nearest = sorted(min(_square(places[a], it) for b, it in enumerate(places) if b != a) for a in looked)
-    return max(2.5, min(16.0, 0.42 * nearest[len(nearest) // 10] ** 0.5))
+    return max(2.5, min(16.0, 0.42 * math.sqrt(nearest[len(nearest) // 10])))
 
 
 def _square(one: Point, other: Point) -> float:
@@ -365,15 +365,16 @@ def _molecules(pattern: Any, target: Any, mapping: Mapping[Name, Name], said: st
 
     drawing = rdMolDraw2D.MolDraw2DSVG(2 * MOLECULE, MOLECULE, MOLECULE, MOLECULE)
     drawing.drawOptions().addAtomIndices = True
+    images: Dict[Any, Any] = dict(mapping)
     atoms: List[Dict[int, Tuple[float, float, float]]] = [
-        {p: _light(_colour(p)) for p in mapping},
-        {t: _light(_colour(p)) for p, t in mapping.items()},
+        {p: _light(_colour(p)) for p in images},
+        {t: _light(_colour(p)) for p, t in images.items()},
     ]
     bonds: List[Dict[int, Tuple[float, float, float]]] = [{}, {}]
     for bond in pattern.GetBonds() if mapping else ():
         a, b = bond.GetBeginAtomIdx(), bond.GetEndAtomIdx()
         bonds[0][bond.GetIdx()] = atoms[0][a]
-        bonds[1][target.GetBondBetweenAtoms(mapping[a], mapping[b]).GetIdx()] = atoms[0][a]
+        bonds[1][target.GetBondBetweenAtoms(images[a], images[b]).GetIdx()] = atoms[0][a]
     molecules = []
     for it in (pattern, target):
         molecules.append(rdMolDraw2D.PrepareMolForDrawing(it, kekulize=True))
@@ -387,7 +388,7 @@ def _molecules(pattern: Any, target: Any, mapping: Mapping[Name, Name], said: st
         highlightBondColors=bonds,
     )
     drawing.FinishDrawing()
-    return drawing.GetDrawingText()
+    return str(drawing.GetDrawingText())
 
 
 def _light(colour: str) -> Tuple[float, float, float]:

@@ -2,7 +2,7 @@
 from __future__ import annotations
 
 import re
-from typing import List, Optional, Sequence, Tuple
+from typing import Any, Dict, List, Optional, Sequence, Tuple
 
 
 class SubgraphError(Exception):
@@ -20,6 +20,17 @@ class SubgraphError(Exception):
         super().__init__(message)
         self.status = status
         self.line = line
+
+    def __reduce__(self) -> Tuple[Any, ...]:
+        """An exception goes to another process as it is."""
+        return _as_it_was, (type(self), self.args, self.__dict__)
+
+
+def _as_it_was(kind: Any, arguments: Tuple[Any, ...], state: Dict[str, Any]) -> SubgraphError:
+    error: SubgraphError = kind.__new__(kind, *arguments)
+    error.args = arguments
+    error.__dict__.update(state)
+    return error
 
 
 class ProgramMissing(SubgraphError):
@@ -95,7 +106,8 @@ class TextRefused(SubgraphError, ValueError):
         super().__init__(line, 4, line)
         named = re.fullmatch(r"job (\d+) (.*)", line)
         self.job: Optional[int] = int(named[1]) if named else None
-        self.who, _, rest = (named[2] if named else line).partition(": ")
+        who, _, rest = (str(named[2]) if named else line).partition(": ")
+        self.who = who
         found = re.fullmatch(r"(word|line|pair) (\d+): (\w+)", rest)
         self.place: Optional[Tuple[str, int]] = (found[1], int(found[2])) if found else None
         self.cause = found[3] if found else rest
@@ -135,6 +147,20 @@ class LogRefused(SubgraphError):
 
 class ProgramFailed(SubgraphError):
     """The program was stopped from outside, or ended with a status that it does not have."""
+
+
+class WorkerLost(SubgraphError):
+    """Two workers of a cluster died while they asked this question.
+
+    Attributes
+    ----------
+    job : int
+        The number of the question in its batch, from 1.
+    """
+
+    def __init__(self, job: int) -> None:
+        super().__init__(f"job {job}: two workers died while they asked it")
+        self.job = job
 
 
 def error_of(status: int, line: str, words: Sequence[str]) -> SubgraphError:

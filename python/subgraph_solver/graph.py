@@ -2,7 +2,7 @@
 from __future__ import annotations
 
 import sys
-from typing import Any, Callable, Dict, Hashable, Iterable, List, Mapping, Optional, Sequence, Tuple, Union
+from typing import Any, Callable, Dict, Hashable, Iterable, List, Mapping, Optional, Sequence, Set, Tuple, Union
 
 from .errors import NotAvailable
 
@@ -46,6 +46,8 @@ class Graph:
         The label of each of `edges()`; ``None`` if edges have no labels.
     source : object
         What the graph was made from, such as an RDKit molecule; ``None`` if it was made from edges.
+    labelled_by : tuple
+        The `node_label` and the `edge_label` by which it was made from that.
     """
 
     def __init__(
@@ -58,9 +60,10 @@ class Graph:
     ) -> None:
         self.names: List[Name] = []
         self.number: Dict[Name, int] = {}
-        self.neighbours: List[set] = []
+        self.neighbours: List[Set[int]] = []
         self.directed = directed
         self.source: Any = None
+        self.labelled_by: Tuple[NodeLabel, EdgeLabel] = (None, None)
         for name in vertices:
             self._place(name)
         for pair in edges:
@@ -141,8 +144,9 @@ def lad_text(
     """
     name = lad_format(graph.directed, numbers is not None, edge_numbers is not None)
     lines = [str(len(graph))]
+    labels = graph.labels or []
     for a, near in enumerate(graph.neighbours):
-        words = [] if name in ("lad", "directedlad") else [0 if numbers is None else numbers[graph.labels[a]]]
+        words = [] if name in ("lad", "directedlad") else [0 if numbers is None else numbers[labels[a]]]
         words.append(len(near))
         for b in sorted(near):
             words.append(b)
@@ -185,8 +189,9 @@ def label_numbering(labels: Iterable[Iterable[Hashable]]) -> Dict[Hashable, int]
     labels are counted from 0 as they come.
     """
     found = dict.fromkeys(it for of_one in labels for it in of_one)
-    if all(type(it) is int and 0 <= it < 1 << 32 for it in found):
-        return {it: it for it in found}
+    small = [it for it in found if type(it) is int and 0 <= it < 1 << 32]
+    if len(small) == len(found):
+        return {it: it for it in small}
     return {label: number for number, label in enumerate(found)}
 
 
@@ -197,7 +202,7 @@ def read_lad(text: str, labelled: bool = False, directed: bool = False, edges_la
     """
     words = iter(text.split())
     labels: Dict[Name, Hashable] = {}
-    edges: Dict[Tuple[Name, Name], Hashable] = {}
+    edges: Dict[Tuple[int, int], Hashable] = {}
     try:
         size = int(next(words))
         for a in range(size):
@@ -212,7 +217,8 @@ def read_lad(text: str, labelled: bool = False, directed: bool = False, edges_la
         raise ValueError("the LAD text ends early") from None
     if any(b >= size for _, b in edges):
         raise ValueError("the LAD text names a vertex that it does not have")
-    return Graph(edges, range(size), labels if labelled else None, directed, edges if edges_labelled else None)
+    of_edges: Dict[Tuple[Name, Name], Hashable] = {(a, b): label for (a, b), label in edges.items()}
+    return Graph(edges, range(size), labels if labelled else None, directed, of_edges if edges_labelled else None)
 
 
 def as_graph(source: Any, node_label: NodeLabel = None, edge_label: EdgeLabel = None) -> Graph:
@@ -245,14 +251,17 @@ def as_graph(source: Any, node_label: NodeLabel = None, edge_label: EdgeLabel = 
     elif _is_a(source, "rdkit.Chem", "Mol"):
         graph = _of_molecule(source, "element" if node_label is None else node_label, edge_label)
     else:
-        return _of_plain(source, node_label, edge_label)
+        graph = _of_plain(source, node_label, edge_label)
+        graph.labelled_by = node_label, edge_label
+        return graph
     graph.source = source
+    graph.labelled_by = node_label, edge_label
     return graph
 
 
 def _labelled_anew(graph: Graph, node_label: NodeLabel, edge_label: EdgeLabel) -> Graph:
     """The graph with other labels of its source; those that are not asked for stay."""
-    if node_label is None and edge_label is None:
+    if node_label in (None, graph.labelled_by[0]) and edge_label in (None, graph.labelled_by[1]):
         return graph
     if graph.source is None:
         raise ValueError("a Graph of edges gets its labels when it is made: give Graph(edges, labels=.., edge_labels=..)")
@@ -281,7 +290,7 @@ def _attributes(wanted: Union[str, Sequence[str]], attributes: Attributes, who: 
     for it in names:
         if it not in attributes:
             raise ValueError(f"the {who} has no attribute {it!r}")
-    values = tuple(attributes[it] for it in names)
+    values: Tuple[Hashable, ...] = tuple(attributes[it] for it in names)
     return values[0] if isinstance(wanted, str) else values
 
 
@@ -315,7 +324,9 @@ def _of_networkx(source: Any, node_label: NodeLabel, edge_label: EdgeLabel) -> G
 def _counts(edges: Iterable[Tuple[Name, Name]], directed: bool) -> Iterable[int]:
     found: Dict[Hashable, int] = {}
     for pair in edges:
-        edge = pair if directed else frozenset(pair)
+        edge: Hashable = pair
+        if not directed:
+            edge = frozenset(pair)
         found[edge] = found.get(edge, 0) + 1
     return found.values()
 

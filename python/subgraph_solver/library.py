@@ -12,7 +12,7 @@ from typing import Any, List, Optional, Sequence, Tuple
 from .asking import GREATEST_BUDGET, Question
 from .errors import LibraryMissing, NotACommand, OutOfMemory, ProgramMissing, SubgraphError, TextRefused, Undecided
 from .maps import MAPS
-from .program import find_program
+from .program import StrPath, find_program
 
 #: The environment variable that names the library. Where it is empty no library is asked.
 VARIABLE = "SUBGRAPH_LIBRARY"
@@ -111,7 +111,7 @@ class Library:
         self.version = int(self._calls.subgraph_version())
         text, size = ctypes.c_char_p, ctypes.c_size_t
         images, report = ctypes.POINTER(ctypes.c_uint32), ctypes.POINTER(_Report)
-        asked = [text, size, text, size, ctypes.POINTER(_Options), ctypes.POINTER(_Pair), size, images, size, report]
+        asked: List[Any] = [text, size, text, size, ctypes.POINTER(_Options), ctypes.POINTER(_Pair), size, images, size, report]
         for call in (self._calls.subgraph_decide, self._calls.subgraph_verify):
             call.argtypes = asked
             call.restype = ctypes.c_uint32
@@ -131,7 +131,7 @@ class Library:
 
     def encode(self, texts: Texts, options: _Options, less: Pairs) -> Tuple[Said, bytes]:
         """Asks for the question as constraints: first for the length of the text, and then for the text."""
-        pairs, report = (_Pair * max(len(less), 1))(*less), _Report()
+        pairs, report = _pairs(less), _Report()
         pattern, target = texts
         asked = pattern, len(pattern), target, len(target), options, pairs, len(less)
         status, held = self._calls.subgraph_encode(*asked, ctypes.create_string_buffer(1), 0, report), b""
@@ -149,11 +149,15 @@ class Library:
 
     @staticmethod
     def _ask(call: Any, texts: Texts, options: _Options, less: Pairs, held: Any, room: int) -> Said:
-        pairs = (_Pair * max(len(less), 1))(*less)
-        report = _Report()
+        pairs, report = _pairs(less), _Report()
         pattern, target = texts
         status = call(pattern, len(pattern), target, len(target), options, pairs, len(less), held, room, report)
         return Said(status, list(held[: report.count]), report.role, report.word, report.cause)
+
+
+def _pairs(less: Pairs) -> Any:
+    """The pairs as an array, which has a place even if there are none."""
+    return (_Pair * max(len(less), 1))(*(_Pair(*it) for it in less))
 
 
 def options_of(question: Question, seed: int = 0, budget: int = GREATEST_BUDGET, rows: int = ROWS) -> _Options:
@@ -188,6 +192,11 @@ def find_library() -> Optional[Library]:
     system = _of_system()
     paths = [str(it) for it in places if it.is_file()] + ([system] if system else [])
     return next((found for found in map(_load, paths) if found is not None), None)
+
+
+def library_for(program: Optional[StrPath], threads: Optional[int], more: bool) -> Optional[Library]:
+    """The library, where there is one and neither a program nor several threads nor more than it can do is asked for."""
+    return None if program is not None or threads not in (None, 1) or more else find_library()
 
 
 @lru_cache(maxsize=None)

@@ -4,7 +4,8 @@ from __future__ import annotations
 from typing import Any, Dict, Optional
 
 from .graph import EdgeLabel, Name, NodeLabel
-from .questions import StrPath, find
+from .program import StrPath
+from .questions import find
 
 
 class GraphMatcher:
@@ -42,8 +43,8 @@ class GraphMatcher:
         self.G1 = G1
         self.G2 = G2
         self.mapping: Dict[Name, Name] = {}
-        labels: Dict[str, Any] = {"node_label": node_label, "edge_label": edge_label}
-        self._how = {**labels, "seed": seed, "budget": budget, "program": program}
+        labels = {"node_label": node_label, "edge_label": edge_label}
+        self._how: Dict[str, Any] = {**labels, "seed": seed, "budget": budget, "program": program}
 
     def subgraph_is_isomorphic(self) -> bool:
         """Does G1 have an induced copy of G2?"""

@@ -12,8 +12,11 @@ from typing import IO, Callable, List, Optional, Sequence, Tuple, Union
 
 from .errors import ProgramMissing
 
+StrPath = Union[str, "os.PathLike[str]"]
 #: The environment variable that names the program.
 VARIABLE = "SUBGRAPH_PROGRAM"
+#: Where a wheel that has the program puts it.
+INSTALLED = Path(__file__).resolve().parent / "bin" / "subgraph"
 HOW_TO_BUILD = (
     "the program `subgraph` was not found. At the top of its repository `./subgraph demo 7` builds it, and "
     f"`make install PREFIX=..` installs it. Or name it by program=.. or in the variable {VARIABLE}"
@@ -48,11 +51,11 @@ class Progress:
 Watcher = Callable[[], None]
 
 
-def find_program(program: Optional[Union[str, os.PathLike]] = None) -> str:
+def find_program(program: Optional[StrPath] = None) -> str:
     """The path of the program.
 
-    It is the argument, else the one that ``SUBGRAPH_PROGRAM`` names, else the build of the repository that this package
-    lies in, else ``subgraph`` on the path.
+    It is the argument, else the one that ``SUBGRAPH_PROGRAM`` names, else the one that was installed with this package, else
+    the build of the repository that this package lies in, else ``subgraph`` on the path.
 
     Raises
     ------
@@ -65,6 +68,8 @@ def find_program(program: Optional[Union[str, os.PathLike]] = None) -> str:
         if found is None:
             raise ProgramMissing(f"{os.fspath(named)} is not a program. {HOW_TO_BUILD}")
         return found
+    if os.access(INSTALLED, os.X_OK):
+        return str(INSTALLED)
     top = Path(__file__).resolve().parents[2]
     built = top / "crates" / "subgraph" / "out" / "subgraph"
     if (top / "crates.txt").is_file() and os.access(built, os.X_OK):
@@ -121,6 +126,16 @@ def run(
             process.wait()
             raise
     return process.returncode, (told or b"").decode("ascii", "replace"), _line(error)
+
+
+def options(**numbers: Optional[int]) -> List[str]:
+    """The options of the program for those numbers that are named."""
+    return [word for name, it in numbers.items() if it is not None for word in (f"--{name}", str(int(it)))]
+
+
+def images_of(out: str) -> List[int]:
+    """The images in the output of `solve`, in the order of the pattern's vertices."""
+    return [int(line.split(" -> ")[1]) for line in out.splitlines()[1:]]
 
 
 def _line(error: bytes) -> str:

@@ -5,18 +5,17 @@ import os
 import re
 import shutil
 import tempfile
-from dataclasses import dataclass
 from pathlib import Path
-from typing import Any, Callable, Dict, Iterable, List, Literal, Mapping, Optional, Tuple, Union, overload
+from typing import Any, Callable, Iterable, List, Literal, Mapping, Optional, Tuple, Union, overload
 
+from .answers import Embedding, Proof
 from .asking import GREATEST_BUDGET, question_of
 from .errors import SubgraphError, Undecided, error_of
 from .graph import EdgeLabel, Name, NodeLabel
-from .library import GoesOn, find_by, find_library, verify_by
+from .library import GoesOn, find_by, find_library, library_for, verify_by
 from .maps import Map, Pair
-from .program import Progress, Teller, find_program, run
+from .program import Progress, StrPath, Teller, find_program, images_of, options, run
 
-StrPath = Union[str, "os.PathLike[str]"]
 #: Is progress told, and to which function?
 Told = Union[bool, Callable[[Progress], None]]
 #: The first slice of the budget when progress is told. Each later one is twice as large.
@@ -24,32 +23,6 @@ FIRST_SLICE = 1 << 12
 #: The book of several threads if none is named. The program's own default is 65,536 rows; once they are full each thread keeps
 #: its further rows for itself, and several do some of their work twice.
 LARGE_BOOK = 1 << 20
-
-
-@dataclass(frozen=True)
-class Proof:
-    """A proof that no embedding exists. The program's checker has accepted it.
-
-    It counts as false, so ``if find(..)`` reads the same with a proof and without.
-
-    Attributes
-    ----------
-    encoding : Path
-        The question as pseudo-Boolean constraints. Its solutions are the embeddings.
-    log : Path
-        The steps from them to a contradiction.
-    """
-
-    encoding: Path
-    log: Path
-
-    def __bool__(self) -> bool:
-        return False
-
-
-def _images(out: Optional[str]) -> Optional[List[int]]:
-    """The images in the output of `solve`, in the order of the pattern's vertices; ``None`` if there is none."""
-    return None if out is None else [int(line.split(" -> ")[1]) for line in out.splitlines()[1:]]
 
 
 @overload
@@ -68,7 +41,7 @@ def find(
     book: Optional[int] = ...,
     map: Map = ...,
     less: Iterable[Pair] = ...,
-) -> Optional[Dict[Name, Name]]: ...
+) -> Optional[Embedding]: ...
 
 
 @overload
@@ -88,7 +61,7 @@ def find(
     book: Optional[int] = ...,
     map: Map = ...,
     less: Iterable[Pair] = ...,
-) -> Union[Dict[Name, Name], Proof]: ...
+) -> Union[Embedding, Proof]: ...
 
 
 def find(
@@ -106,7 +79,7 @@ def find(
     book: Optional[int] = None,
     map: Map = "injective",
     less: Iterable[Pair] = (),
-) -> Union[Dict[Name, Name], None, Proof]:
+) -> Union[Embedding, None, Proof]:
     """Finds an embedding of the pattern in the target.
 
     Parameters
@@ -150,8 +123,8 @@ def find(
 
     Returns
     -------
-    dict, None or Proof
-        The image of each pattern vertex; ``None`` if no embedding exists, or its proof.
+    Embedding, None or Proof
+        The image of each pattern vertex, as a dict that a notebook draws; ``None`` if no embedding exists, or its proof.
 
     Raises
     ------
@@ -161,8 +134,7 @@ def find(
         Anything else; each status of the program has an exception of its own.
     """
     question = question_of(pattern, target, (node_label, edge_label), induced, map, less)
-    by_program = program is not None or threads not in (None, 1) or prove is not False or bool(progress)
-    library = None if by_program else find_library()
+    library = library_for(program, threads, prove is not False or bool(progress))
     if library is not None:
         try:
             return question.named(find_by(library, question, seed, budget, book))
@@ -170,27 +142,22 @@ def find(
             pass
     asked = find_program(program)
     with question.files() as files:
-        options = _options(seed=seed, threads=threads, book=_rows(book, threads))
+        words = [*options(seed=seed, threads=threads, book=_rows(book, threads)), *files.words]
         proof = _proof_paths(prove, files.folder)
         if proof is not None:
-            options += ["--prove", str(proof.encoding), "--log", str(proof.log)]
-        words = [*options, *files.words]
+            words += ["--prove", str(proof.encoding), "--log", str(proof.log)]
         if progress:
             answer = _in_slices(asked, words, budget, threads, progress)
         else:
             answer = _solve(asked, words, budget, threads)
         if answer is not None or proof is None:
-            return question.named(_images(answer))
+            return question.named(None if answer is None else images_of(answer))
         return _kept(asked, proof, prove)
 
 
 def _rows(book: Optional[int], threads: Optional[int]) -> Optional[int]:
     """The rows of the book to ask for: those that are named, and else more than the program's own for several threads."""
     return LARGE_BOOK if book is None and threads is not None and threads > 1 else book
-
-
-def _options(**numbers: Optional[int]) -> List[str]:
-    return [word for name, it in numbers.items() if it is not None for word in (f"--{name}", str(int(it)))]
 
 
 def _solve(
@@ -201,7 +168,7 @@ def _solve(
     teller: Optional[Teller] = None,
 ) -> Optional[str]:
     """The output if an embedding was found, ``None`` if none exists."""
-    whole = ["solve", *_options(budget=budget), *words]
+    whole = ["solve", *options(budget=budget), *words]
     status, out, line = run(program, whole, watcher=teller.going if teller else None)
     if status == 0 and out.startswith("yes\n"):
         return out

@@ -40,7 +40,7 @@ class BatchWords(unittest.TestCase):
     def test_graphs_of_one_kind_in_one_run(self) -> None:
         with StandIn(body=NOTES) as program:
             how = {"threads": 4, "seed": 7, "budget": 9, "book": 5}
-            told = batch([(PATH, TRIANGLE), (TRIANGLE, TRIANGLE, True)], program=program.path, **how)
+            told = list(batch([(PATH, TRIANGLE), (TRIANGLE, TRIANGLE, True)], program=program.path, **how))
             self.assertEqual(told, [None, None])
             words, *lines = program.words()
         self.assertEqual(words, "batch --budget 9 --seed 7 --threads 4 --book 5 list".split())
@@ -52,7 +52,7 @@ class BatchWords(unittest.TestCase):
         labelled, directed = Graph([(0, 1)], labels={0: "C", 1: "O"}), Graph([(0, 1)], directed=True)
         oxygen = Graph(vertices=[0], labels={0: "O"})
         with StandIn(body=NOTES) as program:
-            told = batch([(PATH, TRIANGLE), (directed, directed), (oxygen, labelled), (PATH, CYCLE)], program=program.path)
+            told = list(batch([(PATH, TRIANGLE), (directed, directed), (oxygen, labelled), (PATH, CYCLE)], program=program.path))
             self.assertEqual(told, [None] * 4)
             lines = program.words()
         runs = [line[1:] for line in lines if line[0] == "batch"]
@@ -62,7 +62,7 @@ class BatchWords(unittest.TestCase):
 
     def test_a_thousand_a_run(self) -> None:
         with StandIn(body=NOTES) as program:
-            self.assertEqual(batch([(PATH, TRIANGLE)] * 2001, program=program.path), [None] * 2001)
+            self.assertEqual(list(batch([(PATH, TRIANGLE)] * 2001, piece=1000, program=program.path)), [None] * 2001)
             lines = program.words()
         runs = [at for at, line in enumerate(lines) if line[0] == "batch"]
         self.assertEqual([(b - a - 1) // 3 for a, b in zip(runs, [*runs[1:], len(lines)])], [1000, 1000, 1])
@@ -75,10 +75,10 @@ class BatchWords(unittest.TestCase):
                 file.write("8000 " + "0 " * 8000)
             for pattern, target in ((Graph(vertices=[0]), large), (os.devnull, path)):
                 with self.subTest(target=target):
-                    self.assertEqual(batch([(pattern, target)] * 300, program=program.path), [None] * 300)
+                    self.assertEqual(list(batch([(pattern, target)] * 300, piece=1000, program=program.path)), [None] * 300)
             lines = [line for line in program.words() if line and (line[0] == "batch" or line[0].endswith(".lad"))]
         runs = [at for at, line in enumerate(lines) if line[0] == "batch"]
-        self.assertEqual([b - a - 1 for a, b in zip(runs, [*runs[1:], len(lines)])], [134, 134, 32] * 2)
+        self.assertEqual([b - a - 1 for a, b in zip(runs, [*runs[1:], len(lines)])], [135, 135, 30] * 2)
 
     def test_files(self) -> None:
         with tempfile.TemporaryDirectory() as folder, StandIn(body=NOTES) as program:
@@ -86,11 +86,11 @@ class BatchWords(unittest.TestCase):
             for path, size in zip(paths, "12"):
                 with open(path, "w", encoding="ascii") as file:
                     file.write(size)
-            self.assertEqual(batch([tuple(paths)], format="labelledlad", program=program.path), [None])
+            self.assertEqual(list(batch([tuple(paths)], format="labelledlad", program=program.path)), [None])
             self.assertEqual(program.words()[0], ["batch", "--format", "labelledlad", "list"])
             self.assertEqual(program.words()[2:], [["1"], ["2"]])
             with self.assertRaisesRegex(ValueError, "question 2 has a file and a graph"):
-                batch([(PATH, TRIANGLE), (paths[0], TRIANGLE)], program=program.path)
+                list(batch([(PATH, TRIANGLE), (paths[0], TRIANGLE)], program=program.path))
 
     def test_lists(self) -> None:
         rows = (
@@ -113,10 +113,10 @@ class BatchWords(unittest.TestCase):
                     file.write(text)
                     file.flush()
                     if isinstance(wanted, list):
-                        self.assertEqual(batch("jobs", program=program.path), [None] * len(wanted))
+                        self.assertEqual(list(batch("jobs", program=program.path)), [None] * len(wanted))
                         continue
                     with self.assertRaises(solver.TextRefused) as told:
-                        batch("jobs", program=program.path)
+                        list(batch("jobs", program=program.path))
                     self.assertEqual(told.exception.line, wanted)
             os.chdir(before)
 
@@ -124,29 +124,29 @@ class BatchWords(unittest.TestCase):
         out = "1: yes 2 1 0\n2: unknown\n3: none\n"
         with StandIn(2, out) as program:
             other = [("x", "y"), ("y", "z")]
-            told = batch([(PATH, other), (TRIANGLE, CYCLE), (TRIANGLE, CYCLE)], budget=3, program=program.path)
+            told = list(batch([(PATH, other), (TRIANGLE, CYCLE), (TRIANGLE, CYCLE)], budget=3, program=program.path))
         self.assertEqual(told, [{"a": "z", "b": "y", "c": "x"}, Unknown(3), None])
         self.assertFalse(told[1])
         rows = ((0, "1: none\n"), (0, "2: none\n1: none\n"), (0, "1: none\n2: perhaps\n"), (1, "1: none\n2: none\n"))
         for status, wrong in rows:
             with self.subTest(wrong), StandIn(status, wrong) as program, self.assertRaises(solver.ProgramFailed):
-                batch([(PATH, PATH)] * 2, program=program.path)
+                list(batch([(PATH, PATH)] * 2, program=program.path))
 
     def test_refused(self) -> None:
         directed = Graph([(0, 1)], directed=True)
         with StandIn(4, "", "job 2 target: word 3: NoSuchVertex\n") as program:
             with self.assertRaises(solver.TextRefused) as told:
-                batch([(directed, directed), (PATH, PATH), (directed, directed)], program=program.path)
+                list(batch([(directed, directed), (PATH, PATH), (directed, directed)], program=program.path))
         it = told.exception
         self.assertEqual((it.job, it.who, it.place, it.cause), (3, "target", ("word", 3), "NoSuchVertex"))
         with StandIn(3, "", "words: not a command\n") as program:
             with self.assertRaisesRegex(solver.NotACommand, "may not know batch"):
-                batch([(PATH, PATH)], program=program.path)
+                list(batch([(PATH, PATH)], program=program.path))
         with StandIn() as program:
-            self.assertEqual(batch([], program=program.path), [])
+            self.assertEqual(list(batch([], program=program.path)), [])
             for pattern, target, text in ((directed, PATH, "is directed"), (PATH, Graph(labels={}), "has no labels")):
                 with self.subTest(text), self.assertRaisesRegex(ValueError, text):
-                    batch([(pattern, target)], program=program.path)
+                    list(batch([(pattern, target)], program=program.path))
 
 
 class TrimWords(unittest.TestCase):
@@ -172,7 +172,7 @@ class Batch(unittest.TestCase):
     def test_as_alone(self) -> None:
         questions = [(PATH, TRIANGLE), (PATH, TRIANGLE, True), (TRIANGLE, CYCLE), ([], []), (Graph(vertices="a"), [(1, 1)], True)]
         for threads in (None, 1, 4):
-            told = batch(questions, threads=threads)
+            told = list(batch(questions, threads=threads))
             for (pattern, target, *how), images in zip(questions, told):
                 with self.subTest(pattern=pattern, threads=threads):
                     self.assertEqual(images is None, find(pattern, target, *how) is None)
@@ -183,11 +183,11 @@ class Batch(unittest.TestCase):
         oxygen = Graph(vertices=["o"], labels={"o": "O"})
         target = Graph([(1, 2), (2, 3)], labels={1: "C", 2: "C", 3: "O"})
         other = Graph([(1, 2)], labels={1: "C", 2: "N"})
-        self.assertEqual(batch([(oxygen, target), (TRIANGLE, CYCLE), (oxygen, other)]), [{"o": 3}, None, None])
+        self.assertEqual(list(batch([(oxygen, target), (TRIANGLE, CYCLE), (oxygen, other)])), [{"o": 3}, None, None])
 
     def test_budget(self) -> None:
-        self.assertEqual(batch([(TRIANGLE, CYCLE)], budget=3), [Unknown(3)])
-        self.assertEqual(batch([(TRIANGLE, CYCLE)], budget=4), [None])
+        self.assertEqual(list(batch([(TRIANGLE, CYCLE)], budget=3)), [Unknown(3)])
+        self.assertEqual(list(batch([(TRIANGLE, CYCLE)], budget=4)), [None])
 
     def test_files(self) -> None:
         with tempfile.TemporaryDirectory() as folder:
@@ -196,13 +196,13 @@ class Batch(unittest.TestCase):
                 with open(os.path.join(folder, name), "w", encoding="ascii") as file:
                     file.write(text)
             path, edge, odd = (os.path.join(folder, name) for name in texts)
-            (images,) = batch([(edge, path)])
+            (images,) = list(batch([(edge, path)]))
             self.assertEqual(set(images), {0, 1})
             with self.assertRaises(solver.TextRefused) as told:
-                batch([(edge, path), (edge, odd)])
+                list(batch([(edge, path), (edge, odd)]))
             self.assertEqual((told.exception.job, told.exception.who, told.exception.cause), (2, "target", "NotNumber"))
             with self.assertRaises(solver.Fault):
-                batch([(edge, os.path.join(folder, "none"))])
+                list(batch([(edge, os.path.join(folder, "none"))]))
 
 
 @needs_program

@@ -158,6 +158,8 @@ class OfIgraph(unittest.TestCase):
             as_graph(igraph.Graph(2, [(0, 1), (0, 1)]))
 
     def test_files_without_networkx(self) -> None:
+        import igraph  # noqa: F401  a second import of it would fail
+
         lines = ("graph [", 'node [ id 0 label "a" kind "x" ]', 'node [ id 1 label "b" kind "y" ]', "edge [ source 0 target 1 ]", "]")
         with tempfile.TemporaryDirectory() as folder, mock.patch.dict(sys.modules, {"networkx": None}):
             path = os.path.join(folder, "g.gml")

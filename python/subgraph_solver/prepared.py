@@ -1,0 +1,83 @@
+"""A target that many questions name: it is read and written once."""
+from __future__ import annotations
+
+from itertools import count
+from typing import Any, Dict, Hashable, Iterable, Optional, Tuple
+
+from .errors import TextRefused
+from .graph import EdgeLabel, Graph, NodeLabel, as_graph, label_numbering, lad_format, lad_text
+
+#: The most vertices of a target, and the most bytes of its text.
+MOST_VERTICES = 8192
+MOST_BYTES = 1 << 26
+
+Numbers = Optional[Dict[Hashable, int]]
+Labels = Tuple[NodeLabel, EdgeLabel]
+
+
+class Prepared(Graph):
+    """A target with its text, as `prepare` makes it. It stands wherever a target does.
+
+    Attributes
+    ----------
+    format : str
+        The format of the text, and of the pattern's.
+    text : bytes
+        The graph in LAD text. It stays as it is if the source changes.
+    """
+
+    def __init__(self, graph: Graph) -> None:
+        self.__dict__.update(graph.__dict__)
+        self._numbers: Numbers = None if graph.labels is None else label_numbering([graph.labels])
+        edges = graph.edge_labels
+        self._edge_numbers: Numbers = None if edges is None else label_numbering([edges.values()])
+        self.format = lad_format(graph.directed, self._numbers is not None, self._edge_numbers is not None)
+        self.text = lad_text(graph, self._numbers, self._edge_numbers).encode("ascii")
+
+    def pattern(self, source: Any, labels: Labels) -> Graph:
+        """The graph of a pattern. Where no labels are named its labels are those that the target was made with."""
+        if labels == (None, None) and not (isinstance(source, Graph) and source.source is None):
+            labels = self.labelled_by
+        return as_graph(source, *labels)
+
+    def text_of(self, pattern: Graph) -> bytes:
+        """The text of a pattern, in the target's numbers of labels."""
+        numbers = _with(self._numbers, pattern.labels or ())
+        edge_numbers = _with(self._edge_numbers, (pattern.edge_labels or {}).values())
+        return lad_text(pattern, numbers, edge_numbers).encode("ascii")
+
+
+def _with(numbers: Numbers, labels: Iterable[Hashable]) -> Numbers:
+    """The numbers, and for each further label one that no other has."""
+    if numbers is None:
+        return None
+    further = [it for it in dict.fromkeys(labels) if it not in numbers]
+    taken = set(numbers.values()) if further else set()
+    free = (it for it in count() if it not in taken)
+    return {**numbers, **dict(zip(further, free))} if further else numbers
+
+
+def prepare(target: Any, node_label: NodeLabel = None, edge_label: EdgeLabel = None) -> Prepared:
+    """Keeps of a target what many questions need: its graph, and its text, checked once.
+
+    `find`, `verify`, `encode`, `draw` and `batch` take the answer as a target. Patterns get the labels that are named here, unless
+    others are named there. Later changes of the target are not seen.
+
+    Parameters
+    ----------
+    target : graph
+        As `find` takes it.
+    node_label, edge_label
+        As `find` has them.
+
+    Raises
+    ------
+    TextRefused
+        The target has more than 8,192 vertices, or its text more than 64 MiB.
+    """
+    made = Prepared(as_graph(target, node_label, edge_label))
+    if len(made) > MOST_VERTICES:
+        raise TextRefused("target: word 1: TooMany")
+    if len(made.text) > MOST_BYTES:
+        raise TextRefused("target: too long")
+    return made
