@@ -2,11 +2,12 @@
 from __future__ import annotations
 
 import importlib
+import pickle
 import time
 import uuid
 from collections import deque
 from dataclasses import dataclass, field
-from typing import Any, Deque, Dict, Generator, Iterator, List, Optional, Sequence, Tuple, Union
+from typing import Any, Deque, Dict, Generator, Iterator, List, Optional, Sequence, Tuple
 
 from .answers import Failed
 from .errors import WorkerLost
@@ -18,7 +19,8 @@ from .runs import How, Said, Stopped, said_of
 AHEAD = 3
 #: The seconds after which the threads of the workers are counted anew.
 COUNTED = 5.0
-#: What the note of a part says: no worker is at it; a worker has all of it in hand. Else it is the place of one question.
+#: What the note of a part says: no worker was at it; a worker has all of it in hand. Else it is the place of the question that a
+#: worker has in hand, or bytes: what is said of all of them.
 IDLE, WHOLE = -2, -1
 #: The seconds that a worker waits for a note.
 PATIENCE = 60
@@ -31,41 +33,24 @@ def _distributed() -> Any:
         raise ImportError("a batch with a client needs dask.distributed, which is not installed") from None
 
 
-@dataclass(frozen=True)
-class _Lost:
-    """A worker died before it answered, and this is what the note said."""
+def ask(chunk: Chunk, how: How, note: str, one_by_one: bool) -> None:
+    """Asks the questions of a part, and writes what is said of them and the seconds that it took into the note.
 
-    at: int
-
-
-@dataclass(frozen=True)
-class _Heard:
-    """What is said of each question, and the seconds that it took."""
-
-    said: List[Said]
-    seconds: float
-
-
-def ask(chunk: Chunk, how: How, note: str, one_by_one: bool) -> Union[_Lost, _Heard]:
-    """Asks the questions of a part. This runs on a worker.
-
-    The scheduler calls it again where a worker dies. The note is kept by the scheduler, and outlives the worker. So the
-    second call sees that there was a first one, asks nothing, and answers that this was lost. One by one the note tells
-    at which question that was.
+    This runs on a worker, and the scheduler calls it again where the worker dies. The note is kept by the scheduler, and
+    outlives the worker. So a second call sees that there was a first one, and asks nothing. What is said is not fetched from
+    a worker, which may have died since.
     """
     distributed = _distributed()
     mark = distributed.Variable(note, client=distributed.get_client())
-    at = mark.get(timeout=PATIENCE)
-    if at != IDLE:
-        return _Lost(at)
+    if mark.get(timeout=PATIENCE) != IDLE:
+        return
     begun = time.monotonic()
     watcher = _watcher(distributed.get_worker())
     said: List[Said] = []
     for place in range(len(chunk.jobs)) if one_by_one else [WHOLE]:
         mark.set(place)
         said += said_of(chunk if place == WHOLE else chunk.part([place]), how, watcher)
-    mark.set(IDLE)
-    return _Heard(said, time.monotonic() - begun)
+    mark.set(pickle.dumps((said, time.monotonic() - begun)))
 
 
 def _watcher(worker: Any) -> Watcher:
@@ -171,20 +156,22 @@ class Cluster:
     def _hear(self, future: Any) -> None:
         """Takes what came of a task."""
         asked = self._asked.pop(future)
-        try:
-            heard = future.result()
-        except self._distributed.KilledWorker:
-            heard = _Lost(asked.note.get(timeout=PATIENCE))
+        error = future.exception()
+        if error is not None and not isinstance(error, self._distributed.KilledWorker):
+            asked.note.delete()
+            raise error
+        heard = asked.note.get(timeout=PATIENCE)
         asked.note.delete()
-        if isinstance(heard, _Heard):
-            asked.piece.said.update(zip(asked.places, heard.said))
-            self._pace.took(len(asked.places), heard.seconds)
-        elif heard.at == IDLE:
+        if not isinstance(heard, int):
+            said, seconds = pickle.loads(heard)
+            asked.piece.said.update(zip(asked.places, said))
+            self._pace.took(len(asked.places), seconds)
+        elif heard == IDLE:
             self._submit(asked.piece, asked.places, asked.one_by_one)
-        elif asked.one_by_one:
-            self._killed(asked, heard.at)
-        else:
+        elif heard == WHOLE:
             self._suspects.append((asked.piece, asked.places))
+        else:
+            self._killed(asked, heard)
         if self._suspects and not any(it.one_by_one for it in self._asked.values()):
             self._submit(*self._suspects.popleft(), True)
 

@@ -45,10 +45,12 @@ def takes(**options: Any) -> bool:
 class StandIn:
     """A program that ends with a status and lines of one's choice, and notes the words that it got.
 
-    It is a context manager; `path` is the program and `words()` what it got.
+    It is a context manager; `path` is the program and `words()` what it got. A body of one's own is a script for `by`, in
+    which ``{notes!r}`` stands for the file of notes.
     """
 
-    def __init__(self, status: int = 0, out: str = "", error: str = "", body: str = "") -> None:
+    def __init__(self, status: int = 0, out: str = "", error: str = "", body: str = "", by: str = sys.executable) -> None:
+        self.by = by
         self.body = body or (
             "import sys\n"
             f"open({{notes!r}}, 'a').write(' '.join(sys.argv[1:]) + '\\n')\n"
@@ -60,7 +62,7 @@ class StandIn:
         self.path = os.path.join(self._folder.name, "stand_in")
         self.notes = os.path.join(self._folder.name, "notes")
         with open(self.path, "w", encoding="utf-8") as file:
-            file.write(f"#!{sys.executable}\n" + self.body.replace("{notes!r}", repr(self.notes)))
+            file.write(f"#!{self.by}\n" + self.body.replace("{notes!r}", repr(self.notes)))
         os.chmod(self.path, os.stat(self.path).st_mode | stat.S_IXUSR)
         return self
 

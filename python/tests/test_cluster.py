@@ -18,18 +18,19 @@ from .asked import CYCLE, PATH, TRIANGLE, StandIn, needs, needs_program
 
 #: A program that answers `none`, or `yes` where the pattern has fewer vertices than the target. A pattern of 13 vertices kills
 #: the process that asks, and one of 14 takes a minute; both are noted.
-ANSWERS = """import os, signal, sys, time
-lines = [line.split() for line in open(sys.argv[-1])]
-for number, (pattern, target, *_) in enumerate(lines, 1):
-    p, t = (int(open(it).readline()) for it in (pattern, target))
-    if p in (13, 14):
-        with open({notes!r}, "a") as notes:
-            notes.write(f"{p} {os.getpid()}\\n")
-        if p == 14:
-            time.sleep(60)
-        os.kill(os.getppid(), signal.SIGKILL)
-        time.sleep(5)
-    print(f"{number}: " + ("yes " + " ".join(map(str, range(p))) if p < t else "none"))
+ANSWERS = """number=0
+while read -r pattern target how; do
+    number=$((number + 1))
+    read -r p <"$pattern"
+    read -r t <"$target"
+    case $p in 13 | 14) echo "$p $$" >>{notes!r} ;; esac
+    [ "$p" = 14 ] && exec sleep 60
+    [ "$p" = 13 ] && { sleep 1; kill -9 $PPID; exec sleep 5; }
+    images=""
+    at=0
+    while [ "$at" -lt "$p" ]; do images="$images $at"; at=$((at + 1)); done
+    if [ "$p" -lt "$t" ]; then echo "$number: yes$images"; else echo "$number: none"; fi
+done <list
 """
 
 
@@ -67,11 +68,8 @@ class OnWorkers:
         cls.client.close()
         cls.cluster.close()
 
-    def kill_one(self) -> None:
-        os.kill(next(iter(self.client.run(os.getpid).values())), signal.SIGKILL)
-
     def test_order(self) -> None:
-        with StandIn(body=ANSWERS) as program:
+        with StandIn(body=ANSWERS, by="/bin/sh") as program:
             how = {"client": self.client, "program": program.path, "piece": 7}
             self.assertEqual(list(batch(small(100), **how)), [wanted(n) for n in range(1, 101)])
             done = list(batch(small(100), as_done=True, **how))
@@ -80,19 +78,18 @@ class OnWorkers:
 
     def test_a_worker_is_killed(self) -> None:
         """In the middle: nothing is lost, and nothing comes twice."""
-        with StandIn(body=ANSWERS) as program:
-            for as_done in (True, False):
-                numbers: List[int] = []
-                answers = batch(small(600), client=self.client, program=program.path, piece=20, as_done=as_done)
-                for number, it in answers if as_done else enumerate(answers, 1):
-                    numbers.append(number)
-                    self.assertEqual(it, wanted(number))
-                    if len(numbers) in (100, 300):
-                        self.kill_one()
-                self.assertEqual(Counter(numbers), Counter(range(1, 601)))
+        numbers: List[int] = []
+        with StandIn(body=ANSWERS, by="/bin/sh") as program:
+            how = {"client": self.client, "program": program.path, "piece": 10, "as_done": True}
+            for number, it in batch(small(300), **how):
+                numbers.append(number)
+                self.assertEqual(it, wanted(number))
+                if len(numbers) == 100:
+                    os.kill(next(it.pid for it in self.cluster.workers.values() if it.pid), signal.SIGKILL)
+        self.assertEqual(Counter(numbers), Counter(range(1, 301)))
 
     def test_a_question_kills_its_worker(self) -> None:
-        with StandIn(body=ANSWERS) as program:
+        with StandIn(body=ANSWERS, by="/bin/sh") as program:
             questions = list(small(120))
             for number in (31, 77):
                 questions[number - 1] = graph(13), graph(20)
@@ -109,7 +106,7 @@ class OnWorkers:
 
     def test_given_up(self) -> None:
         """A caller that stops ends the programs that run for it."""
-        with StandIn(body=ANSWERS) as program:
+        with StandIn(body=ANSWERS, by="/bin/sh") as program:
             questions = [(graph(3), graph(5)), *[(graph(14), graph(20))] * 20]
             with closing(batch(questions, client=self.client, program=program.path, piece=1)) as answers:
                 self.assertEqual(next(answers), {0: 0, 1: 1, 2: 2})
@@ -130,7 +127,7 @@ class OnWorkers:
                 taken += 1
                 yield it
 
-        with StandIn(body=ANSWERS) as program:
+        with StandIn(body=ANSWERS, by="/bin/sh") as program:
             with closing(batch(counted(), client=self.client, program=program.path, piece=5)) as answers:
                 for _ in range(10):
                     next(answers)
