@@ -4,6 +4,8 @@
 #   make install PREFIX=/usr/local    the program (proved and built first), its manual page, the Python package, and the library
 #                                     with its header and subgraph.pc; install-program and install-lib are its two halves
 #   make uninstall PREFIX=..          takes them away again
+#   make wheel                        build/*.whl: the Python package with the program inside, and the library if build/ has it. `pip install`
+#                                     takes it without a network, and `pip install ./python` the package alone
 #   make quick                        each test of the crates, the answers on the pages and the Python tests, by builds without
 #                                     proofs: a first look, which proves nothing
 #   make test                         the package's tests, the library's (c/test.sh), each answer that a page tells, both checkers of logs
@@ -36,7 +38,7 @@ PACKAGES = $(DESTDIR)$(or $(FOLDER),$(error $(PYTHON) does not run))/subgraph_so
 
 LIBRARIES = $(DESTDIR)$(PREFIX)/lib
 
-.PHONY: build lib install install-program install-lib uninstall quick test hostile docs house
+.PHONY: build lib install install-program install-lib uninstall wheel quick test hostile docs house
 
 build:
 ifeq ($(PROGRAM),crates/subgraph/out/subgraph)
@@ -80,13 +82,16 @@ uninstall:
 	rm -f $(DESTDIR)$(PREFIX)/include/subgraph.h $(LIBRARIES)/pkgconfig/subgraph.pc
 	rm -rf $(PACKAGES)
 
+wheel: build
+	$(PYTHON) tools/wheel.py $(PROGRAM) $(wildcard build/libsubgraph.so) --to build
+
 quick:
 	$(PYTHON) tools/quick.py
 
 test: build lib
 	c/test.sh build
 	$(PYTHON) bench/library.py $(PROGRAM) build/libsubgraph.so
-	cd python && SUBGRAPH_PROGRAM=$(abspath $(PROGRAM)) SUBGRAPH_LIBRARY=$(abspath build/libsubgraph.so) $(PYTHON) -m unittest
+	cd python && SUBGRAPH_PROGRAM=$(abspath $(PROGRAM)) SUBGRAPH_LIBRARY=$(abspath build/libsubgraph.so) $(PYTHON) -m tests
 	$(PYTHON) examples/check.py --program $(PROGRAM)
 	$(PYTHON) tools/test_plain_check.py
 	$(PYTHON) bench/check_logs.py '$(PROGRAM) check' '$(PYTHON) tools/plain_check.py' --cases --mutants 1

@@ -4,18 +4,24 @@ from __future__ import annotations
 import argparse
 import os
 import sys
-from typing import Any, Dict, List, Optional
+from contextlib import closing, nullcontext
+from typing import Any, ContextManager, Dict, List, Optional
 
+from .answers import Embedding, Failed, Proof, Unknown
+from .batch import Answer, batch
+from .cluster import distributed
 from .draw import draw
 from .errors import SubgraphError, Undecided
 from .graph import Name, as_graph
+from .library import FORMATS
 from .maps import MAPS
-from .answers import Proof
 from .questions import check, encode, find, trim, verify
 from .reading import read_graph
 
 #: The status if the words or the files are at fault, before the program is asked.
 BAD_INPUT = 3
+#: The status of a batch in which a question failed, and the others are answered.
+FAILED = 8
 
 
 def _words() -> argparse.ArgumentParser:
@@ -23,7 +29,8 @@ def _words() -> argparse.ArgumentParser:
         prog="python -m subgraph_solver",
         description="Does a pattern occur in a target? Graphs are files (GraphML, GML, edge lists, LAD, SMILES "
         "by their endings), or molecules as smiles:CCO.",
-        epilog="Exit status: 0 yes, 1 none, 2 unknown; 3 and more as the program's, 3 also for a fault of the words or files.",
+        epilog="Exit status: 0 yes, 1 none, 2 unknown; 3 to 7 as the program's, 3 also for a fault of the words or files; of batch 0 if "
+        "all are decided, 8 if a question failed.",
     )
     commands = words.add_subparsers(dest="command", required=True)
     for name, what in (
@@ -33,6 +40,7 @@ def _words() -> argparse.ArgumentParser:
         ("draw", "draw the two graphs, with an embedding if one is found"),
     ):
         _graphs(commands.add_parser(name, help=what), name)
+    _batch_words(commands.add_parser("batch", help="answer each line of a list: two names of LAD files, and induced behind them"))
     of_check = commands.add_parser("check", help="judge a proof log over an encoding")
     of_check.add_argument("encoding")
     of_check.add_argument("log")
@@ -41,6 +49,21 @@ def _words() -> argparse.ArgumentParser:
     of_trim.add_argument("log")
     of_trim.add_argument("out", help="the file to write")
     return words
+
+
+def _batch_words(words: argparse.ArgumentParser) -> None:
+    words.add_argument("list", help="the list; names of files count from the current folder")
+    words.add_argument("--scheduler", metavar="ADDRESS", help="ask the workers of this scheduler of dask.distributed")
+    words.add_argument("--format", default="lad", choices=FORMATS, help="the format of all files")
+    words.add_argument("--seed", type=int, help="where choices begin")
+    words.add_argument("--budget", type=int, help="the most failed guesses of each question")
+    words.add_argument("--threads", type=int, help="how many questions a run works on at a time, 1 to 64")
+    words.add_argument("--book", type=int, help="rows of the book of each search")
+    words.add_argument("--prove", metavar="FOLDER", help="put a proof of each answer none into this folder")
+    words.add_argument("--piece", type=int, metavar="N", help="how many questions each run has, 1 to 1000")
+    words.add_argument("--as-done", action="store_true", help="print answers as they are done; each line has its number")
+    words.add_argument("--errors", choices=("raise", "answer"), help="end at a question that fails (the default without a scheduler), or go on")
+    words.add_argument("--progress", action="store_true", help="show a bar, if tqdm is installed")
 
 
 def _graphs(words: argparse.ArgumentParser, name: str) -> None:
@@ -115,7 +138,40 @@ def _find(asked: argparse.Namespace, how: Dict[str, Any], pattern: Any, target: 
     return status
 
 
+def _batch(asked: argparse.Namespace) -> int:
+    """Prints a line for each question, and answers the status: that of a failed question before that of an unknown one."""
+    names = ("format", "seed", "budget", "threads", "book", "piece", "errors", "progress")
+    how: Dict[str, Any] = {name: getattr(asked, name) for name in names}
+    status = 0
+    with _client(asked.scheduler) as client:
+        how.update(client=client, prove=asked.prove or False)
+        pairs = batch(asked.list, as_done=True, **how) if asked.as_done else enumerate(batch(asked.list, **how), 1)
+        for number, answer in pairs:
+            print(f"{number}: {_told(answer)}", flush=asked.as_done)
+            if isinstance(answer, Failed):
+                status = FAILED
+            elif isinstance(answer, Unknown):
+                status = max(status, 2)
+    return status
+
+
+def _client(address: Optional[str]) -> ContextManager[Any]:
+    """A client of this scheduler, or none."""
+    return nullcontext() if address is None else closing(distributed().Client(address))
+
+
+def _told(answer: Answer) -> str:
+    """An answer in the words of the program's `batch`."""
+    if isinstance(answer, Failed):
+        return str(answer)
+    if isinstance(answer, Unknown):
+        return "unknown"
+    return " ".join(["yes", *map(str, answer.values())]) if isinstance(answer, Embedding) else "none"
+
+
 def _answer(asked: argparse.Namespace) -> int:
+    if asked.command == "batch":
+        return _batch(asked)
     if asked.command == "check":
         print(f"accepted {check(asked.encoding, asked.log)}")
         return 0

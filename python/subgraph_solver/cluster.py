@@ -26,7 +26,8 @@ IDLE, WHOLE = -2, -1
 PATIENCE = 60
 
 
-def _distributed() -> Any:
+def distributed() -> Any:
+    """The module, where it is installed."""
     try:
         return importlib.import_module("distributed")
     except ImportError:
@@ -40,12 +41,12 @@ def ask(chunk: Chunk, how: How, note: str, one_by_one: bool) -> None:
     outlives the worker. So a second call sees that there was a first one, and asks nothing. What is said is not fetched from
     a worker, which may have died since.
     """
-    distributed = _distributed()
-    mark = distributed.Variable(note, client=distributed.get_client())
+    dask = distributed()
+    mark = dask.Variable(note, client=dask.get_client())
     if mark.get(timeout=PATIENCE) != IDLE:
         return
     begun = time.monotonic()
-    watcher = _watcher(distributed.get_worker())
+    watcher = _watcher(dask.get_worker())
     said: List[Said] = []
     for place in range(len(chunk.jobs)) if one_by_one else [WHOLE]:
         mark.set(place)
@@ -102,12 +103,12 @@ class Cluster:
     """
 
     def __init__(self, client: Any, how: How, pace: Pace, as_done: bool) -> None:
-        self._distributed = _distributed()
+        self._dask = distributed()
         self._client = client
         self._how = how
         self._pace = pace
         self._as_done = as_done
-        self._done = self._distributed.as_completed(loop=client.loop)
+        self._done = self._dask.as_completed(loop=client.loop)
         self._asked: Dict[Any, _Asked] = {}
         self._pieces: Deque[_Piece] = deque()
         self._suspects: Deque[Tuple[_Piece, Sequence[int]]] = deque()
@@ -146,7 +147,7 @@ class Cluster:
 
     def _submit(self, piece: _Piece, places: Sequence[int], one_by_one: bool) -> None:
         name = f"subgraph-{uuid.uuid4().hex}"
-        note = self._distributed.Variable(name, client=self._client)
+        note = self._dask.Variable(name, client=self._client)
         note.set(IDLE)
         chunk = piece.part.chunk.part(places)
         future = self._client.submit(ask, chunk, self._how, name, one_by_one, key=name, pure=False)
@@ -157,7 +158,7 @@ class Cluster:
         """Takes what came of a task."""
         asked = self._asked.pop(future)
         error = future.exception()
-        if error is not None and not isinstance(error, self._distributed.KilledWorker):
+        if error is not None and not isinstance(error, self._dask.KilledWorker):
             asked.note.delete()
             raise error
         heard = asked.note.get(timeout=PATIENCE)

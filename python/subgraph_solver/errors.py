@@ -126,6 +126,9 @@ class OutOfMemory(SubgraphError, MemoryError):
     def __init__(self, line: str) -> None:
         super().__init__(line, 6, line)
 
+    def __reduce__(self) -> Tuple[Any, ...]:
+        return type(self), (self.line,)
+
 
 class LogRefused(SubgraphError):
     """``check`` or ``trim`` refuses the log, at its first faulty line (status 7).

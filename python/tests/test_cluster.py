@@ -56,8 +56,11 @@ class OnWorkers:
 
     @classmethod
     def setUpClass(cls) -> None:
+        import dask
         from distributed import Client, LocalCluster
 
+        # Else a local worker that takes longer to begin anew is taken away for good.
+        dask.config.set({"distributed.deploy.lost-worker-timeout": "10 minutes"})
         logging.getLogger("distributed").setLevel(logging.CRITICAL)
         how = {"n_workers": cls.workers, "threads_per_worker": 1, "dashboard_address": None}
         cls.cluster = LocalCluster(processes=True, silence_logs=logging.CRITICAL, **how)
