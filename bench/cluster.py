@@ -17,7 +17,7 @@ import sys
 import time
 
 HERE = os.path.dirname(os.path.abspath(__file__))
-sys.path.insert(0, os.path.join(os.path.dirname(HERE), "python"))
+sys.path.append(os.path.join(os.path.dirname(HERE), "python"))
 
 import batch as molecules  # noqa: E402
 from pairs import cycle, random_graph  # noqa: E402

@@ -25,6 +25,7 @@ LINES = {
     "CHANGELOG.md": 50,
     "docs/ARCHITECTURE.md": 170,
     "docs/CLAIMS.md": 110,
+    "docs/CLUSTER.md": 90,
     "docs/DECISIONS.md": 200,
     "docs/DEFINITIONS.md": 90,
     "docs/FORMATS.md": 240,

@@ -82,6 +82,21 @@ class Command(unittest.TestCase):
         self.write("it.log", "embedding proof 1\nm 21\ny x3 x4 x8\n")
         self.assertEqual(ask("check", "it.opb", "it.log", cwd=self.folder)[:2], (0, "accepted satisfiable\n"))
 
+    def test_batch(self) -> None:
+        self.write("triangle.lad", "3 2 1 2 2 0 2 2 0 1")
+        self.write("odd.lad", "2 / 0")
+        self.write("list", "cycle.lad cycle.lad induced\ntriangle.lad cycle.lad\n")
+        status, out, error = ask("batch", "list", cwd=self.folder)
+        self.assertEqual((status, error, out.splitlines()[1]), (0, "", "2: none"))
+        self.assertRegex(out, r"^1: yes( [0-3]){4}\n")
+        self.assertEqual(ask("batch", "list", "--budget", "3", cwd=self.folder)[0], 2)
+        self.assertEqual(ask("batch", "list", "--prove", "proofs", "--as-done", cwd=self.folder)[0], 0)
+        self.assertEqual(sorted(os.listdir(os.path.join(self.folder, "proofs"))), ["2.opb", "2.proof"])
+        self.write("list", "triangle.lad odd.lad\ntriangle.lad cycle.lad\n")
+        self.assertEqual(ask("batch", "list", cwd=self.folder)[0], 4)
+        told = ask("batch", "list", "--errors", "answer", cwd=self.folder)
+        self.assertEqual(told, (8, "1: failed: job 1 target: word 2: NotNumber\n2: none\n", ""))
+
     def test_faults(self) -> None:
         status, out, error = ask("find", "no.edges", "triangle.edges", cwd=self.folder)
         self.assertEqual((status, out), (3, ""))
