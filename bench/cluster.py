@@ -6,11 +6,12 @@ usage: python3 bench/cluster.py PROGRAM FOLDER [--questions N] [--hard N] [--sid
 Two lists of questions are written to FOLDER. The first has N pieces of molecules in molecules (`bench/batch.py`), which take the program
 microseconds each. In the second odd cycles are looked for in graphs of two sides, each of so many vertices: there are none, and each takes
 some milliseconds. Each list is answered without a client, by one thread and by as many as there are workers, and by 1, 2 and more workers of
-one thread. A worker is a process of this machine, started before the clock is. Prints for each way the seconds, the questions a second, and
+one thread. A worker is a process of this machine, which has answered a question before the clock starts. Prints for each way the seconds, the questions a second, and
 how many times those of one worker. All ways have to give the same answers, which are counted; else the status is 1.
 """
 import argparse
 import collections
+import contextlib
 import os
 import random
 import sys
@@ -72,7 +73,8 @@ def ways(program, path, form, counts):
         yield f"no client, `threads={threads}`", timed(path, form, threads=threads, program=program)
     for count in counts:
         with LocalCluster(n_workers=count, threads_per_worker=1, dashboard_address=None, silence_logs=50) as cluster, Client(cluster) as client:
-            timed(path, form, program=program, client=client)
+            with contextlib.closing(batch(path, format=form, program=program, client=client, piece=1)) as first:
+                next(first)
             yield f"workers: {count}", timed(path, form, program=program, client=client)
 
 

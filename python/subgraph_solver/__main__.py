@@ -29,8 +29,8 @@ def _words() -> argparse.ArgumentParser:
         prog="python -m subgraph_solver",
         description="Does a pattern occur in a target? Graphs are files (GraphML, GML, edge lists, LAD, SMILES "
         "by their endings), or molecules as smiles:CCO.",
-        epilog="Exit status: 0 yes, 1 none, 2 unknown; 3 to 7 as the program's, 3 also for a fault of the words or files; of batch 0 if "
-        "all are decided, 8 if a question failed.",
+        epilog="Exit status: 0 yes, 1 none, 2 unknown; 3 to 7 as the program's, 3 also for a fault of the words or files; "
+        "of batch 0 if all are decided, 8 if a question failed.",
     )
     commands = words.add_subparsers(dest="command", required=True)
     for name, what in (
@@ -40,7 +40,8 @@ def _words() -> argparse.ArgumentParser:
         ("draw", "draw the two graphs, with an embedding if one is found"),
     ):
         _graphs(commands.add_parser(name, help=what), name)
-    _batch_words(commands.add_parser("batch", help="answer each line of a list: two names of LAD files, and induced behind them"))
+    lines = "answer each line of a list: two names of LAD files, and perhaps induced behind them"
+    _batch_words(commands.add_parser("batch", help=lines))
     of_check = commands.add_parser("check", help="judge a proof log over an encoding")
     of_check.add_argument("encoding")
     of_check.add_argument("log")
@@ -61,8 +62,9 @@ def _batch_words(words: argparse.ArgumentParser) -> None:
     words.add_argument("--book", type=int, help="rows of the book of each search")
     words.add_argument("--prove", metavar="FOLDER", help="put a proof of each answer none into this folder")
     words.add_argument("--piece", type=int, metavar="N", help="how many questions each run has, 1 to 1000")
-    words.add_argument("--as-done", action="store_true", help="print answers as they are done; each line has its number")
-    words.add_argument("--errors", choices=("raise", "answer"), help="end at a question that fails (the default without a scheduler), or go on")
+    words.add_argument("--as-done", action="store_true", help="print answers as they are done")
+    ends = "end at a question that fails (the default without a scheduler), or tell it as failed and go on"
+    words.add_argument("--errors", choices=("raise", "answer"), help=ends)
     words.add_argument("--progress", action="store_true", help="show a bar, if tqdm is installed")
 
 
@@ -139,7 +141,7 @@ def _find(asked: argparse.Namespace, how: Dict[str, Any], pattern: Any, target: 
 
 
 def _batch(asked: argparse.Namespace) -> int:
-    """Prints a line for each question, and answers the status: that of a failed question before that of an unknown one."""
+    """Prints a line for each question, and answers the status: 8 for a failed one, before 2 for an unknown one."""
     names = ("format", "seed", "budget", "threads", "book", "piece", "errors", "progress")
     how: Dict[str, Any] = {name: getattr(asked, name) for name in names}
     status = 0

@@ -19,8 +19,8 @@ MOST_LISTED = 100
 class Embedding(Dict[Name, Name]):
     """The image of each pattern vertex: a dict, which shows itself in a notebook.
 
-    A notebook draws the pattern beside the target, with the images marked in it. Of graphs with more than `MOST_VERTICES`
-    vertices or `MOST_EDGES` edges it shows a table of images alone.
+    A notebook draws the pattern beside the target, with the images marked in it. Of graphs with more than
+    `MOST_VERTICES` vertices or `MOST_EDGES` edges it shows a table of images alone.
 
     Attributes
     ----------

@@ -8,7 +8,8 @@ from dataclasses import dataclass
 from typing import Any, Iterable, Iterator, List, Optional, Sequence, Tuple
 
 from .answers import Embedding
-from .graph import EdgeLabel, Graph, NodeLabel, as_graph, edge_label_numbers, label_numbers, labelled_alike, lad_format, lad_text
+from .graph import EdgeLabel, Graph, NodeLabel, as_graph, edge_label_numbers, label_numbers, labelled_alike
+from .graph import lad_format, lad_text
 from .maps import Map, Pair, less_places, map_options
 from .prepared import Prepared
 

@@ -7,7 +7,8 @@ import tempfile
 import time
 from contextlib import closing
 from pathlib import Path
-from typing import Any, Dict, Generator, Iterable, Iterator, List, Literal, Optional, Sized, Tuple, TypeVar, Union, overload
+from typing import Any, Dict, Generator, Iterable, Iterator, List, Literal, Optional, Sized, Tuple, TypeVar, Union
+from typing import overload
 
 from .answers import Embedding, Failed, Proof, Unknown
 from .cluster import Cluster
@@ -88,11 +89,11 @@ def batch(
     errors: Optional[str] = None,
     piece: Optional[int] = None,
 ) -> Union[Answers, Numbered]:
-    """Finds an embedding for each of many questions. The answers come as they are asked for: ``list(batch(..))`` has all.
+    """Finds an embedding for each of many questions. The answers come one by one: ``list(batch(..))`` has all.
 
-    Questions are taken from the iterable in pieces, so memory does not grow with their number. A piece has as many as take
-    about a second, from 1 to 1,000, and fewer if their graphs take more than 1 GiB together. The program is started once for each.
-    All maps are injective, and none are in order: `find` has others.
+    Questions are taken from the iterable in pieces, so memory does not grow with their number. A piece has as many as
+    take about a second, from 1 to 1,000, and fewer if their graphs take more than 1 GiB together. The program is started
+    once for each. All maps are injective, and none are in order: `find` has others.
 
     Parameters
     ----------
@@ -110,22 +111,22 @@ def batch(
     budget : int, optional
         The most failed guesses of each question.
     threads : int, optional
-        How many questions a run of the program works on at a time, from 1 to 64. The default is 1. Each is decided by one
-        thread.
+        How many questions a run of the program works on at a time, from 1 to 64. The default is 1. Each is decided by
+        one thread.
     program : path, optional
-        As `find` has it. If none is named, and neither a client, several threads, proofs nor progress are asked for, the library
-        is asked, where there is one.
+        As `find` has it. If none is named, and neither a client, several threads, proofs nor progress are asked for, the
+        library is asked, where there is one.
     book : int, optional
         For how many rows of refuted paths each search makes a book, from 0 to 4,194,304; the default is 65,536. It keeps
         further rows behind them.
     format : str
         The format of all LAD files that are named: ``lad``, ``vertexlabelledlad``, ``directedlad`` or ``labelledlad``.
     client : distributed.Client, optional
-        The questions are asked by the workers of its scheduler, each of which has this package and the program. Files are
-        read here.
+        The questions are asked by the workers of its scheduler, each of which has this package and the program. Files
+        are read here.
     prove : bool or path
-        Is each answer for none a `Proof`? A path names the folder of its files: ``J.opb`` and ``J.proof`` for question J.
-        Otherwise it is a new one, which stays.
+        Is each answer for none a `Proof`? A path names the folder of its files: ``J.opb`` and ``J.proof`` for question
+        J. Otherwise it is a new one, which stays.
     progress : bool
         Is a bar shown? It needs `tqdm`: without it there is none.
     as_done : bool
@@ -139,8 +140,9 @@ def batch(
     Returns
     -------
     iterator
-        One answer for each question, in their order: the image of each pattern vertex, ``None`` or a `Proof` if no embedding
-        exists, `Unknown` if the budget is spent, or `Failed`. With `as_done` pairs of a question's number, from 1, and its answer.
+        One answer for each question, in their order: the image of each pattern vertex, ``None`` or a `Proof` if no
+        embedding exists, `Unknown` if the budget is spent, or `Failed`. With `as_done` pairs of a question's number, from
+        1, and its answer.
 
     Raises
     ------
@@ -155,9 +157,17 @@ def batch(
     library = None if client is not None else library_for(program, threads, prove is not False or progress)
     if client is None and library is None:
         program = os.path.abspath(find_program(program))
-    named = None if program is None else os.fspath(program)
     folder = _folder(prove)
-    how = How(named, seed, budget, threads, book, folder is not None, None if client is not None else folder, keeps_going)
+    how = How(
+        program=None if program is None else os.fspath(program),
+        seed=seed,
+        budget=budget,
+        threads=threads,
+        book=book,
+        proves=folder is not None,
+        folder=folder if client is None else None,
+        keeps_going=keeps_going,
+    )
     jobs = Jobs(induced, node_label, edge_label, format, client is not None or library is not None, keeps_going)
     pace = Pace(piece)
     parts = jobs.parts(listed(questions) if isinstance(questions, (str, os.PathLike)) else questions, pace)

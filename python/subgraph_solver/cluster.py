@@ -15,12 +15,12 @@ from .jobs import Chunk, Pace, Part
 from .program import Watcher
 from .runs import How, Said, Stopped, said_of
 
-#: How many parts there are for each thread of the workers, at most: asked, waiting there, or answered and not yet taken.
+#: The most parts for each thread of the workers: asked, waiting there, or answered and not yet taken.
 AHEAD = 3
 #: The seconds after which the threads of the workers are counted anew.
 COUNTED = 5.0
-#: What the note of a part says: no worker was at it; a worker has all of it in hand. Else it is the place of the question that a
-#: worker has in hand, or bytes: what is said of all of them.
+#: What the note of a part says: no worker was at it; a worker has all of it in hand. Else it is the place of the question
+#: that a worker has in hand, or bytes: what is said of all of them.
 IDLE, WHOLE = -2, -1
 #: The seconds that a worker waits for a note.
 PATIENCE = 60
@@ -37,9 +37,9 @@ def distributed() -> Any:
 def ask(chunk: Chunk, how: How, note: str, one_by_one: bool) -> None:
     """Asks the questions of a part, and writes what is said of them and the seconds that it took into the note.
 
-    This runs on a worker, and the scheduler calls it again where the worker dies. The note is kept by the scheduler, and
-    outlives the worker. So a second call sees that there was a first one, and asks nothing. What is said is not fetched from
-    a worker, which may have died since.
+    This runs on a worker, and the scheduler calls it again where the worker dies. The note is kept by the scheduler,
+    and outlives the worker. So a second call sees that there was a first one, and asks nothing. What is said is not
+    fetched from a worker, which may have died since.
     """
     dask = distributed()
     mark = dask.Variable(note, client=dask.get_client())
@@ -90,8 +90,9 @@ class _Asked:
 class Cluster:
     """Asks the workers of a client's scheduler.
 
-    A part whose worker dies is asked again, one question after the other, and one such part at a time. A question at which
-    the worker dies then is told as failed: this is the second worker that died of it. The others are asked once more.
+    A part whose worker dies is asked again, one question after the other, and one such part at a time. A question at
+    which the worker dies then is told as failed: this is the second worker that died of it. The others are asked once
+    more.
 
     Parameters
     ----------

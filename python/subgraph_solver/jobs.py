@@ -16,7 +16,7 @@ from .program import StrPath
 
 #: A pattern, a target and, if it is named, whether an induced copy is asked for.
 Question = Union[Tuple[Any, Any], Tuple[Any, Any, bool]]
-#: The most questions of one run, and about the most bytes that its graphs take in the program: more are cut into several runs.
+#: The most questions of one run, and about the most bytes that its graphs take in the program.
 MOST_JOBS = 1000
 MOST_MEMORY = 1 << 30
 #: The questions of the first pieces, and the seconds that a later one is to take.
@@ -80,7 +80,7 @@ class Chunk:
 
 @dataclass(frozen=True)
 class Part:
-    """A chunk with the names of its vertices; and questions that failed before they could be asked, by their numbers."""
+    """A chunk with the names of its vertices; and questions that failed before they could be asked, with numbers."""
 
     chunk: Chunk
     jobs: Tuple[Job, ...]
@@ -175,7 +175,9 @@ class Jobs:
             return Job(number, sides, apart, (self.format, False, False))
         if any(files):
             raise ValueError(f"question {number} has a file and a graph: give two files or two graphs")
-        both = graphs_of(pattern if isinstance(target, Prepared) else self._graph(pattern), self._graph(target), self.labels)
+        # A target that is prepared may say which labels the pattern gets.
+        source = pattern if isinstance(target, Prepared) else self._graph(pattern)
+        both = graphs_of(source, self._graph(target), self.labels)
         labelled = both[0].labels is not None, both[0].edge_labels is not None
         return Job(number, both, apart, (lad_format(both[0].directed, *labelled), *labelled))
 

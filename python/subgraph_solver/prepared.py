@@ -60,8 +60,8 @@ def _with(numbers: Numbers, labels: Iterable[Hashable]) -> Numbers:
 def prepare(target: Any, node_label: NodeLabel = None, edge_label: EdgeLabel = None) -> Prepared:
     """Keeps of a target what many questions need: its graph, and its text, checked once.
 
-    `find`, `verify`, `encode`, `draw` and `batch` take the answer as a target. Patterns get the labels that are named here, unless
-    others are named there. Later changes of the target are not seen.
+    `find`, `verify`, `encode`, `draw` and `batch` take the answer as a target. Patterns get the labels that are named
+    here, unless others are named there. Later changes of the target are not seen.
 
     Parameters
     ----------

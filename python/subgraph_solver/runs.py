@@ -42,7 +42,7 @@ class Texts:
         return Proof(*paths)
 
 
-#: What is said of a question: the places of the images, ``None`` if there are none, or anything else that is no embedding.
+#: What is said of a question: the places of the images, ``None`` if there are none, or what else is no embedding.
 Said = Union[None, Tuple[int, ...], Unknown, Failed, Proof, Texts]
 
 
@@ -89,8 +89,8 @@ class Stopped(Exception):
 def said_of(chunk: Chunk, how: How, watcher: Optional[Watcher] = None) -> List[Said]:
     """What the program says of each question.
 
-    A question that is refused is left out of a second run. Where a run ends without an answer and names no question, its
-    questions are asked in two halves. The watcher is called now and then, and ends all by an exception.
+    A question that is refused is left out of a second run. Where a run ends without an answer and names no question,
+    its questions are asked in two halves. The watcher is called now and then, and ends all by an exception.
     """
     said: Dict[int, Said] = {}
     waiting: List[List[int]] = [list(range(len(chunk.jobs)))] if chunk.jobs else []
@@ -104,9 +104,10 @@ def said_of(chunk: Chunk, how: How, watcher: Optional[Watcher] = None) -> List[S
         except SubgraphError as error:
             if not how.keeps_going:
                 raise
-            refused = [at for at in places if chunk.numbers[at] == getattr(error, "job", None)] or places[: len(places) == 1]
+            named = [at for at in places if chunk.numbers[at] == getattr(error, "job", None)]
+            refused = places if len(places) == 1 else named
             said.update((at, Failed(error)) for at in refused)
-            left = [at for at in places if at not in said]
+            left = [at for at in places if at not in refused]
             half = len(left) if refused else len(left) // 2
             waiting += [it for it in (left[half:], left[:half]) if it]
     return [said[at] for at in range(len(chunk.jobs))]
