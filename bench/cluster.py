@@ -1,11 +1,11 @@
 #!/usr/bin/env python3
 """Measures `subgraph_solver.batch` on local workers of dask.distributed, and prints a table for docs/CLUSTER.md.
 
-usage: python3 bench/cluster.py PROGRAM FOLDER [--questions N] [--hard N] [--side N] [--workers N ..] [--seed N]
+usage: python3 bench/cluster.py PROGRAM FOLDER [--questions N] [--hard N] [--workers N ..] [--seed N]
 
 Two lists of questions are written to FOLDER. The first has N pieces of molecules in molecules (`bench/batch.py`), which take the program
-microseconds each. In the second odd cycles are looked for in graphs of two sides, each of so many vertices: there are none, and each takes
-some milliseconds. Each list is answered without a client, by one thread and by as many as there are workers, and by 1, 2 and more workers of
+microseconds each. In the second dense random patterns are looked for in random graphs near the phase transition: most have none, and each
+takes some 100 milliseconds. Each list is answered without a client, by one thread and by as many as there are workers, and by 1, 2 and more workers of
 one thread. A worker is a process of this machine, which has answered a question before the clock starts. Prints for each way the seconds, the questions a second, and
 how many times those of one worker. All ways have to give the same answers, which are counted; else the status is 1.
 """
@@ -21,7 +21,7 @@ HERE = os.path.dirname(os.path.abspath(__file__))
 sys.path.append(os.path.join(os.path.dirname(HERE), "python"))
 
 import batch as molecules  # noqa: E402
-from pairs import cycle, random_graph  # noqa: E402
+from pairs import random_graph  # noqa: E402
 from subgraph_solver import Unknown, batch  # noqa: E402
 
 
@@ -30,24 +30,19 @@ def lad(graph):
     return "\n".join([str(graph.size), *rows, ""])
 
 
-def two_sides(source, side):
-    """A random graph between two sides, each of so many vertices."""
-    graph = random_graph(source, 2 * side, 0.0)
-    for a in range(side):
-        for b in range(side):
-            if source.random() < 0.5:
-                graph.join(a, side + b)
-    return graph
+def hard_pair(source):
+    """A dense random pattern, and a random target which has it about once in ten times."""
+    return random_graph(source, 14, 0.85), random_graph(source, 55, 0.5)
 
 
-def written(folder, count, side, seed):
-    """The list of odd cycles in graphs of two sides."""
+def written(folder, count, seed):
+    """The list of hard questions."""
     source = random.Random(seed)
     path = os.path.join(folder, "hard.list")
     with open(path, "w", encoding="ascii") as lines:
         for number in range(count):
             names = [os.path.join(folder, f"{number}.{it}.hard.lad") for it in ("pattern", "target")]
-            for name, graph in zip(names, (cycle(source.choice([5, 7])), two_sides(source, side))):
+            for name, graph in zip(names, hard_pair(source)):
                 with open(name, "w", encoding="ascii") as file:
                     file.write(lad(graph))
             print(*names, file=lines)
@@ -83,14 +78,13 @@ def main():
     words.add_argument("program")
     words.add_argument("folder")
     words.add_argument("--questions", type=int, default=4000)
-    words.add_argument("--hard", type=int, default=1000)
-    words.add_argument("--side", type=int, default=14)
+    words.add_argument("--hard", type=int, default=200)
     words.add_argument("--workers", type=int, nargs="+", default=[1, 2, 4])
     words.add_argument("--seed", type=int, default=0)
     asked = words.parse_args()
     os.makedirs(asked.folder, exist_ok=True)
     folder, program = os.path.abspath(asked.folder), os.path.abspath(asked.program)
-    lists = [("odd cycles", written(folder, asked.hard, asked.side, asked.seed), "lad", asked.hard)]
+    lists = [("random pairs", written(folder, asked.hard, asked.seed), "lad", asked.hard)]
     if molecules.of_rdkit() and asked.questions:
         molecules.written(folder, molecules.questions(asked.seed, asked.questions))
         os.chdir(folder)
