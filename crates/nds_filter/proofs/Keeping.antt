@@ -1,9 +1,10 @@
 -- The row that belongs to a pattern vertex, and to each vertex of the same sequence.
 
-use Rattle.std.proofs.Common.{◌≡◌, ℕ, ◌+◌, ◌<◌, ◌≤◌, nat_lt, Bool, true, false, List, [], ◌∷◌, ◌++◌, length, get_or, refl, sym, ap, ◌∙◌, subst, zero-add, arith, inl, inr, ◌⊎◌}
+use Rattle.std.proofs.Common.{◌≡◌, ℕ, ◌+◌, ◌<◌, ◌≤◌, nat_lt, Bool, true, false, List, [], ◌∷◌, ◌++◌, length, take, get_or, refl, sym, ap, ◌∙◌, subst, zero-add, arith, inl, inr, ◌⊎◌}
 use Rattle.std.proofs.lemmas.Bool.{cases_lt, lt-ltb, le-ltb, ltb-true}
 use Rattle.std.proofs.lemmas.List.{get_or_append_left, get_or_push, length-append}
 use Rattle.std.proofs.lemmas.List.FromFn.{get_or-map-range_with_len, length-map-range_with_len}
+use Rattle.std.proofs.Math.Seq.{take-append_seam}
 use Rattle.graph_theory.specs.Graph.{Graph, size}
 use Rattle.graph_theory.specs.Embedding.{Problem}
 use Rattle.graph_theory.specs.Neighbours.{degree, sequence, fails_at, IsKeptBy}
@@ -163,3 +164,9 @@ kept_more q classes cs rows rs n k are stay k_in kept is = rw is (record {
         let at : length classes ≡ p = omega (arith, are.long) in
         let e : n ≡ p = omega arith in
         rw (get_or_push classes k 0 p at, ← e) kept
+
+-- ---- the row that is written in
+
+-- items that were written in place of a vector's are as many as they were
+pub kept_long : (n m : ℕ) (xs ys : List ℕ) → length xs ≡ n → n ≡ m → length (take n (xs ++ ys)) ≡ m
+kept_long n m xs ys long is = ap length (subst (λ (k : ℕ). take k (xs ++ ys) ≡ xs) long (take-append_seam xs ys)) ∙ (long ∙ is)

@@ -1,10 +1,10 @@
 //! For each pattern vertex the target vertices whose sequences keep its own, as a bit row. Vertices of equal sequences are of one
 //! class and share a row, which is made once.
 
-ghost use Rattle.std.specs.Prelude.{◌≡◌, ℕ, ◌*◌, ◌<◌, ◌≤◌, ◌↔◌, true, length, map, IsTrue, IfOk, IfSome, slice_index};
+ghost use Rattle.std.specs.Prelude.{◌≡◌, ℕ, ◌*◌, ◌<◌, ◌≤◌, ◌↔◌, true, [], length, IsTrue, IfOk, OnOk, IfSome, slice_index};
 ghost use Rattle.graph_theory.specs.Graph.{size};
 ghost use Rattle.graph_theory.specs.Neighbours.{degree, sequence, IsKeptBy};
-ghost use Rattle.graph_theory.specs.Reversed.{turned_problem};
+ghost use Rattle.graph_theory.specs.Reversed.{turned, turned_problem};
 ghost use Rattle.bit_rows.specs.BitRows.{has, words_for};
 ghost use Rattle.nds_filter.specs.Sequences.{sequences, sequence_at};
 ghost use Rattle.nds_filter.specs.Kept.{KeptRow, row_at, AreFirsts, RowsStay, AreKept};
@@ -14,6 +14,7 @@ use bit_rows::{fill_below, next_member, unset_bit, words_for};
 use degree_filter::keep_large;
 use graph_rows::Problem;
 use graph_theory::direction::Direction;
+use packed_lists::PackedLists;
 use std::alloc::{AllocError, Global};
 use std::marker::Model;
 
@@ -63,7 +64,7 @@ impl<'a> Turned<'a> {
 pub struct KeptRows<'a> {
     turned: Turned<'a>,
     classes: Vec<usize>,
-    rows: Vec<Vec<u64>>,
+    rows: PackedLists<u64>,
 }
 
 impl Drop for KeptRows<'_> {
@@ -78,7 +79,6 @@ impl Drop for KeptRows<'_> {
 }
 
 impl<'a> Model for KeptRows<'a> {
-    ghost use Rattle.std.specs.Prelude.{map};
     ghost use Rattle.graph_theory.specs.Graph.{size as size_of};
     ghost use Rattle.graph_theory.specs.Embedding.{Problem as TheProblem};
     ghost use Rattle.nds_filter.specs.Kept.{AreKept};
@@ -87,8 +87,8 @@ impl<'a> Model for KeptRows<'a> {
 
     ghost view = { λ k. k.turned };
 
-    ghost invariant = { λ k. AreKept k.turned k.classes.items (map
-        (λ row. row.items) k.rows.items) (size_of k.turned.pattern) };
+    ghost invariant = { λ k. AreKept k.turned k.classes.items k.rows.lists
+        (size_of k.turned.pattern) };
 }
 
 impl<'a> KeptRows<'a> {
@@ -102,14 +102,29 @@ impl<'a> KeptRows<'a> {
     ) -> Result<KeptRows<'a>, AllocError>
         ensures { IfOk result (λ k. k ≡ turned_problem direction problem.entry.now) }
     {
-        let ps = Sequences::new(alloc, problem.pattern(), direction)?;
         let ts = Sequences::new(alloc, problem.target(), direction)?;
+        KeptRows::with_target(alloc, problem, direction, &ts)
+    }
+
+    /// The same, where the sequences of the target in this direction are there already. Cost: that of `new` without them.
+    pub fn with_target(
+        alloc: Global,
+        problem: &'a Problem,
+        direction: Direction,
+        ts: &Sequences,
+    ) -> Result<KeptRows<'a>, AllocError>
+        requires { ts.now ≡ sequences (turned direction problem.now.target) }
+        ensures { IfOk result (λ k. k ≡ turned_problem direction problem.entry.now) }
+    {
+        let ps = Sequences::new(alloc, problem.pattern(), direction)?;
         let turned = Turned { problem, direction };
-        let mut classes = Vec::new(alloc);
-        let mut firsts = Vec::new(alloc);
-        let mut rows = Vec::new(alloc);
+        let count = usize::from(problem.pattern().size());
+        let mut row = vec![in alloc; 0u64; words_for(usize::from(turned.target_size()))]?;
+        let mut classes = Vec::with_capacity(alloc, count)?;
+        let mut firsts = Vec::with_capacity(alloc, count)?;
+        let mut rows = PackedLists::with_capacity(alloc, count, count)?;
         for p in 0..problem.pattern().size() {
-            let class = class_of(alloc, &turned, &ps, &ts, p, &mut firsts, &mut rows)?;
+            let class = class_of(&turned, &ps, ts, p, &mut row, &mut firsts, &mut rows)?;
             classes.push(class)?;
         }
         Ok(KeptRows {
@@ -133,39 +148,39 @@ impl<'a> KeptRows<'a> {
             → has result.now t ≡ true }
     {
         let class = self.classes[usize::from(p)];
-        &self.rows[class]
+        self.rows.of(class)
     }
 }
 
-/// The class of `p`; a new one, with its row, where no vertex before had its sequence.
+/// The class of `p`; a new one, with its row, where no vertex before had its sequence. The row that is passed is room to write in.
 fn class_of(
-    alloc: Global,
     q: &Turned,
     ps: &Sequences,
     ts: &Sequences,
     p: u16,
+    row: &mut [u64],
     firsts: &mut Vec<u16>,
-    rows: &mut Vec<Vec<u64>>,
+    rows: &mut PackedLists<u64>,
 ) -> Result<usize, AllocError>
     requires p_in { p < size q.now.pattern }
     requires pattern { ps.now ≡ sequences q.now.pattern }
     requires target { ts.now ≡ sequences q.now.target }
-    requires before { AreFirsts q.now firsts.old.items (map (λ row. row.items) rows.old.items) }
-    ensures firsts { IfOk result
-        (λ _. AreFirsts q.now firsts.new.items (map (λ row. row.items) rows.new.items)) }
-    ensures stay { IfOk result
-        (λ _. RowsStay (map (λ row. row.items) rows.old.items)
-        (map (λ row. row.items) rows.new.items)) }
-    ensures inside { IfOk result (λ k. k < length rows.new.items) }
-    ensures class { IfOk result
-        (λ k. KeptRow q.now p (row_at (map (λ row. row.items) rows.new.items) k)) }
+    requires long { length row.old ≡ words_for (size q.now.target) }
+    requires before { AreFirsts q.now firsts.old.items rows.old.lists }
+    requires begun { rows.old.rest ≡ [] }
+    ensures firsts { OnOk result (AreFirsts q.now firsts.new.items rows.new.lists) }
+    ensures stay { OnOk result (RowsStay rows.old.lists rows.new.lists) }
+    ensures begun { OnOk result (rows.new.rest ≡ []) }
+    ensures inside { IfOk result (λ k. k < length rows.new.lists) }
+    ensures class { IfOk result (λ k. KeptRow q.now p (row_at rows.new.lists k)) }
 {
     if let Some(class) = find_class(ps, firsts, p) {
         return Ok(class);
     }
     let class = rows.len();
-    let row = kept_row(alloc, q, ps, ts, p)?;
-    rows.push(row)?;
+    fill_kept(q, ps, ts, p, row);
+    rows.push_all(row)?;
+    rows.close()?;
     firsts.push(p)?;
     Ok(class)
 }
@@ -187,25 +202,6 @@ fn find_class(ps: &Sequences, firsts: &[u16], p: u16) -> Option<usize>
         }
     }
     None
-}
-
-/// The row of `p`.
-fn kept_row(
-    alloc: Global,
-    q: &Turned,
-    ps: &Sequences,
-    ts: &Sequences,
-    p: u16,
-) -> Result<Vec<u64>, AllocError>
-    requires p_in { p < size q.now.pattern }
-    requires pattern { ps.now ≡ sequences q.now.pattern }
-    requires target { ts.now ≡ sequences q.now.target }
-    ensures { IfOk result (λ row. KeptRow q.now p row.items) }
-{
-    let width = words_for(usize::from(q.target_size()));
-    let mut row = vec![in alloc; 0u64; width]?;
-    fill_kept(q, ps, ts, p, &mut row);
-    Ok(row)
 }
 
 /// Writes the row of `p`: of the target vertices with as many neighbours those whose sequences keep its own.

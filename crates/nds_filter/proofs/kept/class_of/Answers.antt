@@ -1,7 +1,8 @@
-use Rattle.std.proofs.Common.{◌≡◌, ℕ, ◌<◌, List, length, map, get_or, arith, ap, sym, ◌∙◌, subst}
-use Rattle.std.proofs.lemmas.List.{map-append}
+use Rattle.std.proofs.Common.{◌≡◌, ℕ, ◌<◌, List, [], ◌∷◌, length, get_or, arith, ap, sym, ◌∙◌, subst}
+use Rattle.std.proofs.lemmas.List.{length-append}
+use Rattle.packed_lists.proofs.Packing.{closed_with}
 use Rattle.nds_filter.specs.Sequences.{sequence_at}
-use Rattle.nds_filter.proofs.Keeping.{sequences_long, kept_of_class, firsts_more}
+use Rattle.nds_filter.proofs.Keeping.{sequences_long, kept_of_class, firsts_more, rows_more, new_row}
 use Rattle.nds_filter.proofs.kept.class_of.Goals as goal
 
 pub find_class-requires-clause-p_in : goal.find_class-requires-clause-p_in
@@ -20,5 +21,25 @@ returns-in-Some-clause-class c =
 
 pub returns-clause-firsts : goal.returns-clause-firsts
 returns-clause-firsts c =
-    firsts_more _ _ _ _ _ c.args.p c.in_ok-row.row.items c.requires.before c.requires.p_in c.in_ok-row.ensures c.in_ok-push-2.ensures.items
-    (ap (map (λ row. row.items)) c.in_ok-push.ensures.items ∙ map-append (λ row. row.items) c.args.rows.now.items _)
+    firsts_more _ _ _ _ _ c.args.p c.fill_kept.new.row c.requires.before c.requires.p_in c.fill_kept.ensures c.in_ok-push.ensures.items
+    (closed_with c.args.rows.now.lists c.push_all.new.self.lists c.close.new.self.lists c.args.rows.now.rest c.push_all.new.self.rest c.fill_kept.new.row c.in_ok-push_all.ensures.lists c.requires.begun
+    c.in_ok-push_all.ensures.rest c.in_ok-close.ensures.lists)
+
+pub returns-clause-stay : goal.returns-clause-stay
+returns-clause-stay c =
+    rows_more _ _ c.fill_kept.new.row
+    (closed_with c.args.rows.now.lists c.push_all.new.self.lists c.close.new.self.lists c.args.rows.now.rest c.push_all.new.self.rest c.fill_kept.new.row c.in_ok-push_all.ensures.lists c.requires.begun
+    c.in_ok-push_all.ensures.rest c.in_ok-close.ensures.lists)
+
+pub returns-clause-inside : goal.returns-clause-inside
+returns-clause-inside c =
+    let rows = closed_with c.args.rows.now.lists c.push_all.new.self.lists c.close.new.self.lists c.args.rows.now.rest c.push_all.new.self.rest c.fill_kept.new.row c.in_ok-push_all.ensures.lists c.requires.begun
+    c.in_ok-push_all.ensures.rest c.in_ok-close.ensures.lists in
+    omega (arith, ap length rows, length-append c.args.rows.now.lists (c.fill_kept.new.row ∷ []), c.len-class.ensures)
+
+pub returns-clause-class : goal.returns-clause-class
+returns-clause-class c =
+    new_row c.args.q.now _ _ c.args.p c.len-class.result c.fill_kept.new.row
+    (closed_with c.args.rows.now.lists c.push_all.new.self.lists c.close.new.self.lists c.args.rows.now.rest c.push_all.new.self.rest c.fill_kept.new.row c.in_ok-push_all.ensures.lists c.requires.begun
+    c.in_ok-push_all.ensures.rest c.in_ok-close.ensures.lists)
+    (sym c.len-class.ensures) c.fill_kept.ensures
