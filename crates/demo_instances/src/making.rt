@@ -60,10 +60,11 @@ pub(crate) fn graph_by<P: Pairs>(alloc: Global, pairs: &P, size: usize) -> Resul
         lists.push(list)?;
     }
     let labels = vec![in alloc; 0u32; size]?;
+    let neighbours = NeighbourLists::from_vecs(alloc, &lists)?;
     let parts = GraphParts {
         kind: LadKind::Lad,
         labels: Labels::from_vec(labels),
-        neighbours: NeighbourLists::from_vec(lists),
+        neighbours,
         edge_labels: EdgeLabels::none(alloc),
     };
     Graph::new(alloc, &parts)

@@ -1,7 +1,7 @@
 -- The vertices of parts with labels of edges, and the labels that a vertex gave its neighbours.
 
-use Rattle.std.specs.Prelude.{◌≡◌, ℕ, ◌<◌, ◌≤◌, List, [], ◌∷◌, ◌++◌, length, map, Option, Some, None, if◌then◌else◌, slice_index, refl}
-use Rattle.std.proofs.Common.{ap, sym, subst, eqb, ◌∙◌, inl, inr, ◌⊎◌, arith}
+use Rattle.std.specs.Prelude.{◌≡◌, ℕ, ◌<◌, ◌≤◌, List, [], ◌∷◌, ◌++◌, length, Option, Some, None, if◌then◌else◌, slice_index, refl}
+use Rattle.std.proofs.Common.{ap, sym, eqb, ◌∙◌, inl, inr, ◌⊎◌, arith}
 use Rattle.std.proofs.Math.ListN.{set}
 use Rattle.std.proofs.lemmas.Bool.{cases_eq, eq-eqb, ne_eqb}
 use Rattle.std.proofs.lemmas.List.{get_or-set_same, get_or-set_other}
@@ -10,7 +10,7 @@ use Rattle.graph_theory.specs.LadFault.{clash}
 use Rattle.graph_theory.specs.declared.lad_text.LadKind.{LadKind}
 use Rattle.graph_theory.specs.declared.lad_text.LadCause.TheVariants.{LabelClash}
 use Rattle.lad_reader.specs.Parts.{with_labels, labelled_from, AreBelow, AllBelow}
-use Rattle.lad_reader.specs.Given.{given_label, AreGiven, AreStamped}
+use Rattle.lad_reader.specs.Given.{given_label, AreGiven}
 
 -- One neighbour more, with its label.
 pub with_labels-push : (bs es : List ℕ) (b e : ℕ) → length bs ≡ length es → with_labels (bs ++ b ∷ []) (es ++ e ∷ []) ≡ with_labels bs es ++ (b, e) ∷ []

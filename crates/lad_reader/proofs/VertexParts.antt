@@ -1,8 +1,8 @@
 -- The vertices of a graph's parts, one after another.
 
-use Rattle.std.specs.Prelude.{◌≡◌, ℕ, ◌+◌, ◌≤◌, List, [], ◌∷◌, ◌++◌, length, map, Option, Some, None, Result, Ok, Err, IfOk, refl}
-use Rattle.std.proofs.Common.{ap, sym, subst, arith}
-use Rattle.std.proofs.lemmas.List.{map-append}
+use Rattle.std.specs.Prelude.{◌≡◌, ℕ, ◌+◌, ◌<◌, ◌≤◌, take, List, [], ◌∷◌, ◌++◌, length, map, Some, None, Result, Ok, Err, IfOk, refl}
+use Rattle.std.proofs.Common.{ap, sym, subst, arith, get_or, Vec, Global}
+use Rattle.std.proofs.lemmas.List.{map-append, map_more}
 use Rattle.graph_theory.specs.Lad.{Vertex, edge_label_numbers, AreEach, AreVertices, Reads}
 use Rattle.graph_theory.specs.LadFault.{refused_at}
 use Rattle.graph_theory.specs.Progress.{At, Went, MayFollow, WentListed}
@@ -12,7 +12,7 @@ use Rattle.graph_theory.specs.declared.lad_text.LadFault.{LadFault}
 use Rattle.graph_theory.specs.declared.lad_text.Place.TheVariants.{Neighbour}
 use Rattle.graph_theory.proofs.Steps.{Went-none, WentListed-more}
 use Rattle.lad_reader.specs.declared.parts.GraphParts.{GraphParts}
-use Rattle.lad_reader.specs.Parts.{unlabelled, vertices_from, labelled_from, vertices_by, vertices_of, WritesNoEdgeLabels, AreBelow, AllBelow}
+use Rattle.lad_reader.specs.Parts.{unlabelled, vertices_from, vertices_by, vertices_of, WritesNoEdgeLabels, AreBelow, AllBelow}
 use Rattle.lad_reader.proofs.LabelledParts.{length-labelled_from, AllBelow-labelled}
 
 -- A format without labels of edges writes none, and gives each the label 0.
@@ -98,3 +98,9 @@ parts_below ws kind most (Ok p) e h =
     AllBelow-vertices_by p.kind kind (length p.labels) p.labels p.neighbours p.edge_labels e
     (subst (λ (n : ℕ). AreVertices kind n (vertices_by p.kind p.labels p.neighbours p.edge_labels)) l h.each)
 parts_below ws kind most (Err d) e h = tt
+
+-- One vector more is copied.
+pub copied_more : (vs : List (Vec ℕ Global)) (i : ℕ) (ls new : List (List ℕ)) (xs : List ℕ) (v : Vec ℕ Global) → i < length vs → v ≡ get_or vs i v → xs ≡ v.items
+    → ls ≡ map (λ bs. bs.items) (take i vs) → new ≡ ls ++ xs ∷ [] → new ≡ map (λ bs. bs.items) (take (i + 1) vs)
+copied_more vs i ls new xs v i_in v_is xs_is before more =
+    rw (more, before, xs_is, map_more (λ (bs : Vec ℕ Global). bs.items) vs i v i_in) (ap (λ (w : Vec ℕ Global). map (λ (bs : Vec ℕ Global). bs.items) (take i vs) ++ w.items ∷ []) v_is)

@@ -1,6 +1,6 @@
 -- The labels that a vertex gave its neighbours so far: for each vertex a stamp, which tells who listed it last, and the label of that edge.
 
-use Rattle.std.specs.Prelude.{◌≡◌, ℕ, ◌<◌, ◌≤◌, ◌==◌, if◌then◌else◌, List, length, Option, Some, None, slice_index}
+use Rattle.std.specs.Prelude.{◌≡◌, ℕ, ◌<◌, ◌≤◌, ◌==◌, if◌then◌else◌, List, [], Option, Some, None, slice_index}
 use Rattle.graph_theory.specs.Lad.{listed_label}
 
 -- The label that the owner of a stamp gave to b, or none.
@@ -16,3 +16,8 @@ pub record AreGiven (size stamp : ℕ) (stamps labels : List ℕ) (listed : List
 -- No stamp is above this one.
 pub record AreStamped (stamp : ℕ) (stamps : List ℕ) : Type 0 where
   pub each : (b : ℕ) → slice_index stamps b ≤ stamp
+
+-- Of the vertex that is read neither a neighbour nor a label was written.
+pub record IsBegun (bs es : List ℕ) : Type 0 where
+  pub neighbours : bs ≡ []
+  pub labels : es ≡ []

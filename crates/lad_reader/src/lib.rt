@@ -8,8 +8,8 @@
 //! and the cause.
 //!
 //! The plain format is that of Solnon (2010), and the formats with labels or directions are this project's. It passes once
-//! over the bytes and takes memory for words that it has read. With labels of edges it also takes two words for each vertex
-//! that the text announces.
+//! over the bytes. It takes memory for words that it has read, and some bytes for each vertex that the text announces. The
+//! neighbours of all vertices lie in one block.
 #![tactic(auto)]
 
 mod labelled;

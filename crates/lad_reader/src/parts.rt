@@ -1,9 +1,10 @@
 //! The parts of a graph as its text lists them.
 
-ghost use Rattle.std.specs.Prelude.{◌≡◌, ◌<◌, [], length, map, slice_get, slice_index_or, Some};
+ghost use Rattle.std.specs.Prelude.{◌≡◌, ◌<◌, [], length, map, slice_get, slice_index_or, Some, IfOk};
 
 use graph_theory::lad_text::LadKind;
-use std::alloc::Global;
+use packed_lists::PackedLists;
+use std::alloc::{AllocError, Global};
 use std::marker::Model;
 
 /// The labels of a graph's vertices, in order.
@@ -36,26 +37,38 @@ impl Labels {
     }
 }
 
-/// The neighbours that each vertex of a graph lists, in the text's order, repeats included.
+/// The neighbours that each vertex of a graph lists, in the text's order, repeats included, in one block.
 #[derive(Drop)]
 pub struct NeighbourLists {
-    lists: Vec<Vec<u32>>,
+    lists: PackedLists<u32>,
 }
 
 impl Model for NeighbourLists {
-    ghost use Rattle.std.specs.Prelude.{ℕ, List, map};
+    ghost use Rattle.std.specs.Prelude.{ℕ, List};
 
     ghost Value = { List (List ℕ) };
 
-    ghost view = { λ n. map (λ bs. bs.items) n.lists.items };
+    ghost view = { λ n. n.lists.lists };
 }
 
 impl NeighbourLists {
-    /// The lists of this vector. It takes no memory.
-    pub fn from_vec(lists: Vec<Vec<u32>>) -> NeighbourLists
-        ensures { result ≡ map (λ bs. bs.items) lists.items }
+    /// The lists that are closed. It takes no memory.
+    pub fn from_lists(lists: PackedLists<u32>) -> NeighbourLists
+        ensures { result ≡ lists.lists }
     {
         NeighbourLists { lists }
+    }
+
+    /// The lists of these vectors, copied. Cost: one step for each number.
+    pub fn from_vecs(alloc: Global, vecs: &[Vec<u32>]) -> Result<NeighbourLists, AllocError>
+        ensures { IfOk result (λ n. n ≡ map (λ bs. bs.items) vecs.now) }
+    {
+        let mut lists = PackedLists::new(alloc);
+        for i in 0..vecs.len() {
+            lists.push_all(&vecs[i])?;
+            lists.close()?;
+        }
+        Ok(NeighbourLists { lists })
     }
 
     /// How many vertices there are.
@@ -70,22 +83,22 @@ impl NeighbourLists {
         requires { a < length self.now }
         ensures { slice_get self.now a ≡ Some result.now }
     {
-        &self.lists[a]
+        self.lists.of(a)
     }
 }
 
-/// The labels of the edges to the neighbours that each vertex lists, in the same order.
+/// The labels of the edges to the neighbours that each vertex lists, in the same order, in one block.
 #[derive(Drop)]
 pub struct EdgeLabels {
-    lists: Vec<Vec<u32>>,
+    lists: PackedLists<u32>,
 }
 
 impl Model for EdgeLabels {
-    ghost use Rattle.std.specs.Prelude.{ℕ, List, map};
+    ghost use Rattle.std.specs.Prelude.{ℕ, List};
 
     ghost Value = { List (List ℕ) };
 
-    ghost view = { λ n. map (λ es. es.items) n.lists.items };
+    ghost view = { λ n. n.lists.lists };
 }
 
 impl EdgeLabels {
@@ -94,13 +107,13 @@ impl EdgeLabels {
         ensures { result ≡ [] }
     {
         EdgeLabels {
-            lists: Vec::new(alloc),
+            lists: PackedLists::new(alloc),
         }
     }
 
-    /// The lists of this vector. It takes no memory.
-    pub fn from_vec(lists: Vec<Vec<u32>>) -> EdgeLabels
-        ensures { result ≡ map (λ es. es.items) lists.items }
+    /// The lists that are closed. It takes no memory.
+    pub fn from_lists(lists: PackedLists<u32>) -> EdgeLabels
+        ensures { result ≡ lists.lists }
     {
         EdgeLabels { lists }
     }
@@ -109,10 +122,10 @@ impl EdgeLabels {
     pub fn of(&self, a: usize) -> &[u32]
         ensures { result.now ≡ slice_index_or self.now a [] }
     {
-        match self.lists.get(a) {
-            Some(list) => list,
-            None => &[],
+        if a >= self.lists.len() {
+            return &[];
         }
+        self.lists.of(a)
     }
 }
 

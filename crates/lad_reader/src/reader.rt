@@ -1,5 +1,5 @@
 //! One pass over the bytes of a text. Each call takes the words that are due; a fault carries the word's number.
-ghost use Rattle.std.specs.Prelude.{◌≡◌, ℕ, ◌+◌, ◌^◌, ◌<◌, ◌≤◌, List, [], ◌∷◌, length, map, Some, IfOk, IfErr, MatchResult};
+ghost use Rattle.std.specs.Prelude.{◌≡◌, ℕ, ◌+◌, ◌^◌, ◌<◌, ◌≤◌, List, [], ◌∷◌, length, map, Some, IfOk, IfErr, OnOk, MatchResult};
 ghost use Rattle.graph_theory.specs.Text.{words};
 ghost use Rattle.graph_theory.specs.Lad.{Vertex, HasLabel, label_numbers, Reads};
 ghost use Rattle.graph_theory.specs.LadFault.{Fault, OnWord};
@@ -11,6 +11,7 @@ use crate::labelled::read_labelled;
 use crate::parts::{EdgeLabels, GraphParts, Labels, NeighbourLists};
 use crate::words_left::Words;
 use graph_theory::lad_text::{LadFault, LadKind, Place, text_laws};
+use packed_lists::PackedLists;
 use std::alloc::Global;
 
 /// Reads the label of a vertex, where the format has one.
@@ -25,69 +26,74 @@ fn read_label(words: &mut Words, kind: LadKind) -> Result<u32, LadFault>
     }
 }
 
-/// Reads the neighbours of a vertex in a format without labels of edges. Memory is taken for those alone whose words are there.
+/// Reads the neighbours of a vertex in a format without labels of edges, and writes them behind the lists. Further memory is taken for
+/// those alone whose words are there.
 fn read_neighbours(
-    alloc: Global,
     words: &mut Words,
     size: u32,
     due: u32,
-) -> Result<Vec<u32>, LadFault>
+    lists: &mut PackedLists<u32>,
+) -> Result<(), LadFault>
+    requires begun { lists.old.rest ≡ [] }
     ensures found { (kind : LadKind) → WritesNoEdgeLabels kind
-        → IfOk result (λ found. WentListed kind size due words.old words.new
-        (map unlabelled found.items)) }
+        → OnOk result (WentListed kind size due words.old words.new (map unlabelled lists.new.rest)) }
+    ensures lists { OnOk result (lists.new.lists ≡ lists.old.lists) }
     ensures fault { (kind : LadKind)
         → WritesNoEdgeLabels kind
         → IfErr result (λ e. OnWord e (StopsListed kind size due words.old)) }
 {
-    let mut neighbours = Vec::new(alloc);
     for _i in 0..due {
         let neighbour = words.take(Place::Neighbour(size))?;
-        neighbours.push(neighbour)?;
+        lists.push(neighbour)?;
     }
-    Ok(neighbours)
+    Ok(())
 }
 
-/// Reads a vertex: its label and its neighbours.
+/// Reads a vertex: its label and its neighbours, which it writes behind the lists.
 fn read_vertex(
-    alloc: Global,
     words: &mut Words,
     kind: LadKind,
     size: u32,
-) -> Result<(u32, Vec<u32>), LadFault>
-    requires { WritesNoEdgeLabels kind }
+    lists: &mut PackedLists<u32>,
+) -> Result<u32, LadFault>
+    requires kind { WritesNoEdgeLabels kind }
+    requires begun { lists.old.rest ≡ [] }
     ensures found { IfOk result
-        (λ v. WentVertex kind size words.old words.new
-        (record { label = v.0; listed = map unlabelled v.1.items })) }
+        (λ label. WentVertex kind size words.old words.new
+        (record { label = label; listed = map unlabelled lists.new.rest })) }
+    ensures lists { OnOk result (lists.new.lists ≡ lists.old.lists) }
     ensures fault { IfErr result (λ e. OnWord e (StopsVertex kind size words.old)) }
 {
     let label = read_label(words, kind)?;
     let due = words.take(Place::Number)?;
-    let neighbours = read_neighbours(alloc, words, size, due)?;
-    Ok((label, neighbours))
+    read_neighbours(words, size, due, lists)?;
+    Ok(label)
 }
 
-/// Reads the vertices of a text without labels of edges: their labels, and the neighbours that they list.
+/// Reads the vertices of a text without labels of edges: their labels, and the neighbours that they list. Room is taken first for so many,
+/// with three neighbours each.
 fn read_vertices(
     alloc: Global,
     words: &mut Words,
     kind: LadKind,
     size: u32,
-) -> Result<(Vec<u32>, Vec<Vec<u32>>), LadFault>
+) -> Result<(Vec<u32>, PackedLists<u32>), LadFault>
     requires { WritesNoEdgeLabels kind }
     ensures found { IfOk result
         (λ p. WentVertices kind size size words.old words.new
-        (vertices_from p.0.items (map (λ bs. bs.items) p.1.items))) }
-    ensures lengths { IfOk result (λ p. length p.0.items ≡ length p.1.items) }
+        (vertices_from p.0.items p.1.lists)) }
+    ensures lengths { IfOk result (λ p. length p.0.items ≡ length p.1.lists) }
     ensures fault { IfErr result (λ e. OnWord e (StopsVertices kind size size words.old)) }
 {
-    let mut labels = Vec::new(alloc);
-    let mut neighbours = Vec::new(alloc);
+    let count = size as usize;
+    let mut labels = Vec::with_capacity(alloc, count)?;
+    let mut lists = PackedLists::with_capacity(alloc, count, 3 * count)?;
     for _i in 0..size {
-        let (label, listed) = read_vertex(alloc, words, kind, size)?;
+        let label = read_vertex(words, kind, size, &mut lists)?;
         labels.push(label)?;
-        neighbours.push(listed)?;
+        lists.close()?;
     }
-    Ok((labels, neighbours))
+    Ok((labels, lists))
 }
 
 /// Reads the parts of a text without labels of edges.
@@ -104,11 +110,11 @@ fn read_unlabelled(
     ensures kind { IfOk result (λ p. p.kind ≡ kind) }
     ensures fault { IfErr result (λ e. OnWord e (StopsVertices kind size size words.old)) }
 {
-    let (labels, neighbours) = read_vertices(alloc, words, kind, size)?;
+    let (labels, lists) = read_vertices(alloc, words, kind, size)?;
     Ok(GraphParts {
         kind,
         labels: Labels::from_vec(labels),
-        neighbours: NeighbourLists::from_vec(neighbours),
+        neighbours: NeighbourLists::from_lists(lists),
         edge_labels: EdgeLabels::none(alloc),
     })
 }
@@ -152,8 +158,8 @@ fn read_text(alloc: Global, bytes: &[u8], kind: LadKind, most: u32) -> Result<Gr
 
 /// What the text says, or its first faulty word: a graph of at most `most` vertices.
 ///
-/// It goes over the bytes once, in time linear in their number, and takes memory for words that it has read alone; in the format with
-/// labels of edges also two words for each vertex that the text announces.
+/// It goes over the bytes once, in time linear in their number. It takes memory for words that it has read, and first 24 bytes for each vertex
+/// that the text announces, of which there are at most `most`; in the format with labels of edges 52.
 pub fn read_lad(
     alloc: Global,
     bytes: &[u8],

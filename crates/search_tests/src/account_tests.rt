@@ -28,7 +28,7 @@ fn triangle_graph(alloc: Global) -> Result<Graph, AllocError>
     let parts = GraphParts {
         kind: LadKind::Lad,
         labels: Labels::from_vec(Vec::from_slice(alloc, &[0, 0, 0])?),
-        neighbours: NeighbourLists::from_vec(lists),
+        neighbours: NeighbourLists::from_vecs(alloc, &lists)?,
         edge_labels: EdgeLabels::none(alloc),
     };
     Graph::new(alloc, &parts)
@@ -45,7 +45,7 @@ fn four_cycle_graph(alloc: Global) -> Result<Graph, AllocError>
     let parts = GraphParts {
         kind: LadKind::Lad,
         labels: Labels::from_vec(Vec::from_slice(alloc, &[0, 0, 0, 0])?),
-        neighbours: NeighbourLists::from_vec(lists),
+        neighbours: NeighbourLists::from_vecs(alloc, &lists)?,
         edge_labels: EdgeLabels::none(alloc),
     };
     Graph::new(alloc, &parts)

@@ -350,13 +350,11 @@ fn fronts_of_a_graph(rt: HostRuntime) {
 #[test]
 fn keeps_parts(rt: HostRuntime) -> Result<(), Fail> {
     let alloc = rt.alloc();
+    let lists = vec![in alloc; Vec::from_slice(alloc, &[1, 1])?, Vec::new(alloc)]?;
     let parts = GraphParts {
         kind: LABELLED,
         labels: Labels::from_vec(Vec::from_slice(alloc, &[7, 0])?),
-        neighbours: NeighbourLists::from_vec(vec![in alloc;
-            Vec::from_slice(alloc, &[1, 1])?,
-            Vec::new(alloc),
-        ]?),
+        neighbours: NeighbourLists::from_vecs(alloc, &lists)?,
         edge_labels: EdgeLabels::none(alloc),
     };
     assert!(rt;

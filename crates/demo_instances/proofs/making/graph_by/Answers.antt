@@ -22,8 +22,8 @@ returns-clause-made g c =
     let all : c.loop-a.a ≡ n = omega arith in
     let lists = subst (λ (m : ℕ). ListsPairs n m pair (items_of c.loop-a.lists.items)) all c.loop-a.invariant in
     let zeros : c.in_ok-labels.labels.items ≡ replicate c.args.size 0 = search rules in
-    made-ok c.new.result n pair c.from_vec.result c.from_vec-2.result (c.from_vec.ensures ∙ zeros)
-    (subst (ListsPairs n n pair) (sym c.from_vec-2.ensures) lists) c.new.ensures.graph
+    made-ok c.new.result n pair c.from_vec.result c.in_ok-neighbours.neighbours (c.from_vec.ensures ∙ zeros)
+    (subst (ListsPairs n n pair) (sym (c.in_ok-neighbours.ensures ∙ ap items_of c.deref.ensures.value)) lists) c.new.ensures.graph
 
 pub returns-clause-plain : goal.returns-clause-plain
 returns-clause-plain g c = c.new.ensures.plain tt

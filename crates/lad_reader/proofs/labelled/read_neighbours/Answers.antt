@@ -1,9 +1,8 @@
-use Rattle.std.proofs.Common.{◌≡◌, ◌<◌, ℕ, [], ◌∷◌, Option, None, length, length-append, refl, sym, subst, ◌∙◌, arith}
+use Rattle.std.proofs.Common.{◌≡◌, ◌<◌, ℕ, [], Option, None, length-append, refl, subst, ◌∙◌, arith}
 use Rattle.std.proofs.lemmas.Result.{err_from_is_err_and}
 use Rattle.graph_theory.specs.Lad.{listed_label}
 use Rattle.graph_theory.specs.LadFault.{clash}
 use Rattle.graph_theory.specs.Progress.{StopsAt, StopsListed}
-use Rattle.graph_theory.specs.declared.lad_text.LadCause.{LadCause}
 use Rattle.graph_theory.specs.declared.lad_text.LadKind.TheVariants.{LabelledLad}
 use Rattle.graph_theory.specs.declared.lad_text.Place.TheVariants.{Neighbour, EdgeLabel}
 use Rattle.graph_theory.proofs.Descent.{neighbour_below}
@@ -14,9 +13,11 @@ use Rattle.lad_reader.proofs.labelled.read_neighbours.Goals as goal
 
 pub loop-i-init : goal.loop-i-init
 loop-i-init c = record {
-  went = rw (c.new-neighbours.ensures.items) (WentListed-none LabelledLad c.args.size c.args.words.now);
-  given = rw (c.new-neighbours.ensures.items) (given_none c.args.size c.args.stamp c.args.stamps.now c.args.labels.now c.requires.new);
-  lengths = rw (c.new-neighbours.ensures.items, c.new-edges.ensures.items) refl;
+  went = rw (c.requires.begun.neighbours) (WentListed-none LabelledLad c.args.size c.args.words.now);
+  given = rw (c.requires.begun.neighbours) (given_none c.args.size c.args.stamp c.args.stamps.now c.args.labels.now c.requires.new);
+  lengths = rw (c.requires.begun.neighbours, c.requires.begun.labels) refl;
+  lists = refl;
+  edges = refl;
 }
 
 pub returns-in_err-neighbour-clause-fault : goal.returns-in_err-neighbour-clause-fault
@@ -51,12 +52,14 @@ loop-i-preserved c =
     let labelled = c.in_ok-label.ensures.ok in
     let b_in : b < a.size = neighbour_below a.size b taken.1 in
     let earlier = c.given-earlier.ensures ∙ l.invariant.given.each b b_in in
-    let none : clash (listed_label (with_labels l.neighbours.items l.edges.items) b) label ≡ None = subst (λ (o : Option ℕ). clash o label ≡ None) earlier labelled.1 in
-    let pushed = with_labels-push l.neighbours.items l.edges.items b label l.invariant.lengths in
+    let none : clash (listed_label (with_labels l.listed.neighbours.rest l.listed.labels.rest) b) label ≡ None = subst (λ (o : Option ℕ). clash o label ≡ None) earlier labelled.1 in
+    let pushed = with_labels-push l.listed.neighbours.rest l.listed.labels.rest b label l.invariant.lengths in
     record {
-      went = rw (c.in_ok-push.ensures.items, c.in_ok-push-2.ensures.items, pushed)
+      went = rw (c.in_ok-push.ensures.neighbours, c.in_ok-push.ensures.labels, pushed)
           (WentListed-more LabelledLad a.size l._i a.words.now l.words c.take.new.self c.take-in-loop-i.new.self _ b label l.invariant.went taken.0 taken.1 labelled.0 none);
-      given = rw (c.in_ok-push.ensures.items, c.in_ok-push-2.ensures.items, pushed)
+      given = rw (c.in_ok-push.ensures.neighbours, c.in_ok-push.ensures.labels, pushed)
           (given_more a.size a.stamp l.stamps l.labels _ b label (omega (arith, c.requires.stamps)) (omega (arith, c.requires.labels)) b_in l.invariant.given none);
-      lengths = rw (c.in_ok-push.ensures.items, c.in_ok-push-2.ensures.items) (simp length-append (omega (arith, l.invariant.lengths)));
+      lengths = rw (c.in_ok-push.ensures.neighbours, c.in_ok-push.ensures.labels) (simp length-append (omega (arith, l.invariant.lengths)));
+      lists = c.in_ok-push.ensures.lists ∙ l.invariant.lists;
+      edges = c.in_ok-push.ensures.edges ∙ l.invariant.edges;
     }

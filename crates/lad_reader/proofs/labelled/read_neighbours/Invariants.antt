@@ -7,7 +7,9 @@ use Rattle.lad_reader.proofs.labelled.read_neighbours.Given as goal
 
 abbrev pub invariant-loop-i : goal.invariant-loop-i
 invariant-loop-i l = record {
-  went : WentListed LabelledLad l.size l._i l.fn.words l.words (with_labels l.neighbours.items l.edges.items);
-  given : AreGiven l.size l.stamp l.stamps l.labels (with_labels l.neighbours.items l.edges.items);
-  lengths : length l.neighbours.items ≡ length l.edges.items;
+  went : WentListed LabelledLad l.size l._i l.fn.words l.words (with_labels l.listed.neighbours.rest l.listed.labels.rest);
+  given : AreGiven l.size l.stamp l.stamps l.labels (with_labels l.listed.neighbours.rest l.listed.labels.rest);
+  lengths : length l.listed.neighbours.rest ≡ length l.listed.labels.rest;
+  lists : l.listed.neighbours.lists ≡ l.fn.listed.neighbours.lists;
+  edges : l.listed.labels.lists ≡ l.fn.listed.labels.lists;
 }
