@@ -1,4 +1,4 @@
-use Rattle.std.proofs.Common.{◌≡◌, ℕ, ◌<◌, List, [], ◌∷◌, length, get_or, arith, ap, sym, ◌∙◌, subst}
+use Rattle.std.proofs.Common.{◌≡◌, ℕ, ◌<◌, List, [], ◌∷◌, length, get_or, arith, ap, sym, subst}
 use Rattle.std.proofs.lemmas.List.{length-append}
 use Rattle.packed_lists.proofs.Packing.{closed_with}
 use Rattle.nds_filter.specs.Sequences.{sequence_at}
