@@ -45,6 +45,7 @@ impl<'a> Words<'a> {
     }
 
     /// Takes the number that is due.
+    #[inline]
     pub(crate) fn take(&mut self, due: Place) -> Result<u32, LadFault>
         requires { IsOpen due }
         ensures ok { IfOk result

@@ -73,6 +73,7 @@ impl<T: Copy> PackedLists<T> {
     }
 
     /// A list that is closed. Cost: two steps.
+    #[inline]
     pub fn of(&self, a: usize) -> &[T]
         requires { a < length self.now.lists }
         ensures list { result.now ≡ slice_index_or self.now.lists a [] }
@@ -84,6 +85,7 @@ impl<T: Copy> PackedLists<T> {
     }
 
     /// Adds an item to the list that is written.
+    #[inline]
     pub fn push(&mut self, x: T) -> Result<(), AllocError>
         ensures rest { OnOk result (self.new.rest ≡ self.old.rest ++ x ∷ []) }
         ensures lists { OnOk result (self.new.lists ≡ self.old.lists) }
