@@ -124,7 +124,7 @@ fn read_neighbours(
     Ok(())
 }
 
-/// Reads the vertices. Room is taken first for so many, with three neighbours each.
+/// Reads the vertices. Room is taken first for so many as the text can have, with three neighbours each.
 fn read_vertices(
     alloc: Global,
     words: &mut Words,
@@ -142,7 +142,7 @@ fn read_vertices(
     ensures fault { IfErr result
         (λ e. OnWord e (StopsVertices LadKind.LabelledLad size size words.old)) }
 {
-    let count = size as usize;
+    let count = words.room(size);
     let mut labels = Vec::with_capacity(alloc, count)?;
     let mut listed = Listed {
         neighbours: PackedLists::with_capacity(alloc, count, 3 * count)?,

@@ -70,8 +70,8 @@ fn read_vertex(
     Ok(label)
 }
 
-/// Reads the vertices of a text without labels of edges: their labels, and the neighbours that they list. Room is taken first for so many,
-/// with three neighbours each.
+/// Reads the vertices of a text without labels of edges: their labels, and the neighbours that they list. Room is taken first for so
+/// many as the text can have, with three neighbours each.
 fn read_vertices(
     alloc: Global,
     words: &mut Words,
@@ -85,7 +85,7 @@ fn read_vertices(
     ensures lengths { IfOk result (λ p. length p.0.items ≡ length p.1.lists) }
     ensures fault { IfErr result (λ e. OnWord e (StopsVertices kind size size words.old)) }
 {
-    let count = size as usize;
+    let count = words.room(size);
     let mut labels = Vec::with_capacity(alloc, count)?;
     let mut lists = PackedLists::with_capacity(alloc, count, 3 * count)?;
     for _i in 0..size {

@@ -1,6 +1,6 @@
 //! The words of a text that are left, of which each call takes the one that is due.
 
-ghost use Rattle.std.specs.Prelude.{◌≡◌, ◌+◌, ◌<◌, ◌^◌, [], ◌∷◌, length, map, Some, None, IfOk, IfErr};
+ghost use Rattle.std.specs.Prelude.{◌≡◌, ◌+◌, ◌<◌, ◌≤◌, ◌^◌, [], ◌∷◌, length, map, Some, None, IfOk, IfErr};
 ghost use Rattle.graph_theory.specs.Text.{words, number_of};
 ghost use Rattle.graph_theory.specs.LadFault.{refused_at, OnWord};
 ghost use Rattle.graph_theory.specs.Progress.{At, IsOpen, Went, StopsAt};
@@ -32,6 +32,16 @@ impl<'a> Words<'a> {
             rest: bytes,
             taken: 0,
         }
+    }
+
+    /// For how many vertices room is taken first: so many as are announced, but no more than the text can have, since each takes two
+    /// bytes at least.
+    pub(crate) fn room(&self, announced: u32) -> usize
+        ensures { result ≤ announced }
+    {
+        let most = self.rest.len() / 2;
+        let announced = announced as usize;
+        if announced < most { announced } else { most }
     }
 
     /// The fault of the next word.
