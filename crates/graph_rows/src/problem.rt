@@ -139,6 +139,21 @@ impl Problem {
         &self.target
     }
 
+    /// The graph that it is looked for in, taken out, for whoever looks for another pattern in it.
+    pub fn into_target(self) -> Graph
+        ensures target { result ≡ self.target }
+        ensures few { size result ≤ 8192 }
+    {
+        let Problem {
+            pattern: _,
+            target,
+            induced: _,
+            maps: _,
+            less: _,
+        } = self;
+        target
+    }
+
     /// Whether the copy is to bring no edge that the pattern has not.
     pub fn induced(&self) -> bool
         ensures { result ≡ self.now.induced }
