@@ -2,6 +2,7 @@
 
 ghost use Rattle.std.specs.Prelude.{◌≡◌, ◌<◌, IfSome};
 ghost use Rattle.graph_theory.specs.Graph.{size};
+ghost use Rattle.graph_theory.specs.Reversed.{reversed};
 ghost use Rattle.nds_filter.specs.Sequences.{sequences};
 
 use crate::asked::{AskedOfProblem, Texts, all_problems_are_so};
@@ -52,14 +53,21 @@ fn along_edges(alloc: Global, graph: &Graph) -> Option<Sequences>
     Sequences::new(alloc, graph, Direction::Out).ok()
 }
 
+/// The sequences of a graph against its edges.
+fn against_edges(alloc: Global, graph: &Graph) -> Option<Sequences>
+    ensures { IfSome result (λ s. s ≡ sequences (reversed graph.now)) }
+{
+    Sequences::new(alloc, graph, Direction::In).ok()
+}
+
 /// The same word, made value by value.
 fn first_by_values(alloc: Global, q: &Problem, p: u16) -> Option<u64>
     requires { p < size q.now.pattern }
 {
     let ps = along_edges(alloc, q.pattern())?;
     let ts = along_edges(alloc, q.target())?;
-    let in_ps = Sequences::new(alloc, q.pattern(), Direction::In).ok()?;
-    let in_ts = Sequences::new(alloc, q.target(), Direction::In).ok()?;
+    let in_ps = against_edges(alloc, q.pattern())?;
+    let in_ts = against_edges(alloc, q.target())?;
     let mut word = 0;
     for t in 0..q.target().size() {
         if t < 64 && is_first(q, &ps, &ts, &in_ps, &in_ts, p, t) {
