@@ -7,12 +7,16 @@ use crate::fault::{LoadFault, Purpose};
 use crate::files::{Files, NAME_LIMIT};
 use std::alloc::Global;
 
-/// How many bytes one read asks for.
-const CHUNK: usize = 65536;
+/// How many bytes the first read asks for, so that a small file clears and touches little memory.
+const FIRST: usize = 4096;
+
+/// How many bytes a read asks for once that many are there.
+const CHUNK: usize = 65_536;
 
 /// The whole content of a file of at most `most` bytes.
 ///
-/// It reads by chunks of 64 KiB and stops at the end, or after `most + 1` bytes. The cost is linear in the bytes read.
+/// It reads 4 KiB and then chunks of 64 KiB, and stops at the end, or after `most + 1` bytes. A file of less than 4 KiB takes
+/// no larger buffer. The cost is linear in the bytes read.
 pub fn load<F: Files>(
     alloc: Global,
     files: &mut F,
@@ -40,10 +44,10 @@ pub fn load<F: Files>(
 {
     files.start(name)?;
     let mut bytes = Vec::new(alloc);
-    let mut buffer = [0u8; CHUNK];
+    let mut buffer = Vec::new(alloc);
     while bytes.len() as u64 <= most {
-        let room = room_for(bytes.len() as u64, most);
-        let count = files.next(&mut buffer[..room])?;
+        buffer.resize(room_for(bytes.len() as u64, most), 0)?;
+        let count = files.next(&mut buffer)?;
         if count == 0 {
             return Ok(bytes);
         }
@@ -56,8 +60,10 @@ pub fn load<F: Files>(
 fn room_for(taken: u64, most: u64) -> usize
     requires { taken ≤ most }
     ensures some { 0 < result }
+    ensures small { taken < FIRST → result ≤ FIRST }
     ensures chunk { result ≤ CHUNK }
     ensures near { taken + result ≤ most + 1 }
 {
-    (most - taken).min(CHUNK as u64 - 1) as usize + 1
+    let chunk = if taken < FIRST as u64 { FIRST } else { CHUNK };
+    (most - taken).min(chunk as u64 - 1) as usize + 1
 }

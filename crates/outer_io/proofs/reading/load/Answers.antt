@@ -1,8 +1,9 @@
 -- Where a call fails, what has to be so of the answer is so because of that failure; the files are as the last call left them.
 
-use Rattle.std.proofs.Common.{◌≡◌, ℕ, ◌≢◌, ◌+◌, ◌-◌, ◌<◌, ◌≤◌, List, [], ◌++◌, length, take, drop, Option, Some, None, Result, Ok, Err, IsErrAnd, IsErrOf, IsSome, IsSomeAnd, inl, inr, refl, sym, ap, ◌∙◌, subst, append_assoc, length-append, length-drop, arith}
-use Rattle.std.proofs.lemmas.List.{append-nil, take-append-le, length-take}
+use Rattle.std.proofs.Common.{◌≡◌, ℕ, ◌≢◌, ◌+◌, ◌-◌, ◌<◌, ◌≤◌, List, [], ◌++◌, length, take, Option, Some, None, Result, Ok, Err, IsErrAnd, IsErrOf, IsSome, IsSomeAnd, inl, inr, refl, sym, ap, ◌∙◌, subst, append_assoc, length-append, arith}
+use Rattle.std.proofs.lemmas.List.{append-nil, length-take}
 use Rattle.std.proofs.lemmas.Result.{IfOk-from_err}
+use Rattle.std.proofs.Math.Seq.{take-append_seam}
 use Rattle.std.specs.Io.KnownBytes.{prepend_known, IsAtEnd}
 use Rattle.outer_io.specs.Faults.{Rose}
 use Rattle.outer_io.specs.declared.fault.LoadFault.TheVariants.{the_data, Failed, TooLong, NoMemory}
@@ -48,45 +49,50 @@ read_all content left later bytes buffer count whole front none end some =
     by None is end = absurd (none_is_none (subst IsSome is some))
     by (Some rest) is end = is ∙ ap (λ xs. Some (bytes ++ xs)) end ∙ ap Some (append-nil bytes)
 
+-- what the buffer shows after a read, and what of it was taken
+read_is : (shown new lent rest bytes more : List ℕ) (size count : ℕ) → shown ≡ take size (new ++ rest) → length new ≡ length lent → length lent ≡ size → more ≡ bytes ++ take count shown → more ≡ bytes ++ take count new
+read_is shown new lent rest bytes more size count shows filled whole taken =
+    taken ∙ ap (λ xs. bytes ++ take count xs) (shows ∙ ap (λ n. take n (new ++ rest)) (sym (filled ∙ whole)) ∙ take-append_seam new rest)
+
 -- what was read before a read, and what it read
-prepend_more : (content left later : Option (List ℕ)) (bytes buffer rest more : List ℕ) (count : ℕ) → content ≡ prepend_known bytes left → left ≡ prepend_known (take count buffer) later → count ≤ length buffer → more ≡ bytes ++ take count (buffer ++ rest) → content ≡ prepend_known more later
-prepend_more content left later bytes buffer rest more count whole front within is =
-    let read : more ≡ bytes ++ take count buffer = is ∙ ap (λ xs. bytes ++ xs) (take-append-le count buffer rest within) in
-    whole ∙ ap (prepend_known bytes) front ∙ joined later ∙ ap (λ xs. prepend_known xs later) (sym read)
+prepend_more : (content left later : Option (List ℕ)) (shown new lent rest bytes more : List ℕ) (size count : ℕ) → content ≡ prepend_known bytes left → left ≡ prepend_known (take count new) later
+    → shown ≡ take size (new ++ rest) → length new ≡ length lent → length lent ≡ size → more ≡ bytes ++ take count shown → content ≡ prepend_known more later
+prepend_more content left later shown new lent rest bytes more size count before front shows filled whole taken =
+    before ∙ ap (prepend_known bytes) front ∙ joined later ∙ ap (λ xs. prepend_known xs later) (sym (read_is shown new lent rest bytes more size count shows filled whole taken))
   where
-    joined : (known : Option (List ℕ)) → prepend_known bytes (prepend_known (take count buffer) known) ≡ prepend_known (bytes ++ take count buffer) known
+    joined : (known : Option (List ℕ)) → prepend_known bytes (prepend_known (take count new) known) ≡ prepend_known (bytes ++ take count new) known
     joined None = refl
-    joined (Some xs) = ap Some (sym (append_assoc bytes (take count buffer) xs))
+    joined (Some xs) = ap Some (sym (append_assoc bytes (take count new) xs))
 
 -- no byte before what is left is what is left
 prepend_none : (known : Option (List ℕ)) → known ≡ prepend_known [] known
 prepend_none None = refl
 prepend_none (Some xs) = refl
 
--- a part of the buffer that is asked for is not empty
-asked_some : (room : ℕ) (buffer : List ℕ) → 0 < room → room ≤ 65536 → length buffer ≡ 65536 → 0 < length (take room buffer)
-asked_some room buffer some chunk long = omega (arith, length-take room buffer)
-
--- the buffer is as long as it was
-buffer_long : (room : ℕ) (buffer new : List ℕ) → length new ≡ length (take room buffer) → room ≤ 65536 → length buffer ≡ 65536 → length (new ++ drop room buffer) ≡ 65536
-buffer_long room buffer new same chunk long = omega (arith, length-append new (drop room buffer), length-take room buffer, length-drop room buffer)
+-- the buffer is as long as what was asked for
+as_asked : (new lent : List ℕ) (size room : ℕ) → length new ≡ length lent → length lent ≡ size → size ≡ room → length new ≡ room
+as_asked new lent size room filled whole sized = filled ∙ whole ∙ sized
 
 -- how many bytes there are after a read
-more_long : (bytes more buffer new rest : List ℕ) (room count : ℕ) → more ≡ bytes ++ take count (new ++ rest) → length new ≡ length (take room buffer) → count ≤ length new → (length more ≡ length bytes + count) × (length more ≤ length bytes + room)
-more_long bytes more buffer new rest room count is same within =
-    let all : length more ≡ length bytes + count = ap length is ∙ length-append bytes (take count (new ++ rest)) ∙ omega (arith, length-take count (new ++ rest), length-append new rest) in
-    (all, omega (arith, length-take room buffer))
+more_long : (shown new lent rest bytes more : List ℕ) (size room count : ℕ) → shown ≡ take size (new ++ rest) → length new ≡ length lent → length lent ≡ size → size ≡ room → count ≤ length new
+    → more ≡ bytes ++ take count shown → (length more ≡ length bytes + count) × (length more ≤ length bytes + room)
+more_long shown new lent rest bytes more size room count shows filled whole sized within taken =
+    let read = read_is shown new lent rest bytes more size count shows filled whole taken in
+    let all : length more ≡ length bytes + count = ap length read ∙ length-append bytes (take count new) ∙ omega (arith, length-take count new) in
+    (all, omega arith)
 
 -- the bytes are not more than one too many, and more than they were
-read_fits : (bytes more buffer new rest : List ℕ) (room count taken most : ℕ) → more ≡ bytes ++ take count (new ++ rest) → length new ≡ length (take room buffer) → count ≤ length new → taken ≡ length bytes → taken + room ≤ most + 1 → length more ≤ most + 1
-read_fits bytes more buffer new rest room count taken most is same within all near =
-    let long = more_long bytes more buffer new rest room count is same within in
-    omega (arith, long.1)
+read_fits : (shown new lent rest bytes more : List ℕ) (size room count had most : ℕ) → shown ≡ take size (new ++ rest) → length new ≡ length lent → length lent ≡ size → size ≡ room → count ≤ length new
+    → more ≡ bytes ++ take count shown → had ≡ length bytes → had + room ≤ most + 1 → length more ≤ most + 1
+read_fits shown new lent rest bytes more size room count had most shows filled whole sized within taken all near =
+    let after = more_long shown new lent rest bytes more size room count shows filled whole sized within taken in
+    omega (arith, after.1)
 
-read_less_left : (bytes more buffer new rest : List ℕ) (room count taken most : ℕ) → more ≡ bytes ++ take count (new ++ rest) → length new ≡ length (take room buffer) → count ≤ length new → taken ≡ length bytes → taken + room ≤ most + 1 → count ≢ 0 → most + 1 - length more < most + 1 - length bytes
-read_less_left bytes more buffer new rest room count taken most is same within all near some =
-    let long = more_long bytes more buffer new rest room count is same within in
-    omega (arith, long.0, long.1)
+read_less_left : (shown new lent rest bytes more : List ℕ) (size room count had most : ℕ) → shown ≡ take size (new ++ rest) → length new ≡ length lent → length lent ≡ size → size ≡ room → count ≤ length new
+    → more ≡ bytes ++ take count shown → had ≡ length bytes → had + room ≤ most + 1 → count ≢ 0 → most + 1 - length more < most + 1 - length bytes
+read_less_left shown new lent rest bytes more size room count had most shows filled whole sized within taken all near some =
+    let after = more_long shown new lent rest bytes more size room count shows filled whole sized within taken in
+    omega (arith, after.0, after.1)
 
 -- a file is longer than the bytes that were read of it
 longer : (content left : Option (List ℕ)) (bytes : List ℕ) (most : ℕ) → content ≡ prepend_known bytes left → most < length bytes → IsSome content → IsSomeAnd content (λ all. most < length all)
@@ -123,6 +129,36 @@ returns-in_err-start-clause-tells g c = c.start.ensures.tells
 
 pub returns-in_err-start-clause-begun : goal.returns-in_err-start-clause-begun
 returns-in_err-start-clause-begun g c = c.start.ensures.begun
+
+pub returns-in_err-resize-clause-whole : goal.returns-in_err-resize-clause-whole
+returns-in_err-resize-clause-whole g c = IfOk-from_err _ _ c.from_residual-in_err-resize.ensures.0
+
+pub returns-in_err-resize-clause-short : goal.returns-in_err-resize-clause-short
+returns-in_err-resize-clause-short g c = IfOk-from_err _ _ c.from_residual-in_err-resize.ensures.0
+
+pub returns-in_err-resize-clause-too_long : goal.returns-in_err-resize-clause-too_long
+returns-in_err-resize-clause-too_long g c = λ other. absurd (no_other c.from_residual-in_err-resize.result NoMemory TooLong no_memory_too_long c.from_residual-in_err-resize.ensures.1 other)
+
+pub returns-in_err-resize-clause-rose : goal.returns-in_err-resize-clause-rose
+returns-in_err-resize-clause-rose g c = λ other. absurd (no_other c.from_residual-in_err-resize.result NoMemory Failed no_memory_failed c.from_residual-in_err-resize.ensures.1 other)
+
+pub returns-in_err-resize-clause-fault_at : goal.returns-in_err-resize-clause-fault_at
+returns-in_err-resize-clause-fault_at g c = λ other. absurd (no_other c.from_residual-in_err-resize.result NoMemory Failed no_memory_failed c.from_residual-in_err-resize.ensures.1 other)
+
+pub returns-in_err-resize-clause-quiet : goal.returns-in_err-resize-clause-quiet
+returns-in_err-resize-clause-quiet g c = inr c.loop-buffer.invariant.faults
+
+pub returns-in_err-resize-clause-later : goal.returns-in_err-resize-clause-later
+returns-in_err-resize-clause-later g c = subst (λ (now : ℕ). g.F.Files.faults c.args.files.now ≤ now) (sym c.loop-buffer.invariant.faults) (omega arith)
+
+pub returns-in_err-resize-clause-same : goal.returns-in_err-resize-clause-same
+returns-in_err-resize-clause-same g c = c.loop-buffer.invariant.same
+
+pub returns-in_err-resize-clause-tells : goal.returns-in_err-resize-clause-tells
+returns-in_err-resize-clause-tells g c = c.loop-buffer.invariant.tells
+
+pub returns-in_err-resize-clause-begun : goal.returns-in_err-resize-clause-begun
+returns-in_err-resize-clause-begun g c = c.loop-buffer.invariant.begun
 
 pub returns-in_err-count-clause-whole : goal.returns-in_err-count-clause-whole
 returns-in_err-count-clause-whole g c = IfOk-from_err _ _ c.from_residual-in_err-count.ensures.0
@@ -185,7 +221,7 @@ pub returns-in_err-extend_from_slice-clause-begun : goal.returns-in_err-extend_f
 returns-in_err-extend_from_slice-clause-begun g c = c.next.ensures.begun ∙ c.loop-buffer.invariant.begun
 
 pub returns-then-count-eq0-clause-whole : goal.returns-then-count-eq0-clause-whole
-returns-then-count-eq0-clause-whole g c = λ tells. read_all _ _ _ _ c.next.new.buffer c.in_ok-count.count c.loop-buffer.invariant.whole c.in_ok-count.ensures.bytes.0 c.if-count-eq0.true (c.in_ok-count.ensures.bytes.1 c.if-count-eq0.true (subst (λ (room : ℕ). 0 < room) (sym c.next.auto.buffer) (asked_some _ _ c.room_for-room.ensures.some c.room_for-room.ensures.chunk c.loop-buffer.invariant.long))) (c.in_ok-start.ensures.there tells)
+returns-then-count-eq0-clause-whole g c = λ tells. read_all _ _ _ _ c.next.new.buffer c.in_ok-count.count c.loop-buffer.invariant.whole c.in_ok-count.ensures.bytes.0 c.if-count-eq0.true (c.in_ok-count.ensures.bytes.1 c.if-count-eq0.true (omega (arith, as_asked _ _ _ _ c.next.auto.buffer c.deref_mut.ensures.len c.in_ok-resize.ensures.len, c.room_for.ensures.some))) (c.in_ok-start.ensures.there tells)
 
 pub returns-then-count-eq0-clause-short : goal.returns-then-count-eq0-clause-short
 returns-then-count-eq0-clause-short g c = subst (λ (n : ℕ). n ≤ c.args.most) (c.len.ensures ∙ c.loop-buffer.bytes.ok.0) c.loop-buffer-test.true
@@ -240,7 +276,6 @@ returns-clause-begun g c = c.loop-buffer.invariant.begun
 
 pub loop-buffer-init : goal.loop-buffer-init
 loop-buffer-init g c = record {
-  long = refl;
   short = omega (arith, ap length c.new-bytes.ensures.items);
   whole = sym c.in_ok-start.ensures.left ∙ prepend_none _ ∙ ap (λ (xs : List ℕ). prepend_known xs (g.F.Files.left c.start.new.self)) (sym c.new-bytes.ensures.items);
   chosen = c.in_ok-start.ensures.chosen;
@@ -252,9 +287,8 @@ loop-buffer-init g c = record {
 
 pub loop-buffer-preserved : goal.loop-buffer-preserved
 loop-buffer-preserved g c = record {
-  long = buffer_long _ _ _ c.next.auto.buffer c.room_for-room.ensures.chunk c.loop-buffer.invariant.long;
-  short = read_fits _ _ _ _ _ _ _ _ _ c.in_ok-extend_from_slice.ensures.items c.next.auto.buffer c.in_ok-count.ensures.bound.0 (c.len-in-loop-buffer.ensures ∙ c.loop-buffer.bytes.ok.0) c.room_for-room.ensures.near;
-  whole = prepend_more _ _ _ _ _ _ _ _ c.loop-buffer.invariant.whole c.in_ok-count.ensures.bytes.0 c.in_ok-count.ensures.bound.0 c.in_ok-extend_from_slice.ensures.items;
+  short = read_fits _ _ _ _ _ _ _ _ _ _ _ c.deref.ensures.value c.next.auto.buffer c.deref_mut.ensures.len c.in_ok-resize.ensures.len c.in_ok-count.ensures.bound.0 c.in_ok-extend_from_slice.ensures.items (c.len-in-loop-buffer.ensures ∙ c.loop-buffer.bytes.ok.0) c.room_for.ensures.near;
+  whole = prepend_more _ _ _ _ _ _ _ _ _ _ _ c.loop-buffer.invariant.whole c.in_ok-count.ensures.bytes.0 c.deref.ensures.value c.next.auto.buffer c.deref_mut.ensures.len c.in_ok-extend_from_slice.ensures.items;
   chosen = c.next.ensures.chosen ∙ c.loop-buffer.invariant.chosen;
   same = λ file. c.next.ensures.same file ∙ c.loop-buffer.invariant.same file;
   faults = c.in_ok-count.ensures.cause.quiet ∙ c.loop-buffer.invariant.faults;
@@ -263,4 +297,4 @@ loop-buffer-preserved g c = record {
 }
 
 pub loop-buffer-smaller : goal.loop-buffer-smaller
-loop-buffer-smaller g c = read_less_left _ _ _ _ _ _ _ _ _ c.in_ok-extend_from_slice.ensures.items c.next.auto.buffer c.in_ok-count.ensures.bound.0 (c.len-in-loop-buffer.ensures ∙ c.loop-buffer.bytes.ok.0) c.room_for-room.ensures.near c.if-count-eq0.false
+loop-buffer-smaller g c = read_less_left _ _ _ _ _ _ _ _ _ _ _ c.deref.ensures.value c.next.auto.buffer c.deref_mut.ensures.len c.in_ok-resize.ensures.len c.in_ok-count.ensures.bound.0 c.in_ok-extend_from_slice.ensures.items (c.len-in-loop-buffer.ensures ∙ c.loop-buffer.bytes.ok.0) c.room_for.ensures.near c.if-count-eq0.false

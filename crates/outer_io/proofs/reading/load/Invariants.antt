@@ -5,7 +5,6 @@ use Rattle.outer_io.proofs.reading.load.Given as goal
 -- what was read and what is left are the whole; nothing else has changed
 abbrev pub invariant-loop-buffer : goal.invariant-loop-buffer
 invariant-loop-buffer g l = record {
-  long : length l.buffer ≡ 65536;
   short : length l.bytes.items ≤ l.most + 1;
   whole : g.F.Files.content l.fn.files l.name ≡ prepend_known l.bytes.items (g.F.Files.left l.files);
   chosen : g.F.Files.chosen l.files ≡ Some l.name;
