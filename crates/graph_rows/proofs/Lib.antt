@@ -6,6 +6,7 @@ pub mod Parts
 pub mod LabelsBeside
 pub mod SameGraphs
 pub mod MappingPut
+pub mod MappingHeld
 pub mod Reversing
 pub mod Looping
 pub mod Pairing

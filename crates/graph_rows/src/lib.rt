@@ -12,6 +12,7 @@
 #![tactic(auto)]
 
 mod edge_labels;
+pub(crate) mod gathered;
 pub mod graph;
 pub mod mapping;
 mod marks;

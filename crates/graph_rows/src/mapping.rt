@@ -7,6 +7,7 @@ ghost use Rattle.graph_theory.specs.Mapping.{mapping_line, yes_text, HasNoLine, 
 ghost use Rattle.outer_io.specs.KnownText.{Wrote};
 ghost use Rattle.outer_io.specs.Sinks.{HasBlame};
 
+use crate::gathered::gathered;
 use graph_theory::mapping_lines::{after, first_line};
 use graph_theory::mapping_text::{MapFault, mapping_laws};
 use graph_theory::text_words::number_in;
@@ -94,8 +95,21 @@ pub fn read_mapping(alloc: Global, bytes: &[u8]) -> Result<Vec<u32>, MapFault>
     images_in(alloc, bytes)
 }
 
-/// Puts the text of the mapping: a call for each number and each text between them. It takes no memory.
+/// Puts the text of the mapping. A text of at most 1,024 bytes goes out by one call, so that a small answer costs one write of
+/// the system; a longer one by a call for each number and each text between them. It takes no memory.
 pub fn write_mapping<S: Sink>(map: &[u32], sink: &mut S) -> Result<(), Failed>
+    ensures text { Wrote (S.spot sink.old).steady (S.contents sink.old) (S.contents sink.new) result
+        (yes_text map.now) }
+    ensures cause { HasBlame S.spot S.rest S.faults S.blamed sink.old sink.new result }
+{
+    match gathered(map) {
+        Some(text) => sink.put(text.as_slice()),
+        None => write_lines(map, sink),
+    }
+}
+
+/// Puts the text of the mapping line by line.
+fn write_lines<S: Sink>(map: &[u32], sink: &mut S) -> Result<(), Failed>
     ensures text { Wrote (S.spot sink.old).steady (S.contents sink.old) (S.contents sink.new) result
         (yes_text map.now) }
     ensures cause { HasBlame S.spot S.rest S.faults S.blamed sink.old sink.new result }

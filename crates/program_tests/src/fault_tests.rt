@@ -150,7 +150,7 @@ static FAULTS: [Faults; 30] = [
     Faults("subgraph encode p t", Stream::Files, 7, 0),
     Faults("subgraph check e l", Stream::Files, 7, 0),
     Faults("subgraph check e h", Stream::Files, 7, 0),
-    Faults("subgraph solve p t", Stream::Output, 10, 0),
+    Faults("subgraph solve p t", Stream::Output, 2, 0),
     Faults("subgraph verify p t m", Stream::Output, 2, 0),
     Faults("subgraph encode p t", Stream::Output, 7, 0),
     Faults("subgraph check e l", Stream::Output, 2, 0),

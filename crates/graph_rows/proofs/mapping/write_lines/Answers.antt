@@ -2,7 +2,7 @@ use Rattle.std.proofs.Common.{rules, ap}
 use Rattle.std.proofs.lemmas.Result.{err_from_is_err_and}
 use Rattle.outer_io.specs.Sinks.{Spot}
 use Rattle.graph_rows.proofs.MappingPut.{StopsIn-line, StopsIn-yes, append_known-line}
-use Rattle.graph_rows.proofs.mapping.write_mapping.Goals as goal
+use Rattle.graph_rows.proofs.mapping.write_lines.Goals as goal
 
 pub returns-in_err-put-clause-text : goal.returns-in_err-put-clause-text
 returns-in_err-put-clause-text g c =

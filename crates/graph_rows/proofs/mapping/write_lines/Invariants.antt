@@ -1,7 +1,7 @@
 use Rattle.std.proofs.Common.{◌≡◌, ℕ, take, List}
 use Rattle.std.specs.Io.KnownBytes.{append_known}
 use Rattle.graph_theory.specs.Mapping.{yes_text}
-use Rattle.graph_rows.proofs.mapping.write_mapping.Given as goal
+use Rattle.graph_rows.proofs.mapping.write_lines.Given as goal
 
 -- the lines so far were put, and nothing else has changed
 abbrev pub invariant-loop-p : goal.invariant-loop-p
