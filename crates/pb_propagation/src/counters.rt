@@ -1,8 +1,9 @@
-//! Counters of slack over all constraints, by which unit propagation sees whom a literal concerns (Sheini, Sakallah 2006; Elffers,
-//! Nordström 2018; Devriendt 2020). Each constraint has a number, and each literal the list of the constraints in which it stands. Once a
-//! literal is false its coefficients leave the slacks of these, and a constraint is looked at only where its slack is below its greatest
-//! coefficient. What counters say is advice, and no contract speaks of it: whoever takes it looks at the constraint itself before
-//! anything follows (`follow`), so that a wrong counter would cost time and no answer.
+//! By what unit propagation sees whom a literal concerns. A constraint that says how many of its literals are true has watches (`watches`);
+//! any other has a counter of slack (Sheini, Sakallah 2006; Elffers, Nordström 2018; Devriendt 2020). Each constraint has a number, and each
+//! literal the list of the counted constraints in which it stands. Once a literal is false its coefficients leave the slacks of these, and
+//! a constraint is looked at only where its slack is below its greatest coefficient. What counters and watches say is advice, and no
+//! contract speaks of it: whoever takes it looks at the constraint itself before anything follows (`follow`), so that a wrong counter
+//! would cost time and no answer.
 
 use super::following::greatest_of;
 use super::levels::Levels;
@@ -10,7 +11,8 @@ use super::reach::reach;
 use super::short_following::excess_of;
 use super::slot::Slot;
 use super::table::Table;
-use super::uses::{Use, Uses};
+use super::uses::{Use, Uses, place_of};
+use super::watches::{Due, Watches};
 use log_theory::{Name, Ref};
 use packed_terms::{Kept, PackedConstraint, ShortConstraint};
 use pb_terms::Constraint;
@@ -23,13 +25,15 @@ pub struct Counter {
     widest: i64,
 }
 
-/// The counter and the name of each constraint, by its number; the uses of each literal; how many constraints of the model and of each
+/// The counter and the name of each constraint, by its number; what concerns each literal; the constraints that
+/// watch; how many constraints of the model and of each
 /// owner have a number; up to which number all that they force at the root was set; how many literals of the queue were taken
 /// from the counters; whether some were at the root; and how many names and rows were deleted.
 pub struct Counters {
     pub slacks: Vec<Counter>,
     pub names: Vec<Ref>,
     pub uses: Uses,
+    watches: Watches,
     counted: Vec<usize>,
     pub settled: usize,
     pub taken: usize,
@@ -44,6 +48,7 @@ impl Drop for Counters {
             slacks: _,
             names: _,
             uses: _,
+            watches: _,
             counted: _,
             settled: _,
             taken: _,
@@ -52,6 +57,12 @@ impl Drop for Counters {
         } = self;
     }
 }
+
+/// The counter of a constraint that watches, from which nothing is taken: it is due wherever all that is due is looked at.
+const WATCHED: Counter = Counter {
+    slack: 0,
+    widest: 1,
+};
 
 /// The greatest absolute coefficient. One pass.
 fn widest_of(terms: &[(u32, i128)]) -> u128 {
@@ -156,6 +167,7 @@ impl Counters {
             slacks: Vec::new(alloc),
             names: Vec::new(alloc),
             uses: Uses::new(alloc),
+            watches: Watches::new(alloc),
             counted: Vec::new(alloc),
             settled: 0,
             taken: 0,
@@ -185,7 +197,22 @@ impl Counters {
         }
     }
 
-    /// Gives a constraint the next number. Two passes over its terms.
+    /// The counter of a constraint with a number: that of one which watches, or of one whose literals have uses.
+    fn begin(
+        &mut self,
+        alloc: Global,
+        set: &Levels,
+        number: u32,
+        next: &PackedConstraint,
+    ) -> Result<Counter, AllocError> {
+        if self.watches.keep(alloc, &mut self.uses, set, number, next)? {
+            return Ok(WATCHED);
+        }
+        self.uses.note_all(alloc, number, next)?;
+        Ok(counter_of(set, next))
+    }
+
+    /// Gives a constraint the next number. A few passes over its terms.
     fn number(
         &mut self,
         alloc: Global,
@@ -197,9 +224,9 @@ impl Counters {
             return Ok(());
         };
         self.uses.make_room(reach(next))?;
-        self.uses.note_all(alloc, number, next)?;
+        let counter = self.begin(alloc, set, number, next)?;
         self.names.push(name)?;
-        self.slacks.push(counter_of(set, next))?;
+        self.slacks.push(counter)?;
         Ok(())
     }
 
@@ -259,6 +286,24 @@ impl Counters {
     /// The number after the greatest variable of all constraints.
     pub fn reach(&self) -> usize {
         self.uses.reach()
+    }
+
+    /// How many constraints watch the literal that is false where a variable has a value.
+    pub fn watching(&self, variable: u32, value: bool) -> usize {
+        self.uses.watches(place_of(variable, value)).len()
+    }
+
+    /// Lets the watches of the literal that is false where a variable has a value, from one on, go on to others, up to a constraint of
+    /// which something may follow.
+    pub fn next_due(
+        &mut self,
+        set: &Levels,
+        variable: u32,
+        value: bool,
+        from: usize,
+    ) -> Option<Due> {
+        let gone = place_of(variable, value);
+        self.watches.next_due(&mut self.uses, set, gone, from)
     }
 
     /// Gives the counters back all that the queue's literals took from them.

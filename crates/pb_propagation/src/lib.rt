@@ -22,6 +22,7 @@ mod short_propagate;
 mod slot;
 mod table;
 mod uses;
+mod watches;
 
 // What stands, and what keeps a line from being taken.
 pub use fault::LineFault;

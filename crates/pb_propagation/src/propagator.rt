@@ -114,6 +114,34 @@ fn touch(
     closed
 }
 
+/// Lets the watches of the literal that is false where a variable has a value go on to others, and follows the constraints of
+/// which something may follow, up to a conflict. Constant for each clause that is known to have a true literal, and the literals of
+/// each other constraint that watches.
+fn touch_watches(
+    set: &mut Levels,
+    counters: &mut Counters,
+    variable: u32,
+    value: bool,
+    model: &[PackedConstraint],
+    table: &Table,
+) -> bool
+    ensures comes { (s : Setting) → Led s (all_forms model.now table.now) (now set.old)
+        → Comes result s (all_forms model.now table.now) (now set.new) }
+    ensures kept { Keeps set.old set.new }
+{
+    let mut next = 0;
+    for _ in 0..counters.watching(variable, value) {
+        let Some(due) = counters.next_due(set, variable, value, next) else {
+            return false;
+        };
+        next = due.next;
+        if follow_due(set, false, counters.names.get(due.number), model, table) {
+            return true;
+        }
+    }
+    false
+}
+
 /// Propagates what is in the queue, up to a conflict: whether there is one. At most as many literals as variables.
 fn run(set: &mut Levels, counters: &mut Counters, model: &[PackedConstraint], table: &Table) -> bool
     ensures comes { (s : Setting) → Led s (all_forms model.now table.now) (now set.old)
@@ -135,6 +163,9 @@ fn run(set: &mut Levels, counters: &mut Counters, model: &[PackedConstraint], ta
             model,
             table,
         ) {
+            return true;
+        }
+        if touch_watches(set, counters, variable, value, model, table) {
             return true;
         }
     }
