@@ -25,10 +25,9 @@ pub struct Counter {
     widest: i64,
 }
 
-/// The counter and the name of each constraint, by its number; what concerns each literal; the constraints that
-/// watch; how many constraints of the model and of each
-/// owner have a number; up to which number all that they force at the root was set; how many literals of the queue were taken
-/// from the counters; whether some were at the root; and how many names and rows were deleted.
+/// The counter and the name of each constraint, by its number; what concerns each literal; the constraints that watch; how many constraints
+/// of the model and of each owner have a number; up to which number all that they force at the root was set; how many literals of the
+/// queue were taken from the counters; whether some were at the root; and how many names and rows were deleted.
 pub struct Counters {
     pub slacks: Vec<Counter>,
     pub names: Vec<Ref>,

@@ -1,6 +1,6 @@
-//! Unit propagation over all constraints so far, by counters and on two levels: what is forced without assumptions stays from line to
-//! line, and grows with the constraints; a line's own level ends with the line. Each literal is set by the constraint itself, which its
-//! counter only points to. So an answer that there is a conflict stands whatever the counters say.
+//! Unit propagation over all constraints so far, by watches and counters and on two levels: what is forced without assumptions stays from
+//! line to line, and grows with the constraints; a line's own level ends with the line. Each literal is set by the constraint itself, to
+//! which its watch or its counter only points. So an answer that there is a conflict stands whatever these say.
 
 ghost use Rattle.std.specs.Prelude.{◌≡◌, ℕ, Bool, true, false, List, Option, Some, None, IfOk};
 ghost use Rattle.std.specs.Bool.{OnTrue};
@@ -24,7 +24,7 @@ use packed_terms::PackedConstraint;
 use pb_terms::{Literal, Literals};
 use std::alloc::{AllocError, Global};
 
-/// The literals of a line, those on two levels, and the counters of the constraints so far.
+/// The literals of a line, those on two levels, and the counters and watches of the constraints so far.
 pub struct Propagator {
     /// What a line assumes or sets on its own, along references or in passes: each line clears it first.
     pub set: Literals,
@@ -319,9 +319,9 @@ fn close(
     Ok(close_line(levels, counters, assumed, literals, model, table))
 }
 
-/// Whether counters show that unit propagation from the negations of literals comes to a conflict. What the constraints force without
-/// these stays for the next line. Costs the literals, the constraints that came since the last call, and the terms of those that what is
-/// set may concern.
+/// Whether watches and counters show that unit propagation from the negations of literals comes to a conflict. What the constraints force
+/// without these stays for the next line. Costs the literals, the constraints that came since the last call, and the terms of those that
+/// what is set may concern.
 pub fn is_closed(
     alloc: Global,
     work: &mut Propagator,

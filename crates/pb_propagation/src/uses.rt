@@ -27,8 +27,7 @@ pub struct Watch {
     pub other: u32,
 }
 
-/// What concerns a literal: the constraints from whose counters it is taken once it is false, and those that watch
-/// it.
+/// What concerns a literal: the constraints from whose counters it is taken once it is false, and those that watch it.
 #[derive(Drop)]
 struct Concerned {
     uses: Vec<Use>,
@@ -43,8 +42,7 @@ pub struct Uses {
     lists: Vec<Concerned>,
 }
 
-/// The place of the head of the literal that is false where a variable has a value. A constraint that watches
-/// keeps a literal as this number.
+/// The place of the head of the literal that is false where a variable has a value. A constraint that watches keeps a literal as this number.
 pub fn place_of(variable: u32, value: bool) -> usize {
     variable as usize * 2 + usize::from(value)
 }

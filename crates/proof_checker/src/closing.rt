@@ -1,5 +1,5 @@
-//! Unit propagation over all constraints so far, for lines that name none: by counters, which find a conflict fast, and where they find
-//! none by passes over all constraints until one sets nothing.
+//! Unit propagation over all constraints so far, for lines that name none: by watches and counters, which find a conflict fast, and where
+//! they find none by passes over all constraints until one sets nothing.
 
 ghost use Rattle.std.specs.Prelude.{◌≡◌, ◌≤◌, ◌^◌, List, map, length};
 ghost use Rattle.std.specs.List.{flat_map};
@@ -177,7 +177,7 @@ fn derive_by_passes(
 
 /// The clause of the literals, if unit propagation from its negation over all constraints so far comes to a conflict, or the first fault.
 /// Costs the literals, the constraints that came since the last line, and the terms of those that what is set may concern; passes over
-/// all constraints only where counters find no conflict, which ends the log if they are right.
+/// all constraints only where watches and counters find no conflict, which ends the log if they are right.
 pub fn derive_alone(
     alloc: Global,
     work: &mut Propagator,
