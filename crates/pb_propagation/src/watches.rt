@@ -9,8 +9,8 @@ use super::uses::{Uses, Watch, has_value, place_of};
 use packed_terms::{Kept, PackedConstraint, ShortConstraint};
 use std::alloc::{AllocError, Global};
 
-/// The constraints behind one another: of each its number, how many literals it watches, how many it has, and these, first those that
-/// it watches.
+/// The constraints behind one another: of each its number, how many literals it watches, how many it has, how far behind its number the
+/// last search ended, and its literals, first those that it watches.
 #[derive(Drop)]
 pub struct Watches {
     words: Vec<u32>,
@@ -32,7 +32,7 @@ enum Moved {
 }
 
 /// How many words stand before the literals of a constraint.
-const HEAD: usize = 3;
+const HEAD: usize = 4;
 
 /// The degree of a constraint: what coefficients of true literals have to come to. One pass.
 fn degree_of(next: &ShortConstraint) -> i64 {
@@ -43,9 +43,9 @@ fn degree_of(next: &ShortConstraint) -> i64 {
     degree
 }
 
-/// How many literals a constraint watches, if it says how many are true: all its coefficients are 1, or none is below its degree, so that
-/// one is enough. None where nothing follows of it ever, or as much without any other, or a variable is too great. Two passes.
-fn watched_of(next: &ShortConstraint) -> Option<u32> {
+/// How many literals have to be true by a constraint that says so: all its coefficients are 1, or none is below its degree, so that one is
+/// enough. Two passes.
+fn least_of(next: &ShortConstraint) -> Option<i64> {
     let degree = degree_of(next);
     let mut narrowest = i64::MAX;
     let mut widest: i64 = 0;
@@ -57,15 +57,27 @@ fn watched_of(next: &ShortConstraint) -> Option<u32> {
         narrowest = narrowest.min(size);
         widest = widest.max(size);
     }
-    let least = if narrowest >= degree {
-        degree.min(1)
-    } else {
-        degree
+    if narrowest >= degree {
+        return Some(degree.min(1));
+    }
+    if widest > 1 { None } else { Some(degree) }
+}
+
+/// How many literals a constraint watches, if it says how many are true. None where nothing ever follows of it, or as much whatever is set,
+/// or where it would watch more than a third of them and not all: then a counter costs less than to look for others. Two passes.
+fn watched_of(next: &ShortConstraint) -> Option<u32> {
+    let Some(least) = least_of(next) else {
+        return None;
     };
-    if least < 1 || (least > 1 && widest > 1) || least.unsigned_abs() >= next.terms().len() as u64 {
+    let length = next.terms().len() as u64;
+    if least < 1 || least.unsigned_abs() >= length {
         return None;
     }
-    u32::try_from(least.saturating_add(1)).ok()
+    let watched = least.unsigned_abs().saturating_add(1);
+    if least > 1 && watched < length && watched.saturating_mul(3) > length {
+        return None;
+    }
+    u32::try_from(watched).ok()
 }
 
 /// Brings the literals of a stretch that are not false to its front. One pass.
@@ -138,6 +150,7 @@ impl Watches {
         self.words.push(watched)?;
         self.words
             .push(u32::try_from(next.terms().len()).unwrap_or(0))?;
+        self.words.push(0)?;
         for &(variable, coefficient) in next.terms() {
             let place = place_of(variable, coefficient < 0);
             uses.make_lists(alloc, place)?;
@@ -191,6 +204,27 @@ impl Watches {
         Ok(true)
     }
 
+    /// The place of a literal that is not false, from where the last search ended to there again: so that all searches of a line together
+    /// go round a few times.
+    fn seek(&self, set: &Levels, at: u32, behind: usize, end: usize) -> Option<usize> {
+        let base = at as usize;
+        let start = base
+            .saturating_add(self.word(base + 3) as usize)
+            .max(behind);
+        match open_place(&self.words, set, start, end) {
+            Some(open) => Some(open),
+            None => open_place(&self.words, set, behind, start),
+        }
+    }
+
+    /// Notes where a search ended.
+    fn note_end(&mut self, at: u32, open: usize) {
+        let base = at as usize;
+        if base + 3 < self.words.len() {
+            self.words[base + 3] = u32::try_from(open.saturating_sub(base)).unwrap_or(0);
+        }
+    }
+
     /// Lets the watch of a literal go on to the one at a place, which is not watched; whether it does, which takes memory.
     fn exchange(&mut self, uses: &mut Uses, gone: usize, at: u32, open: usize) -> bool {
         let from = at as usize + HEAD;
@@ -232,7 +266,8 @@ impl Watches {
             uses.set_watch(gone, number, stays);
             return Moved::Nowhere;
         }
-        if let Some(open) = open_place(&self.words, set, behind, end) {
+        if let Some(open) = self.seek(set, at, behind, end) {
+            self.note_end(at, open);
             if self.exchange(uses, gone, at, open) {
                 uses.take_watch(gone, number);
                 return Moved::Elsewhere;
