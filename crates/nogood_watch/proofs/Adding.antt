@@ -6,10 +6,13 @@ use Rattle.std.proofs.Math.Seq.{get_or-append_seam, drop-append_seam, take-lengt
 use Rattle.nogood_watch.specs.declared.watched.Entry.{Entry}
 use Rattle.nogood_watch.specs.Lists.{no_watch, Chained, moved}
 use Rattle.nogood_watch.specs.Nogoods.{State, Nogood, added, literal, partner, nogood, nogood_of, AreLiterals, AreWatches}
-use Rattle.nogood_watch.specs.Inside.{cell, home_of, entry, nogood_at, nogoods_of, Within, Kept}
+use Rattle.nogood_watch.specs.Covering.{AreCovered, watched_for, seen}
+use Rattle.nogood_watch.specs.Inside.{cell, home_of, is_live, entry, nogood_at, nogoods_of, watches_of, Within, Kept}
 use Rattle.nogood_watch.proofs.Chains.{chained_same, chain_empty, moved_at, moved_other}
 use Rattle.nogood_watch.proofs.Visits.{partner_in, half_in}
 use Rattle.nogood_watch.proofs.Readiness.{cell_below, watch_in}
+use Rattle.nogood_watch.proofs.Covering.{live_front, live_last, covered_more, seen_more}
+use Rattle.nogood_watch.proofs.Walks.{home_live, home_past}
 
 -- a slice written back into its vector
 pub written_back : {A : Type 0} (len : ℕ) (old xs : List A) → len ≡ length old → length xs ≡ length old → take len (xs ++ drop (length xs) old) ≡ xs
@@ -108,20 +111,22 @@ watches_more vertices values nogoods w xs name a are long = record {
 
 -- ---- all together
 
-pub kept_added : (vertices values : ℕ) (literals : List (ℕ × ℕ)) (entries : List Entry) (w : List (ℕ × ℕ)) (heads next heads' next' : List ℕ) (capacity capacity' : ℕ) (xs : List (ℕ × ℕ)) (start name : ℕ)
-    → Kept vertices values literals entries w heads next capacity → AreLiterals vertices values xs → 2 ≤ length xs → start ≡ length literals
+pub kept_added : (vertices values : ℕ) (literals : List (ℕ × ℕ)) (entries : List Entry) (live : List Bool) (w : List (ℕ × ℕ)) (heads next heads' next' : List ℕ) (capacity capacity' : ℕ) (xs : List (ℕ × ℕ)) (start name : ℕ)
+    → Kept vertices values literals entries live w heads next capacity → AreLiterals vertices values xs → 2 ≤ length xs → start ≡ length literals
     → length heads' ≡ length heads → length next' ≡ length next + 2
     → ((home : ℕ → ℕ) → Chained home heads next → Chained (moved (moved home (length next) (cell values (literal xs 0))) (length next + 1) (cell values (literal xs 1))) heads' next')
     → length entries + 1 ≤ capacity'
-    → Kept vertices values (literals ++ xs) (entries ++ record { start = start; end = start + length xs; name = name } ∷ []) (w ++ literal xs 0 ∷ literal xs 1 ∷ []) heads' next' capacity'
-kept_added vertices values literals entries w heads next heads' next' capacity capacity' xs start name k are long e hl nl put room = record {
+    → Kept vertices values (literals ++ xs) (entries ++ record { start = start; end = start + length xs; name = name } ∷ []) (live ++ true ∷ []) (w ++ literal xs 0 ∷ literal xs 1 ∷ []) heads' next' capacity'
+kept_added vertices values literals entries live w heads next heads' next' capacity capacity' xs start name k are long e hl nl put room = record {
   heads_long = hl ∙ k.heads_long;
   next_long = omega (arith, nl, k.next_long, length-append w (literal xs 0 ∷ literal xs 1 ∷ []));
+  live_long = omega (arith, k.live_long, length-append live (true ∷ []), length-append entries (new ∷ []));
   within = λ i h. within i (rw (length-append entries (new ∷ [])) at h) (lt_or_le i (length entries));
   literals_are = λ i h. literals-are i (rw (length-append entries (new ∷ [])) at h);
   watches_are = watches-are;
+  covered = subst (λ ns. AreCovered ns (live ++ true ∷ [])) (sym all) (covered_more (nogoods_of literals entries) live (record { literals = xs; name = name }) (k.live_long ∙ sym length-nogoods) k.covered);
   chained = chained;
-  none = chain_empty (home_of values w') heads' next' (vertices * values) chained (omega (arith, hl, k.heads_long)) nobody;
+  none = chain_empty (home_of (vertices * values + 1) values (live ++ true ∷ []) w') heads' next' (vertices * values) chained (omega (arith, hl, k.heads_long)) nobody;
   room = omega (arith, length-append entries (new ∷ []), room);
 }
   where
@@ -157,31 +162,50 @@ kept_added vertices values literals entries w heads next heads' next' capacity c
             let at : i ≡ length (nogoods_of literals entries) = omega (arith, h, m, length-nogoods) in
             rw (at, get_or-append_seam (nogoods_of literals entries) (record { literals = xs; name = name }) [] (record { literals = []; name = 0 })) are
 
-    chained : Chained (home_of values w') heads' next'
-    chained = chained_same (moved (moved (home_of values w) (length next) (cell values (literal xs 0))) (length next + 1) (cell values (literal xs 1))) (home_of values w') heads' next'
-        (put (home_of values w) k.chained) (λ y h. same y (rw nl at h) (cases_eq y (length next + 1)) (cases_eq y (length next)))
-      where
-        same : (y : ℕ) → y < length next + 2 → (y ≡ length next + 1) ⊎ (y ≡ length next + 1 → ⊥) → (y ≡ length next) ⊎ (y ≡ length next → ⊥)
-            → home_of values w' y ≡ moved (moved (home_of values w) (length next) (cell values (literal xs 0))) (length next + 1) (cell values (literal xs 1)) y
-        same y h (inl f) _ =
-            ap (cell values) (watch_1 w (literal xs 0) (literal xs 1) y (f ∙ ap (λ n. n + 1) k.next_long))
-            ∙ sym (ap (moved (moved (home_of values w) (length next) (cell values (literal xs 0))) (length next + 1) (cell values (literal xs 1))) f
-            ∙ moved_at (moved (home_of values w) (length next) (cell values (literal xs 0))) (length next + 1) (cell values (literal xs 1)))
-        same y h (inr n) (inl f) =
-            ap (cell values) (watch_0 w (literal xs 0) (literal xs 1) y (f ∙ k.next_long))
-            ∙ sym (moved_other (moved (home_of values w) (length next) (cell values (literal xs 0))) (length next + 1) (cell values (literal xs 1)) y n
-            ∙ ap (moved (home_of values w) (length next) (cell values (literal xs 0))) f ∙ moved_at (home_of values w) (length next) (cell values (literal xs 0)))
-        same y h (inr n) (inr m) =
-            ap (cell values) (watch_old w (literal xs 0) (literal xs 1) y (omega (arith, h, n, m, k.next_long)))
-            ∙ sym (moved_other (moved (home_of values w) (length next) (cell values (literal xs 0))) (length next + 1) (cell values (literal xs 1)) y n
-            ∙ moved_other (home_of values w) (length next) (cell values (literal xs 0)) y m)
+    home : ℕ → ℕ
+    home = home_of (vertices * values + 1) values live w
 
-    nobody : (x : ℕ) → x < length next' → home_of values w' x ≡ vertices * values → ⊥
-    nobody x h f =
-        let r = watch_in vertices values (nogoods_of (literals ++ xs) (entries ++ new ∷ [])) w' x
-        (λ i l. literals-are i (omega (arith, l, length-map (entries ++ new ∷ []) (nogood_at (literals ++ xs)), length-append entries (new ∷ [])))) watches-are
-        (omega (arith, h, nl, k.next_long, length-append w (literal xs 0 ∷ literal xs 1 ∷ []))) in
-        omega (arith, cell_below vertices values (literal w' x) r.0 r.1, f)
+    home' : ℕ → ℕ
+    home' = home_of (vertices * values + 1) values (live ++ true ∷ []) w'
+
+    twice : ℕ → ℕ
+    twice = moved (moved home (length next) (cell values (literal xs 0))) (length next + 1) (cell values (literal xs 1))
+
+    chained : Chained home' heads' next'
+    chained = chained_same twice home' heads' next' (put home k.chained) (λ y h. same y (rw nl at h) (cases_eq y (length next + 1)) (cases_eq y (length next)))
+      where
+        last-live : (y : ℕ) → y / 2 ≡ length live → is_live (live ++ true ∷ []) y ≡ true
+        last-live y e = live_last live true (y / 2) e
+
+        half : (y : ℕ) → y < length next + 2 → length next ≤ y → y / 2 ≡ length live
+        half y h l = omega (arith, h, l, k.next_long, k.watches_are.two, length-nogoods, k.live_long)
+
+        older : (y : ℕ) → y < length w → home' y ≡ home y
+        older y h = rw (live_front live true (y / 2) (omega (arith, h, k.watches_are.two, length-nogoods, k.live_long)), watch_old w (literal xs 0) (literal xs 1) y h) refl
+
+        same : (y : ℕ) → y < length next + 2 → (y ≡ length next + 1) ⊎ (y ≡ length next + 1 → ⊥) → (y ≡ length next) ⊎ (y ≡ length next → ⊥) → home' y ≡ twice y
+        same y h (inl f) _ =
+            home_live (vertices * values + 1) values (live ++ true ∷ []) w' y (last-live y (half y h (omega (arith, f)))) ∙ ap (cell values) (watch_1 w (literal xs 0) (literal xs 1) y (f ∙ ap (λ n. n + 1) k.next_long))
+            ∙ sym (ap twice f ∙ moved_at (moved home (length next) (cell values (literal xs 0))) (length next + 1) (cell values (literal xs 1)))
+        same y h (inr n) (inl f) =
+            home_live (vertices * values + 1) values (live ++ true ∷ []) w' y (last-live y (half y h (omega (arith, f)))) ∙ ap (cell values) (watch_0 w (literal xs 0) (literal xs 1) y (f ∙ k.next_long))
+            ∙ sym (moved_other (moved home (length next) (cell values (literal xs 0))) (length next + 1) (cell values (literal xs 1)) y n
+            ∙ ap (moved home (length next) (cell values (literal xs 0))) f ∙ moved_at home (length next) (cell values (literal xs 0)))
+        same y h (inr n) (inr m) =
+            older y (omega (arith, h, n, m, k.next_long))
+            ∙ sym (moved_other (moved home (length next) (cell values (literal xs 0))) (length next + 1) (cell values (literal xs 1)) y n
+            ∙ moved_other home (length next) (cell values (literal xs 0)) y m)
+
+    nobody : (x : ℕ) → x < length next' → home' x ≡ vertices * values → ⊥
+    nobody x h f = by (is_live (live ++ true ∷ []) x) refl
+      where
+        by : (b : Bool) → is_live (live ++ true ∷ []) x ≡ b → ⊥
+        by true e =
+            let r = watch_in vertices values (nogoods_of (literals ++ xs) (entries ++ new ∷ [])) w' x
+            (λ i l. literals-are i (omega (arith, l, length-map (entries ++ new ∷ []) (nogood_at (literals ++ xs)), length-append entries (new ∷ [])))) watches-are
+            (omega (arith, h, nl, k.next_long, length-append w (literal xs 0 ∷ literal xs 1 ∷ []))) in
+            omega (arith, cell_below vertices values (literal w' x) r.0 r.1, f, home_live (vertices * values + 1) values (live ++ true ∷ []) w' x e)
+        by false e = omega (arith, f, home_past (vertices * values + 1) values (live ++ true ∷ []) w' x e)
 
 -- both watches put in front of their lists
 pub put_twice : (heads next da n0 h1 n1 db h2 n2 : List ℕ) (a b : ℕ) → da ≡ heads → n0 ≡ next → db ≡ h1 → length n1 ≡ length n0 + 1
@@ -194,35 +218,48 @@ put_twice heads next da n0 h1 n1 db h2 n2 a b ea en eb long first second home c 
     subst (λ k. Chained (moved (moved home (length k) a) (length k + 1) b) h2 n2) en (subst (λ k. Chained (moved (moved home (length n0) a) k b) h2 n2) long two)
 
 -- the value has the nogood more
-pub value_added : (vertices values : ℕ) (literals : List (ℕ × ℕ)) (entries : List Entry) (w : List (ℕ × ℕ)) (units forced : List (ℕ × ℕ × ℕ)) (xs : List (ℕ × ℕ)) (start name : ℕ)
-    → ((i : ℕ) → i < length entries → Within literals (entry entries i)) → start ≡ length literals → 0 < length xs → (length xs ≡ 1 → ⊥)
+pub value_added : (vertices values : ℕ) (literals : List (ℕ × ℕ)) (entries : List Entry) (live : List Bool) (w : List (ℕ × ℕ)) (units forced : List (ℕ × ℕ × ℕ)) (xs : List (ℕ × ℕ)) (start name : ℕ)
+    → ((i : ℕ) → i < length entries → Within literals (entry entries i)) → length live ≡ length entries → AreWatches (nogoods_of literals entries) w → AreCovered (nogoods_of literals entries) live
+    → start ≡ length literals → 0 < length xs → (length xs ≡ 1 → ⊥)
     → ◌≡◌ {A = State} (record {
       vertices = vertices;
       values = values;
       nogoods = nogoods_of (literals ++ xs) (entries ++ record { start = start; end = start + length xs; name = name } ∷ []);
-      watches = w ++ literal xs 0 ∷ literal xs 1 ∷ [];
+      watches = watches_of (literals ++ xs) (entries ++ record { start = start; end = start + length xs; name = name } ∷ []) (live ++ true ∷ []) (w ++ literal xs 0 ∷ literal xs 1 ∷ []);
       units = units;
       forced = forced;
     })
-    (added (record { vertices = vertices; values = values; nogoods = nogoods_of literals entries; watches = w; units = units; forced = forced }) xs name)
-value_added vertices values literals entries w units forced xs start name within e some more =
-    ap (λ (k : List Nogood). record { vertices = vertices; values = values; nogoods = k; watches = w ++ literal xs 0 ∷ literal xs 1 ∷ []; units = units; forced = forced }) (nogoods_more literals xs entries start name within e)
-    ∙ added_more (record { vertices = vertices; values = values; nogoods = nogoods_of literals entries; watches = w; units = units; forced = forced }) xs name some more
+    (added (record { vertices = vertices; values = values; nogoods = nogoods_of literals entries; watches = watches_of literals entries live w; units = units; forced = forced }) xs name)
+value_added vertices values literals entries live w units forced xs start name within long watches covered e some more =
+    ap (λ (k : List Nogood). record { vertices = vertices; values = values; nogoods = k; watches = seen (watched_for k (live ++ true ∷ [])) (w ++ literal xs 0 ∷ literal xs 1 ∷ []) (length (entries ++ new ∷ [])); units = units; forced = forced })
+    (nogoods_more literals xs entries start name within e)
+    ∙ ap (λ (k : List (ℕ × ℕ)). record { vertices = vertices; values = values; nogoods = nogoods_of literals entries ++ record { literals = xs; name = name } ∷ []; watches = k; units = units; forced = forced }) two-more
+    ∙ added_more (record { vertices = vertices; values = values; nogoods = nogoods_of literals entries; watches = watches_of literals entries live w; units = units; forced = forced }) xs name some more
+  where
+    new : Entry
+    new = record { start = start; end = start + length xs; name = name }
+
+    two-more : seen (watched_for (nogoods_of literals entries ++ record { literals = xs; name = name } ∷ []) (live ++ true ∷ [])) (w ++ literal xs 0 ∷ literal xs 1 ∷ []) (length (entries ++ new ∷ []))
+        ≡ watches_of literals entries live w ++ literal xs 0 ∷ literal xs 1 ∷ []
+    two-more = seen_more (nogoods_of literals entries) live (record { literals = xs; name = name }) w (literal xs 0) (literal xs 1) (length entries) (length (entries ++ new ∷ []))
+        (sym (length-map entries (nogood_at literals))) (length-append entries (new ∷ [])) (long ∙ sym (length-map entries (nogood_at literals))) watches.two covered
 
 -- no nogoods
 pub kept_empty : (vertices values : ℕ) (heads : List ℕ) (capacity : ℕ) → length heads ≡ vertices * values + 1 → ((k : ℕ) → k < length heads → get_or heads k 0 ≡ no_watch)
-    → Kept vertices values [] [] [] heads [] capacity
+    → Kept vertices values [] [] [] [] heads [] capacity
 kept_empty vertices values heads capacity long none = record {
   heads_long = long;
   next_long = refl;
+  live_long = refl;
   within = λ i h. absurd (omega arith);
   literals_are = λ i h. absurd (omega arith);
   watches_are = record { two = refl; of = λ x h. absurd (omega arith); apart = λ x h. absurd (omega arith) };
+  covered = λ i h e. absurd (omega (arith, h));
   chained = record {
     few = omega arith;
     lists = λ k. [];
     chains = λ k h. none k h;
-    once = λ k x h. sym (nobody x k (home_of values [] x));
+    once = λ k x h. sym (nobody x k (home_of (vertices * values + 1) values [] [] x));
   };
   none = none (vertices * values) (omega (arith, long));
   room = omega arith;

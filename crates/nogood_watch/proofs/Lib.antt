@@ -4,6 +4,10 @@ pub mod Unlinking
 pub mod Visits
 pub mod Readiness
 pub mod Waiting
+pub mod Covering
 pub mod Walks
+pub mod Seeing
+pub mod Linking
 pub mod Adding
+pub mod Fewer
 pub mod InForce

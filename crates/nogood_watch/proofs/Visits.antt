@@ -129,7 +129,8 @@ visited_forced d nogoods w forced x a x-in are assigned here none = record {
     this = refl;
     place = length forced;
     within = rw length-append (omega arith);
-    other = get_or-append_seam forced ((literal w (partner x)).0, (literal w (partner x)).1, (nogood_of nogoods x).name) [] (0, 0, 0);
+    vertex = ap (λ (k : ℕ × ℕ × ℕ). k.0) at-seam;
+    value = ap (λ (k : ℕ × ℕ × ℕ). k.1) at-seam;
   }));
   others = λ y n. refl;
   moves = λ z h. inl refl;
@@ -141,6 +142,10 @@ visited_forced d nogoods w forced x a x-in are assigned here none = record {
   };
 }
   where
+    at-seam : forced_at (forced ++ ((literal w (partner x)).0, (literal w (partner x)).1, (nogood_of nogoods x).name) ∷ []) (length forced)
+        ≡ ((literal w (partner x)).0, (literal w (partner x)).1, (nogood_of nogoods x).name)
+    at-seam = get_or-append_seam forced ((literal w (partner x)).0, (literal w (partner x)).1, (nogood_of nogoods x).name) [] (0, 0, 0)
+
     rest : AllBut d (nogood_of nogoods x).literals ((literal w (partner x)).0, (literal w (partner x)).1)
     rest k h = by (none k h)
       where

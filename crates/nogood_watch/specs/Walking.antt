@@ -1,11 +1,11 @@
 -- A walk along the watches of a literal.
-use Rattle.std.specs.Prelude.{◌≡◌, ℕ, ◌+◌, ◌-◌, ◌*◌, ◌<◌, ◌≤◌, ◌⊎◌, ◌==◌, ◌++◌, List, [], length, slice_index}
+use Rattle.std.specs.Prelude.{◌≡◌, ℕ, ◌+◌, ◌-◌, ◌*◌, ◌<◌, ◌≤◌, ◌⊎◌, ◌==◌, ◌++◌, Bool, true, false, List, [], length, slice_index}
 use Rattle.graph_theory.specs.Neighbours.{count}
 use Rattle.domain_bits.specs.Removals as removals
 use Rattle.nogood_watch.specs.Lists.{no_watch, times, followed, Chained}
 use Rattle.nogood_watch.specs.Nogoods.{Nogood, literal, nogood, AreLiterals, AreWatches}
 use Rattle.nogood_watch.specs.Watching.{IsAssigned, IsGuarded, MovesToFree, Follows, forced_at}
-use Rattle.nogood_watch.specs.Inside.{cell}
+use Rattle.nogood_watch.specs.Inside.{cell, is_live}
 use Rattle.nogood_watch.specs.declared.watched.WatchAnswer.{WatchAnswer}
 use Rattle.nogood_watch.specs.declared.watched.WatchAnswer.TheVariants.{Quiet, Forced, Fail}
 
@@ -51,7 +51,7 @@ pub record Visited (d : removals.State) (nogoods : List Nogood) (old new : List 
     × ℕ)) (forced forced' : List (ℕ × ℕ × ℕ)) (x : ℕ) : Type 0 where
   pub long : length new ≡ length old
   pub watches_are : AreWatches nogoods new
-  pub guarded : IsGuarded d nogoods new forced' (literal old x) x
+  pub guarded : IsGuarded d new forced' (literal old x) x
   pub others : (y : ℕ) → (y ≡ x → ⊥) → literal new y ≡ literal old y
   pub moves : MovesToFree d old new
   pub forces : Forces d nogoods old new x forced forced'
@@ -61,8 +61,8 @@ abbrev pub to_visit : List ℕ → List ℕ → ℕ
 to_visit heads next = count (λ y. times (followed (length next) next (slice_index heads
     (length heads - 1))) y == 1) (length next)
 
--- what holds on the way: a watch that waits is as it was, the others are in their lists, and the nogoods visited are guarded
-pub record Walking (d : removals.State) (nogoods : List Nogood) (start : List (ℕ × ℕ)) (l : ℕ
+-- what holds on the way: a watch that waits is as it was, those of the other live nogoods are in their lists, and the nogoods visited are guarded
+pub record Walking (d : removals.State) (nogoods : List Nogood) (live : List Bool) (start : List (ℕ × ℕ)) (l : ℕ
     × ℕ) (watches : List (ℕ × ℕ)) (heads next : List ℕ) (forced : List (ℕ × ℕ × ℕ)) : Type 0 where
   pub heads_long : length heads ≡ d.vertices * d.values + 1
   pub next_long : length next ≡ length watches
@@ -72,26 +72,30 @@ pub record Walking (d : removals.State) (nogoods : List Nogood) (start : List (�
   pub chained : Chained home heads next
   pub waits : (x : ℕ) → x < length watches → home x ≡ d.vertices * d.values
       → (literal watches x ≡ l) × (literal start x ≡ l)
-  pub rests : (x : ℕ) → x < length watches → (home x ≡ d.vertices * d.values → ⊥)
-      → home x ≡ cell d.values (literal watches x)
-  pub done : (x : ℕ) → x < length watches → literal start x ≡ l → (home x ≡ d.vertices * d.values
-      → ⊥) → IsGuarded d nogoods watches forced l x
+  pub rests : (x : ℕ) → x < length watches → is_live live x ≡ true
+      → (home x ≡ d.vertices * d.values → ⊥) → home x ≡ cell d.values (literal watches x)
+  pub nowhere : (x : ℕ) → x < length watches → is_live live x ≡ false
+      → home x ≡ d.vertices * d.values + 1
+  pub done : (x : ℕ) → x < length watches → is_live live x ≡ true → literal start x ≡ l
+      → (home x ≡ d.vertices * d.values → ⊥) → IsGuarded d watches forced l x
   pub others : (x : ℕ) → x < length watches → (literal start x ≡ l → ⊥)
       → literal watches x ≡ literal start x
   pub moves : MovesToFree d start watches
   pub follows : (k : ℕ) → k < length forced
       → (f : Follows d nogoods start watches l (forced_at forced k))
-      × (home f.watch ≡ d.vertices * d.values → ⊥)
+      × (home f.watch ≡ d.vertices * d.values → ⊥) × (is_live live f.watch ≡ true)
   pub room : length forced + count (λ x. home x == d.vertices * d.values)
       (length next) ≤ length nogoods
 
 -- what a walk has done
-pub record Walked (d : removals.State) (nogoods : List Nogood) (old new : List (ℕ × ℕ)) (l : ℕ
-    × ℕ) (forced : List (ℕ × ℕ × ℕ)) : Type 0 where
-  pub guarded : (x : ℕ) → x < length old → literal old x ≡ l → IsGuarded d nogoods new forced l x
+pub record Walked (d : removals.State) (nogoods : List Nogood) (live : List Bool) (old new : List (ℕ
+    × ℕ)) (l : ℕ × ℕ) (forced : List (ℕ × ℕ × ℕ)) : Type 0 where
+  pub guarded : (x : ℕ) → x < length old → is_live live x ≡ true → literal old x ≡ l
+      → IsGuarded d new forced l x
   pub others : (x : ℕ) → x < length old → (literal old x ≡ l → ⊥) → literal new x ≡ literal old x
   pub moves : MovesToFree d old new
-  pub follows : (k : ℕ) → k < length forced → Follows d nogoods old new l (forced_at forced k)
+  pub follows : (k : ℕ) → k < length forced
+      → (f : Follows d nogoods old new l (forced_at forced k)) × (is_live live f.watch ≡ true)
 
 -- what an answer says of the forced pairs
 abbrev pub Tells : WatchAnswer → removals.State → List (ℕ × ℕ × ℕ) → Type 0

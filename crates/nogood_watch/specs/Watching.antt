@@ -23,17 +23,13 @@ abbrev pub IsFree : removals.State → List (ℕ × ℕ) → ℕ → Type 0
 IsFree d watches x = IsAssigned d (literal watches x) → ⊥
 
 -- it is watched at l as before, and its other watch is forced
-pub record IsForced (nogoods : List Nogood) (watches : List (ℕ × ℕ)) (forced : List (ℕ × ℕ
-    × ℕ)) (l : ℕ × ℕ) (x : ℕ) : Type 0 where
+pub record IsForced (watches : List (ℕ × ℕ)) (forced : List (ℕ × ℕ × ℕ)) (l : ℕ
+    × ℕ) (x : ℕ) : Type 0 where
   pub this : literal watches x ≡ l
   pub place : ℕ
   pub within : place < length forced
-  pub other : forced_at forced place ≡ (
-    (literal watches (partner x)).0,
-    (literal watches
-        (partner x)).1,
-    (nogood_of nogoods x).name,
-  )
+  pub vertex : (forced_at forced place).0 ≡ (literal watches (partner x)).0
+  pub value : (forced_at forced place).1 ≡ (literal watches (partner x)).1
 
 -- it is watched at l as before, and its other watch has left its domain
 pub record HasLeft (d : removals.State) (watches : List (ℕ × ℕ)) (l : ℕ × ℕ) (x : ℕ) : Type 0 where
@@ -42,10 +38,9 @@ pub record HasLeft (d : removals.State) (watches : List (ℕ × ℕ)) (l : ℕ �
       (partner x)).1 ≡ false
 
 -- what holds of a nogood with the watch x that was at l, once l is assigned
-abbrev pub IsGuarded : removals.State → List Nogood → List (ℕ × ℕ) → List (ℕ × ℕ × ℕ) → ℕ × ℕ → ℕ
-    → Type 0
-IsGuarded d nogoods watches forced l x = IsFree d watches x
-    ⊎ (IsForced nogoods watches forced l x ⊎ HasLeft d watches l x)
+abbrev pub IsGuarded : removals.State → List (ℕ × ℕ) → List (ℕ × ℕ × ℕ) → ℕ × ℕ → ℕ → Type 0
+IsGuarded d watches forced l x = IsFree d watches x
+    ⊎ (IsForced watches forced l x ⊎ HasLeft d watches l x)
 
 -- a pair with a name is in its domain, and all other literals of a nogood of that name, with a watch x that was and is at l, are assigned
 pub record Follows (d : removals.State) (nogoods : List Nogood) (old new : List (ℕ × ℕ)) (l : ℕ
@@ -62,7 +57,7 @@ pub record Follows (d : removals.State) (nogoods : List Nogood) (old new : List 
 -- each nogood that was watched at l is guarded now
 abbrev pub GuardsAll : removals.State → State → State → ℕ × ℕ → Type 0
 GuardsAll d old new l = (x : ℕ) → x < length old.watches → literal old.watches x ≡ l
-    → IsGuarded d new.nogoods new.watches new.forced l x
+    → IsGuarded d new.watches new.forced l x
 
 -- every other watch keeps its literal
 abbrev pub KeepsOthers : State → State → ℕ × ℕ → Type 0

@@ -5,6 +5,7 @@
 //! The layer keeps the nogoods that it was given, each with its two watches, and a list of watches for each literal. When a vertex is
 //! assigned, the list of this literal is walked once: a watch moves to a literal that is not assigned, or the other watch is forced out.
 //! The other watch never moves there: where it is assigned too, its own vertex is still to be looked at.
+//! A nogood in which a shorter one lies needs no watch: the shorter one says the same earlier.
 //! Nothing has to be undone when domains grow again. A layer above may rely on nothing being allocated but where a nogood is added.
 //!
 //! Watched literals are those of the solver Chaff (Moskewicz, Madigan, Zhao, Zhang, Malik 2001); nogoods of restarts are watched so by
@@ -13,6 +14,7 @@
 mod in_force;
 mod lists;
 mod shared;
+mod thinning;
 mod walk;
 mod watched;
 

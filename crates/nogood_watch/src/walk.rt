@@ -83,11 +83,12 @@ fn partner_of(x: u32) -> u32
     x + 1 - 2 * (x % 2)
 }
 
-/// The nogoods that are in force: their literals one after another, and an entry for each.
+/// The nogoods that are kept: their literals one after another, an entry for each, and whether it is live.
 #[derive(Drop)]
 pub(crate) struct NogoodList<'a> {
     pub(crate) literals: &'a [(u16, u16)],
     pub(crate) entries: &'a [Entry],
+    pub(crate) live: &'a [bool],
 }
 
 /// Looks at one nogood whose watch `x` is assigned and the first one in hand. It moves to a literal that is not assigned, also where the
@@ -135,7 +136,7 @@ fn visit<T: Trail>(
     }
 }
 
-/// Visits the nogoods that are watched at the literal, each once. Cost: that of the visits.
+/// Visits the live nogoods that are watched at the literal, each once. Cost: that of the visits.
 pub(crate) fn walk<T: Trail>(
     d: &Domains<T>,
     nogoods: &NogoodList<'_>,
@@ -146,18 +147,19 @@ pub(crate) fn walk<T: Trail>(
     literal: (u16, u16),
 )
     requires kept { Kept d.now.vertices d.now.values nogoods.now.literals.now
-        nogoods.now.entries.now
+        nogoods.now.entries.now nogoods.now.live.now
         watches.old heads.old
         next.old (vec_capacity forced.old) }
     requires none { forced.old.items ≡ [] }
     requires vertex { literal.0 < d.now.vertices }
     requires assigned { IsAssigned d.now literal }
     ensures kept { Kept d.now.vertices d.now.values nogoods.now.literals.now nogoods.now.entries.now
+        nogoods.now.live.now
         watches.new heads.new
         next.new (vec_capacity forced.new) }
     ensures walked { Walked d.now
-        (nogoods_of nogoods.now.literals.now nogoods.now.entries.now) watches.old watches.new
-        literal forced.new.items }
+        (nogoods_of nogoods.now.literals.now nogoods.now.entries.now) nogoods.now.live.now
+        watches.old watches.new literal forced.new.items }
 {
     let hand = heads.len() - 1;
     take_list(heads, cell_of(d.values(), literal), hand);

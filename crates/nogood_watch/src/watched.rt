@@ -8,10 +8,14 @@ ghost use Rattle.nogood_watch.specs.Nogoods.{added, empty, AreLiterals, AreWatch
 ghost use Rattle.nogood_watch.specs.Watching.{AllFollow, Answers, GuardsAll, KeepsOthers, MovesToFree, Visits};
 
 use crate::lists::{END, link};
+use crate::thinning::{Nogoods, count_live};
 use crate::walk::{NogoodList, answer_of, cell_of, walk};
 use domain_bits::{Domains, Trail};
 use std::alloc::{AllocError, Global};
 use std::marker::Model;
+
+/// Fewer live nogoods than this are not thinned.
+const LEAST: usize = 1024;
 
 /// What a call of `on_assign` found.
 #[derive(Clone, Copy, PartialEq, Eq, Debug)]
@@ -36,17 +40,21 @@ pub(crate) struct Entry {
 /// Nogoods with their watches.
 ///
 /// The literals of all nogoods stand one after the other. Watches 2 i and 2 i + 1 are those of nogood i. There is a list of watches for
-/// each literal, at `vertex * values + value` of `heads`, and after these one of the watches that a walk has yet to visit.
+/// each literal, at `vertex * values + value` of `heads`, and after these one of the watches that a walk has yet to visit. The watches of
+/// a nogood that is not live are in no list: a live one is watched for it, whose literals all lie in its own. From outside its watches
+/// are seen as those of this one. Once so many entries are there as `due` says, it is time to look which are overtaken.
 pub struct Watched {
     vertices: u16,
     values: u16,
     literals: Vec<(u16, u16)>,
     entries: Vec<Entry>,
+    live: Vec<bool>,
     watches: Vec<(u16, u16)>,
     heads: Vec<u32>,
     next: Vec<u32>,
     units: Vec<(u16, u16, u32)>,
     forced: Vec<(u16, u16, u32)>,
+    due: usize,
 }
 
 impl Drop for Watched {
@@ -57,11 +65,13 @@ impl Drop for Watched {
             values: _,
             literals: _,
             entries: _,
+            live: _,
             watches: _,
             heads: _,
             next: _,
             units: _,
             forced: _,
+            due: _,
         } = self;
     }
 }
@@ -69,7 +79,7 @@ impl Drop for Watched {
 impl Model for Watched {
     ghost use Rattle.std.specs.Prelude.{vec_capacity};
     ghost use Rattle.nogood_watch.specs.Nogoods.{State};
-    ghost use Rattle.nogood_watch.specs.Inside.{Kept, nogoods_of};
+    ghost use Rattle.nogood_watch.specs.Inside.{Kept, nogoods_of, watches_of};
 
     ghost Value = { State };
 
@@ -77,13 +87,13 @@ impl Model for Watched {
       vertices = s.vertices;
       values = s.values;
       nogoods = nogoods_of s.literals.items s.entries.items;
-      watches = s.watches.items;
+      watches = watches_of s.literals.items s.entries.items s.live.items s.watches.items;
       units = s.units.items;
       forced = s.forced.items;
     } };
 
     ghost invariant = { λ s. Kept s.vertices s.values s.literals.items s.entries.items
-        s.watches.items s.heads.items s.next.items (vec_capacity s.forced) };
+        s.live.items s.watches.items s.heads.items s.next.items (vec_capacity s.forced) };
 }
 
 impl Watched {
@@ -98,11 +108,13 @@ impl Watched {
             values,
             literals: Vec::new(alloc),
             entries: Vec::new(alloc),
+            live: Vec::new(alloc),
             watches: Vec::new(alloc),
             heads,
             next: Vec::new(alloc),
             units: Vec::new(alloc),
             forced: Vec::new(alloc),
+            due: LEAST,
         })
     }
 
@@ -123,12 +135,14 @@ impl Watched {
         let (start, end) = span(self.literals.len(), literals.len())?;
         make_room(
             &mut self.entries,
+            &mut self.live,
             &mut self.watches,
             &mut self.next,
             &mut self.forced,
         )?;
         self.literals.extend_from_slice(literals)?;
         self.entries.push_reserved(Entry { start, end, name });
+        self.live.push_reserved(true);
         put_watch(
             self.values,
             &mut self.watches,
@@ -188,6 +202,7 @@ impl Watched {
         let nogoods = NogoodList {
             literals: &self.literals,
             entries: &self.entries,
+            live: &self.live,
         };
         walk(
             d,
@@ -199,6 +214,51 @@ impl Watched {
             (p, t),
         );
         answer_of(d, &self.forced)
+    }
+
+    /// Lets the watches of the nogoods go in which the literals of a shorter one lie, or the same ones, where this is
+    /// due: where 1,024 at least are live, and twice as many as the last time left. What is forced is the same without
+    /// them. They are still kept: what is seen as their watches are those of the shorter one.
+    ///
+    /// Cost: one step where it is not due; else one for each nogood and each length, and for each literal of a live one
+    /// that of holding it against the shorter ones whose last literal this is. Nothing is allocated.
+    pub fn thin(&mut self)
+        ensures nogoods { self.new.nogoods ≡ self.old.nogoods }
+        ensures units { self.new.units ≡ self.old.units }
+        ensures forced { self.new.forced ≡ self.old.forced }
+        ensures new_vertices { self.new.vertices ≡ self.old.vertices }
+        ensures new_values { self.new.values ≡ self.old.values }
+        ensures watches { AreWatches self.new.nogoods self.new.watches }
+    {
+        if self.entries.len() < self.due {
+            return;
+        }
+        self.thin_now();
+        let left = count_live(&self.live);
+        let more = if left < LEAST { LEAST - left } else { left };
+        self.due = self.entries.len().saturating_add(more);
+    }
+
+    /// The same, whether it is due or not.
+    fn thin_now(&mut self)
+        ensures nogoods { self.new.nogoods ≡ self.old.nogoods }
+        ensures units { self.new.units ≡ self.old.units }
+        ensures forced { self.new.forced ≡ self.old.forced }
+        ensures new_vertices { self.new.vertices ≡ self.old.vertices }
+        ensures new_values { self.new.values ≡ self.old.values }
+        ensures watches { AreWatches self.new.nogoods self.new.watches }
+    {
+        let nogoods = Nogoods {
+            values: self.values,
+            literals: &self.literals,
+            entries: &self.entries,
+        };
+        nogoods.thin(
+            &self.watches,
+            &mut self.live,
+            &mut self.heads,
+            &mut self.next,
+        );
     }
 
     /// What the last `on_assign` forced: a vertex, a value to take from its domain, and the name of a nogood all of whose other literals
@@ -233,17 +293,20 @@ fn span(start: usize, more: usize) -> Result<(u32, u32), AllocError>
 /// Makes the room for a nogood more, or answers want of memory, also where the numbers of watches are used up.
 fn make_room(
     entries: &mut Vec<Entry>,
+    live: &mut Vec<bool>,
     watches: &mut Vec<(u16, u16)>,
     next: &mut Vec<u32>,
     forced: &mut Vec<(u16, u16, u32)>,
 ) -> Result<(), AllocError>
     ensures entries { entries.new.items ≡ entries.old.items }
+    ensures live { live.new.items ≡ live.old.items }
     ensures watches { watches.new.items ≡ watches.old.items }
     ensures next { next.new.items ≡ next.old.items }
     ensures forced { forced.new.items ≡ forced.old.items }
     ensures kept_room { vec_capacity forced.old ≤ vec_capacity forced.new }
     ensures few { OnOk result (length next.old.items + 2 ≤ no_watch) }
     ensures entries_room { OnOk result (length entries.old.items + 1 ≤ vec_capacity entries.new) }
+    ensures live_room { OnOk result (length live.old.items + 1 ≤ vec_capacity live.new) }
     ensures watches_room { OnOk result (length watches.old.items + 2 ≤ vec_capacity watches.new) }
     ensures next_room { OnOk result (length next.old.items + 2 ≤ vec_capacity next.new) }
     ensures forced_room { OnOk result (length entries.old.items + 1 ≤ vec_capacity forced.new) }
@@ -253,6 +316,7 @@ fn make_room(
     }
     let nogoods = entries.len();
     entries.reserve(1)?;
+    live.reserve(1)?;
     watches.reserve(2)?;
     next.reserve(2)?;
     forced.reserve((nogoods + 1).saturating_sub(forced.len()))

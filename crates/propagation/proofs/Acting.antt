@@ -163,13 +163,13 @@ looked d waiting old new p t x are single guarded others w x_in = by_this (is_li
     y_in : partner x < length old.watches
     y_in = partner_in x (length old.watches) (length old.nogoods) are.two x_in
 
-    here : IsGuarded d new.nogoods new.watches new.forced (p, t) x → Looked d waiting new.watches new.forced x
+    here : IsGuarded d new.watches new.forced (p, t) x → Looked d waiting new.watches new.forced x
     here (inl free) = inl (inr (λ a. absurd (free a)))
     here (inr (inl forced)) = inr (record {
       place = forced.place;
       within = forced.within;
-      vertex = ap (λ (e : ℕ × ℕ × ℕ). e.0) forced.other;
-      value = ap (λ (e : ℕ × ℕ × ℕ). e.1) forced.other;
+      vertex = forced.vertex;
+      value = forced.value;
     })
     here (inr (inr left)) = inl (inr (λ a. left.other))
 

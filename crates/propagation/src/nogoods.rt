@@ -7,6 +7,7 @@
 ghost use Rattle.std.specs.Prelude.{◌≡◌, ℕ, ◌+◌, ◌*◌, ◌^◌, ◌<◌, ◌≤◌, true, length, take, Option, Some, IfOk, IfErr, OnOk};
 ghost use Rattle.std.specs.Result.{is_ok};
 ghost use Rattle.graph_theory.specs.Graph.{size};
+ghost use Rattle.graph_theory.specs.Embedding.{Problem as TheProblem};
 ghost use Rattle.domain_bits.specs.Removals.{in_domain};
 ghost use Rattle.search_theory.specs.Claims.{Single};
 ghost use Rattle.nogood_watch.specs.Nogoods as watched;
@@ -17,7 +18,7 @@ ghost use Rattle.nogood_book.specs.Rows.{Sound, path_at};
 ghost use Rattle.nogood_book.specs.Places.{IsNogoodRow};
 ghost use Rattle.recorder.specs.Recording.{NoNewGuess};
 ghost use Rattle.recorder.specs.Telling.{IsOf, AreForbidden, Fails, IsEmptied, Tells};
-ghost use Rattle.recorder.specs.Holding.{HoldsRows};
+ghost use Rattle.recorder.specs.Holding.{HoldsRows, KeepsSame};
 ghost use Rattle.propagation.specs.Learning.{AreNogoods, IsUnused, Forces};
 ghost use Rattle.propagation.specs.Acting.{Move, OutAfter, WaitAfter, WatchesWaitBut};
 
@@ -69,8 +70,9 @@ impl Nogoods {
         })
     }
 
-    /// Keeps the nogoods among the rows from a place on. Where memory is refused, what was added so far stays. Cost: for each of them a
-    /// row for each pair of its path.
+    /// Keeps the nogoods among the rows from a place on; those that a shorter one has overtaken are then watched no
+    /// longer, where this is due. Where memory is refused, what was added so far stays. Cost: for each of them a row
+    /// for each pair of its path, and that of `Watched::thin`.
     pub fn take_rows(&mut self, q: &Problem, rows: &[Row], from: usize) -> Result<(), AllocError>
         requires sound { Sound q.now rows.now }
         requires few { length rows.now < 2 ^ 32 }
@@ -83,7 +85,16 @@ impl Nogoods {
         for k in from..rows.len() {
             self.take_row(q, rows, k as u32)?;
         }
+        self.thin();
         Ok(())
+    }
+
+    /// Lets go the watches of nogoods that a shorter one has overtaken, where this is due. Cost: that of `Watched::thin`.
+    fn thin(&mut self)
+        ensures nogoods { (q : TheProblem) → AreNogoods q self.old → AreNogoods q self.new }
+        ensures same { KeepsSame (Some self.old) (Some self.new) }
+    {
+        self.watched.thin();
     }
 
     /// Keeps row `k`, where it is a nogood.

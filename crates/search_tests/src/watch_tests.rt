@@ -15,6 +15,8 @@ enum Act {
     Assigns(u16, u16),
     /// All that has left comes back.
     Undoes,
+    /// Nogoods that a shorter one has overtaken are watched no longer.
+    Thins,
     /// The watches of a pair that is assigned are looked at, with this answer.
     Looks(u16, u16, WatchAnswer),
     /// These pairs were forced out, each with its nogood's name.
@@ -81,6 +83,15 @@ fn forces_alike(forced: &[(u16, u16, u32)], count: usize, p: u16, t: u16) -> boo
     forced.len() == count
 }
 
+/// Thins the nogoods, which can always be done.
+fn thins(watched: &mut Watched) -> bool
+    ensures vertices { watched.new.vertices ≡ watched.old.vertices }
+    ensures values { watched.new.values ≡ watched.old.values }
+{
+    watched.thin();
+    true
+}
+
 impl Act {
     /// Whether it can be done, or is so.
     fn holds(&self, watched: &mut Watched, domains: &mut Domains, mark: Mark) -> bool
@@ -93,6 +104,7 @@ impl Act {
             Act::Removes(p, t) => removes(domains, p, t),
             Act::Assigns(p, t) => assigns(domains, p, t),
             Act::Undoes => undoes(domains, mark),
+            Act::Thins => thins(watched),
             Act::Looks(p, t, answer) => looks(watched, domains, p, t, answer),
             Act::Forces(forced) => watched.forced() == forced,
             Act::ForcesAlike(count, p, t) => forces_alike(watched.forced(), count, p, t),
@@ -229,6 +241,74 @@ fn a_watch_moves_also_where_the_other_one_has_left(rt: HostRuntime) -> Result<()
     let mut watched = Watched::new(rt.alloc(), 3, 2)?;
     watched.add(&[(0, 0), (1, 1), (2, 0)], 5)?;
     assert!(rt; hold_from_full(rt.alloc(), &mut watched, 3, 2, &BESIDE_ONE_THAT_LEFT)?);
+    Ok(())
+}
+
+/// Adds so many nogoods of the same three literals.
+fn add_alike(watched: &mut Watched, count: u32) -> Result<(), AllocError>
+    requires vertices { watched.old.vertices ≡ 3 }
+    requires values { watched.old.values ≡ 2 }
+    ensures vertices { watched.new.vertices ≡ 3 }
+    ensures values { watched.new.values ≡ 2 }
+{
+    for name in 0..count {
+        watched.add(&[(0, 0), (1, 1), (2, 0)], name)?;
+    }
+    Ok(())
+}
+
+static ONE_IS_LEFT: [Act; 10] = [
+    Act::Assigns(2, 0),
+    Act::Assigns(0, 0),
+    Act::Looks(0, 0, WatchAnswer::Forced),
+    Act::ForcesAlike(1024, 1, 1),
+    Act::Undoes,
+    Act::Thins,
+    Act::Assigns(2, 0),
+    Act::Assigns(0, 0),
+    Act::Looks(0, 0, WatchAnswer::Forced),
+    Act::ForcesAlike(1, 1, 1),
+];
+
+#[test]
+fn of_nogoods_of_the_same_literals_one_is_watched(rt: HostRuntime) -> Result<(), Fail> {
+    let mut watched = Watched::new(rt.alloc(), 3, 2)?;
+    add_alike(&mut watched, 1024)?;
+    assert!(rt; hold_from_full(rt.alloc(), &mut watched, 3, 2, &ONE_IS_LEFT)?);
+    Ok(())
+}
+
+static THE_SHORTER_IS_LEFT: [Act; 6] = [
+    Act::Thins,
+    Act::Assigns(0, 0),
+    Act::Looks(0, 0, WatchAnswer::Forced),
+    Act::Forces(&[(1, 1, 9)]),
+    Act::Assigns(1, 1),
+    Act::Looks(1, 1, WatchAnswer::Fail(9)),
+];
+
+#[test]
+fn a_shorter_nogood_is_watched_for_the_longer_ones(rt: HostRuntime) -> Result<(), Fail> {
+    let mut watched = Watched::new(rt.alloc(), 3, 2)?;
+    add_alike(&mut watched, 1024)?;
+    watched.add(&[(0, 0), (1, 1)], 9)?;
+    assert!(rt; hold_from_full(rt.alloc(), &mut watched, 3, 2, &THE_SHORTER_IS_LEFT)?);
+    Ok(())
+}
+
+static ALL_ARE_LEFT: [Act; 5] = [
+    Act::Thins,
+    Act::Assigns(2, 0),
+    Act::Assigns(0, 0),
+    Act::Looks(0, 0, WatchAnswer::Forced),
+    Act::ForcesAlike(1023, 1, 1),
+];
+
+#[test]
+fn few_nogoods_are_not_thinned(rt: HostRuntime) -> Result<(), Fail> {
+    let mut watched = Watched::new(rt.alloc(), 3, 2)?;
+    add_alike(&mut watched, 1023)?;
+    assert!(rt; hold_from_full(rt.alloc(), &mut watched, 3, 2, &ALL_ARE_LEFT)?);
     Ok(())
 }
 

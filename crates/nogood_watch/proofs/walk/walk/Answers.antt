@@ -25,8 +25,8 @@ loop-heads-init g c =
     let d = c.args.d.now in
     let k = c.requires.kept in
     record {
-      walking = rw c.requires.none (walking_first d (nogoods_of c.args.nogoods.now.literals.now c.args.nogoods.now.entries.now) c.args.watches.now c.args.literal c.args.heads.now c.take_list.new.heads c.args.next.now c.values.result c.cell_of.result (length c.args.heads.now - 1)
-          (λ i h. k.literals_are i (rw length-map at h)) k.watches_are k.heads_long k.next_long k.chained
+      walking = rw c.requires.none (walking_first d (nogoods_of c.args.nogoods.now.literals.now c.args.nogoods.now.entries.now) c.args.nogoods.now.live.now c.args.watches.now c.args.literal c.args.heads.now c.take_list.new.heads c.args.next.now c.values.result c.cell_of.result (length c.args.heads.now - 1)
+          (λ i h. k.literals_are i (rw length-map at h)) k.watches_are k.heads_long k.next_long k.chained c.requires.vertex
           (in_below d c.args.literal.0 c.args.literal.1 c.requires.assigned.here) c.cell_of.ensures c.values.ensures refl c.take_list.ensures.chained c.take_list.ensures.heads_long);
       room = refl;
     }
@@ -34,7 +34,7 @@ loop-heads-init g c =
 pub visit-requires-clause-ready : goal.visit-requires-clause-ready
 visit-requires-clause-ready g c =
     let k = c.requires.kept in
-    walking_ready c.args.d.now _ c.args.watches.now c.args.literal c.loop-heads.watches c.loop-heads.heads c.loop-heads.next c.loop-heads.forced.items (length c.args.heads.now - 1)
+    walking_ready c.args.d.now _ c.args.nogoods.now.live.now c.args.watches.now c.args.literal c.loop-heads.watches c.loop-heads.heads c.loop-heads.next c.loop-heads.forced.items (length c.args.heads.now - 1)
     (λ i h. k.literals_are i (rw length-map at h)) c.requires.assigned c.loop-heads.invariant.walking (omega (arith, k.heads_long)) c.loop-heads-test.true
 
 pub visit-requires-clause-room : goal.visit-requires-clause-room
@@ -43,7 +43,7 @@ visit-requires-clause-room g c =
     let i = c.loop-heads.invariant in
     omega (
       arith,
-      walking_room c.args.d.now _ c.args.watches.now c.args.literal c.loop-heads.watches c.loop-heads.heads c.loop-heads.next c.loop-heads.forced.items (length c.args.heads.now - 1)
+      walking_room c.args.d.now _ c.args.nogoods.now.live.now c.args.watches.now c.args.literal c.loop-heads.watches c.loop-heads.heads c.loop-heads.next c.loop-heads.forced.items (length c.args.heads.now - 1)
           i.walking (omega (arith, k.heads_long)) c.loop-heads-test.true,
       i.room,
       length-map c.args.nogoods.now.entries.now (nogood_at c.args.nogoods.now.literals.now),
@@ -53,7 +53,7 @@ visit-requires-clause-room g c =
 pub loop-heads-smaller : goal.loop-heads-smaller
 loop-heads-smaller g c =
     let k = c.requires.kept in
-    (walking_next c.args.d.now _ c.args.watches.now c.args.literal c.loop-heads.watches c.visit.new.watches c.loop-heads.heads c.visit.new.heads c.loop-heads.next c.visit.new.next c.loop-heads.forced.items c.visit.new.forced.items (length c.args.heads.now - 1)
+    (walking_next c.args.d.now _ c.args.nogoods.now.live.now c.args.watches.now c.args.literal c.loop-heads.watches c.visit.new.watches c.loop-heads.heads c.visit.new.heads c.loop-heads.next c.visit.new.next c.loop-heads.forced.items c.visit.new.forced.items (length c.args.heads.now - 1)
     (λ i h. k.literals_are i (rw length-map at h)) k.watches_are c.loop-heads.invariant.walking (omega (arith, k.heads_long)) c.loop-heads-test.true
     c.visit.ensures.visited c.visit.ensures.chained c.visit.ensures.heads_long c.visit.ensures.next_long).1
 
@@ -61,7 +61,7 @@ pub loop-heads-preserved : goal.loop-heads-preserved
 loop-heads-preserved g c =
     let k = c.requires.kept in
     record {
-      walking = (walking_next c.args.d.now _ c.args.watches.now c.args.literal c.loop-heads.watches c.visit.new.watches c.loop-heads.heads c.visit.new.heads c.loop-heads.next c.visit.new.next c.loop-heads.forced.items c.visit.new.forced.items (length c.args.heads.now - 1)
+      walking = (walking_next c.args.d.now _ c.args.nogoods.now.live.now c.args.watches.now c.args.literal c.loop-heads.watches c.visit.new.watches c.loop-heads.heads c.visit.new.heads c.loop-heads.next c.visit.new.next c.loop-heads.forced.items c.visit.new.forced.items (length c.args.heads.now - 1)
           (λ i h. k.literals_are i (rw length-map at h)) k.watches_are c.loop-heads.invariant.walking (omega (arith, k.heads_long)) c.loop-heads-test.true
           c.visit.ensures.visited c.visit.ensures.chained c.visit.ensures.heads_long c.visit.ensures.next_long).0;
       room = c.visit.ensures.room ∙ c.loop-heads.invariant.room;
@@ -77,10 +77,12 @@ returns-clause-kept g c =
     record {
       heads_long = i.walking.heads_long;
       next_long = i.walking.next_long;
+      live_long = k.live_long;
       within = k.within;
       literals_are = k.literals_are;
       watches_are = i.walking.watches_are;
-      chained = walking_chained d _ c.args.watches.now c.args.literal c.loop-heads.watches c.loop-heads.heads c.loop-heads.next c.loop-heads.forced.items i.walking none;
+      covered = k.covered;
+      chained = walking_chained d _ c.args.nogoods.now.live.now c.args.watches.now c.args.literal c.loop-heads.watches c.loop-heads.heads c.loop-heads.next c.loop-heads.forced.items i.walking none;
       none = none;
       room = omega (arith, k.room, i.room);
     }
@@ -92,4 +94,4 @@ returns-clause-walked g c =
     let i = c.loop-heads.invariant in
     let at : length c.args.heads.now - 1 ≡ d.vertices * d.values = omega (arith, k.heads_long) in
     let none = ap (λ n. get_or c.loop-heads.heads n 0) (sym at) ∙ c.loop-heads-test.false in
-    walking_done d _ c.args.watches.now c.args.literal c.loop-heads.watches c.loop-heads.heads c.loop-heads.next c.loop-heads.forced.items i.walking none
+    walking_done d _ c.args.nogoods.now.live.now c.args.watches.now c.args.literal c.loop-heads.watches c.loop-heads.heads c.loop-heads.next c.loop-heads.forced.items i.walking none

@@ -6,7 +6,7 @@ use Rattle.nogood_watch.proofs.walk.walk.Given as goal
 
 abbrev pub invariant-loop-heads : goal.invariant-loop-heads
 invariant-loop-heads g l = record {
-  walking : Walking l.d (nogoods_of l.nogoods.literals.now l.nogoods.entries.now) l.fn.watches l.fn.literal l.watches l.heads l.next l.forced.items;
+  walking : Walking l.d (nogoods_of l.nogoods.literals.now l.nogoods.entries.now) l.nogoods.live.now l.fn.watches l.fn.literal l.watches l.heads l.next l.forced.items;
   room : vec_capacity l.forced ≡ vec_capacity l.fn.forced;
 }
 

@@ -1,9 +1,11 @@
-use Rattle.std.proofs.Common.{◌≡◌, ℕ, ◌+◌, ◌<◌, ◌≤◌, List, length, take, drop, ◌++◌, [], ◌∷◌, ap, ◌∙◌, arith, refl, append_assoc}
+use Rattle.std.proofs.Common.{◌≡◌, ℕ, ◌+◌, ◌<◌, ◌≤◌, true, List, length, take, drop, ◌++◌, [], ◌∷◌, sym, ap, ◌∙◌, arith, refl, append_assoc}
+use Rattle.std.proofs.lemmas.List.{length-map}
 use Rattle.std.specs.Prelude.{vec_capacity}
 use Rattle.nogood_watch.specs.Nogoods.{AreLiterals, literal}
 use Rattle.nogood_watch.specs.declared.watched.Entry.{Entry}
 use Rattle.nogood_watch.specs.Inside.{cell}
 use Rattle.nogood_watch.proofs.Readiness.{cell_in}
+use Rattle.nogood_watch.proofs.Covering.{seen_are}
 use Rattle.nogood_watch.proofs.Adding.{written_back, put_twice, kept_added, value_added}
 use Rattle.nogood_watch.proofs.watched.Watched.add.Goals as goal
 
@@ -50,12 +52,13 @@ invariant_of-self-2 c =
     let two-long = c.put_watch-2.ensures.heads_long ∙ ap length c.deref_mut-2.ensures.value in
     let both = written_back f.heads.len (take f.heads.len (c.put_watch.new.heads ++ drop (length c.put_watch.new.heads) f.heads.items)) c.put_watch-2.new.heads (omega (arith, f.heads.ok, one-long, ap length one)) two-long in
     let watches = c.put_watch-2.ensures.watches ∙ ap (λ k. k ++ literal xs 1 ∷ []) (c.put_watch.ensures.watches ∙ ap (λ k. k ++ literal xs 0 ∷ []) m.watches) ∙ append_assoc f.watches.items (literal xs 0 ∷ []) (literal xs 1 ∷ []) in
+    let live = c.push_reserved-2.ensures.items ∙ ap (λ k. k ++ true ∷ []) m.live in
     let entries = pushed f.entries.items _ _ _ _ c.len.result (c.len.result + length xs) c.args.name c.push_reserved.ensures.items m.entries c.in_ok-start.ensures.start c.in_ok-start.ensures.end in
     let next-long : length c.put_watch-2.new.next.items ≡ length f.next.items + 2 = omega (arith, c.put_watch-2.ensures.next_long, c.put_watch.ensures.next_long, ap length m.next) in
     let put = put_twice f.heads.items f.next.items c.deref_mut.result.now c.make_room.new.next.items c.put_watch.new.heads c.put_watch.new.next.items c.deref_mut-2.result.now c.put_watch-2.new.heads c.put_watch-2.new.next.items
     (cell f.values (literal xs 0)) (cell f.values (literal xs 1)) c.deref_mut.ensures.value m.next two-heads c.put_watch.ensures.next_long c.put_watch.ensures.chained c.put_watch-2.ensures.chained in
-    rw (both, watches, entries, c.in_ok-extend_from_slice.ensures.items)
-    (kept_added f.vertices f.values f.literals.items f.entries.items f.watches.items f.heads.items f.next.items c.put_watch-2.new.heads c.put_watch-2.new.next.items _ (vec_capacity c.make_room.new.forced) xs c.len.result c.args.name
+    rw (both, watches, entries, live, c.in_ok-extend_from_slice.ensures.items)
+    (kept_added f.vertices f.values f.literals.items f.entries.items f.live.items f.watches.items f.heads.items f.next.items c.put_watch-2.new.heads c.put_watch-2.new.next.items _ (vec_capacity c.make_room.new.forced) xs c.len.result c.args.name
     c.self.invariant a two (omega (arith, c.len.ensures, f.literals.ok)) (two-long ∙ ap length one ∙ one-long) next-long put c.in_ok-make_room.ensures.forced_room)
 
 pub returns-clause-ok : goal.returns-clause-ok
@@ -64,9 +67,12 @@ returns-clause-ok c =
     let xs = c.args.literals.now in
     let m = c.make_room.ensures in
     let watches = c.put_watch-2.ensures.watches ∙ ap (λ k. k ++ literal xs 1 ∷ []) (c.put_watch.ensures.watches ∙ ap (λ k. k ++ literal xs 0 ∷ []) m.watches) ∙ append_assoc f.watches.items (literal xs 0 ∷ []) (literal xs 1 ∷ []) in
+    let live = c.push_reserved-2.ensures.items ∙ ap (λ k. k ++ true ∷ []) m.live in
     let entries = pushed f.entries.items _ _ _ _ c.len.result (c.len.result + length xs) c.args.name c.push_reserved.ensures.items m.entries c.in_ok-start.ensures.start c.in_ok-start.ensures.end in
-    rw (← c.self.view_is, watches, entries, c.in_ok-extend_from_slice.ensures.items, m.forced)
-    (value_added f.vertices f.values f.literals.items f.entries.items f.watches.items f.units.items f.forced.items xs c.len.result c.args.name c.self.invariant.within (omega (arith, c.len.ensures, f.literals.ok)) c.requires.some c.if-literals-eq1.false)
+    rw (← c.self.view_is, watches, entries, live, c.in_ok-extend_from_slice.ensures.items, m.forced)
+    (value_added f.vertices f.values f.literals.items f.entries.items f.live.items f.watches.items f.units.items f.forced.items xs c.len.result c.args.name c.self.invariant.within c.self.invariant.live_long c.self.invariant.watches_are c.self.invariant.covered (omega (arith, c.len.ensures, f.literals.ok)) c.requires.some c.if-literals-eq1.false)
 
 pub returns-clause-watches : goal.returns-clause-watches
-returns-clause-watches c = (invariant_of-self-2 c).watches_are
+returns-clause-watches c =
+    let k = invariant_of-self-2 c in
+    seen_are _ _ _ _ (sym (length-map _ _)) k.watches_are k.covered
