@@ -1,11 +1,11 @@
 -- Nogoods that are covered by live ones, and their watches as they are seen.
-use Rattle.std.proofs.Common.{◌≡◌, ℕ, ◌+◌, ◌-◌, ◌*◌, ◌/◌, ◌%◌, ◌<◌, ◌≤◌, zero, suc, Bool, true, false, cond, eqb, ltb, ◌&&◌, List, [], ◌∷◌, ◌++◌, length, get_or, set, refl, sym, ap, ◌∙◌, subst, arith, inl, inr, ◌⊎◌, length-append}
+use Rattle.std.proofs.Common.{◌≡◌, ℕ, ◌+◌, ◌-◌, ◌*◌, ◌/◌, ◌%◌, ◌<◌, ◌≤◌, zero, suc, Bool, true, false, cond, eqb, ltb, ◌&&◌, List, [], ◌∷◌, ◌++◌, length, set, refl, sym, ap, ◌∙◌, subst, arith, inl, inr, ◌⊎◌, length-append}
 use Rattle.std.proofs.lemmas.Bool.{cases_eq, eq-eqb, eqb-true, ltb-true, ltb-false}
 use Rattle.std.proofs.Math.Seq.{get_or-append_seam}
 use Rattle.std.proofs.lemmas.List.{get_or_append_left, get_or-append-add, get_or-set_other}
 use Rattle.nogood_watch.specs.Nogoods.{Nogood, literal, partner, nogood, nogood_of, AreWatches}
 use Rattle.nogood_watch.specs.Covering.{has_literal, lies_in, live_at, covers, AreCovered, IsOvertaken, first_of, watched_for, seen}
-use Rattle.nogood_watch.proofs.Visits.{partner_half, half_in, pair_is}
+use Rattle.nogood_watch.proofs.Visits.{partner_half, pair_is}
 
 -- ---- literals that lie in others
 

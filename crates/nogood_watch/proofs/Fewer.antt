@@ -5,8 +5,9 @@ use Rattle.nogood_watch.specs.Lists.{no_watch, Chained}
 use Rattle.nogood_watch.specs.Nogoods.{Nogood, literal, nogood, AreLiterals, AreWatches}
 use Rattle.nogood_watch.specs.declared.watched.Entry.{Entry}
 use Rattle.nogood_watch.specs.Covering.{AreCovered}
-use Rattle.nogood_watch.specs.Inside.{home_of, is_live, nogood_at, nogoods_of, Kept}
+use Rattle.nogood_watch.specs.Inside.{home_of, is_live, nogood_at, nogoods_of, watches_of, Kept}
 use Rattle.nogood_watch.proofs.Chains.{chain_empty}
+use Rattle.nogood_watch.proofs.Covering.{seen_are}
 use Rattle.nogood_watch.proofs.Readiness.{cell_below, watch_in}
 use Rattle.nogood_watch.proofs.Walks.{home_live, home_past}
 
@@ -43,3 +44,9 @@ kept_thinned vertices values literals entries live live' w heads heads' next nex
   where
     c : Chained (home_of (vertices * values + 1) values live' w) heads' next'
     c = subst (λ (n : ℕ). Chained (home_of n values live' w) heads' next') k.heads_long chained
+
+-- the watches that are seen of nogoods that are kept
+pub kept_seen : (vertices values : ℕ) (literals : List (ℕ × ℕ)) (entries : List Entry) (live : List Bool) (w : List (ℕ × ℕ)) (heads next : List ℕ) (capacity : ℕ)
+    → Kept vertices values literals entries live w heads next capacity → AreWatches (nogoods_of literals entries) (watches_of literals entries live w)
+kept_seen vertices values literals entries live w heads next capacity k =
+    seen_are (nogoods_of literals entries) live w (length entries) (sym (length-map entries (nogood_at literals))) k.watches_are k.covered

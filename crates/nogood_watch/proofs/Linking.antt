@@ -1,7 +1,7 @@
 -- Lists that are made anew, watch by watch.
-use Rattle.std.proofs.Common.{◌≡◌, ℕ, ◌+◌, ◌<◌, ◌≤◌, Bool, true, false, cond, eqb, ltb, ◌&&◌, List, [], length, get_or, refl, sym, ap, ◌∙◌, subst, arith, inl, inr, ◌⊎◌}
-use Rattle.std.proofs.lemmas.Bool.{cases_eq, eq-eqb, ne_eqb, ltb-true, ltb-false, lt-ltb, le-ltb}
-use Rattle.nogood_watch.specs.Lists.{no_watch, times, Chained, moved}
+use Rattle.std.proofs.Common.{◌≡◌, ℕ, ◌+◌, ◌<◌, ◌≤◌, Bool, true, false, cond, eqb, ltb, ◌&&◌, List, [], length, get_or, refl, sym, ap, ◌∙◌, arith, inl, inr, ◌⊎◌}
+use Rattle.std.proofs.lemmas.Bool.{cases_eq, ne_eqb, ltb-true, ltb-false, lt-ltb, le-ltb}
+use Rattle.nogood_watch.specs.Lists.{no_watch, Chained, moved}
 use Rattle.nogood_watch.specs.Inside.{cell, is_live, home_of}
 use Rattle.nogood_watch.specs.Nogoods.{literal}
 use Rattle.nogood_watch.proofs.Chains.{chained_same, moved_at, moved_other}

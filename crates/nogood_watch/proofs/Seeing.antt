@@ -1,13 +1,13 @@
 -- What a walk has done, of the watches as they are seen.
-use Rattle.std.proofs.Common.{◌≡◌, ℕ, ◌+◌, ◌*◌, ◌/◌, ◌<◌, Bool, true, List, length, sym, ap, ◌∙◌, subst, arith, inl, inr, ◌⊎◌}
+use Rattle.std.proofs.Common.{◌≡◌, ℕ, ◌*◌, ◌/◌, ◌<◌, Bool, true, List, length, sym, ap, ◌∙◌, subst, arith, inl, inr}
 use Rattle.domain_bits.specs.Removals as removals
-use Rattle.nogood_watch.specs.Nogoods.{Nogood, literal, partner, nogood, nogood_of, AreWatches}
+use Rattle.nogood_watch.specs.Nogoods.{Nogood, literal, partner, AreWatches}
 use Rattle.nogood_watch.specs.Watching.{IsAssigned, IsGuarded, KeepsOrFrees, MovesToFree, Follows, forced_at}
 use Rattle.nogood_watch.specs.Covering.{AreCovered, watched_for, seen, live_at}
 use Rattle.nogood_watch.specs.Inside.{is_live}
 use Rattle.nogood_watch.specs.Walking.{Walked}
 use Rattle.nogood_watch.proofs.Visits.{partner_in}
-use Rattle.nogood_watch.proofs.Covering.{IsWatchedFor, watched_is, watched_self, stands, stands_half, stands_partner, stands_in, stands_self, seen_long, seen_at}
+use Rattle.nogood_watch.proofs.Covering.{watched_is, watched_self, stands, stands_half, stands_partner, stands_in, stands_self, seen_long, seen_at}
 
 -- a watch that is seen and the one that stands for it
 record Seen (nogoods : List Nogood) (live : List Bool) (w : List (ℕ × ℕ)) (n x : ℕ) : Type 0 where

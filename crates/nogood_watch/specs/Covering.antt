@@ -1,5 +1,5 @@
 -- Nogoods that are not watched, since a live one whose literals lie in theirs says all that they say.
-use Rattle.std.specs.Prelude.{◌≡◌, ℕ, zero, suc, ◌+◌, ◌*◌, ◌/◌, ◌%◌, ◌<◌, ◌==◌, ◌&&◌, Bool, true, false, cond, List, [], ◌∷◌, ◌++◌, length, slice_index_or}
+use Rattle.std.specs.Prelude.{◌≡◌, ℕ, zero, suc, ◌+◌, ◌*◌, ◌<◌, ◌==◌, ◌&&◌, Bool, true, false, cond, List, [], ◌∷◌, ◌++◌, length, slice_index_or}
 use Rattle.nogood_watch.specs.Nogoods.{Nogood, literal, nogood}
 
 -- whether the literal is one of these

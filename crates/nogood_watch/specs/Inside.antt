@@ -1,5 +1,5 @@
 -- How literals, watches and lists hold the nogoods.
-use Rattle.std.specs.Prelude.{◌≡◌, ℕ, ◌+◌, ◌-◌, ◌*◌, ◌<◌, ◌≤◌, ◌/◌, Bool, true, cond, List, length, map, take, drop, slice_index, slice_index_or}
+use Rattle.std.specs.Prelude.{◌≡◌, ℕ, ◌+◌, ◌-◌, ◌*◌, ◌<◌, ◌≤◌, ◌/◌, Bool, cond, List, length, map, take, drop, slice_index, slice_index_or}
 use Rattle.nogood_watch.specs.declared.watched.Entry.{Entry}
 use Rattle.nogood_watch.specs.Lists.{no_watch, Chained}
 use Rattle.nogood_watch.specs.Covering.{live_at, AreCovered, watched_for, seen}

@@ -1,11 +1,10 @@
-use Rattle.std.proofs.Common.{◌≡◌, ℕ, ◌+◌, ◌<◌, ◌≤◌, true, List, length, take, drop, ◌++◌, [], ◌∷◌, sym, ap, ◌∙◌, arith, refl, append_assoc}
-use Rattle.std.proofs.lemmas.List.{length-map}
+use Rattle.std.proofs.Common.{◌≡◌, ℕ, ◌+◌, ◌<◌, ◌≤◌, true, List, length, take, drop, ◌++◌, [], ◌∷◌, ap, ◌∙◌, arith, refl, append_assoc}
 use Rattle.std.specs.Prelude.{vec_capacity}
 use Rattle.nogood_watch.specs.Nogoods.{AreLiterals, literal}
 use Rattle.nogood_watch.specs.declared.watched.Entry.{Entry}
 use Rattle.nogood_watch.specs.Inside.{cell}
 use Rattle.nogood_watch.proofs.Readiness.{cell_in}
-use Rattle.nogood_watch.proofs.Covering.{seen_are}
+use Rattle.nogood_watch.proofs.Fewer.{kept_seen}
 use Rattle.nogood_watch.proofs.Adding.{written_back, put_twice, kept_added, value_added}
 use Rattle.nogood_watch.proofs.watched.Watched.add.Goals as goal
 
@@ -73,6 +72,23 @@ returns-clause-ok c =
     (value_added f.vertices f.values f.literals.items f.entries.items f.live.items f.watches.items f.units.items f.forced.items xs c.len.result c.args.name c.self.invariant.within c.self.invariant.live_long c.self.invariant.watches_are c.self.invariant.covered (omega (arith, c.len.ensures, f.literals.ok)) c.requires.some c.if-literals-eq1.false)
 
 pub returns-clause-watches : goal.returns-clause-watches
-returns-clause-watches c =
-    let k = invariant_of-self-2 c in
-    seen_are _ _ _ _ (sym (length-map _ _)) k.watches_are k.covered
+returns-clause-watches c = kept_seen _ _ _ _ _ _ _ _ _ (invariant_of-self-2 c)
+
+pub returns-in_err-push-clause-watches : goal.returns-in_err-push-clause-watches
+returns-in_err-push-clause-watches c = kept_seen _ _ _ _ _ _ _ _ _ c.self.invariant
+
+pub returns-then-literals-eq1-clause-watches : goal.returns-then-literals-eq1-clause-watches
+returns-then-literals-eq1-clause-watches c = kept_seen _ _ _ _ _ _ _ _ _ c.self.invariant
+
+pub returns-in_err-start-clause-watches : goal.returns-in_err-start-clause-watches
+returns-in_err-start-clause-watches c = rw (← c.self.view_is) (kept_seen _ _ _ _ _ _ _ _ _ c.self.invariant)
+
+pub returns-in_err-make_room-clause-watches : goal.returns-in_err-make_room-clause-watches
+returns-in_err-make_room-clause-watches c =
+    let m = c.make_room.ensures in
+    rw (m.entries, m.live, m.watches) (kept_seen _ _ _ _ _ _ _ _ _ c.self.invariant)
+
+pub returns-in_err-extend_from_slice-clause-watches : goal.returns-in_err-extend_from_slice-clause-watches
+returns-in_err-extend_from_slice-clause-watches c =
+    let m = c.make_room.ensures in
+    rw (m.entries, m.live, m.watches, c.in_err-extend_from_slice.ensures.items) (kept_seen _ _ _ _ _ _ _ _ _ c.self.invariant)

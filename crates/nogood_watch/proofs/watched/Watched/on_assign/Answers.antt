@@ -4,6 +4,7 @@ use Rattle.domain_bits.proofs.Sizes.{in_below}
 use Rattle.nogood_watch.specs.Nogoods.{literal}
 use Rattle.nogood_watch.specs.Inside.{nogood_at, nogoods_of, watches_of}
 use Rattle.nogood_watch.proofs.Walks.{none_watched}
+use Rattle.nogood_watch.proofs.Fewer.{kept_seen}
 use Rattle.nogood_watch.proofs.Seeing.{none_seen}
 use Rattle.nogood_watch.proofs.watched.Watched.on_assign.Goals as goal
 
@@ -28,3 +29,6 @@ returns-clause-guarded g c = rw (← c.self.view_is) c.visit_watched.ensures.gua
 
 pub returns-clause-moves : goal.returns-clause-moves
 returns-clause-moves g c = rw (← c.self.view_is) c.visit_watched.ensures.moves
+
+pub returns-then-index-clause-watches : goal.returns-then-index-clause-watches
+returns-then-index-clause-watches g c = kept_seen _ _ _ _ _ _ _ _ _ c.self.invariant

@@ -19,19 +19,19 @@ thin-requires-clause-in_range c =
     cell_in f.vertices f.values f.values _ (literal f.watches.items x) refl k.heads_long r.0 r.1)
 
 -- what is written back
-live_back : (c : goal.After-thin) → let f = c.self.inside in take f.live.len (c.thin.new.live ++ drop (length c.thin.new.live) f.live.items) ≡ c.thin.new.live
+live_back : (c : goal.After-self-3-1) → let f = c.self.inside in take f.live.len (c.thin.new.live ++ drop (length c.thin.new.live) f.live.items) ≡ c.thin.new.live
 live_back c = let f = c.self.inside in written_back f.live.len f.live.items c.thin.new.live (omega (arith, f.live.ok)) (c.thin.ensures.live_long ∙ ap length c.deref_mut.ensures.value)
 
-heads_back : (c : goal.After-thin) → let f = c.self.inside in take f.heads.len (c.thin.new.heads ++ drop (length c.thin.new.heads) f.heads.items) ≡ c.thin.new.heads
+heads_back : (c : goal.After-self-3-1) → let f = c.self.inside in take f.heads.len (c.thin.new.heads ++ drop (length c.thin.new.heads) f.heads.items) ≡ c.thin.new.heads
 heads_back c = let f = c.self.inside in written_back f.heads.len f.heads.items c.thin.new.heads (omega (arith, f.heads.ok)) (c.thin.ensures.heads_long ∙ ap length c.deref_mut-2.ensures.value)
 
-next_back : (c : goal.After-thin) → let f = c.self.inside in take f.next.len (c.thin.new.next ++ drop (length c.thin.new.next) f.next.items) ≡ c.thin.new.next
+next_back : (c : goal.After-self-3-1) → let f = c.self.inside in take f.next.len (c.thin.new.next ++ drop (length c.thin.new.next) f.next.items) ≡ c.thin.new.next
 next_back c = let f = c.self.inside in written_back f.next.len f.next.items c.thin.new.next (omega (arith, f.next.ok)) (c.thin.ensures.next_long ∙ ap length c.deref_mut-3.ensures.value)
 
-covered : (c : goal.After-thin) → let f = c.self.inside in AreCovered (nogoods_of f.literals.items f.entries.items) c.thin.new.live
+covered : (c : goal.After-self-3-1) → let f = c.self.inside in AreCovered (nogoods_of f.literals.items f.entries.items) c.thin.new.live
 covered c = rw (c.deref.ensures.value, c.deref-2.ensures.value) at c.thin.ensures.covered
 
-chained : (c : goal.After-thin) → let f = c.self.inside in Chained (home_of (length f.heads.items) f.values c.thin.new.live f.watches.items) c.thin.new.heads c.thin.new.next
+chained : (c : goal.After-self-3-1) → let f = c.self.inside in Chained (home_of (length f.heads.items) f.values c.thin.new.live f.watches.items) c.thin.new.heads c.thin.new.next
 chained c = rw (c.deref-3.ensures.value, c.deref_mut-2.ensures.value) at c.thin.ensures.chained
 
 pub invariant_of-self : goal.invariant_of-self
