@@ -158,8 +158,9 @@ fn read_text(alloc: Global, bytes: &[u8], kind: LadKind, most: u32) -> Result<Gr
 
 /// What the text says, or its first faulty word: a graph of at most `most` vertices.
 ///
-/// It goes over the bytes once, in time linear in their number. It takes memory for words that it has read, and first 24 bytes for each vertex
-/// that the text announces, of which there are at most `most`; in the format with labels of edges 52.
+/// It goes over the bytes once, in time linear in their number. It takes memory for words that it has read, and first for vertices: 24 bytes for
+/// each that the text announces, but no more than 12 for each of its bytes; with labels of edges 44 and 22, and 8 for each that it announces, of
+/// which there are at most `most`.
 pub fn read_lad(
     alloc: Global,
     bytes: &[u8],
