@@ -1,15 +1,16 @@
 #!/usr/bin/env python3
 """Holds the verdicts of two log checkers against each other, on logs, on worked cases, on random logs, and on mutants of these.
 
-usage: python3 bench/check_logs.py CHECKER OTHER [FOLDER ..] [--cases] [--random N] [--mutants N] [--seed S] [--most BYTES] [--keep FOLDER]
+usage: python3 bench/check_logs.py CHECKER OTHER [FOLDER ..] [--cases] [--random N] [--closed N] [--mutants N] [--seed S] [--most BYTES] [--keep FOLDER]
 
 CHECKER and OTHER are commands, to which an encoding and a log are added: 'crates/subgraph/out/subgraph check' and
 'python3 tools/plain_check.py'. In a FOLDER each NAME.proof is a log over NAME.opb; --cases adds the worked cases of
-tools/check_cases.py, whose verdicts are known; --random adds encodings and logs of right form at random. Each pair is judged as it is,
-and in --mutants mutants: from one to three times a line of the log, or of the encoding in one mutant of five, is dropped, doubled or
-exchanged with another, a number, a sign, a name, a byte or the order of words is changed, a word is dropped or put in, or the end is
-cut. A pair with a file above --most bytes is left out. The first line that is printed and the status are compared. Prints a table
-of the verdicts; a difference is told, kept under --keep, and makes the status 1.
+tools/check_cases.py, whose verdicts are known; --random adds encodings and logs of right form at random, with hints; --closed adds
+such without hints, of which most are accepted. Each pair is judged as it is, and in --mutants mutants: from one to three times a line
+of the log, or of the encoding in one mutant of five, is dropped, doubled or exchanged with another, a number, a sign, a name, a byte
+or the order of words is changed, a word is dropped or put in, or the end is cut. A pair with a file above --most bytes is left out.
+The first line that is printed and the status are compared. Prints a table of the verdicts; a difference is told, kept under --keep,
+and makes the status 1.
 """
 import argparse
 import collections
@@ -25,6 +26,7 @@ TOP = os.path.dirname(os.path.dirname(os.path.abspath(__file__)))
 sys.path.insert(0, os.path.join(TOP, "tools"))
 
 import check_cases  # noqa: E402
+from closed_logs import closed_pair  # noqa: E402
 
 NUMBER = re.compile(rb"[0-9]+")
 
@@ -219,6 +221,7 @@ def main():
     parser.add_argument("folders", nargs="*")
     parser.add_argument("--cases", action="store_true", help="judge the worked cases too")
     parser.add_argument("--random", type=int, default=0, help="how many random pairs")
+    parser.add_argument("--closed", type=int, default=0, help="how many random pairs without hints")
     parser.add_argument("--mutants", type=int, default=10, help="of each pair")
     parser.add_argument("--seed", type=int, default=0)
     parser.add_argument("--most", type=int, default=1000000, help="the most bytes of a file")
@@ -230,6 +233,7 @@ def main():
     pairs += [("case", *case) for case in check_cases.cases()] if words.cases else []
     rng = random.Random(words.seed)
     pairs += [("random log", f"number {i}", *random_pair(rng), None) for i in range(words.random)]
+    pairs += [("log without hints", f"number {i}", *closed_pair(rng), None) for i in range(words.closed)]
     comparison = Comparison([shlex.split(command) for command in (words.checker, words.other)], words.keep)
     with tempfile.TemporaryDirectory() as folder:
         files = [os.path.join(folder, name) for name in ("encoding", "log")]
