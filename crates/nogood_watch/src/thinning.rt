@@ -15,6 +15,10 @@ use crate::lists::{END, link};
 use crate::walk::cell_of;
 use crate::watched::Entry;
 
+/// So many of a list are held against a nogood at most. Where few are overtaken the lists are long, and without an end
+/// the cost would grow with the square of the nogoods.
+const MOST_HELD: usize = 64;
+
 /// Whether the literal is one of these. Cost: one step for each before it.
 fn is_among(literals: &[(u16, u16)], literal: (u16, u16)) -> bool
     ensures { result ≡ has_literal literals.now literal }
@@ -82,7 +86,8 @@ impl Nogoods<'_> {
         are_among(self.literals_of(j), self.literals_of(i))
     }
 
-    /// Whether one of those that are listed at the literal overtakes nogood `i`. Cost: that of holding each against it.
+    /// Whether one of the first `MOST_HELD` that are listed at the literal overtakes nogood `i`. Cost: that of holding
+    /// each against it.
     fn is_overtaken_at(
         &self,
         live: &[bool],
@@ -101,7 +106,7 @@ impl Nogoods<'_> {
             → IsOvertaken (nogoods_of self.now.literals.now self.now.entries.now) live.now i }
     {
         let mut j = heads[cell_of(self.values, literal)] as usize;
-        for _ in 0..self.entries.len() {
+        for _ in 0..MOST_HELD {
             if j >= self.entries.len() {
                 return false;
             }
@@ -229,7 +234,7 @@ impl Nogoods<'_> {
 
     /// Each nogood that another one overtakes is live no longer, and the watches of the others are linked anew. Cost:
     /// one step for each nogood and each length, for each watch and each list, and for each literal of a live one that
-    /// of holding it against the shorter ones whose last literal this is.
+    /// of holding it against up to `MOST_HELD` shorter ones whose last literal this is.
     pub(crate) fn thin(
         &self,
         watches: &[(u16, u16)],

@@ -14,7 +14,7 @@ use domain_bits::{Domains, Trail};
 use std::alloc::{AllocError, Global};
 use std::marker::Model;
 
-/// Fewer live nogoods than this are not thinned.
+/// So many nogoods more have to be there, at least, before it is looked which are overtaken.
 const LEAST: usize = 1024;
 
 /// What a call of `on_assign` found.
@@ -217,11 +217,12 @@ impl Watched {
     }
 
     /// Lets the watches of the nogoods go in which the literals of a shorter one lie, or the same ones, where this is
-    /// due: where 1,024 at least are live, and twice as many as the last time left. What is forced is the same without
-    /// them. They are still kept: what is seen as their watches are those of the shorter one.
+    /// due: where 1,024 more have come since the last time, and a sixteenth of all, and as many as it left, or seven
+    /// times as many where it let fewer than half go. What is forced is the same without them. They are still kept:
+    /// what is seen as their watches are those of the shorter one.
     ///
     /// Cost: one step where it is not due; else one for each nogood and each length, and for each literal of a live one
-    /// that of holding it against the shorter ones whose last literal this is. Nothing is allocated.
+    /// that of holding it against up to 64 shorter ones whose last literal this is. Nothing is allocated.
     pub fn thin(&mut self)
         ensures nogoods { self.new.nogoods ≡ self.old.nogoods }
         ensures units { self.new.units ≡ self.old.units }
@@ -233,10 +234,11 @@ impl Watched {
         if self.entries.len() < self.due {
             return;
         }
+        let before = count_live(&self.live);
         self.thin_now();
-        let left = count_live(&self.live);
-        let more = if left < LEAST { LEAST - left } else { left };
-        self.due = self.entries.len().saturating_add(more);
+        let all = self.entries.len();
+        let more = until_next(all, before, count_live(&self.live));
+        self.due = all.saturating_add(more);
     }
 
     /// The same, whether it is due or not.
@@ -275,6 +277,17 @@ impl Watched {
     {
         &self.units
     }
+}
+
+/// How many nogoods more make it worth while to look again which of `all` are overtaken, where so many were live before
+/// and so many are left. A sixteenth of all at least, so that the cost grows with the nogoods and not with their square.
+fn until_next(all: usize, before: usize, left: usize) -> usize {
+    let more = if left > before / 2 {
+        left.saturating_mul(7)
+    } else {
+        left
+    };
+    more.max(all / 16).max(LEAST)
 }
 
 /// Where so many literals more start and end, or want of memory where the numbers of places are used up.
