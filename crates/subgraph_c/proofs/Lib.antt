@@ -1,7 +1,9 @@
 mod Questions
 mod OneProblem
 mod Refusals
-mod Spent
+mod Decided
+mod OpenStatuses
+mod HeldStatuses
 mod VerifyStatuses
 mod DecideStatuses
 mod CheckStatuses

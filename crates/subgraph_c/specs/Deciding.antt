@@ -74,6 +74,24 @@ DecisionSays Nothing c room = Refuted c room
 DecisionSays Unknown c room = Undecided c room
 DecisionSays (Refused refusal) c room = IsRefused c room refusal
 
+-- A search for the problem spent the budget, as `Undecided` says of a call.
+pub record IsSpent (q : Problem) (budget : ℕ) : Type 0 where
+  pub account : Account
+  pub spends : Spends q budget account
+  pub not_enough : budget < enough (size q.pattern) (size q.target)
+
+-- What a decision says of a problem that a call asks, where there is room for so many images.
+abbrev pub ProblemSays : Decision → Problem → ℕ → Type 0
+ProblemSays (Yes m) q budget = Embeds q m.items
+ProblemSays Nothing q budget = HasNone q
+ProblemSays Unknown q budget = IsSpent q budget
+ProblemSays (Refused refusal) q budget = refusal ≡ NoMemory
+
+-- The problem is decided where there is room for so many images, and else that is told.
+abbrev pub RoomSays : Decision → Problem → ℕ → ℕ → Type 0
+RoomSays d q budget room = ((size q.pattern ≤ room) × ProblemSays d q budget)
+    ⊎ ((room < size q.pattern) × (d ≡ Refused (Number Room)))
+
 -- There is room for what is found.
 abbrev pub Fits : Decision → ℕ → Type 0
 Fits (Yes m) room = length m.items ≤ room

@@ -4,3 +4,4 @@ pub mod Deciding
 pub mod Verifying
 pub mod Checking
 pub mod Encoding
+pub mod Holding

@@ -6,7 +6,7 @@ use Rattle.graph_theory.specs.declared.lad_text.LadCause.TheVariants.{NotNumber,
 use Rattle.subgraph_c.specs.Asking.{Call, IsFaulty}
 use Rattle.subgraph_c.specs.declared.passed.Report.{Report}
 use Rattle.subgraph_c.specs.declared.refusal.OutOfRange.{OutOfRange}
-use Rattle.subgraph_c.specs.declared.refusal.OutOfRange.TheVariants.{Format, Maps, Induced, InducedMaps, ManyPairs, OneVertex, Budget, Rows, Room}
+use Rattle.subgraph_c.specs.declared.refusal.OutOfRange.TheVariants.{Format, Maps, Induced, InducedMaps, ManyPairs, OneVertex, Budget, Rows, Room, Handle}
 use Rattle.subgraph_c.specs.declared.refusal.Refusal.{Refusal}
 use Rattle.subgraph_c.specs.declared.refusal.Refusal.TheVariants.{Number, Pattern, Target, Vertex, NoMemory}
 
@@ -30,6 +30,7 @@ range_cause OneVertex = 6
 range_cause Budget = 7
 range_cause Rows = 8
 range_cause Room = 9
+range_cause Handle = 10
 
 -- The status of a refusal.
 abbrev pub refusal_status : Refusal → ℕ

@@ -16,7 +16,7 @@ use std::alloc::Global;
 const PATTERN_LIMIT: u32 = 1024;
 
 /// How many vertices a target has at most.
-const TARGET_LIMIT: u32 = 8192;
+pub(crate) const TARGET_LIMIT: u32 = 8192;
 
 /// The texts of a call, how the question is asked, and the pairs that are to be in order.
 #[derive(Clone, Copy)]
@@ -28,7 +28,7 @@ pub(crate) struct Asked<'a> {
 }
 
 /// The format of this number.
-fn format_named(number: u32) -> LadKind
+pub(crate) fn format_named(number: u32) -> LadKind
     ensures { result ≡ format_of number }
 {
     match number {
@@ -51,7 +51,12 @@ fn maps_named(number: u32) -> Maps
 }
 
 /// The graph that the bytes are the text of. Cost: linear in the bytes, and the bit rows of the graph.
-fn graph_in(alloc: Global, bytes: &[u8], kind: LadKind, most: u32) -> Result<Graph, LadFault>
+pub(crate) fn graph_in(
+    alloc: Global,
+    bytes: &[u8],
+    kind: LadKind,
+    most: u32,
+) -> Result<Graph, LadFault>
     requires { most ≤ 8192 }
     ensures says { TextSays result bytes.now kind most }
     ensures few { IfOk result (λ g. size g ≤ most) }
@@ -61,7 +66,7 @@ fn graph_in(alloc: Global, bytes: &[u8], kind: LadKind, most: u32) -> Result<Gra
 }
 
 /// The pattern of a call.
-fn pattern_of(alloc: Global, asked: &Asked) -> Result<Graph, Refusal>
+pub(crate) fn pattern_of(alloc: Global, asked: &Asked) -> Result<Graph, Refusal>
     ensures says { PatternSays result (call asked.now.pattern.now asked.now.target.now
         asked.now.options.now asked.now.less.now) }
     ensures few { IfOk result (λ g. size g ≤ 1024) }
@@ -89,7 +94,11 @@ fn target_of(alloc: Global, asked: &Asked) -> Result<Graph, Refusal>
 }
 
 /// The pairs as pairs of vertices of the pattern, or the first that names a vertex which the pattern has not.
-fn pairs_in(alloc: Global, pattern: &Graph, less: &[Pair]) -> Result<Vec<(u16, u16)>, Refusal>
+pub(crate) fn pairs_in(
+    alloc: Global,
+    pattern: &Graph,
+    less: &[Pair],
+) -> Result<Vec<(u16, u16)>, Refusal>
     requires { length less.now ≤ 64 }
     ensures { PairsSay result pattern.now less.now }
 {
@@ -125,7 +134,7 @@ fn unordered(pattern: Graph, target: Graph, options: &Options) -> Problem
 }
 
 /// The problem that is asked of two graphs, with the pairs as pairs of vertices of the pattern.
-fn problem_of(
+pub(crate) fn problem_of(
     pattern: Graph,
     target: Graph,
     options: &Options,

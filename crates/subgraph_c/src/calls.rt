@@ -19,7 +19,7 @@ use log_theory::{answer_laws, log_laws};
 use std::alloc::Global;
 
 /// Tells a decision: its status is returned, an embedding is written to the front of `map`, and the report is written.
-fn tell(decision: &Decision, map: &mut [u32], report: &mut Report) -> u32
+pub(crate) fn tell(decision: &Decision, map: &mut [u32], report: &mut Report) -> u32
     requires { Fits decision.now (length map.old) }
     ensures status { result ≡ decision_status decision.now }
     ensures images { map.new ≡ images_after decision.now map.old }

@@ -1,11 +1,13 @@
 //! Deciding the problem that a call asks.
 
 ghost use Rattle.std.specs.Prelude.{◌≡◌, ◌<◌, ◌≤◌, ◌^◌, None, length};
+ghost use Rattle.graph_theory.specs.Graph.{size};
 ghost use Rattle.subgraph_c.specs.Asking.{call};
-ghost use Rattle.subgraph_c.specs.Deciding.{IsAsked, DecisionSays, Fits};
+ghost use Rattle.subgraph_c.specs.Deciding.{ProblemSays, RoomSays, DecisionSays, Fits};
 
 use crate::asking::{Asked, ask};
 use crate::numbers::{first_bad, first_bad_search};
+use crate::passed::Options;
 use crate::refusal::{OutOfRange, Refusal};
 use graph_rows::problem::Problem;
 use parallel_solve::{Solved, solve_alone};
@@ -24,22 +26,33 @@ pub enum Decision {
     Refused(Refusal),
 }
 
-/// Decides a problem that is asked, by one worker: a small one first with 64 fails and without rows of nogoods.
-fn decide_problem(alloc: Global, q: &Problem, asked: &Asked, room: usize) -> Decision
-    requires budget { asked.now.options.now.budget < 2 ^ 63 }
-    requires rows { asked.now.options.now.rows ≤ 4194304 }
-    requires asked { IsAsked (call asked.now.pattern.now asked.now.target.now asked.now.options.now
-        asked.now.less.now) room q.now }
-    ensures says { DecisionSays result (call asked.now.pattern.now asked.now.target.now
-        asked.now.options.now asked.now.less.now) room }
+/// Decides a problem, by one worker: a small one first with 64 fails and without rows of nogoods.
+fn decide_problem(alloc: Global, q: &Problem, options: &Options, room: usize) -> Decision
+    requires budget { options.now.budget < 2 ^ 63 }
+    requires rows { options.now.rows ≤ 4194304 }
+    requires fits { size q.now.pattern ≤ room }
+    ensures says { ProblemSays result q.now options.now.budget }
     ensures fits { Fits result room }
 {
-    let options = asked.options;
     match solve_alone(alloc, q, options.seed, options.budget, options.rows) {
         Solved::Yes(map) => Decision::Yes(map),
         Solved::NoEmbedding(_) => Decision::Nothing,
         Solved::Unknown(_) => Decision::Unknown,
         Solved::NoMemory => Decision::Refused(Refusal::NoMemory),
+    }
+}
+
+/// Decides a problem, if there is room for an image of each pattern vertex.
+pub(crate) fn decide_in_room(alloc: Global, q: &Problem, options: &Options, room: usize) -> Decision
+    requires budget { options.now.budget < 2 ^ 63 }
+    requires rows { options.now.rows ≤ 4194304 }
+    ensures says { RoomSays result q.now options.now.budget room }
+    ensures fits { Fits result room }
+{
+    if usize::from(q.pattern().size()) <= room {
+        decide_problem(alloc, q, options, room)
+    } else {
+        Decision::Refused(Refusal::Number(OutOfRange::Room))
     }
 }
 
@@ -57,8 +70,7 @@ pub(crate) fn decide(alloc: Global, asked: &Asked, room: usize) -> Decision
         return Decision::Refused(Refusal::Number(bad));
     }
     match ask(alloc, asked) {
-        Ok(q) if usize::from(q.pattern().size()) <= room => decide_problem(alloc, &q, asked, room),
-        Ok(_) => Decision::Refused(Refusal::Number(OutOfRange::Room)),
+        Ok(q) => decide_in_room(alloc, &q, asked.options, room),
         Err(refusal) => Decision::Refused(refusal),
     }
 }

@@ -9,6 +9,8 @@ pub mod calls;
 pub mod checking;
 pub mod deciding;
 pub mod encoding;
+pub mod handles;
+mod holding;
 mod numbers;
 pub mod passed;
 pub mod refusal;

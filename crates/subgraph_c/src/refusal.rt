@@ -23,6 +23,8 @@ pub enum OutOfRange {
     Rows,
     /// The pattern has more vertices than there is room for images.
     Room,
+    /// The handle has a target already, or has none.
+    Handle,
 }
 
 /// Why a call asks no problem.

@@ -35,6 +35,7 @@ fn number_of_range(range: OutOfRange) -> u32
         OutOfRange::Budget => 7,
         OutOfRange::Rows => 8,
         OutOfRange::Room => 9,
+        OutOfRange::Handle => 10,
     }
 }
 

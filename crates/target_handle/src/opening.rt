@@ -42,6 +42,7 @@ impl TargetHandle {
 
     /// Puts a target into the place that one had. It takes no memory.
     pub fn put(&mut self, place: Box<Kept>, target: OpenTarget)
+        requires { opened self.old ≡ None }
         ensures { opened self.new ≡ Some target }
     {
         let mut place = place;
