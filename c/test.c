@@ -98,6 +98,75 @@ static int try_row(const struct row *it) {
     return 0;
 }
 
+static uint32_t ask_held(const struct row *it, subgraph_target *target, uint32_t *map, subgraph_report *report) {
+    subgraph_options options = options_of(it);
+    return subgraph_decide_in(bytes(it->pattern), strlen(it->pattern), target, &options, it->less, it->pairs, map, 8,
+                              report);
+}
+
+/* Tries a row by a target that is opened: its faults are told there, and all others by the question, each time. */
+static int try_held(const struct row *it) {
+    subgraph_target target = SUBGRAPH_TARGET;
+    subgraph_report report = {9, 9, 9, 9};
+    uint32_t map[8], status;
+    size_t i, size = it->status == 0 ? (size_t)(it->pattern[0] - '0') : 0;
+    int n, bad = 0;
+    for (i = 0; i < 8; i++) map[i] = (uint32_t)(1000 + i);
+    status = subgraph_target_open(bytes(it->target), strlen(it->target), it->format, &target, &report);
+    if (status != SUBGRAPH_OPENED) {
+        if (status != (it->format > 3 ? SUBGRAPH_OUT_OF_RANGE : SUBGRAPH_FAULT))
+            return wrong(it->shows, "open: another status");
+        if (it->role == SUBGRAPH_IN_TARGET && !tells(&report, it)) return wrong(it->shows, "open: another report");
+        status = ask_held(it, &target, map, &report);
+        if (status != SUBGRAPH_OUT_OF_RANGE || report.cause != SUBGRAPH_BAD_TARGET || !is_as_before(map, 0))
+            return wrong(it->shows, "asked of a target that is not open");
+        return 0;
+    }
+    for (n = 0; n < 3; n++) {
+        status = ask_held(it, &target, map, &report);
+        if (status != it->status || !tells(&report, it) || report.count != size || !is_as_before(map, size))
+            bad += wrong(it->shows, "of an open target: another answer");
+    }
+    subgraph_target_close(&target);
+    subgraph_target_close(&target);
+    return bad;
+}
+
+/* What a target answers that is open or closed when it should not be, or of another format. */
+static int try_handle(void) {
+    subgraph_target target = SUBGRAPH_TARGET, moved;
+    subgraph_options options = SUBGRAPH_OPTIONS;
+    subgraph_report report;
+    const subgraph_pair none = {0, 0};
+    uint32_t map[8];
+    int n;
+    subgraph_target_close(&target);
+    for (n = 0; n < 100; n++) {
+        if (subgraph_target_open(bytes(square), strlen(square), 0, &target, &report) != SUBGRAPH_OPENED)
+            return wrong("a target", "it is not opened");
+        if (subgraph_target_open(bytes(edge), strlen(edge), 0, &target, &report) != SUBGRAPH_OUT_OF_RANGE ||
+            report.cause != SUBGRAPH_BAD_TARGET)
+            return wrong("a target that is open", "it is opened again");
+        moved = target;
+        options.format = 1;
+        options.maps = 9;
+        if (subgraph_decide_in(bytes(path), strlen(path), &moved, &options, &none, 0, map, 8, &report) !=
+                SUBGRAPH_OUT_OF_RANGE ||
+            report.cause != SUBGRAPH_BAD_FORMAT)
+            return wrong("another format", "another answer");
+        options = (subgraph_options)SUBGRAPH_OPTIONS;
+        if (subgraph_decide_in(bytes(path), strlen(path), &moved, &options, &none, 0, map, 2, &report) !=
+                SUBGRAPH_OUT_OF_RANGE ||
+            report.cause != SUBGRAPH_NO_ROOM)
+            return wrong("no room", "another answer");
+        if (subgraph_decide_in(bytes(path), strlen(path), &moved, &options, &none, 0, map, 3, &report) != SUBGRAPH_YES)
+            return wrong("a path in an open square", "another answer");
+        subgraph_target_close(&moved);
+        target = moved;
+    }
+    return 0;
+}
+
 /* A call with one number changed. */
 static int try_number(const char *shows, uint64_t budget, uint32_t rows_kept, size_t pairs, size_t room, uint32_t due,
                       uint32_t cause) {
@@ -209,7 +278,7 @@ static void *try_all(void *bad) {
     size_t i;
     int n;
     for (n = 0; n < 20; n++)
-        for (i = 0; i < sizeof rows / sizeof *rows; i++) *(int *)bad += try_row(&rows[i]);
+        for (i = 0; i < sizeof rows / sizeof *rows; i++) *(int *)bad += try_row(&rows[i]) + try_held(&rows[i]);
     return NULL;
 }
 
@@ -217,7 +286,7 @@ int main(void) {
     pthread_t threads[4];
     int bad[4] = {0}, i, all = 0;
     if (subgraph_version() != SUBGRAPH_VERSION) all += wrong("version", "the library has another than the header");
-    all += try_numbers() + try_budget() + try_logs() + try_encoding();
+    all += try_numbers() + try_budget() + try_logs() + try_encoding() + try_handle();
     for (i = 0; i < 4; i++)
         if (pthread_create(&threads[i], NULL, try_all, &bad[i]) != 0) return 2;
     for (i = 0; i < 4; i++) {

@@ -1,5 +1,6 @@
 // Tests of the library from C++: random questions in all formats, of all kinds of maps and with orders of images, each
-// held against a search that tries every map. Several threads ask at once.
+// held against a search that tries every map, and many questions of one open target, each held against the call with its
+// text. Several threads ask at once.
 #include <algorithm>
 #include <cstdio>
 #include <cstdlib>
@@ -145,6 +146,33 @@ bool is_right(const Question &q, Random &random) {
     return true;
 }
 
+// Whether a target that is open answers as its text does, for so many random patterns.
+bool is_held(int patterns, Random &random) {
+    const subgraph_pair nothing = {0, 0};
+    const Question first = question_of(random);
+    const std::string target = text_of(first.target, first.options.format);
+    subgraph_target held = SUBGRAPH_TARGET;
+    subgraph_report report, due;
+    if (subgraph_target_open(bytes(target), target.size(), first.options.format, &held, &report) != SUBGRAPH_OPENED)
+        return false;
+    bool right = true;
+    for (int n = 0; n < patterns && right; n++) {
+        Question q = question_of(random);
+        q.options.format = first.options.format;
+        q.pattern = graph_of(random, q.pattern.size(), q.options.format);
+        const subgraph_pair *less = q.less.empty() ? &nothing : q.less.data();
+        const std::string pattern = text_of(q.pattern, q.options.format);
+        std::vector<uint32_t> map(8, 77), images(8, 77);
+        const uint32_t status = subgraph_decide_in(bytes(pattern), pattern.size(), &held, &q.options, less,
+                                                   q.less.size(), map.data(), map.size(), &report);
+        right = status == subgraph_decide(bytes(pattern), pattern.size(), bytes(target), target.size(), &q.options, less,
+                                          q.less.size(), images.data(), images.size(), &due);
+        right = right && map == images && report.count == due.count && report.cause == due.cause;
+    }
+    subgraph_target_close(&held);
+    return right;
+}
+
 }  // namespace
 
 int main(int count, char **words) {
@@ -156,6 +184,7 @@ int main(int count, char **words) {
         going.emplace_back([&wrong, each, k] {
             Random random(k);
             for (int n = 0; n < each; n++) wrong[k] += !is_right(question_of(random), random);
+            for (int n = 0; n < 4; n++) wrong[k] += !is_held(each / 2, random);
         });
     for (auto &it : going) it.join();
     const int all = std::accumulate(wrong.begin(), wrong.end(), 0);

@@ -1,5 +1,5 @@
-/* Each allocation of a call is refused in turn: the status says so, nothing is written, and no block is left. Linked
- * with --wrap for malloc, realloc and free.
+/* Each allocation of a call is refused in turn: the status says so, nothing is written, and no block is left but those
+ * of a target that is open. Linked with --wrap for malloc, realloc and free.
  */
 #include <stdio.h>
 #include <stdlib.h>
@@ -49,6 +49,58 @@ static uint32_t asked(int k, long refused, uint32_t *map, subgraph_report *repor
                            report);
 }
 
+/* The same of a target that is opened. */
+static uint32_t asked_held(int k, long refused, subgraph_target *target, uint32_t *map, subgraph_report *report) {
+    subgraph_options options = SUBGRAPH_OPTIONS;
+    const subgraph_pair less = {0, 2};
+    options.format = formats[k];
+    options.rows = 64;
+    left = refused;
+    return subgraph_decide_in((const uint8_t *)patterns[k], strlen(patterns[k]), target, &options, &less, 1, map, 4,
+                              report);
+}
+
+/* How many refusals a target is opened after, or -1. While memory is refused it is not open, and no block is left. */
+static long opened_after(int k, subgraph_target *target) {
+    const uint8_t *text = (const uint8_t *)targets[k];
+    subgraph_report report;
+    long n;
+    for (n = 0;; n++) {
+        uint32_t status;
+        left = n;
+        status = subgraph_target_open(text, strlen(targets[k]), formats[k], target, &report);
+        if (left >= 0) return status == SUBGRAPH_OPENED ? n : -1;
+        if (status != SUBGRAPH_NO_MEMORY || held != 0) return -1;
+    }
+}
+
+/* Each allocation is refused where a target is opened, and where it is asked, after which it is still open. */
+static long try_held(int k) {
+    const uint32_t before[4] = {7, 8, 9, 10};
+    subgraph_target target = SUBGRAPH_TARGET;
+    subgraph_report report;
+    uint32_t map[4], due[4], answer;
+    long opened = opened_after(k, &target), blocks = held, n;
+    if (opened < 0) return fprintf(stderr, "target %d: a refusal has another answer\n", k), -1;
+    memcpy(due, before, sizeof due);
+    answer = asked(k, -1, due, &report);
+    for (n = 0;; n++) {
+        uint32_t status;
+        memcpy(map, before, sizeof map);
+        status = asked_held(k, n, &target, map, &report);
+        if (held != blocks) return fprintf(stderr, "target %d, refusal %ld: blocks are left\n", k, n), -1;
+        if (left >= 0) {
+            if (status != answer || memcmp(map, due, sizeof map) != 0)
+                return fprintf(stderr, "target %d: another answer than of its text\n", k), -1;
+            break;
+        }
+        if (status != SUBGRAPH_NO_MEMORY || memcmp(map, before, sizeof map) != 0)
+            return fprintf(stderr, "target %d, refusal %ld: status %u\n", k, n, status), -1;
+    }
+    subgraph_target_close(&target);
+    return held == 0 ? opened + n : -1;
+}
+
 int main(void) {
     const uint32_t before[4] = {7, 8, 9, 10};
     long all = 0;
@@ -67,6 +119,9 @@ int main(void) {
             if (memcmp(map, before, sizeof map) != 0 || report.word + report.count + report.role + report.cause != 0)
                 return fprintf(stderr, "question %d, refusal %ld: something is written\n", k, n), 1;
         }
+        all += n;
+        n = try_held(k);
+        if (n < 0) return 1;
         all += n;
     }
     printf("memory: %ld refusals\n", all);

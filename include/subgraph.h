@@ -1,13 +1,14 @@
 /* Does a pattern graph occur in a target graph? The proved solver `subgraph`, called from C and C++.
  *
  * Graphs are LAD texts in memory (docs/FORMATS.md). A call reads what it is passed, answers by its status, and
- * keeps nothing. It starts no thread. Several threads may call at once, as long as no two share a `map` or a
- * `report`. What is proved stands in docs/LIBRARY.md.
+ * keeps nothing but a target that it opens. It starts no thread. Several threads may call at once, as long as no two
+ * share a `map`, a `report` or a `subgraph_target`. What is proved stands in docs/LIBRARY.md.
  *
  * What the caller owes, and no call can test:
  *   - No pointer is null, not even where its length is 0.
  *   - Each pointer leads to as many items as its length says, and no other thread writes to them during the call.
- *   - `map` and `report` overlap nothing else that is passed.
+ *   - `map`, `report` and a `subgraph_target` overlap nothing else that is passed.
+ *   - A `subgraph_target` is all zeros before the first call on it, and only calls change it.
  *   - No call is made from a signal handler, or in the forked child of a process with threads.
  *   - `malloc`, `realloc` and `free` are those of one allocator, and blocks are aligned as C wants it.
  */
@@ -28,6 +29,7 @@ extern "C" {
 enum {
     SUBGRAPH_YES = 0,          /* decide: an embedding was found, and is in `map`. verify: `map` is an embedding */
     SUBGRAPH_WRITTEN = 0,      /* encode: the text is in `bytes` */
+    SUBGRAPH_OPENED = 0,       /* target_open: the target is open */
     SUBGRAPH_ACCEPTED = 0,     /* check: the log is accepted, with the claim in `cause` */
     SUBGRAPH_NONE = 1,         /* no embedding exists */
     SUBGRAPH_UNKNOWN = 2,      /* the budget was spent before it was decided */
@@ -82,7 +84,8 @@ enum {
     SUBGRAPH_PAIR_OF_ONE = 6,      /* a pair names one vertex twice */
     SUBGRAPH_BAD_BUDGET = 7,       /* `budget` is 2^63 or more */
     SUBGRAPH_BAD_ROWS = 8,         /* `rows` is above 4,194,304 */
-    SUBGRAPH_NO_ROOM = 9           /* `map` or `bytes` has too little room: judged last, after the texts */
+    SUBGRAPH_NO_ROOM = 9,          /* `map` or `bytes` has too little room: judged last, after the texts */
+    SUBGRAPH_BAD_TARGET = 10       /* target_open: the target is open already. decide_in: it is not open. Judged first */
 };
 
 /* What an accepted log claims (check, status 0). */
@@ -148,6 +151,15 @@ typedef struct subgraph_report {
     uint32_t cause; /* why a call is refused; check, status 0: what the log claims */
 } subgraph_report;
 
+/* A target that is read once and asked many times: zeros, or one that is open. It may be moved. Of two copies of an
+ * open one only one may be used. `subgraph_target target = SUBGRAPH_TARGET;` makes one that is not open. */
+typedef struct subgraph_target {
+    void *at;      /* of the library's own */
+    uint8_t there; /* of the library's own */
+} subgraph_target;
+
+#define SUBGRAPH_TARGET {0, 0}
+
 /* Decides whether the pattern has an embedding into the target.
  *
  * At SUBGRAPH_YES, `map[p]` is the image of pattern vertex p, for each p below `report->count`; what stands in
@@ -163,6 +175,33 @@ typedef struct subgraph_report {
 uint32_t subgraph_decide(const uint8_t *pattern, size_t pattern_bytes, const uint8_t *target, size_t target_bytes,
                          const subgraph_options *options, const subgraph_pair *less, size_t pairs, uint32_t *map,
                          size_t room, subgraph_report *report);
+
+/* Opens a target: reads its text, in the format of this number, and keeps what was read until the target is closed.
+ *
+ * It is first asked whether the target is open already: that is SUBGRAPH_BAD_TARGET, and it stays open as it is. Then
+ * the number is judged, and then the text. Unless the status is 0, the target is as before.
+ *
+ * Status: 0, 3, 4 or 6. A fault has the role SUBGRAPH_IN_TARGET. Time: linear in the text, and the square of the number
+ * of vertices in 64ths. Memory: a bit for each two vertices, twice as much in formats with directions, and 4 bytes for
+ * each labelled edge.
+ */
+uint32_t subgraph_target_open(const uint8_t *text, size_t text_bytes, uint32_t format, subgraph_target *target,
+                              subgraph_report *report);
+
+/* Decides whether the pattern has an embedding into a target that is open. It answers as `subgraph_decide` does with
+ * the text that the target was opened with, and the target stays open.
+ *
+ * It is first asked whether the target is open. Then `options->format` is judged: it is to be the target's. Then come
+ * the other numbers, the pattern's text, the vertices of `less` and the room of `map`, as `subgraph_decide` has them.
+ *
+ * Status: 0, 1, 2, 3, 4 or 6. Time and memory: those of `subgraph_decide` without the reading of the target.
+ */
+uint32_t subgraph_decide_in(const uint8_t *pattern, size_t pattern_bytes, subgraph_target *target,
+                            const subgraph_options *options, const subgraph_pair *less, size_t pairs, uint32_t *map,
+                            size_t room, subgraph_report *report);
+
+/* Closes a target, and gives its memory back. Nothing is done to one that is not open. */
+void subgraph_target_close(subgraph_target *target);
 
 /* Tests whether `map`, with the image of each pattern vertex in order, is an embedding of the pattern into the
  * target. A `map` of another length than the pattern is none. It may come from anywhere.
