@@ -4,6 +4,8 @@ from __future__ import annotations
 import ctypes
 import ctypes.util
 import os
+import threading
+import weakref
 from dataclasses import dataclass
 from functools import lru_cache
 from pathlib import Path
@@ -12,6 +14,7 @@ from typing import Any, List, Optional, Sequence, Tuple
 from .asking import GREATEST_BUDGET, Question
 from .errors import LibraryMissing, NotACommand, OutOfMemory, ProgramMissing, SubgraphError, TextRefused, Undecided
 from .maps import MAPS
+from .prepared import Prepared
 from .program import StrPath, find_program
 
 #: The environment variable that names the library. Where it is empty no library is asked.
@@ -67,6 +70,10 @@ class _Report(ctypes.Structure):
     ]
 
 
+class _Target(ctypes.Structure):
+    _fields_ = [("at", ctypes.c_void_p), ("there", ctypes.c_uint8)]
+
+
 @dataclass(frozen=True)
 class Said:
     """What a call says: its status, the images that it wrote, and what its report tells of a fault."""
@@ -103,6 +110,8 @@ class Library:
     path : str
     version : int
         10,000 times the first number of its version, 100 times the second, and the third.
+    keeps : bool
+        Can it keep a target open?
     """
 
     def __init__(self, path: str) -> None:
@@ -119,6 +128,24 @@ class Library:
         self._calls.subgraph_encode.restype = ctypes.c_uint32
         self._calls.subgraph_check.argtypes = [text, size, text, size, report]
         self._calls.subgraph_check.restype = ctypes.c_uint32
+        self.keeps = hasattr(self._calls, "subgraph_target_open")
+        if self.keeps:
+            target = ctypes.POINTER(_Target)
+            self._calls.subgraph_target_open.argtypes = [text, size, ctypes.c_uint32, target, report]
+            self._calls.subgraph_target_open.restype = ctypes.c_uint32
+            self._calls.subgraph_decide_in.argtypes = [text, size, target, *asked[4:]]
+            self._calls.subgraph_decide_in.restype = ctypes.c_uint32
+            self._calls.subgraph_target_close.argtypes = [target]
+            self._calls.subgraph_target_close.restype = None
+
+    def opened(self, text: bytes, format: str) -> Optional["Held"]:
+        """The target of a text, kept open; unless the library cannot keep one or refuses the text."""
+        target = _Target()
+        if not self.keeps:
+            return None
+        if self._calls.subgraph_target_open(text, len(text), FORMATS.index(format), target, _Report()) != YES:
+            return None
+        return Held(self._calls, target)
 
     def decide(self, texts: Texts, options: _Options, less: Pairs, room: int = ROOM) -> Said:
         """Asks for an embedding."""
@@ -153,6 +180,37 @@ class Library:
         pattern, target = texts
         status = call(pattern, len(pattern), target, len(target), options, pairs, len(less), held, room, report)
         return Said(status, list(held[: report.count]), report.role, report.word, report.cause)
+
+
+class Held:
+    """A target that the library keeps open as long as this object is there. One thread asks at a time."""
+
+    def __init__(self, calls: Any, target: _Target) -> None:
+        self._call = calls.subgraph_decide_in
+        self._target = target
+        self._asking = threading.Lock()
+        weakref.finalize(self, calls.subgraph_target_close, target)
+
+    def decide(self, pattern: bytes, options: _Options, less: Pairs, room: int = ROOM) -> Optional[Said]:
+        """Asks for an embedding; unless another thread is asking."""
+        if not self._asking.acquire(blocking=False):
+            return None
+        try:
+            pairs, report, images = _pairs(less), _Report(), (ctypes.c_uint32 * max(room, 1))()
+            status = self._call(pattern, len(pattern), self._target, options, pairs, len(less), images, room, report)
+        finally:
+            self._asking.release()
+        return Said(status, list(images[: report.count]), report.role, report.word, report.cause)
+
+
+def held_by(library: Library, target: Any) -> Optional[Held]:
+    """The target that the library keeps open, where it is one of `prepare`: it is opened at the first question."""
+    if not isinstance(target, Prepared):
+        return None
+    if target.held is None or target.held[0] is not library:
+        target.held = library, library.opened(target.text, target.format)
+    held: Optional[Held] = target.held[1]
+    return held
 
 
 def _pairs(less: Pairs) -> Any:
@@ -225,8 +283,9 @@ def find_by(
     seed: Optional[int],
     budget: Optional[int],
     book: Optional[int],
+    held: Optional[Held] = None,
 ) -> Optional[List[int]]:
-    """The images that the library finds, or ``None`` if no embedding exists.
+    """The images that the library finds, or ``None`` if no embedding exists. The target is read anew, if it is not held.
 
     Raises
     ------
@@ -240,7 +299,10 @@ def find_by(
         raise NotACommand("words: not a command", words)
     part = min(whole, FIRST_BUDGET)
     while True:
-        said = library.decide(question.texts, options_of(question, choice, part, rows), question.less)
+        asked = options_of(question, choice, part, rows)
+        said = held.decide(question.texts[0], asked, question.less) if held is not None else None
+        if said is None:
+            said = library.decide(question.texts, asked, question.less)
         if said.status == YES:
             return said.images
         if said.status == NONE:

@@ -33,6 +33,12 @@ class Prepared(Graph):
         self._edge_numbers: Numbers = None if edges is None else label_numbering([edges.values()])
         self.format = lad_format(graph.directed, self._numbers is not None, self._edge_numbers is not None)
         self.text = lad_text(graph, self._numbers, self._edge_numbers).encode("ascii")
+        #: A library, and the target as it keeps it open; see `library.held_by`.
+        self.held: Optional[Tuple[Any, Any]] = None
+
+    def __getstate__(self) -> Dict[str, Any]:
+        """What a copy in another process gets: all but what a library of this one keeps open."""
+        return {**self.__dict__, "held": None}
 
     def pattern(self, source: Any, labels: Labels) -> Graph:
         """The graph of a pattern. Where no labels are named its labels are those that the target was made with."""
@@ -58,7 +64,7 @@ def _with(numbers: Numbers, labels: Iterable[Hashable]) -> Numbers:
 
 
 def prepare(target: Any, node_label: NodeLabel = None, edge_label: EdgeLabel = None) -> Prepared:
-    """Keeps of a target what many questions need: its graph, and its text, checked once.
+    """Keeps of a target what many questions need: its graph, and its text, checked once. The library keeps it open.
 
     `find`, `verify`, `encode`, `draw` and `batch` take the answer as a target. Patterns get the labels that are named
     here, unless others are named there. Later changes of the target are not seen.

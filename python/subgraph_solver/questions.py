@@ -12,7 +12,7 @@ from .answers import Embedding, Proof
 from .asking import GREATEST_BUDGET, question_of
 from .errors import SubgraphError, Undecided, error_of
 from .graph import EdgeLabel, Name, NodeLabel
-from .library import GoesOn, find_by, find_library, library_for, verify_by
+from .library import GoesOn, find_by, find_library, held_by, library_for, verify_by
 from .maps import Map, Pair
 from .program import Progress, StrPath, Teller, find_program, images_of, options, run
 
@@ -137,7 +137,7 @@ def find(
     library = library_for(program, threads, prove is not False or bool(progress))
     if library is not None:
         try:
-            return question.named(find_by(library, question, seed, budget, book))
+            return question.named(find_by(library, question, seed, budget, book, held_by(library, question.target)))
         except GoesOn:
             pass
     asked = find_program(program)

@@ -16,7 +16,7 @@ from .asking import GREATEST_BUDGET, Question
 from .errors import NotACommand, ProgramMissing, SubgraphError, Undecided, error_of
 from .graph import Graph
 from .jobs import Chunk
-from .library import GoesOn, Library, find_by
+from .library import GoesOn, Held, Library, find_by
 from .program import Watcher, find_program, images_of, options, run
 
 #: A line of the answer of `batch`.
@@ -221,9 +221,12 @@ def said_by(library: Library, chunk: Chunk, how: How) -> List[Said]:
     """What the library says of each question, and the program of those that take long."""
     said: Dict[int, Said] = {}
     long: List[int] = []
+    held: Optional[Held] = None
     for at, number in enumerate(chunk.numbers):
+        question = _question(chunk, at)
+        held = _held(library, chunk, at, question, held)
         try:
-            images = find_by(library, _question(chunk, at), how.seed, how.budget, how.book)
+            images = find_by(library, question, how.seed, how.budget, how.book, held)
             said[at] = None if images is None else tuple(images)
         except GoesOn:
             long.append(at)
@@ -237,6 +240,15 @@ def said_by(library: Library, chunk: Chunk, how: How) -> List[Said]:
             said[at] = Failed(of_job(error, number))
     said.update(zip(long, said_of(chunk.part(long), how)))
     return [said[at] for at in range(len(chunk.jobs))]
+
+
+def _held(library: Library, chunk: Chunk, at: int, question: Question, last: Optional[Held]) -> Optional[Held]:
+    """The target of a question, kept open as long as the questions that follow name it."""
+    target = chunk.jobs[at][1]
+    if at > 0 and chunk.jobs[at - 1][1] == target:
+        return last
+    follows = at + 1 < len(chunk.jobs) and chunk.jobs[at + 1][1] == target
+    return library.opened(question.texts[1], chunk.format) if follows else None
 
 
 def _question(chunk: Chunk, at: int) -> Question:

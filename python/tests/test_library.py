@@ -1,7 +1,9 @@
 """The library beside the program: the same answers to random questions, the same exceptions, and which is asked."""
 from __future__ import annotations
 
+import copy
 import os
+import pickle
 import random
 import threading
 import unittest
@@ -9,7 +11,7 @@ from typing import Any, Dict, List, Tuple
 from unittest import mock
 
 import subgraph_solver as solver
-from subgraph_solver import Graph, find, verify
+from subgraph_solver import Graph, batch, find, prepare, verify
 from subgraph_solver import library as library_module
 from subgraph_solver.asking import question_of
 from subgraph_solver.errors import LibraryMissing
@@ -95,6 +97,56 @@ class SideBySide(unittest.TestCase):
                 self.assertEqual(by_library[0], by_program[0])
                 if by_library[0] == "TextRefused":
                     self.assertEqual(by_library, by_program)
+
+
+@needs_library
+class Kept(unittest.TestCase):
+    """A target of `prepare` that the library keeps open, beside its text."""
+
+    def setUp(self) -> None:
+        self.library = find_library()
+
+    def test_random_questions(self) -> None:
+        for number in range(QUESTIONS // 4):
+            rng = random.Random(number)
+            pattern, target, how = random_question(rng)
+            kept = prepare(target)
+            for budget in (None, 1, None):
+                with self.subTest(number=number, budget=budget):
+                    self.assertEqual(answer(pattern, kept, **how, budget=budget), answer(pattern, target, **how, budget=budget))
+            self.assertTrue(kept.held is None or kept.held[1] is not None)
+
+    def test_copies(self) -> None:
+        kept = prepare(CYCLE)
+        self.assertIsNotNone(find(PATH, kept))
+        for again in (pickle.loads(pickle.dumps(kept)), copy.copy(kept), prepare(kept)):
+            self.assertIsNone(again.held)
+            self.assertEqual(find(PATH, again), find(PATH, kept))
+
+    def test_two_at_once(self) -> None:
+        kept = prepare(GRID)
+        find(PATH, kept)
+        held = kept.held[1] if kept.held else None
+        self.assertIsNotNone(held)
+        with held._asking:
+            self.assertIsNone(held.decide(b"0", options_of(question_of(PATH, kept, (None, None), False, "injective", ())), ()))
+            self.assertIsNotNone(find(PATH, kept))
+
+    def test_library_without(self) -> None:
+        kept = prepare(CYCLE)
+        with mock.patch.object(self.library, "keeps", False):
+            self.assertIsNotNone(find(PATH, kept))
+        self.assertEqual(kept.held, (self.library, None))
+
+    def test_refused(self) -> None:
+        self.assertIsNone(self.library.opened(b"1", "lad"))
+        self.assertIsNotNone(self.library.opened(b"0", "labelledlad"))
+
+    def test_batch(self) -> None:
+        targets = [prepare(it) for it in (CYCLE, GRID)]
+        questions = [(pattern, target) for target in targets for pattern in (PATH, TRIANGLE, RING, PATH)]
+        due = [find(*it) for it in questions]
+        self.assertEqual(list(batch(questions)), due)
 
 
 @needs_library
