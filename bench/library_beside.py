@@ -6,8 +6,8 @@ usage: /usr/bin/python3 bench/library_beside.py LIBRARY [--pairs N] [--times N] 
 LIBRARY is the shared object (build/libsubgraph.so). A pair is one of the NCI's molecules that Debian's rdkit-data has, and a piece of 4 to 10
 atoms of this molecule or of another one, with atomic numbers and kinds of bonds as labels. The calls:
 
-- `subgraph_decide`, from two texts in `labelledlad`, which it reads;
-- `find` of the package with a target of `prepare`, from two graphs of the package, whose pattern it writes;
+- `subgraph_decide`, from two texts in `labelledlad`, which it reads; and `subgraph_decide_in`, of the pattern's text and a target that is open;
+- `find` of the package with a target of `prepare`, which the library keeps open, from two graphs of the package, whose pattern it writes;
 - RDKit's `HasSubstructMatch`, both molecules built before; and RDKit building the target, of its atoms and bonds and from the same text;
 - `subisomorphic_vf2` of igraph, and `subgraph_is_monomorphic` of networkx, both graphs built before.
 
@@ -42,6 +42,13 @@ def by_library(path, pairs):
     options = _Options(0, (1 << 63) - 1, 65536, FORMATS.index(KIND), 0, 0)
     texts = [tuple(text_of(it, KIND).encode("ascii") for it in pair) for pair in pairs]
     return [lambda it=it: library.decide(it, options, ()).status == 0 for it in texts]
+
+
+def by_target(path, pairs):
+    library = Library(path)
+    options = _Options(0, (1 << 63) - 1, 65536, FORMATS.index(KIND), 0, 0)
+    texts = [tuple(text_of(it, KIND).encode("ascii") for it in pair) for pair in pairs]
+    return [lambda p=p, held=library.opened(t, KIND): held.decide(p, options, ()).status == 0 for p, t in texts]
 
 
 def by_package(path, pairs):
@@ -144,6 +151,7 @@ def ways(path, pairs):
     """For each call its name and how it is made; the first that need a library, then those of the peers."""
     if path:
         yield "`subgraph_decide`, from texts", lambda: by_library(path, pairs)
+        yield "`subgraph_decide_in`, of an open target", lambda: by_target(path, pairs)
         yield "`find`, with `prepare(target)`", lambda: by_package(path, pairs)
     yield "RDKit's `HasSubstructMatch`, both built", lambda: by_rdkit(pairs)
     yield "RDKit building the target of its atoms and bonds", lambda: building(pairs)

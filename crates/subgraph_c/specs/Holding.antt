@@ -122,7 +122,8 @@ pub record HasFormat (o : Options) (t : Target) : Type 0 where
   pub kind_is : format_of o.format ≡ t.kind
 
 -- The numbers are in range, the pattern's text is that of the graph, and the pairs are of its vertices.
-pub record Premises (g : Graph) (pairs : List (ℕ × ℕ)) (pattern : List ℕ) (o : Options) (less : List Pair) : Type 0 where
+pub record Premises (g : Graph) (pairs : List (ℕ × ℕ)) (pattern : List ℕ) (o : Options)
+    (less : List Pair) : Type 0 where
   pub question : bad_question o less ≡ None
   pub search : bad_search o ≡ None
   pub in_range : AreInRange o less
@@ -131,7 +132,8 @@ pub record Premises (g : Graph) (pairs : List (ℕ × ℕ)) (pattern : List ℕ)
   pub vertices : HaveVertices g less
 
 -- What is read of a call beside its target: it is good, or the call is refused whatever its target is.
-abbrev pub PremisesSay : Result (Graph × Vec (ℕ × ℕ) Global) Refusal → List ℕ → Options → List Pair → Type 0
+abbrev pub PremisesSay : Result (Graph × Vec (ℕ × ℕ) Global) Refusal → List ℕ → Options
+    → List Pair → Type 0
 PremisesSay (Ok p) pattern o less = Premises p.0 p.1.items pattern o less
 PremisesSay (Err refusal) pattern o less =
     (text : List ℕ) (room : ℕ) → IsRefused (call pattern text o less) room refusal

@@ -1,4 +1,4 @@
--- The machine values of a `Handle`. Assumes `Logic`.
+-- The machine value of a handle: an address, and whether it is there. Assumes `Logic`.
 use Rattle.std.proofs.Common.{◌≡◌, List, [], ◌∷◌, ◌++◌, refl, subst}
 use Rattle.std.specs.Prelude.{Bool}
 use seplogic.Ra.Ura.{Ura}

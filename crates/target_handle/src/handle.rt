@@ -1,4 +1,5 @@
 //! A handle that C holds.
+
 ghost use Rattle.std.specs.Prelude.{◌≡◌, true, false};
 ghost use Rattle.target_handle.specs.declared.open_target.Kept.{Kept};
 
@@ -10,7 +11,7 @@ use std::ptr::null_mut;
 
 /// A place for one target, of which C sees an address and whether a target is there. All zeros are a place with none.
 ///
-/// One that is let go while it has a target gives no memory back: take the target out before.
+/// One that is let go while it has a target gives no memory back: `close` it before.
 #[repr(C)]
 #[derive(Drop)]
 pub struct TargetHandle {

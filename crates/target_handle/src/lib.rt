@@ -1,7 +1,8 @@
-//! A target that was read, kept behind a pointer that C can hold.
+//! A target that was read, kept behind an address that C can hold.
 //!
-//! A handle is two words that C sees and may copy nowhere: an address, and whether a target is there. What stands at the address is a box of
-//! Rattle's own, which goes out of the handle and into it as a whole.
+//! No type of Rattle's that holds a `Vec` may cross to C. So a handle is two words that mean nothing there: an address, and whether a
+//! target is there. What stands at the address is a box, which is put together again for each call and taken apart behind it, without
+//! memory. Proofs by hand, since the borrow checker does not follow addresses, are those of `loose` and `handle` alone.
 #![tactic(auto)]
 
 pub mod handle;

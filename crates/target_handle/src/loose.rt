@@ -1,11 +1,12 @@
-//! A box as its pointer.
+//! A box as its address.
+
 ghost use Rattle.std.specs.Prelude.{◌≡◌};
 ghost use Rattle.std.specs.Box.Ownership.{box_owns};
 
 use std::alloc::Allocator;
 use std::marker::Model;
 
-/// A box as its pointer.
+/// A box that was taken apart: where its value stands, and the allocator that the block goes back to.
 pub struct Loose<T, A: Allocator> {
     pub(crate) at: *mut T,
     pub(crate) alloc: A,
@@ -17,7 +18,7 @@ impl<T, A: Allocator> Model for Loose<T, A> {
 }
 
 impl<T: Drop, A: Allocator> Loose<T, A> {
-    /// Of a box.
+    /// Takes a box apart. It takes no memory.
     pub fn of(value: Box<T, A>) -> Loose<T, A>
         ensures { result.value ≡ value.value }
     {
@@ -25,7 +26,7 @@ impl<T: Drop, A: Allocator> Loose<T, A> {
         Loose { at, alloc }
     }
 
-    /// The box.
+    /// Puts the box together again. It takes no memory.
     pub fn into_box(self) -> Box<T, A>
         ensures { result.value ≡ self.value }
     {

@@ -30,7 +30,7 @@ impl Model for OpenTarget {
 }
 
 impl OpenTarget {
-    /// Of a format and a graph.
+    /// The target of this graph, whose text was in this format. It takes no memory.
     pub fn new(kind: LadKind, graph: Graph) -> OpenTarget
         requires few { size graph ≤ 8192 }
         ensures { result ≡ record {
