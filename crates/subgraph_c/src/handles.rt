@@ -61,8 +61,8 @@ pub extern "C" fn subgraph_decide_in(
     map: &mut [u32],
     report: &mut Report,
 ) -> u32
-    ensures says { HeldStatus result (opened target.old) pattern.now options.now less.now map.old map.new
-        report.new }
+    ensures says { HeldStatus result (opened target.old) pattern.now options.now less.now map.old
+        map.new report.new }
     ensures held { opened target.new ≡ opened target.old }
 {
     text_laws();

@@ -80,7 +80,8 @@ fn has_format(options: &Options, target: &OpenTarget) -> bool
 /// What is read of a call beside its target: the numbers are judged, then the pattern's text is read, and then the
 /// pairs are looked at.
 fn premises(alloc: Global, asked: &Asked) -> Result<(Graph, Vec<(u16, u16)>), Refusal>
-    ensures says { PremisesSay result asked.now.pattern.now asked.now.options.now asked.now.less.now }
+    ensures says { PremisesSay result asked.now.pattern.now asked.now.options.now
+        asked.now.less.now }
     ensures few { IfOk result (λ p. size p.0 ≤ 1024) }
 {
     if let Some(bad) = first_bad(asked.options, asked.less) {
