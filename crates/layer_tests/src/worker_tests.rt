@@ -165,6 +165,8 @@ fn meet(own: &AtomicU64, other: &AtomicU64, late: &AtomicU64) {
 }
 
 impl Gate for Meeting {
+    ghost may_close = { λ _. ⊥ };
+
     fn at(&self, worker: u32, point: Point) {
         if point != Point::Guess {
             return;
@@ -174,6 +176,10 @@ impl Gate for Meeting {
         } else {
             meet(&self.second, &self.first, &self.late);
         }
+    }
+
+    fn is_closed(&self) -> bool {
+        false
     }
 }
 
@@ -220,12 +226,18 @@ fn count(told: &AtomicU64) {
 }
 
 impl Gate for Counting {
+    ghost may_close = { λ _. ⊥ };
+
     fn at(&self, _worker: u32, point: Point) {
         match point {
             Point::Start => count(&self.starts),
             Point::Guess => count(&self.guesses),
             Point::Restart => count(&self.restarts),
         }
+    }
+
+    fn is_closed(&self) -> bool {
+        false
     }
 }
 
