@@ -19,14 +19,14 @@ use Rattle.propagation.specs.Acting.{AreActedOn}
 use Rattle.propagation.proofs.Narrowing.{is_of_narrowed}
 use Rattle.restart_search.specs.declared.position.Moment.{Moment}
 use Rattle.restart_search.specs.declared.outcome.Outcome.{Outcome}
-use Rattle.restart_search.specs.declared.outcome.Outcome.TheVariants.{Found, Refuted, Spent, Stopped, NoMemory}
+use Rattle.restart_search.specs.declared.outcome.Outcome.TheVariants.{Found, Refuted, Spent, Stopped, Interrupted, NoMemory}
 use Rattle.restart_search.specs.Acting.{Acting}
 use Rattle.restart_search.specs.Sharing.{KeepsUp}
 use Rattle.restart_search.specs.declared.outcome.Stage.{Stage}
 use Rattle.restart_search.specs.declared.outcome.Stage.TheVariants.{Fresh, Halfway, Over}
 use Rattle.restart_search.specs.Logging.{IfRefuted, LoggedAt}
 use Rattle.worker_gate.specs.Answers.{NoteView}
-use Rattle.restart_search.specs.Searching.{stage_after, Sound, IsNow, IsAtRoot, NotBegun, Begun, AtStage, TookUp, BeganAgain, Ends, IsTrueFor, IfStopped, IsNotStopped, FoundOf, Leaves, Search, IsPaused}
+use Rattle.restart_search.specs.Searching.{stage_after, Sound, IsNow, IsAtRoot, NotBegun, Begun, AtStage, TookUp, BeganAgain, Ends, IsTrueFor, IfStopped, IfInterrupted, IsNotStopped, FoundOf, Leaves, Search, IsPaused}
 use Rattle.restart_search.proofs.Beginning.{sound_fresh}
 use Rattle.restart_search.proofs.Closing.{sound_restarted, rest_again}
 use Rattle.restart_search.proofs.Moments.{acting_fresh}
@@ -126,6 +126,7 @@ leaves_of (Found m) P p = p
 leaves_of Refuted P p = tt
 leaves_of Spent P p = p
 leaves_of (Stopped n) P p = p
+leaves_of Interrupted P p = p
 leaves_of NoMemory P p = tt
 
 pub leaves_map : (o : Outcome) (P Q : Type 0) → (P → Q) → Leaves o P → Leaves o Q
@@ -133,6 +134,7 @@ leaves_map (Found m) P Q f p = f p
 leaves_map Refuted P Q f p = tt
 leaves_map Spent P Q f p = f p
 leaves_map (Stopped n) P Q f p = f p
+leaves_map Interrupted P Q f p = f p
 leaves_map NoMemory P Q f p = tt
 
 pub found_ends : (o : Outcome) (q : Problem) (a : Account) → FoundOf q o → Ends o q a
@@ -140,6 +142,7 @@ found_ends (Found m) q a h = h
 found_ends Refuted q a h = absurd h
 found_ends Spent q a h = absurd h
 found_ends (Stopped n) q a h = absurd h
+found_ends Interrupted q a h = absurd h
 found_ends NoMemory q a h = tt
 
 pub found_alone : (o : Outcome) (q : Problem) → FoundOf q o → IsNotStopped o
@@ -147,6 +150,7 @@ found_alone (Found m) q h = tt
 found_alone Refuted q h = tt
 found_alone Spent q h = tt
 found_alone (Stopped n) q h = absurd h
+found_alone Interrupted q h = absurd h
 found_alone NoMemory q h = tt
 
 -- an embedding that is found was not stopped at
@@ -155,13 +159,24 @@ found_note (Found m) q P h = tt
 found_note Refuted q P h = tt
 found_note Spent q P h = tt
 found_note (Stopped n) q P h = absurd h
+found_note Interrupted q P h = absurd h
 found_note NoMemory q P h = tt
+
+-- nor interrupted
+pub found_closed : (o : Outcome) (q : Problem) (P : Type 0) → FoundOf q o → IfInterrupted o P
+found_closed (Found m) q P h = tt
+found_closed Refuted q P h = tt
+found_closed Spent q P h = tt
+found_closed (Stopped n) q P h = tt
+found_closed Interrupted q P h = absurd h
+found_closed NoMemory q P h = tt
 
 pub ends_true : (o : Outcome) (q : Problem) (a : Account) → Ends o q a → IsTrueFor q o
 ends_true (Found m) q a h = h
 ends_true Refuted q a h = h
 ends_true Spent q a h = tt
 ends_true (Stopped n) q a h = tt
+ends_true Interrupted q a h = tt
 ends_true NoMemory q a h = tt
 
 -- an embedding that is found refutes nothing
@@ -170,6 +185,7 @@ found_refutes (Found m) q P h = tt
 found_refutes Refuted q P h = absurd h
 found_refutes Spent q P h = absurd h
 found_refutes (Stopped n) q P h = absurd h
+found_refutes Interrupted q P h = absurd h
 found_refutes NoMemory q P h = tt
 
 -- what holds between two runs where it may go on, and after the last one
@@ -178,6 +194,7 @@ logged_after (Found m) A B a b = b
 logged_after Refuted A B a b = b
 logged_after Spent A B a b = b
 logged_after (Stopped n) A B a b = a
+logged_after Interrupted A B a b = a
 logged_after NoMemory A B a b = b
 
 -- before a run

@@ -12,7 +12,7 @@ use Rattle.nogood_book.specs.Places.{StartsWith}
 use Rattle.nogood_book.specs.Facts.{Facts, Grew, HasEnded}
 use Rattle.nogood_book.proofs.Lists.{starts_length}
 use Rattle.restart_search.specs.declared.outcome.Outcome.{Outcome}
-use Rattle.restart_search.specs.declared.outcome.Outcome.TheVariants.{Found, Refuted, Spent, Stopped, NoMemory}
+use Rattle.restart_search.specs.declared.outcome.Outcome.TheVariants.{Found, Refuted, Spent, Stopped, Interrupted, NoMemory}
 use Rattle.restart_search.specs.Searching.{IfMemory}
 use Rattle.restart_search.specs.Sharing.{learned_by, refuted_in, refuted_in_all, LearnsFirst, Learns, HasLearned, GoesWithinRun, RestartsAt, LearnedInRuns, LearnedPart}
 use Rattle.restart_search.proofs.Publishing.{ended_on}
@@ -160,4 +160,5 @@ memory_of (Found m) P Q p f = p
 memory_of Refuted P Q p f = p
 memory_of Spent P Q p f = p
 memory_of (Stopped n) P Q p f = p
+memory_of Interrupted P Q p f = p
 memory_of NoMemory P Q p f = f p

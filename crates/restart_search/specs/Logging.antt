@@ -10,7 +10,7 @@ use Rattle.recorder.specs.Recording.{Change, HasGuess}
 use Rattle.recorder.specs.Telling.{Tells}
 use Rattle.restart_search.specs.declared.position.Moment.{Moment}
 use Rattle.restart_search.specs.declared.outcome.Outcome.{Outcome}
-use Rattle.restart_search.specs.declared.outcome.Outcome.TheVariants.{Found, Refuted, Spent, Stopped, NoMemory}
+use Rattle.restart_search.specs.declared.outcome.Outcome.TheVariants.{Found, Refuted, Spent, Stopped, Interrupted, NoMemory}
 use Rattle.restart_search.specs.declared.outcome.Stage.{Stage}
 use Rattle.restart_search.specs.declared.outcome.Stage.TheVariants.{Fresh, Halfway, Over}
 
@@ -48,6 +48,7 @@ IfRefuted (Found m) P = Unit {0}
 IfRefuted Refuted P = P
 IfRefuted Spent P = Unit {0}
 IfRefuted (Stopped n) P = Unit {0}
+IfRefuted Interrupted P = Unit {0}
 IfRefuted NoMemory P = Unit {0}
 
 -- Between the runs of a worker what was logged before is logged; after the last one the lines step.

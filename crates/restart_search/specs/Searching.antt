@@ -28,7 +28,7 @@ use Rattle.restart_search.specs.declared.root.Rooted.{Rooted}
 use Rattle.restart_search.specs.declared.root.Rooted.TheVariants as rooted
 use Rattle.restart_search.specs.declared.position.Moment.{Moment}
 use Rattle.restart_search.specs.declared.outcome.Outcome.{Outcome}
-use Rattle.restart_search.specs.declared.outcome.Outcome.TheVariants.{Found, Refuted, Spent, Stopped, NoMemory}
+use Rattle.restart_search.specs.declared.outcome.Outcome.TheVariants.{Found, Refuted, Spent, Stopped, Interrupted, NoMemory}
 use Rattle.restart_search.specs.declared.outcome.Stage.{Stage}
 use Rattle.restart_search.specs.declared.outcome.Stage.TheVariants.{Fresh, Halfway, Over}
 
@@ -99,6 +99,7 @@ Ends (Found m) q a = Embeds q m.items
 Ends Refuted q a = HasNone q
 Ends Spent q a = Spends q a.budget a × (a.budget < enough (size q.pattern) (size q.target))
 Ends (Stopped n) q a = Knows q n
+Ends Interrupted q a = Unit {0}
 Ends NoMemory q a = Unit {0}
 
 -- What the outcome decides is true of the problem.
@@ -107,6 +108,7 @@ IsTrueFor q (Found m) = Embeds q m.items
 IsTrueFor q Refuted = HasNone q
 IsTrueFor q Spent = Unit {0}
 IsTrueFor q (Stopped n) = Unit {0}
+IsTrueFor q Interrupted = Unit {0}
 IsTrueFor q NoMemory = Unit {0}
 
 -- The run was not stopped.
@@ -115,6 +117,7 @@ IsNotStopped (Found m) = Unit {0}
 IsNotStopped Refuted = Unit {0}
 IsNotStopped Spent = Unit {0}
 IsNotStopped (Stopped n) = ⊥
+IsNotStopped Interrupted = Unit {0}
 IsNotStopped NoMemory = Unit {0}
 
 -- This is so of the note by which the run was stopped, if it was.
@@ -123,7 +126,17 @@ IfStopped (Found m) P = Unit {0}
 IfStopped Refuted P = Unit {0}
 IfStopped Spent P = Unit {0}
 IfStopped (Stopped n) P = P n
+IfStopped Interrupted P = Unit {0}
 IfStopped NoMemory P = Unit {0}
+
+-- After an interrupted run this holds.
+abbrev pub IfInterrupted : Outcome → Type 0 → Type 0
+IfInterrupted (Found m) P = Unit {0}
+IfInterrupted Refuted P = Unit {0}
+IfInterrupted Spent P = Unit {0}
+IfInterrupted (Stopped n) P = Unit {0}
+IfInterrupted Interrupted P = P
+IfInterrupted NoMemory P = Unit {0}
 
 -- What is left after an outcome, unless nothing can go on from there.
 abbrev pub Leaves : Outcome → Type 0 → Type 0
@@ -131,6 +144,7 @@ Leaves (Found m) P = P
 Leaves Refuted P = Unit {0}
 Leaves Spent P = P
 Leaves (Stopped n) P = P
+Leaves Interrupted P = P
 Leaves NoMemory P = Unit {0}
 
 -- The first holds after an outcome, and the second where memory was refused.
@@ -139,6 +153,7 @@ IfMemory (Found m) P Q = P
 IfMemory Refuted P Q = P
 IfMemory Spent P Q = P
 IfMemory (Stopped n) P Q = P
+IfMemory Interrupted P Q = P
 IfMemory NoMemory P Q = Q
 
 -- The vertex p is undecided.
@@ -172,6 +187,7 @@ FoundOf q (Found m) = Embeds q m.items
 FoundOf q Refuted = ⊥
 FoundOf q Spent = ⊥
 FoundOf q (Stopped n) = ⊥
+FoundOf q Interrupted = ⊥
 FoundOf q NoMemory = Unit {0}
 
 -- ---- the root
@@ -272,12 +288,13 @@ AtStage Fresh q nogoods d s a marks root f = NotBegun q nogoods d s a marks root
 AtStage Halfway q nogoods d s a marks root f = Begun q nogoods d s a marks root f
 AtStage Over q nogoods d s a marks root f = Unit {0}
 
--- After a stop a worker may go on; after every other outcome it may not.
+-- After a stop and an interruption a worker may go on; after every other outcome it may not.
 abbrev pub stage_after : Outcome → Stage
 stage_after (Found m) = Over
 stage_after Refuted = Over
 stage_after Spent = Over
 stage_after (Stopped n) = Halfway
+stage_after Interrupted = Halfway
 stage_after NoMemory = Over
 
 -- A worker that has not ended by refuting or for want of memory: its domains are at rest for its path, no row that it has seen is left to follow from, and it keeps up with its book.

@@ -5,7 +5,7 @@
 //!
 //! It keeps a position (the path of guesses, the domains, an account of its fails) and the nogoods that it has taken up. It
 //! offers `root`, which propagates the first domains, and `Worker`, whose `run` ends with an embedding, a refutation, a spent
-//! budget, another worker's answer, or no memory.
+//! budget, another worker's answer, a closed gate, or no memory.
 //!
 //! The search is that of the Glasgow subgraph solver (McCreesh, Prosser and Trimble 2020), with restarts and biased values of
 //! Archibald et al. (2019). A guess costs a propagation, and to take it back costs what was removed since. A restart costs a

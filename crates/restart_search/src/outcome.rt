@@ -16,6 +16,8 @@ pub enum Outcome<'a> {
     Spent,
     /// The cell holds an answer to the same problem, which the note knows.
     Stopped(Note<'a>),
+    /// The gate was closed where a further guess is due.
+    Interrupted,
     /// Memory was refused.
     NoMemory,
 }
@@ -25,7 +27,7 @@ pub enum Outcome<'a> {
 pub enum Stage {
     /// No run has begun.
     Fresh,
-    /// A run was stopped before a guess, and another may go on from there.
+    /// A run was stopped or interrupted before a guess, and another may go on from there.
     Halfway,
     /// A run has come to an end.
     Over,
@@ -37,6 +39,7 @@ pub(crate) fn stage_of(outcome: &Outcome) -> Stage
 {
     match outcome {
         Outcome::Stopped(_) => Stage::Halfway,
+        Outcome::Interrupted => Stage::Halfway,
         Outcome::Found(_) => Stage::Over,
         Outcome::Refuted => Stage::Over,
         Outcome::Spent => Stage::Over,

@@ -13,7 +13,7 @@ ghost use Rattle.recorder.specs.Holding.{HoldsRows, KeepsSame};
 ghost use Rattle.recorder.specs.Telling.{IsOf};
 ghost use Rattle.restart_search.specs.Logging.{IfRefuted};
 ghost use Rattle.restart_search.specs.Positions.{Acts, GoesOn, IsAtStage, IsSound, LogsAt};
-ghost use Rattle.restart_search.specs.Searching.{Ends, FoundOf, IfMemory, IfStopped, IsNotStopped, Knows, Leaves};
+ghost use Rattle.restart_search.specs.Searching.{Ends, FoundOf, IfInterrupted, IfMemory, IfStopped, IsNotStopped, Knows, Leaves};
 ghost use Rattle.restart_search.specs.Sharing.{GoesWithinRun, IsSeatFor, LearnedInRuns, LearnedPart};
 ghost use Rattle.restart_search.specs.Working.{IsWalkOf};
 
@@ -85,7 +85,7 @@ impl<'a, T: Trail, R: Recorder> Walk<'a, T, R> {
 pub(crate) struct Signals<'r, 'a, G: Gate> {
     /// The cell.
     pub cell: Option<&'r AnswerCell<'a>>,
-    /// The gate, which is told of each guess and each restart.
+    /// The gate, which is told of each guess and each restart, and asked whether it is closed.
     pub gate: &'r G,
 }
 
@@ -210,7 +210,8 @@ fn stop_at<'a>(cell: Option<&AnswerCell<'a>>, asks: &mut bool, q: &Problem) -> O
     None
 }
 
-/// Searches from where the worker stands, until an embedding is found, none is left, the cell shows an answer, or the budget is spent.
+/// Searches from where the worker stands, until an embedding is found, none is left, the cell shows an answer, the budget is spent, or
+/// the gate is closed.
 pub(crate) fn run<'a, T: Trail, B: Book, L: ProofLogger, G: Gate>(
     alloc: Global,
     author: &Author<B>,
@@ -236,6 +237,7 @@ pub(crate) fn run<'a, T: Trail, B: Book, L: ProofLogger, G: Gate>(
     ensures ends { Ends result author.now.problem.now walk.new.position.account }
     ensures alone { signals.now.cell ≡ None → IsNotStopped result }
     ensures cell { IfStopped result (λ n. IfSome signals.now.cell (λ c. n.cell ≡ c.now)) }
+    ensures closed { IfInterrupted result (G.may_close signals.now.gate.now) }
     ensures budget { walk.new.position.account.budget ≡ walk.old.position.account.budget }
     ensures honest { Honest author.now.problem.now walk.new.position.account }
     ensures learned { IfMemory result
@@ -306,6 +308,9 @@ pub(crate) fn run<'a, T: Trail, B: Book, L: ProofLogger, G: Gate>(
         }
         if walk.position.account.spent() {
             return Outcome::Spent;
+        }
+        if signals.gate.is_closed() {
+            return Outcome::Interrupted;
         }
         if walk.position.account.at_cutoff() {
             signals.gate.at(number, Point::Restart);

@@ -12,7 +12,7 @@ ghost use Rattle.propagation.specs.Learning.{unlearned};
 ghost use Rattle.propagation.specs.Propagation.{LeavesPast};
 ghost use Rattle.restart_search.specs.Sharing.{IsSeatFor, LearnedInRuns, LearnedPart};
 ghost use Rattle.restart_search.specs.Logging.{IsTold, IfRefuted};
-ghost use Rattle.restart_search.specs.Searching.{AtRest, Ends, IfMemory, IfStopped, IsNotStopped, IsPaused, IsTrueFor, Leaves, stage_after};
+ghost use Rattle.restart_search.specs.Searching.{AtRest, Ends, IfInterrupted, IfMemory, IfStopped, IsNotStopped, IsPaused, IsTrueFor, Leaves, stage_after};
 
 use crate::outcome::{Outcome, Stage, stage_of};
 use crate::position::{Moment, Position, Propagator, present};
@@ -293,8 +293,9 @@ impl<'a, S: RowSeat + Drop, T: Trail, L: ProofLogger> Worker<'a, S, T, L> {
         self.number
     }
 
-    /// Searches to an outcome, and offers what it decides to the cell; a refused offer changes nothing. After `Stopped` it may run
-    /// again, from the guess that was due. At each restart it publishes all that its position has refuted, in order, and at no other
+    /// Searches to an outcome, and offers what it decides to the cell; a refused offer changes nothing. Before each guess it looks at
+    /// the cell, then at its budget, then at the gate. After `Stopped` and `Interrupted` it may run again, from the guess that was
+    /// due. At each restart it publishes all that its position has refuted, in order, and at no other
     /// moment anything; the rest is lacking only where the seat takes no further row, or memory was refused at the last restart.
     pub fn run<B: Book<Seat = S>, G: Gate>(
         &mut self,
@@ -311,6 +312,7 @@ impl<'a, S: RowSeat + Drop, T: Trail, L: ProofLogger> Worker<'a, S, T, L> {
         ensures ends { Ends result self.new.problem self.new.account }
         ensures alone { cell.entry ≡ None → IsNotStopped result }
         ensures cell { IfStopped result (λ n. IfSome cell.entry (λ c. n.cell ≡ c.now)) }
+        ensures closed { IfInterrupted result (G.may_close gate.now) }
         ensures problem { self.new.problem ≡ self.old.problem }
         ensures number { self.new.number ≡ self.old.number }
         ensures owner { L.owner self.new.log ≡ L.owner self.old.log }
@@ -380,6 +382,7 @@ fn offer<'a>(alloc: Global, q: &'a Problem, cell: Option<&AnswerCell<'a>>, outco
         Outcome::Refuted => give(alloc, cell, Answer::no_embedding(q)),
         Outcome::Spent => (),
         Outcome::Stopped(_) => (),
+        Outcome::Interrupted => (),
         Outcome::NoMemory => (),
     }
 }

@@ -7,7 +7,7 @@ use Rattle.propagation.proofs.Holding.{holds_same}
 use Rattle.restart_search.proofs.Closing.{dead_where_all_refuted, none_where_dead, may_guess, spends_where_due}
 use Rattle.restart_search.proofs.Steps.{none_left, enough_for}
 use Rattle.restart_search.proofs.Runs.{learned_none, learned_on, learned_again, part_again, part_of, within_fail, memory_of}
-use Rattle.restart_search.proofs.BetweenRuns.{goes_on, honest_at, found_ends, found_alone, found_note, found_refutes, leaves_of}
+use Rattle.restart_search.proofs.BetweenRuns.{goes_on, honest_at, found_ends, found_alone, found_note, found_closed, found_refutes, leaves_of}
 use Rattle.nogood_book.specs.declared.row.Row.{Row}
 use Rattle.restart_search.specs.Logging.{IsLogged}
 use Rattle.restart_search.proofs.Logging.{ends_path, logs_true}
@@ -28,6 +28,9 @@ returns-in_default-clause-alone g c = λ none. found_alone c.found.result _ c.fo
 
 pub returns-in_default-clause-cell : goal.returns-in_default-clause-cell
 returns-in_default-clause-cell g c = found_note c.found.result _ _ c.found.ensures
+
+pub returns-in_default-clause-closed : goal.returns-in_default-clause-closed
+returns-in_default-clause-closed g c = found_closed c.found.result _ _ c.found.ensures
 
 pub returns-in_default-clause-begun : goal.returns-in_default-clause-begun
 returns-in_default-clause-begun g c = leaves_of c.found.result _ c.loop-p.invariant.begun
@@ -360,23 +363,50 @@ returns-then-spent-clause-walk g c = record {
   room = c.loop-p.invariant.room;
 }
 
+pub returns-then-is_closed-clause-walk : goal.returns-then-is_closed-clause-walk
+returns-then-is_closed-clause-walk g c = record {
+  problem = c.loop-p.invariant.problem;
+  long = c.loop-p.invariant.long;
+  words = kept_words _ _ c.loop-p.walk.untried.len _ _ _ c.fill_untried.ensures.long c.loop-p.invariant.begun.sound.based.is_of.values_is c.loop-p.invariant.words c.loop-p.walk.untried.ok.0;
+  degrees = c.loop-p.invariant.choice;
+  room = c.loop-p.invariant.room;
+}
+
 pub returns-then-spent-clause-budget : goal.returns-then-spent-clause-budget
 returns-then-spent-clause-budget g c = c.loop-p.invariant.budget
+
+pub returns-then-is_closed-clause-budget : goal.returns-then-is_closed-clause-budget
+returns-then-is_closed-clause-budget g c = c.loop-p.invariant.budget
 
 pub returns-then-spent-clause-owner : goal.returns-then-spent-clause-owner
 returns-then-spent-clause-owner g c = c.loop-p.invariant.owner ∙ sym c.requires.owner
 
+pub returns-then-is_closed-clause-owner : goal.returns-then-is_closed-clause-owner
+returns-then-is_closed-clause-owner g c = c.loop-p.invariant.owner ∙ sym c.requires.owner
+
 pub returns-then-spent-clause-steps : goal.returns-then-spent-clause-steps
 returns-then-spent-clause-steps g c = c.stays.ensures.steps _ _ _ c.loop-p.invariant.logged.writes
+
+pub returns-then-is_closed-clause-steps : goal.returns-then-is_closed-clause-steps
+returns-then-is_closed-clause-steps g c = c.stays.ensures.steps _ _ _ c.loop-p.invariant.logged.writes
 
 pub returns-then-spent-clause-learned : goal.returns-then-spent-clause-learned
 returns-then-spent-clause-learned g c = c.loop-p.invariant.learned
 
+pub returns-then-is_closed-clause-learned : goal.returns-then-is_closed-clause-learned
+returns-then-is_closed-clause-learned g c = c.loop-p.invariant.learned
+
 pub returns-then-spent-clause-logged : goal.returns-then-spent-clause-logged
 returns-then-spent-clause-logged g c = c.loop-p.invariant.logged
 
+pub returns-then-is_closed-clause-logged : goal.returns-then-is_closed-clause-logged
+returns-then-is_closed-clause-logged g c = c.loop-p.invariant.logged
+
 pub returns-then-spent-clause-begun : goal.returns-then-spent-clause-begun
 returns-then-spent-clause-begun g c = c.loop-p.invariant.begun
+
+pub returns-then-is_closed-clause-begun : goal.returns-then-is_closed-clause-begun
+returns-then-is_closed-clause-begun g c = c.loop-p.invariant.begun
 
 pub returns-in-Ok-false-begin_again-clause-walk : goal.returns-in-Ok-false-begin_again-clause-walk
 returns-in-Ok-false-begin_again-clause-walk g c = record {
@@ -464,6 +494,9 @@ returns-in-Some-stop_at-clause-honest g c = c.loop-p.invariant.begun.sound.based
 
 pub returns-then-spent-clause-honest : goal.returns-then-spent-clause-honest
 returns-then-spent-clause-honest g c = c.loop-p.invariant.begun.sound.based.honest
+
+pub returns-then-is_closed-clause-honest : goal.returns-then-is_closed-clause-honest
+returns-then-is_closed-clause-honest g c = c.loop-p.invariant.begun.sound.based.honest
 
 pub returns-in-Ok-false-begin_again-clause-honest : goal.returns-in-Ok-false-begin_again-clause-honest
 returns-in-Ok-false-begin_again-clause-honest g c = c.begin_again.ensures.honest
