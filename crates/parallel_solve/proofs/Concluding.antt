@@ -11,12 +11,11 @@ use Rattle.std.proofs.lemmas.List.Quantifiers.{Any-push}
 use Rattle.std.proofs.lemmas.Option.{none-some, same_Some, slice_get_cases}
 use Rattle.std.proofs.Math.Seq.{take-append_seam}
 use Rattle.restart_search.specs.declared.outcome.Outcome.{Outcome}
-use Rattle.restart_search.specs.declared.outcome.Outcome.TheVariants.{Found, Refuted, Spent, Stopped, NoMemory}
-use Rattle.restart_search.specs.Searching.{IsNotStopped}
+use Rattle.restart_search.specs.declared.outcome.Outcome.TheVariants.{Found, Refuted, Spent, Stopped, Interrupted, NoMemory}
 use Rattle.parallel_solve.specs.declared.answers.Solved.{Solved}
 use Rattle.parallel_solve.specs.declared.answers.Solved.TheVariants as solved
 use Rattle.parallel_solve.specs.declared.tally.Tally.{Tally}
-use Rattle.parallel_solve.specs.Teaming.{AreSettled, Decides, map_by, refuted_by, spent_by}
+use Rattle.parallel_solve.specs.Teaming.{Decides, HasEnded, HaveEnded, map_by, refuted_by, spent_by}
 use Rattle.parallel_solve.specs.Concluding.{IsFound, IsRefuted, IsRefusedMemory, IsUnspent, NoneFound, NoneRefuted, IsFirst, IsFirstOrNone, HasHeard, IsConclusion, IsToldBy}
 use Rattle.parallel_solve.proofs.Runs.{before_last, at_last}
 
@@ -35,6 +34,7 @@ found_push f xs x old new (Found m) is same before none = absurd (none-some m (s
 found_push f xs x old new Refuted is same before none = not_found f xs x Refuted is (λ z. z) (before (sym same ∙ none))
 found_push f xs x old new Spent is same before none = not_found f xs x Spent is (λ z. z) (before (sym same ∙ none))
 found_push f xs x old new (Stopped n) is same before none = not_found f xs x (Stopped n) is (λ z. z) (before (sym same ∙ none))
+found_push f xs x old new Interrupted is same before none = not_found f xs x Interrupted is (λ z. z) (before (sym same ∙ none))
 found_push f xs x old new NoMemory is same before none = not_found f xs x NoMemory is (λ z. z) (before (sym same ∙ none))
 
 -- a refutation: the first one stays the first
@@ -62,11 +62,13 @@ refuter_of f xs x None number (Found m) is last h = not_refuted f xs x (Found m)
 refuter_of f xs x None number Refuted is last h = first_here f xs x number is last h
 refuter_of f xs x None number Spent is last h = not_refuted f xs x Spent is (λ z. z) h
 refuter_of f xs x None number (Stopped n) is last h = not_refuted f xs x (Stopped n) is (λ z. z) h
+refuter_of f xs x None number Interrupted is last h = not_refuted f xs x Interrupted is (λ z. z) h
 refuter_of f xs x None number NoMemory is last h = not_refuted f xs x NoMemory is (λ z. z) h
 refuter_of f xs x (Some k) number (Found m) is last h = first_kept f xs x k h
 refuter_of f xs x (Some k) number Refuted is last h = first_kept f xs x k h
 refuter_of f xs x (Some k) number Spent is last h = first_kept f xs x k h
 refuter_of f xs x (Some k) number (Stopped n) is last h = first_kept f xs x k h
+refuter_of f xs x (Some k) number Interrupted is last h = first_kept f xs x k h
 refuter_of f xs x (Some k) number NoMemory is last h = first_kept f xs x k h
 
 -- one that was not spent
@@ -84,6 +86,7 @@ unspent_push f xs x old new (Found m) is same before none = unspent_here f xs x 
 unspent_push f xs x old new Refuted is same before none = unspent_here f xs x Refuted is tt
 unspent_push f xs x old new Spent is same before none = any_left (λ y. IsUnspent (f y)) xs x (before (sym same ∙ none))
 unspent_push f xs x old new (Stopped n) is same before none = unspent_here f xs x (Stopped n) is tt
+unspent_push f xs x old new Interrupted is same before none = unspent_here f xs x Interrupted is tt
 unspent_push f xs x old new NoMemory is same before none = unspent_here f xs x NoMemory is tt
 
 pub heard_push : {X : Type 0} (f : X → Outcome) (xs : List X) (x : X) (old new : Tally) (number : ℕ) → number ≡ length xs + 1 → HasHeard f xs old → new.map ≡ map_by old.map (f x)
@@ -109,18 +112,20 @@ decides_neither (Found m) found refuted d = found tt
 decides_neither Refuted found refuted d = refuted tt
 decides_neither Spent found refuted d = d
 decides_neither (Stopped n) found refuted d = d
+decides_neither Interrupted found refuted d = d
 decides_neither NoMemory found refuted d = d
 
-memory_left : (o : Outcome) → (IsFound o → ⊥) → (IsRefuted o → ⊥) → IsNotStopped o → IsUnspent o → IsRefusedMemory o
-memory_left (Found m) found refuted stopped unspent = absurd (found tt)
-memory_left Refuted found refuted stopped unspent = absurd (refuted tt)
-memory_left Spent found refuted stopped unspent = absurd unspent
-memory_left (Stopped n) found refuted stopped unspent = absurd stopped
-memory_left NoMemory found refuted stopped unspent = tt
+memory_left : (o : Outcome) → (IsFound o → ⊥) → (IsRefuted o → ⊥) → HasEnded o → IsUnspent o → IsRefusedMemory o
+memory_left (Found m) found refuted ended unspent = absurd (found tt)
+memory_left Refuted found refuted ended unspent = absurd (refuted tt)
+memory_left Spent found refuted ended unspent = absurd unspent
+memory_left (Stopped n) found refuted ended unspent = absurd ended
+memory_left Interrupted found refuted ended unspent = absurd ended
+memory_left NoMemory found refuted ended unspent = tt
 
--- where none decides and none was stopped, one that was not spent was refused memory
-memory_there : {X : Type 0} (f : X → Outcome) (xs : List X) → NoneFound f xs → NoneRefuted f xs → AreSettled f xs → Any (λ x. IsUnspent (f x)) xs → Any (λ x. IsRefusedMemory (f x)) xs
-memory_there {X} f xs found refuted settled (k, x, lt, is, one) = (k, x, lt, is, memory_left (f x) (neither_found k x lt is) (neither_refuted k x lt is) (not_stopped settled) one)
+-- where none decides and all have come to their ends, one that was not spent was refused memory
+memory_there : {X : Type 0} (f : X → Outcome) (xs : List X) → NoneFound f xs → NoneRefuted f xs → HaveEnded f xs → Any (λ x. IsUnspent (f x)) xs → Any (λ x. IsRefusedMemory (f x)) xs
+memory_there {X} f xs found refuted ended (k, x, lt, is, one) = (k, x, lt, is, memory_left (f x) (neither_found k x lt is) (neither_refuted k x lt is) (has_ended ended) one)
   where
     neither_found : (i : ℕ) (y : X) → i < length xs → get_or xs i y ≡ y → IsFound (f y) → ⊥
     neither_found i y inside same = subst (λ (z : X). IsFound (f z) → ⊥) same (found i y inside)
@@ -128,18 +133,18 @@ memory_there {X} f xs found refuted settled (k, x, lt, is, one) = (k, x, lt, is,
     neither_refuted : (i : ℕ) (y : X) → i < length xs → get_or xs i y ≡ y → IsRefuted (f y) → ⊥
     neither_refuted i y inside same = subst (λ (z : X). IsRefuted (f z) → ⊥) same (refuted i y inside)
 
-    not_stopped : AreSettled f xs → IsNotStopped (f x)
-    not_stopped (inl (i, y, inside, same, d)) = absurd (decides_neither (f y) (neither_found i y inside same) (neither_refuted i y inside same) d)
-    not_stopped (inr all) = subst (λ (z : X). IsNotStopped (f z)) is (all k x lt)
+    has_ended : HaveEnded f xs → HasEnded (f x)
+    has_ended (inl (i, y, inside, same, d)) = absurd (decides_neither (f y) (neither_found i y inside same) (neither_refuted i y inside same) d)
+    has_ended (inr all) = subst (λ (z : X). HasEnded (f z)) is (all k x lt)
 
-pub concluded : {X : Type 0} (f : X → Outcome) (xs : List X) (t : Tally) (s : Solved) → HasHeard f xs t → AreSettled f xs → IsToldBy t s → IsConclusion f xs s
-concluded f xs t (solved.Yes m) h settled told = tt
-concluded f xs t (solved.NoEmbedding proof) h settled told = (h.found told.0, (told.1.0, subst (IsFirstOrNone f xs) told.1.1 h.refuter, told.1.2))
-concluded f xs t (solved.Unknown accounts) h settled told = (h.found told.0, subst (IsFirstOrNone f xs) told.1 h.refuter)
-concluded f xs t solved.NoMemory h settled told = (h.found told.0, by told.1)
+pub concluded : {X : Type 0} (f : X → Outcome) (xs : List X) (t : Tally) (s : Solved) → HasHeard f xs t → HaveEnded f xs → IsToldBy t s → IsConclusion f xs s
+concluded f xs t (solved.Yes m) h ended told = tt
+concluded f xs t (solved.NoEmbedding proof) h ended told = (h.found told.0, (told.1.0, subst (IsFirstOrNone f xs) told.1.1 h.refuter, told.1.2))
+concluded f xs t (solved.Unknown accounts) h ended told = (h.found told.0, subst (IsFirstOrNone f xs) told.1 h.refuter)
+concluded f xs t solved.NoMemory h ended told = (h.found told.0, by told.1)
   where
     by : ((number : ℕ) × (t.refuted ≡ Some number)) ⊎ ((t.refuted ≡ None) × (t.spent ≡ false)) → Any (λ x. IsRefuted (f x)) xs ⊎ (NoneRefuted f xs × Any (λ x. IsRefusedMemory (f x)) xs)
     by (inl r) = inl (refuter_there f xs r.0 (subst (IsFirstOrNone f xs) r.1 h.refuter))
     by (inr u) =
         let none = subst (IsFirstOrNone f xs) u.0 h.refuter in
-        inr (none, memory_there f xs (h.found told.0) none settled (h.unspent u.1))
+        inr (none, memory_there f xs (h.found told.0) none ended (h.unspent u.1))

@@ -6,7 +6,7 @@ use Rattle.graph_theory.specs.Embedding.{Problem}
 use Rattle.nogood_book.specs.declared.row.Row.{Row}
 use Rattle.proof_logger.specs.Logging.{EndsInOwn, GrowsBeside}
 use Rattle.restart_search.specs.declared.outcome.Outcome.{Outcome}
-use Rattle.restart_search.specs.declared.outcome.Outcome.TheVariants.{Found, Refuted, Spent, Stopped, NoMemory}
+use Rattle.restart_search.specs.declared.outcome.Outcome.TheVariants.{Found, Refuted, Spent, Stopped, Interrupted, NoMemory}
 use Rattle.restart_search.specs.Logging.{IfRefuted}
 use Rattle.parallel_solve.specs.Teaming.{IsRefuter, refuted_by, StaysBeside, StaysWithoutOwn}
 use Rattle.parallel_solve.proofs.Runs.{unmapped, refuter_kept, refuter_last, refuter_made}
@@ -18,11 +18,13 @@ refuter_heard P xs x None number (Found m) last p old = tt
 refuter_heard P xs x None number Refuted last p old = refuter_last P xs x number last p
 refuter_heard P xs x None number Spent last p old = tt
 refuter_heard P xs x None number (Stopped n) last p old = tt
+refuter_heard P xs x None number Interrupted last p old = tt
 refuter_heard P xs x None number NoMemory last p old = tt
 refuter_heard P xs x (Some f) number (Found m) last p old = refuter_kept P xs x f old
 refuter_heard P xs x (Some f) number Refuted last p old = refuter_kept P xs x f old
 refuter_heard P xs x (Some f) number Spent last p old = refuter_kept P xs x f old
 refuter_heard P xs x (Some f) number (Stopped n) last p old = refuter_kept P xs x f old
+refuter_heard P xs x (Some f) number Interrupted last p old = refuter_kept P xs x f old
 refuter_heard P xs x (Some f) number NoMemory last p old = refuter_kept P xs x f old
 
 -- where a seat keeps no row for itself its rows are the book's

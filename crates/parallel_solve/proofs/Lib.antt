@@ -5,3 +5,4 @@ mod Runs
 mod Told
 mod Growth
 mod Concluding
+mod Interrupting

@@ -15,6 +15,7 @@ IsFound (outcome.Found m) = Unit {0}
 IsFound outcome.Refuted = ⊥
 IsFound outcome.Spent = ⊥
 IsFound (outcome.Stopped n) = ⊥
+IsFound outcome.Interrupted = ⊥
 IsFound outcome.NoMemory = ⊥
 
 -- It is a refutation.
@@ -23,6 +24,7 @@ IsRefuted (outcome.Found m) = ⊥
 IsRefuted outcome.Refuted = Unit {0}
 IsRefuted outcome.Spent = ⊥
 IsRefuted (outcome.Stopped n) = ⊥
+IsRefuted outcome.Interrupted = ⊥
 IsRefuted outcome.NoMemory = ⊥
 
 -- It is that memory was refused.
@@ -31,6 +33,7 @@ IsRefusedMemory (outcome.Found m) = ⊥
 IsRefusedMemory outcome.Refuted = ⊥
 IsRefusedMemory outcome.Spent = ⊥
 IsRefusedMemory (outcome.Stopped n) = ⊥
+IsRefusedMemory outcome.Interrupted = ⊥
 IsRefusedMemory outcome.NoMemory = Unit {0}
 
 -- It is not that the budget was spent.
@@ -39,6 +42,7 @@ IsUnspent (outcome.Found m) = Unit {0}
 IsUnspent outcome.Refuted = Unit {0}
 IsUnspent outcome.Spent = ⊥
 IsUnspent (outcome.Stopped n) = Unit {0}
+IsUnspent outcome.Interrupted = Unit {0}
 IsUnspent outcome.NoMemory = Unit {0}
 
 module _ {X : Type 0} (outcome_of : X → Outcome) where

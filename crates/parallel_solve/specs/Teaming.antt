@@ -11,10 +11,10 @@ use Rattle.nogood_book.specs.declared.row.Row.{Row}
 use Rattle.nogood_book.specs.Seats.{BookName, SeatName, IsSeatOf, facts_of}
 use Rattle.proof_logger.specs.Logging.{EndsInOwn, GrowsBeside}
 use Rattle.restart_search.specs.declared.outcome.Outcome.{Outcome}
-use Rattle.restart_search.specs.declared.outcome.Outcome.TheVariants.{Found, Refuted, Spent, Stopped, NoMemory}
+use Rattle.restart_search.specs.declared.outcome.Outcome.TheVariants.{Found, Refuted, Spent, Stopped, Interrupted, NoMemory}
 use Rattle.restart_search.specs.declared.outcome.Stage.TheVariants.{Over}
 use Rattle.parallel_solve.specs.declared.tally.Tally.{Tally}
-use Rattle.restart_search.specs.Searching.{Search, Ends, IsNotStopped, stage_after}
+use Rattle.restart_search.specs.Searching.{Search, Ends, IfInterrupted, IsNotStopped, stage_after}
 use Rattle.restart_search.specs.Sharing.{IsSeatFor}
 use Rattle.restart_search.specs.Logging.{IfRefuted}
 use Rattle.proof_collection.specs.Making.{IsFinisher}
@@ -49,6 +49,13 @@ pub record HasRun {K : Type 0} (owner : K → ℕ) (steps refutes : K → Proble
   pub steps_of : steps w.log q w.facts.seen
   pub refutes_of : IfRefuted o (refutes w.log q w.facts.seen)
 
+-- It has run so at a gate, by which it was interrupted only where the gate may close.
+pub record HasRunAt {K : Type 0} (owner : K → ℕ) (steps refutes : K → Problem → List Row
+    → Type 0) (MayClose : Type 0) (b : BookName) (q : Problem) (budget : ℕ) (w : Search SeatName K)
+    (o : Outcome) : Type 0 where
+  pub run : HasRun owner steps refutes b q budget w o
+  pub closed : IfInterrupted o MayClose
+
 -- The budget was spent where a guess was due, and it is less than enough.
 pub record IsSpent (q : Problem) (budget : ℕ) (a : Account) : Type 0 where
   pub spends : Spends q budget a
@@ -68,12 +75,36 @@ Decides (Found m) = Unit {0}
 Decides Refuted = Unit {0}
 Decides Spent = ⊥
 Decides (Stopped n) = ⊥
+Decides Interrupted = ⊥
 Decides NoMemory = ⊥
 
 -- One of these decides the problem, or none of them was stopped.
 abbrev pub AreSettled : {X : Type 0} → (X → Outcome) → List X → Type 0
 AreSettled outcome xs = Any (λ x. Decides (outcome x)) xs
     ⊎ All (λ x. IsNotStopped (outcome x)) xs
+
+-- The run has come to its end: it was neither stopped nor interrupted.
+abbrev pub HasEnded : Outcome → Type 0
+HasEnded (Found m) = Unit {0}
+HasEnded Refuted = Unit {0}
+HasEnded Spent = Unit {0}
+HasEnded (Stopped n) = ⊥
+HasEnded Interrupted = ⊥
+HasEnded NoMemory = Unit {0}
+
+-- One of these decides the problem, or all of them have come to their ends.
+abbrev pub HaveEnded : {X : Type 0} → (X → Outcome) → List X → Type 0
+HaveEnded outcome xs = Any (λ x. Decides (outcome x)) xs
+    ⊎ All (λ x. HasEnded (outcome x)) xs
+
+-- The run was interrupted.
+abbrev pub IsInterrupted : Outcome → Type 0
+IsInterrupted (Found m) = ⊥
+IsInterrupted Refuted = ⊥
+IsInterrupted Spent = ⊥
+IsInterrupted (Stopped n) = ⊥
+IsInterrupted Interrupted = Unit {0}
+IsInterrupted NoMemory = ⊥
 
 -- ---- who refuted
 
@@ -83,6 +114,7 @@ map_by map (Found m) = Some m
 map_by map Refuted = map
 map_by map Spent = map
 map_by map (Stopped n) = map
+map_by map Interrupted = map
 map_by map NoMemory = map
 
 abbrev pub spent_by : Bool → Outcome → Bool
@@ -90,6 +122,7 @@ spent_by spent (Found m) = false
 spent_by spent Refuted = false
 spent_by spent Spent = spent
 spent_by spent (Stopped n) = false
+spent_by spent Interrupted = false
 spent_by spent NoMemory = false
 
 -- The first that refuted, after one more of this number.
@@ -98,6 +131,7 @@ refuted_by refuted number (Found m) = refuted
 refuted_by refuted number Refuted = Some (unwrap_or refuted number)
 refuted_by refuted number Spent = refuted
 refuted_by refuted number (Stopped n) = refuted
+refuted_by refuted number Interrupted = refuted
 refuted_by refuted number NoMemory = refuted
 
 -- The number is that of one of these, and this one refutes.

@@ -30,3 +30,7 @@ pub enum Solved {
     /// Memory was refused.
     NoMemory,
 }
+
+/// The gate was closed before the workers decided the problem or spent their budgets.
+#[derive(Clone, Copy, PartialEq, Eq, Debug)]
+pub struct Interrupted;

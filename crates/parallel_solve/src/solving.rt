@@ -10,8 +10,8 @@ ghost use Rattle.proof_collection.specs.Proofs.{IsProven};
 ghost use Rattle.parallel_solve.specs.Solving.{IsShortOf, IsSolved, IsWithinBounds};
 ghost use Rattle.parallel_solve.specs.Teams.{IsTeam};
 
-use crate::answers::{Settings, Solved};
-use crate::running::{run_beside, run_in_turn};
+use crate::answers::{Interrupted, Settings, Solved};
+use crate::running::{Unheard, run_beside, run_in_turn};
 use crate::tally::conclude;
 use crate::team::{Root, Team, make_team};
 use dead_paths::Ground;
@@ -64,12 +64,12 @@ pub fn solve<R: Threads + Sync>(rt: &R, alloc: Global, q: &Problem, s: &Settings
     ensures { IsSolved result q.now s.now.threads s.now.budget s.now.prove }
 {
     if let Some(short) = short_of(q, s) {
-        match solve_with(rt, alloc, q, &short, &OpenGate) {
+        match solve_open(rt, alloc, q, &short) {
             Solved::Unknown(_) => (),
             decided => return decided,
         }
     }
-    solve_with(rt, alloc, q, s, &OpenGate)
+    solve_open(rt, alloc, q, s)
 }
 
 /// Decides a problem as `solve` does by one worker without a log. It needs no leave to make threads.
@@ -77,6 +77,28 @@ pub fn solve_alone(alloc: Global, q: &Problem, seed: u64, budget: u64, rows: u32
     requires budget { budget < 2 ^ 63 }
     requires rows { rows ≤ 4194304 }
     ensures { IsSolved result q.now 1 budget false }
+{
+    match solve_alone_with(alloc, q, seed, budget, rows, &OpenGate) {
+        Ok(solved) => solved,
+        Err(_) => unreachable!(),
+    }
+}
+
+/// The same at a gate, to which the worker comes at its start, before each guess and at each restart. An error where the gate
+/// was closed before a guess, and then nothing is decided. All that precedes the first guess, as the root's propagation, is done also at a
+/// closed gate.
+pub fn solve_alone_with<G: Gate>(
+    alloc: Global,
+    q: &Problem,
+    seed: u64,
+    budget: u64,
+    rows: u32,
+    gate: &G,
+) -> Result<Solved, Interrupted>
+    requires budget { budget < 2 ^ 63 }
+    requires rows { rows ≤ 4194304 }
+    ensures solved { IfOk result (λ solved. IsSolved solved q.now 1 budget false) }
+    ensures closed { IfErr result (λ _. G.may_close gate.now) }
 {
     let s = Settings {
         threads: 1,
@@ -86,24 +108,27 @@ pub fn solve_alone(alloc: Global, q: &Problem, seed: u64, budget: u64, rows: u32
         prove: false,
     };
     if let Some(short) = short_of(q, &s) {
-        match search_alone(alloc, q, &short) {
-            Solved::Unknown(_) => (),
-            decided => return decided,
+        match search_alone(alloc, q, &short, gate) {
+            Ok(Solved::Unknown(_)) => (),
+            ended => return ended,
         }
     }
-    search_alone(alloc, q, &s)
+    search_alone(alloc, q, &s, gate)
 }
 
-/// The same, where each worker comes to the gate at its start, before each guess and at each restart.
+/// Decides a problem as `solve` does, but without a short search before; each worker comes to the gate at its start, before each guess and
+/// at each restart. An error where the gate was closed before a guess of one worker, and none has decided the problem.
 pub fn solve_with<R: Threads + Sync, G: Gate + Sync>(
     rt: &R,
     alloc: Global,
     q: &Problem,
     s: &Settings,
     gate: &G,
-) -> Solved
+) -> Result<Solved, Interrupted>
     requires bounds { IsWithinBounds s.now }
-    ensures { IsSolved result q.now s.now.threads s.now.budget s.now.prove }
+    ensures solved { IfOk result
+        (λ solved. IsSolved solved q.now s.now.threads s.now.budget s.now.prove) }
+    ensures closed { IfErr result (λ _. G.may_close gate.now) }
 {
     if s.prove {
         return solve_with_proof(rt, alloc, q, s, gate);
@@ -112,19 +137,32 @@ pub fn solve_with<R: Threads + Sync, G: Gate + Sync>(
     search_beside::<R, G, Unlogged, KeepsNothing>(rt, alloc, q, s, gate, &maker, Silent)
 }
 
-/// The same, with a proof where no embedding exists.
+/// The same at the open gate.
+fn solve_open<R: Threads + Sync>(rt: &R, alloc: Global, q: &Problem, s: &Settings) -> Solved
+    requires bounds { IsWithinBounds s.now }
+    ensures { IsSolved result q.now s.now.threads s.now.budget s.now.prove }
+{
+    match solve_with(rt, alloc, q, s, &OpenGate) {
+        Ok(solved) => solved,
+        Err(_) => unreachable!(),
+    }
+}
+
+/// Decides a problem as `solve_with` does, with a proof where no embedding exists.
 fn solve_with_proof<R: Threads + Sync, G: Gate + Sync>(
     rt: &R,
     alloc: Global,
     q: &Problem,
     s: &Settings,
     gate: &G,
-) -> Solved
+) -> Result<Solved, Interrupted>
     requires bounds { IsWithinBounds s.now }
-    ensures { IsSolved result q.now s.now.threads s.now.budget true }
+    ensures solved { IfOk result
+        (λ solved. IsSolved solved q.now s.now.threads s.now.budget true) }
+    ensures closed { IfErr result (λ _. G.may_close gate.now) }
 {
     let Ok(lines) = Encoding::new(alloc, q) else {
-        return Solved::NoMemory;
+        return Ok(Solved::NoMemory);
     };
     let ground = Ground::new(alloc, &lines);
     let maker = KeepsLines::new(q, &ground);
@@ -142,17 +180,19 @@ fn search_beside<R: Threads + Sync, G: Gate + Sync, L: ProofLogger + Send, M: Pr
     gate: &G,
     maker: &M,
     told: L::Told,
-) -> Solved
+) -> Result<Solved, Interrupted>
 where
     L::Told: Send,
     requires maker { M.problem maker.now ≡ q.now }
     requires told { Tells q.now None (full (size q.now.pattern) (size q.now.target))
         (L.Told.changes told) }
     requires bounds { IsWithinBounds s.now }
-    ensures { IsSolved result q.now s.now.threads s.now.budget (M.logged maker.now) }
+    ensures solved { IfOk result
+        (λ solved. IsSolved solved q.now s.now.threads s.now.budget (M.logged maker.now)) }
+    ensures closed { IfErr result (λ _. G.may_close gate.now) }
 {
     let Ok(kinds) = PairKinds::new(alloc, q) else {
-        return Solved::NoMemory;
+        return Ok(Solved::NoMemory);
     };
     let root = Root {
         alloc,
@@ -163,20 +203,26 @@ where
     };
     match team_of(&root, told) {
         Ok(team) => decide_beside(rt, &root, team, gate),
-        Err(answer) => answer,
+        Err(answer) => Ok(answer),
     }
 }
 
 /// Has one worker search, without a log.
-fn search_alone(alloc: Global, q: &Problem, s: &Settings) -> Solved
+fn search_alone<G: Gate>(
+    alloc: Global,
+    q: &Problem,
+    s: &Settings,
+    gate: &G,
+) -> Result<Solved, Interrupted>
     requires one { s.now.threads ≡ 1 }
     requires unlogged { s.now.prove ≡ false }
     requires bounds { IsWithinBounds s.now }
-    ensures { IsSolved result q.now 1 s.now.budget false }
+    ensures solved { IfOk result (λ solved. IsSolved solved q.now 1 s.now.budget false) }
+    ensures closed { IfErr result (λ _. G.may_close gate.now) }
 {
     let maker = KeepsNothing::new(q);
     let Ok(kinds) = PairKinds::new(alloc, q) else {
-        return Solved::NoMemory;
+        return Ok(Solved::NoMemory);
     };
     let root = Root {
         alloc,
@@ -186,8 +232,8 @@ fn search_alone(alloc: Global, q: &Problem, s: &Settings) -> Solved
         settings: s,
     };
     match team_of::<Unlogged, KeepsNothing>(&root, Silent) {
-        Ok(team) => decide_in_turn(&root, team),
-        Err(answer) => answer,
+        Ok(team) => decide_in_turn(&root, team, gate),
+        Err(answer) => Ok(answer),
     }
 }
 
@@ -254,21 +300,22 @@ fn root_proof<L: ProofLogger, M: ProofMaker<L>>(
     maker.of_root(alloc, log)
 }
 
-/// Runs the workers of a team beside each other, and answers what they say together.
+/// Runs the workers of a team beside each other, and answers what they say together, unless a closed gate ended them.
 fn decide_beside<'a, R: Threads + Sync, G: Gate + Sync, L: ProofLogger + Send, M: ProofMaker<L>>(
     rt: &R,
     root: &Root<'_, 'a, M>,
     team: Team<'a, L>,
     gate: &G,
-) -> Solved
+) -> Result<Solved, Interrupted>
 where
     L::Told: Send,
     requires maker { M.problem root.now.maker.now ≡ root.now.q.now }
     requires bounds { IsWithinBounds root.now.settings.now }
     requires team { IsTeam L.owner root.now.q.now root.now.settings.now.threads
         root.now.settings.now.budget team }
-    ensures { IsSolved result root.now.q.now root.now.settings.now.threads
-        root.now.settings.now.budget (M.logged root.now.maker.now) }
+    ensures solved { IfOk result (λ solved. IsSolved solved root.now.q.now
+        root.now.settings.now.threads root.now.settings.now.budget (M.logged root.now.maker.now)) }
+    ensures closed { IfErr result (λ _. G.may_close gate.now) }
 {
     let Team {
         book,
@@ -279,22 +326,25 @@ where
     } = team;
     let budget = root.settings.budget;
     match run_beside(rt, root.alloc, root.q, budget, &book, gate, jobs) {
-        Ok(done) => conclude(root, &book, &mut first, accounts, logs, done),
-        Err(_) => Solved::NoMemory,
+        Ok(done) => Ok(conclude(root, &book, &mut first, accounts, logs, done)),
+        Err(Unheard::NoMemory) => Ok(Solved::NoMemory),
+        Err(Unheard::Interrupted) => Err(Interrupted),
     }
 }
 
-/// Runs the workers of a team in turn, and answers what they say together.
-fn decide_in_turn<'a, L: ProofLogger, M: ProofMaker<L>>(
+/// Runs the workers of a team in turn, and answers what they say together, unless a closed gate ended them.
+fn decide_in_turn<'a, G: Gate, L: ProofLogger, M: ProofMaker<L>>(
     root: &Root<'_, 'a, M>,
     team: Team<'a, L>,
-) -> Solved
+    gate: &G,
+) -> Result<Solved, Interrupted>
     requires maker { M.problem root.now.maker.now ≡ root.now.q.now }
     requires bounds { IsWithinBounds root.now.settings.now }
     requires team { IsTeam L.owner root.now.q.now root.now.settings.now.threads
         root.now.settings.now.budget team }
-    ensures { IsSolved result root.now.q.now root.now.settings.now.threads
-        root.now.settings.now.budget (M.logged root.now.maker.now) }
+    ensures solved { IfOk result (λ solved. IsSolved solved root.now.q.now
+        root.now.settings.now.threads root.now.settings.now.budget (M.logged root.now.maker.now)) }
+    ensures closed { IfErr result (λ _. G.may_close gate.now) }
 {
     let Team {
         book,
@@ -303,8 +353,10 @@ fn decide_in_turn<'a, L: ProofLogger, M: ProofMaker<L>>(
         accounts,
         logs,
     } = team;
-    match run_in_turn(root.alloc, root.q, root.settings.budget, &book, jobs) {
-        Ok(done) => conclude(root, &book, &mut first, accounts, logs, done),
-        Err(_) => Solved::NoMemory,
+    let budget = root.settings.budget;
+    match run_in_turn(root.alloc, root.q, budget, &book, gate, jobs) {
+        Ok(done) => Ok(conclude(root, &book, &mut first, accounts, logs, done)),
+        Err(Unheard::NoMemory) => Ok(Solved::NoMemory),
+        Err(Unheard::Interrupted) => Err(Interrupted),
     }
 }

@@ -7,7 +7,7 @@ ghost use Rattle.proof_collection.specs.Making.{AreBy, AreOfOwners};
 ghost use Rattle.parallel_solve.specs.Concluding.{HasHeard, IsConclusion, IsToldBy};
 ghost use Rattle.parallel_solve.specs.Gathering.{HasMade, Keeps, RowsCame, TookIn};
 ghost use Rattle.parallel_solve.specs.Solving.{IsSolved};
-ghost use Rattle.parallel_solve.specs.Teaming.{AreSettled, HasRun, IsRefuter, IsTally, map_by, refuted_by, spent_by, StaysBeside, StaysWithoutOwn};
+ghost use Rattle.parallel_solve.specs.Teaming.{HasRun, HaveEnded, IsRefuter, IsTally, map_by, refuted_by, spent_by, StaysBeside, StaysWithoutOwn};
 
 use crate::answers::Solved;
 use crate::running::Done;
@@ -49,6 +49,7 @@ fn hear(tally: &mut Tally, q: &Problem, budget: u64, number: u8, account: Accoun
         Outcome::Found(map) => tally.map = Some(map),
         Outcome::Refuted => tally.refuted = Some(tally.refuted.unwrap_or(number)),
         Outcome::Stopped(_) => (),
+        Outcome::Interrupted => (),
         Outcome::NoMemory => (),
     }
     tally.spent = false;
@@ -232,7 +233,7 @@ pub(crate) fn conclude<'a, L: ProofLogger, M: ProofMaker<L>>(
         root.now.settings.now.budget d.worker d.outcome)
         done.items }
     requires numbers { AreOfOwners (λ d. d.worker.number) done.items }
-    requires settled { AreSettled (λ d. d.outcome) done.items }
+    requires ended { HaveEnded (λ d. d.outcome) done.items }
     ensures solved { IsSolved result root.now.q.now (length done.entry.items)
         root.now.settings.now.budget (M.logged root.now.maker.now) }
     ensures concluded { IsConclusion (λ d. d.outcome) done.entry.items result }

@@ -5,19 +5,19 @@ use Rattle.std.proofs.lemmas.List.Elements.{All-set}
 use Rattle.std.proofs.lemmas.List.Quantifiers.{any-set}
 use Rattle.restart_search.specs.Searching.{IsNotStopped}
 use Rattle.parallel_solve.specs.declared.running.Done.{Done}
-use Rattle.parallel_solve.specs.Teaming.{HasRun, Decides}
+use Rattle.parallel_solve.specs.Teaming.{HasRunAt, Decides}
 use Rattle.parallel_solve.proofs.Runs.{numbers_set, all_taken, taken_set}
 use Rattle.parallel_solve.proofs.running.finish.Goals as goal
 
 pub go_on-requires : goal.go_on-requires
 go_on-requires g c =
     let there : c.loop-place.place < length c.loop-place.done.items = omega (arith, c.loop-place-test.true, c.len-place-end.ensures, c.loop-place.invariant.count) in
-    subst (λ (d : Done g.row.L.Denot g.row.L-Told.Denot). HasRun g.L.ProofLogger.owner g.L.ProofLogger.steps g.L.ProofLogger.refutes c.args.book.now c.args.q.now c.args.budget d.worker d.outcome)
+    subst (λ (d : Done g.row.L.Denot g.row.L-Told.Denot). HasRunAt g.L.ProofLogger.owner g.L.ProofLogger.steps g.L.ProofLogger.refutes (g.G.Gate.may_close c.args.gate.now) c.args.book.now c.args.q.now c.args.budget d.worker d.outcome)
     (sym c.index_mut.ensures.value) (c.loop-place.invariant.ran c.loop-place.place c.index_mut.result.now there)
 
 pub returns-then-go_on-clause-ran : goal.returns-then-go_on-clause-ran
 returns-then-go_on-clause-ran g c =
-    All-set (λ (d : Done g.row.L.Denot g.row.L-Told.Denot). HasRun g.L.ProofLogger.owner g.L.ProofLogger.steps g.L.ProofLogger.refutes c.args.book.now c.args.q.now c.args.budget d.worker d.outcome)
+    All-set (λ (d : Done g.row.L.Denot g.row.L-Told.Denot). HasRunAt g.L.ProofLogger.owner g.L.ProofLogger.steps g.L.ProofLogger.refutes (g.G.Gate.may_close c.args.gate.now) c.args.book.now c.args.q.now c.args.budget d.worker d.outcome)
     c.loop-place.done.items c.loop-place.place c.go_on.new.one c.go_on.ensures.ran c.loop-place.invariant.ran
 
 pub returns-then-go_on-clause-numbers : goal.returns-then-go_on-clause-numbers
@@ -32,7 +32,7 @@ loop-place-preserved g c =
     let there : c.loop-place.place < length c.loop-place.done.items = omega (arith, c.loop-place-test.true, c.len-place-end.ensures, c.loop-place.invariant.count) in
     let number = λ (d : Done g.row.L.Denot g.row.L-Told.Denot). d.worker.number in
     record {
-      ran = All-set (λ (d : Done g.row.L.Denot g.row.L-Told.Denot). HasRun g.L.ProofLogger.owner g.L.ProofLogger.steps g.L.ProofLogger.refutes c.args.book.now c.args.q.now c.args.budget d.worker d.outcome)
+      ran = All-set (λ (d : Done g.row.L.Denot g.row.L-Told.Denot). HasRunAt g.L.ProofLogger.owner g.L.ProofLogger.steps g.L.ProofLogger.refutes (g.G.Gate.may_close c.args.gate.now) c.args.book.now c.args.q.now c.args.budget d.worker d.outcome)
           c.loop-place.done.items c.loop-place.place c.go_on.new.one c.go_on.ensures.ran c.loop-place.invariant.ran;
       numbers = numbers_set number c.loop-place.done.items c.loop-place.place c.index_mut.result.now c.go_on.new.one there (c.go_on.ensures.number ∙ ap number c.index_mut.ensures.value)
           c.loop-place.invariant.numbers;

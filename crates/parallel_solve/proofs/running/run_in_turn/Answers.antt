@@ -1,5 +1,6 @@
 use Rattle.std.proofs.Common.{◌≡◌, ◌+◌, ◌<◌, ◌∷◌, [], ◌++◌, List, length, Some, append_assoc, append-nil, length-append, sym, subst, ap, ◌∙◌, arith, rules, inr}
 use Rattle.std.specs.Prelude.{All, slice_get, vec_capacity}
+use Rattle.std.specs.List.{Any}
 use Rattle.std.proofs.lemmas.Option.{none-some}
 use Rattle.std.specs.Vec.Iter.{into_iter_items}
 use Rattle.std.proofs.lemmas.List.Elements.{All-push}
@@ -7,13 +8,14 @@ use Rattle.nogood_book.specs.Seats.{SeatName}
 use Rattle.restart_search.specs.Searching.{IsNotStopped, Search}
 use Rattle.proof_collection.specs.Making.{AreOfOwners}
 use Rattle.parallel_solve.specs.declared.running.Done.{Done}
-use Rattle.parallel_solve.specs.Teaming.{HasRun, IsJob}
+use Rattle.parallel_solve.specs.Teaming.{AreSettled, HasRunAt, HaveEnded, IsInterrupted, IsJob}
+use Rattle.parallel_solve.proofs.Interrupting.{closed_of}
 use Rattle.parallel_solve.proofs.Runs.{at_place, nothing_left, numbers_push, one_there}
 use Rattle.parallel_solve.proofs.running.run_in_turn.Goals as goal
 
 pub loop-job-init : goal.loop-job-init
 loop-job-init g c =
-    let empty : c.in_ok-done.done.items ≡ [] = c.in_ok-done.ensures.items in
+    let empty : c.in-Ok.done.items ≡ [] = c.in-Ok.ensures.items in
     let none = ap (λ (ds : List (Done g.row.L.Denot g.row.L-Told.Denot)). length ds) empty in
     record {
       whole = c.into_iter-job-iterator.ensures.into_iter_gives.0;
@@ -22,7 +24,7 @@ loop-job-init g c =
       numbers = λ i d is. absurd (none-some d (subst (λ (ds : List (Done g.row.L.Denot g.row.L-Told.Denot)). slice_get ds i ≡ Some d) empty is));
       alone = λ k d lt. absurd (omega (arith, none, lt));
       count = none;
-      room = omega (arith, c.in_ok-done.ensures.capacity, c.len.ensures, c.args.jobs.ok.0);
+      room = omega (arith, c.in-Ok.ensures.capacity, c.len.ensures, c.args.jobs.ok.0);
     }
 
 pub run_to_end-requires : goal.run_to_end-requires
@@ -50,7 +52,7 @@ loop-job-preserved g c =
     let there = one_there at.yielded one (into_iter_items at.job-iterator) left c.args.jobs.items steps before.whole in
     let ended = c.run_to_end.result in
     let items : c.push_reserved.new.self.items ≡ at.done.items ++ ended ∷ [] = c.push_reserved.ensures.items in
-    let has_run = λ (d : Done g.row.L.Denot g.row.L-Told.Denot). HasRun g.L.ProofLogger.owner g.L.ProofLogger.steps g.L.ProofLogger.refutes c.args.book.now c.args.q.now c.args.budget d.worker d.outcome in
+    let has_run = λ (d : Done g.row.L.Denot g.row.L-Told.Denot). HasRunAt g.L.ProofLogger.owner g.L.ProofLogger.steps g.L.ProofLogger.refutes (g.G.Gate.may_close c.args.gate.now) c.args.book.now c.args.q.now c.args.budget d.worker d.outcome in
     let number = λ (d : Done g.row.L.Denot g.row.L-Told.Denot). d.worker.number in
     let alone = λ (d : Done g.row.L.Denot g.row.L-Told.Denot). IsNotStopped d.outcome in
     record {
@@ -71,10 +73,18 @@ returns-clause-count g c =
     c.loop-job.invariant.count ∙ ap (λ (ws : List (Search SeatName g.row.L.Denot)). length ws) all
 
 pub returns-clause-ran : goal.returns-clause-ran
-returns-clause-ran g c = c.loop-job.invariant.ran
+returns-clause-ran g c = λ k d lt. (c.loop-job.invariant.ran k d lt).run
 
 pub returns-clause-numbers : goal.returns-clause-numbers
 returns-clause-numbers g c = c.loop-job.invariant.numbers
 
-pub returns-clause-settled : goal.returns-clause-settled
-returns-clause-settled g c = inr c.loop-job.invariant.alone
+pub is_interrupted-requires : goal.is_interrupted-requires
+is_interrupted-requires g c = subst (AreSettled (λ (d : Done g.row.L.Denot g.row.L-Told.Denot). d.outcome)) (sym c.deref.ensures.value) (inr c.loop-job.invariant.alone)
+
+pub returns-clause-ended : goal.returns-clause-ended
+returns-clause-ended g c = subst (HaveEnded (λ (d : Done g.row.L.Denot g.row.L-Told.Denot). d.outcome)) c.deref.ensures.value (c.is_interrupted.ensures.no c.if-is_interrupted.false)
+
+pub returns-then-is_interrupted-clause-closed : goal.returns-then-is_interrupted-clause-closed
+returns-then-is_interrupted-clause-closed g c =
+    λ same. closed_of (λ (d : Done g.row.L.Denot g.row.L-Told.Denot). d.outcome) (g.G.Gate.may_close c.args.gate.now) c.loop-job.done.items (λ k d lt. (c.loop-job.invariant.ran k d lt).closed)
+    (subst (Any (λ (d : Done g.row.L.Denot g.row.L-Told.Denot). IsInterrupted d.outcome)) c.deref.ensures.value (c.is_interrupted.ensures.yes c.if-is_interrupted.true))

@@ -2,7 +2,7 @@ use Rattle.std.specs.Prelude.{◌≡◌, ◌++◌, ◌≤◌, length, All, vec_c
 use Rattle.std.specs.Vec.Iter.{into_iter_items, into_iter_len}
 use Rattle.restart_search.specs.Searching.{IsNotStopped}
 use Rattle.proof_collection.specs.Making.{AreOfOwners}
-use Rattle.parallel_solve.specs.Teaming.{HasRun}
+use Rattle.parallel_solve.specs.Teaming.{HasRunAt}
 use Rattle.parallel_solve.proofs.running.run_in_turn.Given as goal
 
 -- the workers gone over have run
@@ -10,7 +10,7 @@ abbrev pub invariant-loop-job : goal.invariant-loop-job
 invariant-loop-job g l = record {
   whole : l.yielded ++ into_iter_items l.job-iterator ≡ l.fn.jobs.items;
   left : into_iter_len l.job-iterator ≡ length (into_iter_items l.job-iterator);
-  ran : All (λ d. HasRun g.L.ProofLogger.owner g.L.ProofLogger.steps g.L.ProofLogger.refutes l.book l.q l.budget d.worker d.outcome) l.done.items;
+  ran : All (λ d. HasRunAt g.L.ProofLogger.owner g.L.ProofLogger.steps g.L.ProofLogger.refutes (g.G.Gate.may_close l.gate) l.book l.q l.budget d.worker d.outcome) l.done.items;
   numbers : AreOfOwners (λ d. d.worker.number) l.done.items;
   alone : All (λ d. IsNotStopped d.outcome) l.done.items;
   count : length l.done.items ≡ length l.yielded;

@@ -34,9 +34,9 @@ conclude-requires-clause-ran g c = c.in-Ok.ensures.ran
 pub conclude-requires-clause-numbers : goal.conclude-requires-clause-numbers
 conclude-requires-clause-numbers g c = c.in-Ok.ensures.numbers
 
-pub returns-in-Ok : goal.returns-in-Ok
-returns-in-Ok g c =
+pub returns-in-Ok-clause-solved : goal.returns-in-Ok-clause-solved
+returns-in-Ok-clause-solved g c =
     subst (λ (n : ℕ). IsSolved c.conclude.result c.args.root.now.q.now n c.args.root.now.settings.now.budget (g.M.ProofMaker.logged c.args.root.now.maker.now)) (c.in-Ok.ensures.count ∙ c.requires.team.count) c.conclude.ensures.solved
 
-pub conclude-requires-clause-settled : goal.conclude-requires-clause-settled
-conclude-requires-clause-settled g c = c.in-Ok.ensures.settled
+pub conclude-requires-clause-ended : goal.conclude-requires-clause-ended
+conclude-requires-clause-ended g c = c.in-Ok.ensures.ended

@@ -62,4 +62,4 @@ answer-requires-clause-refuter g c =
 
 pub returns-clause-concluded : goal.returns-clause-concluded
 returns-clause-concluded g c =
-    concluded (λ (d : Done g.row.L.Denot g.row.L-Told.Denot). d.outcome) c.args.done.items c.gather_all-tally.result c.answer.result c.gather_all-tally.ensures.heard c.requires.settled c.answer.ensures.told
+    concluded (λ (d : Done g.row.L.Denot g.row.L-Told.Denot). d.outcome) c.args.done.items c.gather_all-tally.result c.answer.result c.gather_all-tally.ensures.heard c.requires.ended c.answer.ensures.told
