@@ -43,6 +43,8 @@ pub enum End {
     Spent(u64, bool),
     /// Where the cell had an answer.
     Stopped,
+    /// Where the gate was closed.
+    Interrupted,
     /// In none of these ways.
     Other,
 }
@@ -191,6 +193,7 @@ fn end_of(q: &Problem, outcome: Outcome, worker: Worker<BookSeat, WordTrail, Unl
         Outcome::Refuted => End::None,
         Outcome::Spent => spent,
         Outcome::Stopped(_) => End::Stopped,
+        Outcome::Interrupted => End::Interrupted,
         Outcome::NoMemory => End::Other,
     }
 }

@@ -5,7 +5,7 @@ ghost use Rattle.parallel_solve.specs.Solving.{IsWithinBounds};
 
 use crate::problems::problem;
 use graph_rows::Problem;
-use parallel_solve::{Proof, Settings, Solved, solve_with};
+use parallel_solve::{Proof, Settings, Solved, solve_alone_with, solve_with};
 use std::alloc::Global;
 use std::sync::atomic::{AtomicU64, Ordering};
 use std::thread::{self, Threads};
@@ -30,6 +30,8 @@ enum End {
     Proved,
     /// With so many accounts.
     Unknown(usize),
+    /// At a closed gate.
+    Interrupted,
     /// In none of these ways.
     Other,
 }
@@ -82,7 +84,10 @@ fn end_of<R: Threads + Sync, G: Gate + Sync>(
         return End::Other;
     }
     match problem(alloc, pattern, target, false) {
-        Some(q) => end_by(&q, &solve_with(rt, alloc, &q, asked, gate)),
+        Some(q) => match solve_with(rt, alloc, &q, asked, gate) {
+            Ok(solved) => end_by(&q, &solved),
+            Err(_) => End::Interrupted,
+        },
         None => End::Other,
     }
 }
@@ -265,6 +270,67 @@ fn the_gate_is_told_of_the_beginning_of_guesses_and_of_restarts(rt: HostRuntime)
     let asked = settings(1, 1000000, 65536, false);
     let end = end_of(&rt, rt.alloc(), CLIQUE, SIDES, &asked, &told);
     assert!(rt; end == End::None && told.was_told());
+}
+
+/// A gate that closes after so many guesses of all workers.
+#[derive(Drop)]
+struct Closing {
+    guesses: AtomicU64,
+    most: u64,
+}
+
+impl Gate for Closing {
+    ghost may_close = { λ _. Unit {0} };
+
+    fn at(&self, _worker: u32, point: Point) {
+        if point == Point::Guess {
+            count(&self.guesses);
+        }
+    }
+
+    fn is_closed(&self) -> bool {
+        self.guesses.load(Ordering::SeqCst) >= self.most
+    }
+}
+
+/// A gate that closes after so many guesses.
+fn closing(most: u64) -> Closing {
+    Closing {
+        guesses: AtomicU64::new(0),
+        most,
+    }
+}
+
+/// How a search by so many workers for five vertices beside each other ends at a gate that closes after so many guesses.
+fn end_after<R: Threads + Sync>(rt: &R, alloc: Global, threads: u32, most: u64) -> End {
+    let asked = settings(threads, 1000000, 64, false);
+    end_of(rt, alloc, CLIQUE, SIDES, &asked, &closing(most))
+}
+
+#[test]
+fn a_closed_gate_ends_a_solve_that_is_not_decided(rt: HostRuntime) {
+    assert!(rt; end_after(&rt, rt.alloc(), 1, 0) == End::Interrupted);
+    assert!(rt; end_after(&rt, rt.alloc(), 1, 150) == End::Interrupted);
+    assert!(rt; end_after(&rt, rt.alloc(), 3, 10) == End::Interrupted);
+    assert!(rt; end_after(&rt, rt.alloc(), 1, 1000000) == End::None);
+}
+
+/// How such a search by one worker alone ends.
+fn end_alone_after(alloc: Global, most: u64) -> End {
+    let Some(q) = problem(alloc, CLIQUE, SIDES, false) else {
+        return End::Other;
+    };
+    match solve_alone_with(alloc, &q, 0, 1000000, 64, &closing(most)) {
+        Ok(solved) => end_by(&q, &solved),
+        Err(_) => End::Interrupted,
+    }
+}
+
+#[test]
+fn a_closed_gate_ends_a_worker_alone(rt: HostRuntime) {
+    assert!(rt; end_alone_after(rt.alloc(), 0) == End::Interrupted);
+    assert!(rt; end_alone_after(rt.alloc(), 150) == End::Interrupted);
+    assert!(rt; end_alone_after(rt.alloc(), 1000000) == End::None);
 }
 
 #[test]
