@@ -1,6 +1,6 @@
 -- What an interrupted run says of the gate, and what is so where none was interrupted.
 
-use Rattle.std.proofs.Common.{◌≡◌, ℕ, ◌<◌, List, length, get_or, subst, ◌⊎◌, inl, inr}
+use Rattle.std.proofs.Common.{List, get_or, subst, inl, inr}
 use Rattle.std.specs.Prelude.{All}
 use Rattle.std.specs.List.{Any}
 use Rattle.restart_search.specs.declared.outcome.Outcome.{Outcome}

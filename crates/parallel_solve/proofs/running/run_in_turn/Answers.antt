@@ -1,5 +1,5 @@
-use Rattle.std.proofs.Common.{◌≡◌, ◌+◌, ◌<◌, ◌∷◌, [], ◌++◌, List, length, Some, append_assoc, append-nil, length-append, sym, subst, ap, ◌∙◌, arith, rules, inr}
-use Rattle.std.specs.Prelude.{All, slice_get, vec_capacity}
+use Rattle.std.proofs.Common.{◌≡◌, ◌+◌, ◌∷◌, [], ◌++◌, List, length, Some, append_assoc, append-nil, length-append, sym, subst, ap, ◌∙◌, arith, rules, inr}
+use Rattle.std.specs.Prelude.{All, slice_get}
 use Rattle.std.specs.List.{Any}
 use Rattle.std.proofs.lemmas.Option.{none-some}
 use Rattle.std.specs.Vec.Iter.{into_iter_items}
