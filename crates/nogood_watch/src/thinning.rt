@@ -17,7 +17,7 @@ use crate::watched::Entry;
 
 /// So many of a list are held against a nogood at most. Where few are overtaken the lists are long, and without an end
 /// the cost would grow with the square of the nogoods.
-const MOST_HELD: usize = 64;
+const MOST_HELD: usize = 16;
 
 /// Whether the literal is one of these. Cost: one step for each before it.
 fn is_among(literals: &[(u16, u16)], literal: (u16, u16)) -> bool

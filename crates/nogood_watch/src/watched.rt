@@ -216,13 +216,12 @@ impl Watched {
         answer_of(d, &self.forced)
     }
 
-    /// Lets the watches of the nogoods go in which the literals of a shorter one lie, or the same ones, where this is
-    /// due: where 1,024 more have come since the last time, and a sixteenth of all, and as many as it left, or seven
-    /// times as many where it let fewer than half go. What is forced is the same without them. They are still kept:
-    /// what is seen as their watches are those of the shorter one.
+    /// Lets the watches of the nogoods go in which the literals of a shorter one lie, or the same ones, where this is due: where 1,024 more
+    /// have come since the last time, a sixteenth of all, and as many as it left. What is forced is the same without them. They are still
+    /// kept: what is seen as their watches are those of the shorter one.
     ///
-    /// Cost: one step where it is not due; else one for each nogood and each length, and for each literal of a live one
-    /// that of holding it against up to 64 shorter ones whose last literal this is. Nothing is allocated.
+    /// Cost: one step where it is not due; else one for each nogood and each length, and for each literal of a live one that of holding it
+    /// against up to 16 shorter ones whose last literal this is. Nothing is allocated.
     pub fn thin(&mut self)
         ensures nogoods { self.new.nogoods ≡ self.old.nogoods }
         ensures units { self.new.units ≡ self.old.units }
@@ -234,10 +233,9 @@ impl Watched {
         if self.entries.len() < self.due {
             return;
         }
-        let before = count_live(&self.live);
         self.thin_now();
         let all = self.entries.len();
-        let more = until_next(all, before, count_live(&self.live));
+        let more = until_next(all, count_live(&self.live));
         self.due = all.saturating_add(more);
     }
 
@@ -279,15 +277,10 @@ impl Watched {
     }
 }
 
-/// How many nogoods more make it worth while to look again which of `all` are overtaken, where so many were live before
-/// and so many are left. A sixteenth of all at least, so that the cost grows with the nogoods and not with their square.
-fn until_next(all: usize, before: usize, left: usize) -> usize {
-    let more = if left > before / 2 {
-        left.saturating_mul(7)
-    } else {
-        left
-    };
-    more.max(all / 16).max(LEAST)
+/// How many nogoods more make it worth while to look again which of `all` are overtaken, where so many are left. A sixteenth of all at
+/// least, so that the cost grows with the nogoods and not with their square.
+fn until_next(all: usize, left: usize) -> usize {
+    left.max(all / 16).max(LEAST)
 }
 
 /// Where so many literals more start and end, or want of memory where the numbers of places are used up.
