@@ -294,7 +294,7 @@ impl Gate for Closing {
 }
 
 /// A gate that closes after so many guesses.
-fn closing(most: u64) -> Closing {
+fn closing_after(most: u64) -> Closing {
     Closing {
         guesses: AtomicU64::new(0),
         most,
@@ -304,7 +304,7 @@ fn closing(most: u64) -> Closing {
 /// How a search by so many workers for five vertices beside each other ends at a gate that closes after so many guesses.
 fn end_after<R: Threads + Sync>(rt: &R, alloc: Global, threads: u32, most: u64) -> End {
     let asked = settings(threads, 1000000, 64, false);
-    end_of(rt, alloc, CLIQUE, SIDES, &asked, &closing(most))
+    end_of(rt, alloc, CLIQUE, SIDES, &asked, &closing_after(most))
 }
 
 #[test]
@@ -320,7 +320,7 @@ fn end_alone_after(alloc: Global, most: u64) -> End {
     let Some(q) = problem(alloc, CLIQUE, SIDES, false) else {
         return End::Other;
     };
-    match solve_alone_with(alloc, &q, 0, 1000000, 64, &closing(most)) {
+    match solve_alone_with(alloc, &q, 0, 1000000, 64, &closing_after(most)) {
         Ok(solved) => end_by(&q, &solved),
         Err(_) => End::Interrupted,
     }
