@@ -3,8 +3,8 @@
 ghost use Rattle.std.specs.Prelude.{◌≡◌, true, false};
 ghost use Rattle.target_handle.specs.declared.open_target.Kept.{Kept};
 
-use crate::loose::Loose;
 use crate::open_target::Kept;
+use loose_box::loose::Loose;
 use std::alloc::Global;
 use std::marker::Model;
 use std::ptr::null_mut;

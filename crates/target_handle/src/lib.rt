@@ -2,10 +2,9 @@
 //!
 //! No type of Rattle's that holds a `Vec` may cross to C. So a handle is two words that mean nothing there: an address, and whether a
 //! target is there. What stands at the address is a box, which is put together again for each call and taken apart behind it, without
-//! memory. Proofs by hand, since the borrow checker does not follow addresses, are those of `loose` and `handle` alone.
+//! memory. Proofs by hand, since the borrow checker does not follow addresses, are those of `handle` alone.
 #![tactic(auto)]
 
 pub mod handle;
-pub mod loose;
 pub mod open_target;
 mod opening;

@@ -4,8 +4,8 @@ ghost use Rattle.std.specs.Prelude.{◌≡◌, None, Some, IfOk};
 ghost use Rattle.target_handle.specs.Opened.{opened, taken};
 
 use crate::handle::TargetHandle;
-use crate::loose::Loose;
 use crate::open_target::{Kept, OpenTarget};
+use loose_box::loose::Loose;
 use std::alloc::{AllocError, Global};
 use std::mem::replace;
 

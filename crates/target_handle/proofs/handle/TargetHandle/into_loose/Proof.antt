@@ -27,7 +27,7 @@ use Rattle.std.specs.contracts.impls.GlobalAllocator.TheImpl.{ghosts}
 use Rattle.target_handle.specs.Owning.{kept_at}
 use Rattle.target_handle.specs.contracts.open_target.Kept.{the_row as R}
 use Rattle.target_handle.specs.contracts.handle.TargetHandle.{the_row as Handle}
-use Rattle.target_handle.proofs.Values.{al, both, loose_good, loose_in}
+use Rattle.loose_box.proofs.Values.{al, both, loose_good, loose_in}
 use Rattle.target_handle.proofs.HandleValues.{LZ, word, handle_out}
 use Rattle.target_handle.specs.contracts.handle.TargetHandle.into_loose.{ended, clauses}
 use Rattle.target_handle.specs.contracts.handle.TargetHandle.into_loose.Key.{name as #self}

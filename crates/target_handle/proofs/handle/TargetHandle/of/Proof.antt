@@ -23,7 +23,7 @@ use Rattle.std.specs.contracts.alloc.Global.{the_row as Z}
 use Rattle.std.specs.contracts.impls.GlobalAllocator.TheImpl.{ghosts}
 use Rattle.target_handle.specs.Owning.{kept_at}
 use Rattle.target_handle.specs.contracts.open_target.Kept.{the_row as R}
-use Rattle.target_handle.proofs.Values.{both, Loose, loose_good, loose_out}
+use Rattle.loose_box.proofs.Values.{both, Loose, loose_good, loose_out}
 use Rattle.target_handle.proofs.HandleValues.{LZ, word, handle_in}
 use Rattle.target_handle.specs.contracts.handle.TargetHandle.of.{ended, clauses}
 use Rattle.target_handle.specs.contracts.handle.TargetHandle.of.Key.{name as #self}

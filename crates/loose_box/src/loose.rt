@@ -8,8 +8,8 @@ use std::marker::Model;
 
 /// A box that was taken apart: where its value stands, and the allocator that the block goes back to.
 pub struct Loose<T, A: Allocator> {
-    pub(crate) at: *mut T,
-    pub(crate) alloc: A,
+    pub at: *mut T,
+    pub alloc: A,
     pub ghost value: { T },
 }
 
