@@ -49,6 +49,8 @@ if has "$cc"; then
     try c
     "$cc" -std=c99 -pedantic "${strict[@]}" "$here/test.c" "${shared[@]}" -o "$room/c-shared"
     try c-shared
+    "$cc" -std=c99 -pedantic "${strict[@]}" "$here/test_flag.c" "$build/libsubgraph.a" -pthread -o "$room/flag"
+    try flag
     "$cc" -std=c99 "${strict[@]}" "$here/test_memory.c" "$build/libsubgraph.a" "${wrap[@]}" -o "$room/memory"
     try memory
     "$cc" -std=c99 -pedantic "${strict[@]}" "$here/../examples/library/occurs.c" "$build/libsubgraph.a" -o "$room/occurs"

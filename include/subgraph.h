@@ -1,14 +1,15 @@
 /* Does a pattern graph occur in a target graph? The proved solver `subgraph`, called from C and C++.
  *
  * Graphs are LAD texts in memory (docs/FORMATS.md). A call reads what it is passed, answers by its status, and
- * keeps nothing but a target that it opens. It starts no thread. Several threads may call at once, as long as no two
- * share a `map`, a `report` or a `subgraph_target`. What is proved stands in docs/LIBRARY.md.
+ * keeps nothing but a target or a flag that it opens. It starts no thread. Several threads may call at once, as long
+ * as no two share a `map`, a `report`, a `subgraph_target` or a `subgraph_flag`. Two flags that were opened by one call
+ * may be used by two threads. What is proved stands in docs/LIBRARY.md.
  *
  * What the caller owes, and no call can test:
  *   - No pointer is null, not even where its length is 0.
  *   - Each pointer leads to as many items as its length says, and no other thread writes to them during the call.
- *   - `map`, `report` and a `subgraph_target` overlap nothing else that is passed.
- *   - A `subgraph_target` is all zeros before the first call on it, and only calls change it.
+ *   - `map`, `report`, a `subgraph_target` and a `subgraph_flag` overlap nothing else that is passed.
+ *   - A `subgraph_target` or `subgraph_flag` is all zeros before the first call on it, and only calls change it.
  *   - No call is made from a signal handler, or in the forked child of a process with threads.
  *   - `malloc`, `realloc` and `free` are those of one allocator, and blocks are aligned as C wants it.
  */
@@ -35,6 +36,7 @@ enum {
     SUBGRAPH_UNKNOWN = 2,      /* the budget was spent before it was decided */
     SUBGRAPH_OUT_OF_RANGE = 3, /* a number is out of its range: `cause` says which, the other fields are 0 */
     SUBGRAPH_FAULT = 4,        /* a text or the pairs are faulty: see `role`, `word` and `cause` */
+    SUBGRAPH_STOPPED = 5,      /* the flag was raised before it was decided */
     SUBGRAPH_NO_MEMORY = 6,    /* memory was refused */
     SUBGRAPH_NO_EMBEDDING = 7, /* verify: `map` is no embedding */
     SUBGRAPH_LOG_REFUSED = 7   /* check: the log has a faulty line, see `word` and `cause` */
@@ -202,6 +204,51 @@ uint32_t subgraph_decide_in(const uint8_t *pattern, size_t pattern_bytes, subgra
 
 /* Closes a target, and gives its memory back. Nothing is done to one that is not open. */
 void subgraph_target_close(subgraph_target *target);
+
+/* A flag by which one thread ends the call of another: zeros, or one that is open. Two are opened together, for one
+ * flag that both know, and one thread at a time may use each. It may be moved, and of two copies of an open one only
+ * one may be used. `subgraph_flag flag = SUBGRAPH_FLAG;` makes one that is not open. */
+typedef struct subgraph_flag {
+    void *at;      /* of the library's own */
+    uint8_t there; /* of the library's own */
+} subgraph_flag;
+
+#define SUBGRAPH_FLAG {0, 0}
+
+/* How a question is asked, and the flag that ends the call: `subgraph_limits limits = SUBGRAPH_LIMITS;` has the
+ * program's own defaults, and a flag that is not open, by which the call ends as `subgraph_decide` does. */
+typedef struct subgraph_limits {
+    subgraph_options options;
+    subgraph_flag flag;
+} subgraph_limits;
+
+#define SUBGRAPH_LIMITS {SUBGRAPH_OPTIONS, SUBGRAPH_FLAG}
+
+/* Opens two flags that are one: `subgraph_flag_open(&limits.flag, &stopper)`. It is not raised yet.
+ *
+ * Status: 0; 3 if one of the two is open already; 6. Unless it is 0, both are as before. Time: constant. Memory: three
+ * small blocks, given back once both are closed. */
+uint32_t subgraph_flag_open(subgraph_flag *first, subgraph_flag *second);
+
+/* Raises the flag. It stays raised, and every call that was given it ends. Nothing is done to one that is not open.
+ * Time: constant. It waits for nobody. */
+void subgraph_flag_raise(subgraph_flag *flag);
+
+/* Closes one of the two flags. Nothing is done to one that is not open. */
+void subgraph_flag_close(subgraph_flag *flag);
+
+/* Decides as `subgraph_decide` does, until the flag of `limits` is raised.
+ *
+ * At SUBGRAPH_STOPPED the texts, the numbers and the room are good, nothing is decided, all of `map` is as before, and
+ * the report is zeros. The flag is looked at before each guess of the search: what precedes the first guess, as reading
+ * the texts, is done also when the flag is up, and between two guesses a large question may take some milliseconds.
+ * The flag stays open. A call for which it was raised before the first guess ends there, if the question needs a guess.
+ *
+ * Status: 0, 1, 2, 3, 4, 5 or 6; 5 only if `limits->flag` is open. Time and memory: those of `subgraph_decide`.
+ */
+uint32_t subgraph_decide_until(const uint8_t *pattern, size_t pattern_bytes, const uint8_t *target, size_t target_bytes,
+                               subgraph_limits *limits, const subgraph_pair *less, size_t pairs, uint32_t *map,
+                               size_t room, subgraph_report *report);
 
 /* Tests whether `map`, with the image of each pattern vertex in order, is an embedding of the pattern into the
  * target. A `map` of another length than the pattern is none. It may come from anywhere.

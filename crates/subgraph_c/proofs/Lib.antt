@@ -8,3 +8,4 @@ mod VerifyStatuses
 mod DecideStatuses
 mod CheckStatuses
 mod EncodeStatuses
+mod StopStatuses

@@ -1,10 +1,11 @@
 -- What a call that decides answers.
 
-use Rattle.std.specs.Prelude.{◌≡◌, ◌≢◌, ℕ, ◌<◌, ◌≤◌, ◌⊎◌, List, ◌++◌, length, drop, Some, None}
+use Rattle.std.specs.Prelude.{◌≡◌, ◌≢◌, ℕ, ◌<◌, ◌≤◌, ◌⊎◌, List, ◌++◌, length, drop, Some, None, Result, Ok, Err}
 use Rattle.graph_theory.specs.Graph.{size}
 use Rattle.graph_theory.specs.Embedding.{Problem, Embeds, HasNone}
 use Rattle.search_theory.specs.Account.{Account, Spends}
 use Rattle.search_theory.specs.Bounds.{enough}
+use Rattle.parallel_solve.specs.declared.answers.Interrupted.{Interrupted}
 use Rattle.subgraph_c.specs.Asking.{Call, Asks, IsFaulty, bad_question, bad_search}
 use Rattle.subgraph_c.specs.Reports.{refusal_status, refusal_report, images_report, FaultTold}
 use Rattle.subgraph_c.specs.declared.passed.Report.{Report}
@@ -91,6 +92,15 @@ ProblemSays (Refused refusal) q budget = refusal ≡ NoMemory
 abbrev pub RoomSays : Decision → Problem → ℕ → ℕ → Type 0
 RoomSays d q budget room = ((size q.pattern ≤ room) × ProblemSays d q budget)
     ⊎ ((room < size q.pattern) × (d ≡ Refused (Number Room)))
+
+-- The call asks a problem, its numbers are in range, and there is room for an image of each pattern vertex.
+abbrev pub IsGood : Call → ℕ → Type 0
+IsGood c room = (q : Problem) × IsAsked c room q
+
+-- What is said of a call at a gate: what its decision says, and of one that a closed gate ended that it asks a problem.
+abbrev pub EndSays : Result Decision Interrupted → Call → ℕ → Type 0
+EndSays (Ok d) c room = DecisionSays d c room
+EndSays (Err _) c room = IsGood c room
 
 -- There is room for what is found.
 abbrev pub Fits : Decision → ℕ → Type 0

@@ -5,3 +5,4 @@ pub mod Verifying
 pub mod Checking
 pub mod Encoding
 pub mod Holding
+pub mod Stopping

@@ -1,17 +1,19 @@
 //! Deciding the problem that a call asks.
 
-ghost use Rattle.std.specs.Prelude.{◌≡◌, ◌<◌, ◌≤◌, ◌^◌, None, length};
+ghost use Rattle.std.specs.Prelude.{◌≡◌, ◌<◌, ◌≤◌, ◌^◌, false, None, IfOk, IfErr, length};
 ghost use Rattle.graph_theory.specs.Graph.{size};
+ghost use Rattle.parallel_solve.specs.Solving.{IsSolved};
 ghost use Rattle.subgraph_c.specs.Asking.{call};
-ghost use Rattle.subgraph_c.specs.Deciding.{ProblemSays, RoomSays, DecisionSays, Fits};
+ghost use Rattle.subgraph_c.specs.Deciding.{ProblemSays, RoomSays, DecisionSays, EndSays, Fits};
 
 use crate::asking::{Asked, ask};
 use crate::numbers::{first_bad, first_bad_search};
 use crate::passed::Options;
 use crate::refusal::{OutOfRange, Refusal};
 use graph_rows::problem::Problem;
-use parallel_solve::{Solved, solve_alone};
+use parallel_solve::{Interrupted, Solved, solve_alone_with};
 use std::alloc::Global;
+use worker_gate::{Gate, OpenGate};
 
 /// What a call decides.
 #[derive(Drop)]
@@ -26,19 +28,49 @@ pub enum Decision {
     Refused(Refusal),
 }
 
-/// Decides a problem, by one worker: a small one first with 64 fails and without rows of nogoods.
-fn decide_problem(alloc: Global, q: &Problem, options: &Options, room: usize) -> Decision
-    requires budget { options.now.budget < 2 ^ 63 }
-    requires rows { options.now.rows ≤ 4194304 }
+/// What a solve of the problem by one worker decides, where there is room for an image of each pattern vertex.
+fn decision_of(solved: Solved, q: &Problem, budget: u64, room: usize) -> Decision
+    requires solved { IsSolved solved q.now 1 budget false }
     requires fits { size q.now.pattern ≤ room }
-    ensures says { ProblemSays result q.now options.now.budget }
+    ensures says { ProblemSays result q.now budget }
     ensures fits { Fits result room }
 {
-    match solve_alone(alloc, q, options.seed, options.budget, options.rows) {
+    match solved {
         Solved::Yes(map) => Decision::Yes(map),
         Solved::NoEmbedding(_) => Decision::Nothing,
         Solved::Unknown(_) => Decision::Unknown,
         Solved::NoMemory => Decision::Refused(Refusal::NoMemory),
+    }
+}
+
+/// Decides a problem at a gate, if there is room for an image of each pattern vertex, by one worker: a small one first
+/// with 64 fails and without rows of nogoods.
+fn decide_in_room_at<G: Gate>(
+    alloc: Global,
+    q: &Problem,
+    options: &Options,
+    room: usize,
+    gate: &G,
+) -> Result<Decision, Interrupted>
+    requires budget { options.now.budget < 2 ^ 63 }
+    requires rows { options.now.rows ≤ 4194304 }
+    ensures says { IfOk result (λ d. RoomSays d q.now options.now.budget room) }
+    ensures fits { IfOk result (λ d. Fits d room) }
+    ensures closed { IfErr result (λ _. G.may_close gate.now) }
+    ensures asked { IfErr result (λ _. size q.now.pattern ≤ room) }
+{
+    if usize::from(q.pattern().size()) > room {
+        return Ok(Decision::Refused(Refusal::Number(OutOfRange::Room)));
+    }
+    let Options {
+        seed,
+        budget,
+        rows,
+        ..
+    } = *options;
+    match solve_alone_with(alloc, q, seed, budget, rows, gate) {
+        Ok(solved) => Ok(decision_of(solved, q, budget, room)),
+        Err(closed) => Err(closed),
     }
 }
 
@@ -49,28 +81,45 @@ pub(crate) fn decide_in_room(alloc: Global, q: &Problem, options: &Options, room
     ensures says { RoomSays result q.now options.now.budget room }
     ensures fits { Fits result room }
 {
-    if usize::from(q.pattern().size()) <= room {
-        decide_problem(alloc, q, options, room)
-    } else {
-        Decision::Refused(Refusal::Number(OutOfRange::Room))
+    match decide_in_room_at(alloc, q, options, room, &OpenGate) {
+        Ok(decision) => decision,
+        Err(_) => unreachable!(),
     }
 }
 
-/// Decides what a call asks, where there is room for so many images: its numbers are judged, then its texts are read,
-/// then the room is held against the pattern, and then the problem is decided.
+/// Decides what a call asks at a gate, where there is room for so many images: its numbers are judged, then its texts
+/// are read, then the room is held against the pattern, and then the problem is decided.
+pub(crate) fn decide_at<G: Gate>(
+    alloc: Global,
+    asked: &Asked,
+    room: usize,
+    gate: &G,
+) -> Result<Decision, Interrupted>
+    ensures says { EndSays result (call asked.now.pattern.now asked.now.target.now
+        asked.now.options.now asked.now.less.now) room }
+    ensures fits { IfOk result (λ d. Fits d room) }
+    ensures closed { IfErr result (λ _. G.may_close gate.now) }
+{
+    if let Some(bad) = first_bad(asked.options, asked.less) {
+        return Ok(Decision::Refused(Refusal::Number(bad)));
+    }
+    if let Some(bad) = first_bad_search(asked.options) {
+        return Ok(Decision::Refused(Refusal::Number(bad)));
+    }
+    match ask(alloc, asked) {
+        Ok(q) => decide_in_room_at(alloc, &q, asked.options, room, gate),
+        Err(refusal) => Ok(Decision::Refused(refusal)),
+    }
+}
+
+/// Decides what a call asks, where there is room for so many images.
 pub(crate) fn decide(alloc: Global, asked: &Asked, room: usize) -> Decision
     ensures says { DecisionSays result (call asked.now.pattern.now asked.now.target.now
         asked.now.options.now asked.now.less.now) room }
     ensures fits { Fits result room }
 {
-    if let Some(bad) = first_bad(asked.options, asked.less) {
-        return Decision::Refused(Refusal::Number(bad));
-    }
-    if let Some(bad) = first_bad_search(asked.options) {
-        return Decision::Refused(Refusal::Number(bad));
-    }
-    match ask(alloc, asked) {
-        Ok(q) => decide_in_room(alloc, &q, asked.options, room),
-        Err(refusal) => Decision::Refused(refusal),
+    match decide_at(alloc, asked, room, &OpenGate) {
+        Ok(decision) => decision,
+        Err(_) => unreachable!(),
     }
 }

@@ -9,6 +9,7 @@ pub mod calls;
 pub mod checking;
 pub mod deciding;
 pub mod encoding;
+pub mod flags;
 pub mod handles;
 mod holding;
 mod numbers;

@@ -1,5 +1,7 @@
 //! What C passes beside texts and images, and what it is told beside a status.
 
+use call_flag::handle::FlagHandle;
+
 /// A pair of pattern vertices, of which the first is to have the lesser image.
 #[repr(C)]
 #[derive(Clone, Copy)]
@@ -24,6 +26,16 @@ pub struct Options {
     pub maps: u32,
     /// 1 where the copy is to be an induced one, else 0.
     pub induced: u32,
+}
+
+/// How a question is asked, and the flag that ends it.
+#[repr(C)]
+#[derive(Drop)]
+pub struct Limits {
+    /// How the question is asked.
+    pub options: Options,
+    /// An owner of the flag, or none.
+    pub flag: FlagHandle,
 }
 
 /// What a call tells beside its status: zeros where it has nothing to tell.

@@ -1,0 +1,90 @@
+/* Tests of flags from C: a question of about five seconds ends soon after its flag is raised by another thread. */
+#define _POSIX_C_SOURCE 199309L
+#include <pthread.h>
+#include <stdio.h>
+#include <string.h>
+#include <time.h>
+
+#include "subgraph.h"
+
+/* A complete graph of 12 vertices, and one of 11 parts of 4 vertices each, in which the largest has 11. */
+static char pattern[1000], target[20000];
+
+static subgraph_limits limits = SUBGRAPH_LIMITS;
+static subgraph_flag stopper = SUBGRAPH_FLAG;
+static const subgraph_pair none = {0, 0};
+static uint32_t map[16], status;
+static subgraph_report report;
+
+static int wrong(const char *what) {
+    fprintf(stderr, "%s\n", what);
+    return 1;
+}
+
+static void write_parts(char *at, int parts, int size) {
+    int n = parts * size, i, j;
+    at += sprintf(at, "%d\n", n);
+    for (i = 0; i < n; i++) {
+        at += sprintf(at, "%d", n - size);
+        for (j = 0; j < n; j++)
+            if (j / size != i / size) at += sprintf(at, " %d", j);
+        at += sprintf(at, "\n");
+    }
+}
+
+static double seconds(void) {
+    struct timespec at;
+    clock_gettime(CLOCK_MONOTONIC, &at);
+    return (double)at.tv_sec + (double)at.tv_nsec / 1e9;
+}
+
+static uint32_t ask(void) {
+    return subgraph_decide_until((const uint8_t *)pattern, strlen(pattern), (const uint8_t *)target, strlen(target),
+                                 &limits, &none, 0, map, 16, &report);
+}
+
+static void *ask_apart(void *given) {
+    status = ask();
+    return given;
+}
+
+static int is_untold(void) {
+    size_t i;
+    for (i = 0; i < 16; i++)
+        if (map[i] != 1000 + i) return 0;
+    return report.word + report.count + report.role + report.cause == 0;
+}
+
+/* Raises the flag 50 milliseconds after another thread began to search. */
+static int try_raised_later(void) {
+    const struct timespec wait = {0, 50000000};
+    double begun = seconds();
+    pthread_t other;
+    if (pthread_create(&other, 0, ask_apart, 0)) return wrong("no thread");
+    nanosleep(&wait, 0);
+    subgraph_flag_raise(&stopper);
+    pthread_join(other, 0);
+    if (status != SUBGRAPH_STOPPED || !is_untold()) return wrong("a flag that is raised later: another answer");
+    return seconds() - begun < 5 ? 0 : wrong("a flag that is raised later: the call went on");
+}
+
+int main(void) {
+    size_t i;
+    write_parts(pattern, 12, 1);
+    write_parts(target, 11, 4);
+    for (i = 0; i < 16; i++) map[i] = (uint32_t)(1000 + i);
+    if (subgraph_flag_open(&limits.flag, &stopper) != SUBGRAPH_OPENED) return wrong("a flag is not opened");
+    if (subgraph_flag_open(&stopper, &limits.flag) != SUBGRAPH_OUT_OF_RANGE) return wrong("an open flag is opened");
+    limits.options.budget = 1000;
+    if (ask() != SUBGRAPH_UNKNOWN) return wrong("a flag that is not raised: another answer");
+    limits.options.budget = 20000000;
+    if (try_raised_later()) return 1;
+    if (ask() != SUBGRAPH_STOPPED || !is_untold()) return wrong("a flag that was raised: another answer");
+    subgraph_flag_close(&stopper);
+    if (ask() != SUBGRAPH_STOPPED) return wrong("a flag that was raised and closed elsewhere: another answer");
+    subgraph_flag_close(&limits.flag);
+    subgraph_flag_close(&limits.flag);
+    subgraph_flag_raise(&limits.flag);
+    limits.options.budget = 1000;
+    return ask() == SUBGRAPH_UNKNOWN ? 0 : wrong("without a flag: another answer");
+}
