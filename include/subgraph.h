@@ -36,10 +36,10 @@ enum {
     SUBGRAPH_UNKNOWN = 2,      /* the budget was spent before it was decided */
     SUBGRAPH_OUT_OF_RANGE = 3, /* a number is out of its range: `cause` says which, the other fields are 0 */
     SUBGRAPH_FAULT = 4,        /* a text or the pairs are faulty: see `role`, `word` and `cause` */
-    SUBGRAPH_STOPPED = 5,      /* the flag was raised before it was decided */
     SUBGRAPH_NO_MEMORY = 6,    /* memory was refused */
     SUBGRAPH_NO_EMBEDDING = 7, /* verify: `map` is no embedding */
-    SUBGRAPH_LOG_REFUSED = 7   /* check: the log has a faulty line, see `word` and `cause` */
+    SUBGRAPH_LOG_REFUSED = 7,  /* check: the log has a faulty line, see `word` and `cause` */
+    SUBGRAPH_STOPPED = 8       /* decide_until: the flag was raised before it was decided */
 };
 
 /* The formats of both texts. */
@@ -244,7 +244,7 @@ void subgraph_flag_close(subgraph_flag *flag);
  * the texts, is done also when the flag is up, and between two guesses a large question may take some milliseconds.
  * The flag stays open. A call for which it was raised before the first guess ends there, if the question needs a guess.
  *
- * Status: 0, 1, 2, 3, 4, 5 or 6; 5 only if `limits->flag` is open. Time and memory: those of `subgraph_decide`.
+ * Status: 0, 1, 2, 3, 4, 6 or 8; 8 only if `limits->flag` is open. Time and memory: those of `subgraph_decide`.
  */
 uint32_t subgraph_decide_until(const uint8_t *pattern, size_t pattern_bytes, const uint8_t *target, size_t target_bytes,
                                subgraph_limits *limits, const subgraph_pair *less, size_t pairs, uint32_t *map,

@@ -24,7 +24,7 @@ pub record FlagStatus (status : ℕ) (first second first_after second_after : Fl
 -- The status, the report and the images of a call that may be ended.
 abbrev pub end_status : Result Decision Interrupted → ℕ
 end_status (Ok d) = decision_status d
-end_status (Err _) = 5
+end_status (Err _) = 8
 
 abbrev pub end_report : Result Decision Interrupted → Report
 end_report (Ok d) = decision_report d
@@ -44,4 +44,4 @@ pub record IsStopped (c : Call) (there : Bool) (before after : List ℕ) (report
 -- What the status of a call that may be ended says: it was ended, or the status is one of a call that decides.
 abbrev pub StopStatus : ℕ → Call → Bool → List ℕ → List ℕ → Report → Type 0
 StopStatus status c there before after report =
-    ((status ≡ 5) × IsStopped c there before after report) ⊎ DecideStatus status c before after report
+    ((status ≡ 8) × IsStopped c there before after report) ⊎ DecideStatus status c before after report

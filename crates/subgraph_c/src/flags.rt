@@ -28,7 +28,7 @@ fn tell_end(ended: &Result<Decision, Interrupted>, map: &mut [u32], report: &mut
         Ok(decision) => tell(decision, map, report),
         Err(_) => {
             *report = report_images(0);
-            5
+            8
         }
     }
 }
@@ -72,7 +72,7 @@ pub extern "C" fn subgraph_flag_close(alloc: Global, flag: &mut FlagHandle)
     flag.close(alloc);
 }
 
-/// Decides as `subgraph_decide` does, until the flag is up. Its status is 5 where the flag was up before a guess and
+/// Decides as `subgraph_decide` does, until the flag is up. Its status is 8 where the flag was up before a guess and
 /// nothing is decided; this can be only where the handle has an owner, which it has after it too.
 #[unsafe(no_mangle)]
 pub extern "C" fn subgraph_decide_until(
