@@ -1,5 +1,5 @@
 /* Each allocation of a call is refused in turn: the status says so, nothing is written, and no block is left but those
- * of a target that is open. Linked with --wrap for malloc, realloc and free.
+ * of a target or a flag that is open. Linked with --wrap for malloc, realloc and free.
  */
 #include <stdio.h>
 #include <stdlib.h>
@@ -101,9 +101,28 @@ static long try_held(int k) {
     return held == 0 ? opened + n : -1;
 }
 
+/* Each allocation is refused where a flag is opened. Its memory is given back with the second of its two handles. */
+static long try_flag(void) {
+    subgraph_flag first = SUBGRAPH_FLAG, second = SUBGRAPH_FLAG;
+    uint32_t status;
+    long n;
+    for (n = 0;; n++) {
+        left = n;
+        status = subgraph_flag_open(&first, &second);
+        if (left >= 0) break;
+        if (status != SUBGRAPH_NO_MEMORY || held != 0 || first.there || second.there)
+            return fprintf(stderr, "flag, refusal %ld: status %u\n", n, status), -1;
+    }
+    if (status != SUBGRAPH_OPENED || held == 0) return fprintf(stderr, "a flag is not opened\n"), -1;
+    subgraph_flag_close(&first);
+    if (held == 0) return fprintf(stderr, "a flag goes with its first handle\n"), -1;
+    subgraph_flag_close(&second);
+    return held == 0 ? n : (fprintf(stderr, "flag: blocks are left\n"), -1);
+}
+
 int main(void) {
     const uint32_t before[4] = {7, 8, 9, 10};
-    long all = 0;
+    long all = 0, flag;
     int k;
     for (k = 0; k < 3; k++) {
         long n;
@@ -124,6 +143,8 @@ int main(void) {
         if (n < 0) return 1;
         all += n;
     }
-    printf("memory: %ld refusals\n", all);
+    flag = try_flag();
+    if (flag < 0) return 1;
+    printf("memory: %ld refusals\n", all + flag);
     return 0;
 }
