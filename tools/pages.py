@@ -30,7 +30,7 @@ LINES = {
     "docs/DEFINITIONS.md": 90,
     "docs/FORMATS.md": 240,
     "docs/GATE.md": 70,
-    "docs/LIBRARY.md": 150,
+    "docs/LIBRARY.md": 155,
     "docs/LOGS.md": 200,
     "docs/PROOFS.md": 100,
     "docs/SPEED.md": 130,
