@@ -6,7 +6,6 @@ use Rattle.std.proofs.lemmas.Bool.{cases_lt, cases_eq, eq-eqb, ne_eqb, false≢t
 use Rattle.std.proofs.lemmas.List.FromFn.{get_or-map-range_with_len, length-map-range_with_len, fill_by_all}
 use Rattle.std.proofs.lemmas.List.{length-take, get_or_read, get_or_past}
 use Rattle.std.proofs.lemmas.Option.{slice_get_past}
-use native.Mathlib.Nat.{mul-le-mul}
 use Rattle.graph_theory.specs.Graph.{Graph, size, edge, row_edge, entry_edge, tabulate}
 use Rattle.graph_theory.specs.Neighbours.{count, degree, in_degree, is_neighbour, is_in_neighbour}
 use Rattle.graph_theory.specs.Plain.{IsPlain}
@@ -307,19 +306,18 @@ loops_same a width words loops held mark = record {
 pub back_own : (n width : ℕ) (words back degrees : List ℕ) → back ≡ [] → AreMutual n width words → AreBack n width words back degrees
 back_own n width words back degrees none turns = record { own = λ _. turns; kept = λ some. let e = ap length none in absurd (omega arith) }
 
--- others are kept
-pub back_kept : (n width : ℕ) (words back degrees : List ℕ) → AreTurned n width words back degrees → AreBack n width words back degrees
-back_kept n width words back degrees turned = record {
-  own = λ none. record {
-    each = λ a b a_in b_in. absurd (no_vertices a a_in none);
+-- the same of as many vertices, and of the same rows
+pub own_kept : (n size width : ℕ) (words ws back degrees : List ℕ) → AreBack size width ws back degrees → n ≡ size → words ≡ ws → AreBack n width words back degrees
+own_kept n size width words ws back degrees held same marks = rw (same, marks) held
+
+-- rows that are the same both ways are mutual
+pub own_mutual : (n width : ℕ) (words back degrees none counts : List ℕ) → AreTurned n width words back degrees → words ≡ back → length none ≡ 0 → AreBack n width words none counts
+own_mutual n width words back degrees none counts turned same empty = record {
+  own = λ _. record {
+    each = λ a b a_in b_in. ap (λ (ws : List ℕ). marked ws width a b) same ∙ turned.each a b a_in b_in;
   };
-  kept = λ _. turned;
+  kept = λ some. absurd (omega (arith, some, empty));
 }
-  where
-    no_vertices : (a : ℕ) → a < n → length back ≡ 0 → ⊥
-    no_vertices a a_in none =
-        let m = mul-le-mul {n₁ = 1} {m₁ = 1} {n₂ = n} {m₂ = width} (omega arith) (omega (arith, turned.marks.width_is)) in
-        omega (arith, turned.marks.words_are, m)
 
 -- where none are kept the label is 0
 pub no_label : (starts labels words : List ℕ) (width a b : ℕ) → length labels ≡ 0 → label_kept starts labels words width a b ≡ 0

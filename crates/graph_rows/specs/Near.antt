@@ -1,7 +1,7 @@
 -- A vertex that is near two others, as it is found in a row.
 
-use Rattle.std.specs.Prelude.{◌≡◌, ℕ, ◌<◌, true, List}
-use Rattle.graph_theory.specs.Graph.{Graph, size}
+use Rattle.std.specs.Prelude.{◌≡◌, ℕ, true, List}
+use Rattle.graph_theory.specs.Graph.{Graph}
 use Rattle.graph_theory.specs.Neighbours.{is_near}
 use Rattle.bit_rows.specs.BitRows.{has}
 

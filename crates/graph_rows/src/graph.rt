@@ -9,6 +9,7 @@ ghost use Rattle.graph_theory.specs.Graph.{graph_of};
 ghost use Rattle.graph_theory.specs.Reversed.{turned, IsMutual};
 ghost use Rattle.lad_reader.specs.Parts.{vertices_of, vertices_from, AllBelow};
 ghost use Rattle.bit_rows.specs.BitRows.{has, words_for};
+ghost use Rattle.graph_rows.specs.Held.{AreTurned, AreBack};
 ghost use Rattle.graph_rows.specs.Labels.{HasZeroLabels};
 
 use crate::edge_labels::{EdgeLabels, labels_beside};
@@ -21,7 +22,7 @@ use std::marker::Model;
 
 /// A graph of at most 8,192 vertices, of which each ordered two have an edge or none, and each edge a label.
 ///
-/// Beside a bit row for each vertex a graph with directions has another for the edges that lead in, which costs as much again, and one
+/// Beside a bit row for each vertex a graph with an edge that has none back has another for the edges that lead in, which costs as much again, and one
 /// with labels of edges four bytes for each edge and each vertex. Other graphs pay for neither.
 pub struct Graph {
     labels: Vec<u32>,
@@ -116,7 +117,8 @@ impl Graph {
         })
     }
 
-    /// The graph of parts with directions: an edge leads from a vertex to each that it lists.
+    /// The graph of parts with directions: an edge leads from a vertex to each that it lists. Where each has one back, the rows of those that lead in
+    /// are let go, being the same.
     fn directed(alloc: Global, parts: &GraphParts) -> Result<Graph, AllocError>
         requires lengths { length parts.now.labels ≡ length parts.now.neighbours }
         requires few { length parts.now.labels ≤ 8192 }
@@ -136,6 +138,7 @@ impl Graph {
         mark_all_in(&mut back, &mut in_degrees, width, &parts.neighbours);
         gather_loops(&words, width, size, &mut loops);
         let edge_labels = labels_beside(alloc, parts, &words, width)?;
+        let (back, in_degrees) = unless_mutual(alloc, &words, width, back, in_degrees);
         Ok(Graph {
             labels,
             words,
@@ -175,6 +178,18 @@ impl Graph {
             Some(self.edge_label(a, b))
         } else {
             None
+        }
+    }
+
+    /// The label of the edge from `a` to `b` in the graph turned in this direction, or none where no edge leads there. Cost: as `edge`.
+    pub fn edge_by(&self, direction: Direction, a: u16, b: u16) -> Option<u32>
+        requires from { a < size_of self.now }
+        requires to { b < size_of self.now }
+        ensures { result ≡ edge_of (turned direction self.now) a b }
+    {
+        match direction {
+            Direction::Out => self.edge(a, b),
+            Direction::In => self.edge(b, a),
         }
     }
 
@@ -312,8 +327,8 @@ impl Graph {
         }
     }
 
-    /// Whether edges are known to stand both ways, since no rows are kept of those that lead in. A graph with directions whose edges all
-    /// have one back is not told apart from others. Cost: two steps.
+    /// Whether edges are known to stand both ways, since no rows are kept of those that lead in. It says so of each graph of a text in which each edge
+    /// has one back, whose labels may be two. Cost: two steps.
     pub fn is_mutual(&self) -> bool
         ensures { IsTrue result → IsMutual self.now }
     {
@@ -446,6 +461,23 @@ impl Graph {
         }
         true
     }
+}
+
+/// The rows of the edges that lead in, and how many lead to each vertex; nothing of both where these rows are the vertices' own.
+fn unless_mutual(
+    alloc: Global,
+    words: &[u64],
+    width: usize,
+    back: Vec<u64>,
+    in_degrees: Vec<u16>,
+) -> (Vec<u64>, Vec<u16>)
+    requires { AreTurned (length in_degrees.items) width words.now back.items in_degrees.items }
+    ensures { AreBack (length in_degrees.items) width words.now result.0.items result.1.items }
+{
+    if words == back.as_slice() {
+        return (Vec::new(alloc), Vec::new(alloc));
+    }
+    (back, in_degrees)
 }
 
 /// Whether labels of edges are kept alike.

@@ -87,12 +87,12 @@ fn degrees_are_those_of_their_direction(rt: HostRuntime) -> Result<(), Fail> {
     all_graphs_are_so(rt.alloc(), &DEGREES)
 }
 
-/// The formats of a pattern and a target, and whether edges of such a problem are known to stand both ways.
-struct Mutual(LadKind, LadKind, bool);
+/// A pattern, a target, and whether edges of such a problem are known to stand both ways.
+struct Mutual(Text, Text, bool);
 
 impl AskedOfProblem for Mutual {
     fn texts(&self) -> Texts {
-        Texts((self.0, PATH), (self.1, PATH), false)
+        Texts(self.0, self.1, false)
     }
 
     fn is_so(&self, _alloc: Global, q: &Problem) -> bool {
@@ -100,13 +100,17 @@ impl AskedOfProblem for Mutual {
     }
 }
 
-static MUTUAL: [Mutual; 3] = [
-    Mutual(PLAIN, PLAIN, true),
-    Mutual(DIRECTED, PLAIN, false),
-    Mutual(PLAIN, DIRECTED, false),
+static MUTUAL: [Mutual; 5] = [
+    Mutual((PLAIN, PATH), (PLAIN, PATH), true),
+    Mutual((DIRECTED, PATH), (PLAIN, PATH), true),
+    Mutual((DIRECTED, PATH), (DIRECTED, PATH), true),
+    Mutual((DIRECTED, MIXED), (PLAIN, PATH), false),
+    Mutual((PLAIN, PATH), (DIRECTED, MIXED), false),
 ];
 
 #[test]
-fn a_problem_is_mutual_where_neither_format_has_directions(rt: HostRuntime) -> Result<(), Fail> {
+fn a_problem_is_mutual_where_each_edge_of_both_graphs_has_one_back(
+    rt: HostRuntime,
+) -> Result<(), Fail> {
     all_problems_are_so(rt.alloc(), &MUTUAL)
 }

@@ -1,4 +1,4 @@
-use Rattle.std.proofs.Common.{refl, sym, ◌∙◌, arith}
+use Rattle.std.proofs.Common.{sym, ◌∙◌}
 use Rattle.graph_rows.proofs.NearBoth.{found_out, found_back, none_found, same_test}
 use Rattle.graph_rows.proofs.near.is_one_near_both.Goals as goal
 

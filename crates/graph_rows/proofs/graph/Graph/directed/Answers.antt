@@ -8,7 +8,7 @@ use Rattle.graph_rows.specs.Held.{marked}
 use Rattle.graph_rows.proofs.Places.{rows_fit}
 use Rattle.graph_rows.proofs.Marking.{unmarked_made}
 use Rattle.graph_rows.proofs.Parts.{made-directed, turned_made}
-use Rattle.graph_rows.proofs.HeldGraph.{marks_kept, turned_kept, loops_kept, back_kept, beside_kept, listed_kept, no_label}
+use Rattle.graph_rows.proofs.HeldGraph.{marks_kept, turned_kept, loops_kept, own_kept, beside_kept, listed_kept, no_label}
 use Rattle.graph_rows.proofs.graph.Graph.directed.Goals as goal
 
 pub mark_all_out-requires : goal.mark_all_out-requires
@@ -79,6 +79,14 @@ labels_beside-requires-clause-said c = λ x y x_in y_in.
     ap (λ (ws : List ℕ). marked ws c.words_for-width.result x y) (c.deref-2.ensures.value ∙ with_items_is c.in_ok-words.words c.mark_all_out.new.words (c.mark_all_out.auto.words ∙ ap length c.deref_mut.ensures.value ∙ sym c.in_ok-words.words.ok.0))
     ∙ c.mark_all_out.ensures.said x y x_in y_in
 
+pub unless_mutual-back-requires : goal.unless_mutual-back-requires
+unless_mutual-back-requires c =
+    let words_are = with_items_is c.in_ok-words.words c.mark_all_out.new.words (c.mark_all_out.auto.words ∙ ap length c.deref_mut.ensures.value ∙ sym c.in_ok-words.words.ok.0) in
+    let back_are = with_items_is c.in_ok-back.back c.mark_all_in.new.words (c.mark_all_in.auto.words ∙ ap length c.deref_mut-3.ensures.value ∙ sym c.in_ok-back.back.ok.0) in
+    let in_degrees_are = with_items_is c.in_ok-in_degrees.in_degrees c.mark_all_in.new.degrees (c.mark_all_in.auto.degrees ∙ ap length c.deref_mut-4.ensures.value ∙ sym c.in_ok-in_degrees.in_degrees.ok.0) in
+    turned_kept _ _ _ _ _ _ _ _ _ (turned_made _ _ _ _ _ _ c.mark_all_in.ensures.marks c.mark_all_out.ensures.said c.mark_all_in.ensures.said) (ap length in_degrees_are ∙ c.mark_all_in.auto.degrees)
+    (c.deref-3.ensures.value ∙ words_are) back_are in_degrees_are
+
 pub returns-in_err-labels : goal.returns-in_err-labels
 returns-in_err-labels c = record { graph = λ apart. IfOk-from_err _ _ c.from_residual.ensures.0 }
 
@@ -118,15 +126,13 @@ invariant_of-result c =
     let size_is : length c.in_ok-labels.labels.items ≡ c.len-size.result = sym (c.len-size.ensures ∙ c.in_ok-labels.labels.ok.0) in
     let words_are = with_items_is c.in_ok-words.words c.mark_all_out.new.words (c.mark_all_out.auto.words ∙ ap length c.deref_mut.ensures.value ∙ sym c.in_ok-words.words.ok.0) in
     let degrees_are = with_items_is c.in_ok-degrees.degrees c.mark_all_out.new.degrees (c.mark_all_out.auto.degrees ∙ ap length c.deref_mut-2.ensures.value ∙ sym c.in_ok-degrees.degrees.ok.0) in
-    let back_are = with_items_is c.in_ok-back.back c.mark_all_in.new.words (c.mark_all_in.auto.words ∙ ap length c.deref_mut-3.ensures.value ∙ sym c.in_ok-back.back.ok.0) in
     let in_degrees_are = with_items_is c.in_ok-in_degrees.in_degrees c.mark_all_in.new.degrees (c.mark_all_in.auto.degrees ∙ ap length c.deref_mut-4.ensures.value ∙ sym c.in_ok-in_degrees.in_degrees.ok.0) in
     let out_size_is : length c.in_ok-labels.labels.items ≡ length c.deref_mut-2.result.now = size_is ∙ sym (ap length c.deref_mut-2.ensures.value ∙ sym c.in_ok-degrees.degrees.ok.0 ∙ c.in_ok-degrees.ensures.len) in
     let in_size_is : length c.in_ok-labels.labels.items ≡ length c.deref_mut-4.result.now =
     size_is ∙ sym (ap length c.deref_mut-4.ensures.value ∙ sym c.in_ok-in_degrees.in_degrees.ok.0 ∙ c.in_ok-in_degrees.ensures.len) in
     let same : length c.in_ok-labels.labels.items ≡ length c.args.parts.now.neighbours = ap length (c.in_ok-labels.ensures.items ∙ c.as_slice.ensures) ∙ c.requires.lengths in (
       marks_kept _ _ _ _ _ _ _ c.mark_all_out.ensures.marks out_size_is words_are degrees_are,
-      back_kept _ _ _ _ _ (turned_kept _ _ _ _ _ _ _ _ _
-          (turned_made _ _ _ _ _ _ c.mark_all_in.ensures.marks c.mark_all_out.ensures.said c.mark_all_in.ensures.said) in_size_is words_are back_are in_degrees_are),
+      own_kept _ _ _ _ _ _ _ c.unless_mutual-back.ensures (in_size_is ∙ sym (ap length in_degrees_are ∙ c.mark_all_in.auto.degrees)) (sym c.deref-3.ensures.value),
       loops_kept _ _ _ _ _ _ _ c.gather_loops.ensures size_is (sym c.deref.ensures.value) (with_items_is c.in_ok-loops.loops c.gather_loops.new.loops (c.gather_loops.auto.loops ∙ ap length c.deref_mut-5.ensures.value ∙ sym c.in_ok-loops.loops.ok.0)),
       beside_kept _ _ _ _ _ _ _ c.in_ok-edge_labels.ensures.beside same (sym c.deref-2.ensures.value),
     )
