@@ -6,3 +6,4 @@ pub mod Causes
 pub mod Ends
 pub mod HeldPairs
 pub mod Resting
+pub mod Supports

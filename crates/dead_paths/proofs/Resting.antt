@@ -13,6 +13,7 @@ use Rattle.graph_theory.specs.declared.embedding.Maps.TheVariants.{Injective, Lo
 use Rattle.graph_theory.proofs.BlockProofs.{near_in}
 use Rattle.search_theory.specs.Consistency.{AreConsistent}
 use Rattle.log_theory.specs.Lookups.{is_among}
+use Rattle.encoding_theory.specs.Pairs.{is_compatible}
 use Rattle.bit_rows.specs.BitRows.{has, words_for}
 use Rattle.nogood_book.specs.declared.row.Row.{Row}
 use Rattle.nogood_book.specs.Rows.{path_at}
@@ -340,13 +341,13 @@ module _ (q : Problem) (rows : List Row) (path : List (ℕ × ℕ)) where
 
   -- An edge's value, and a crowd's.
   pub step_edge : (n k : ℕ) (m m1 m2 : List Bool) (d d1 d2 : List ℕ) (p u r from : ℕ) (direction : Direction) (set : List ℕ) → n ≡ size q.target → k ≡ n → AreLeftBut n r u (needs n m d) (needs n m1 d1)
-      → StaysNeeded k (needs k m1 d1) (needs k m2 d2) → ((w : ℕ) → has set w ≡ is_some (edge (turned direction q.target) w u)) → ((w : ℕ) → w < k → has set w ≡ true → needs k m2 d2 p w ≡ true)
+      → StaysNeeded k (needs k m1 d1) (needs k m2 d2) → ((w : ℕ) → w < size q.target → is_compatible q r u p w ≡ true → has set w ≡ true) → ((w : ℕ) → w < k → has set w ≡ true → needs k m2 d2 p w ≡ true)
       → IsStep true q rows path (LeftOne r (cause.Edge p u direction) from) (values_of n m d) (values_of n m2 d2)
-  step_edge n k m m1 m2 d d1 d2 p u r from direction set n_is is left stays leads support = (
+  step_edge n k m m1 m2 d d1 d2 p u r from direction set n_is is left stays fills support = (
     record {
       suffices = λ v t t_in h same. tt;
       carried = but_one n m m1 m2 d d1 d2 r u left (subst (λ (x : ℕ). StaysNeeded x (needs x m1 d1) (needs x m2 d2)) is stays);
-      needs = λ w w_in there. need_up n m2 d2 p w (λ w_n. subst (λ (x : ℕ). (v : ℕ) → v < x → has set v ≡ true → needs x m2 d2 p v ≡ true) is support w w_n (leads w ∙ there));
+      needs = λ w w_in fits. need_up n m2 d2 p w (λ w_n. subst (λ (x : ℕ). (v : ℕ) → v < x → has set v ≡ true → needs x m2 d2 p v ≡ true) is support w w_n (fills w w_in fits));
     },
     tt,
   )

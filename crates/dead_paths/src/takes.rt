@@ -8,6 +8,7 @@ ghost use Rattle.nogood_book.specs.Rows.{Sound};
 ghost use Rattle.recorder.specs.declared.change.Cause.TheVariants as cause;
 ghost use Rattle.recorder.specs.Recording.{LeftOne, LeftOver, change_of};
 ghost use Rattle.recorder.specs.Telling.{Joins};
+ghost use Rattle.encoding_theory.specs.Pairs.{is_compatible};
 ghost use Rattle.needed_values.specs.Needed.{needs, AreRows, StaysNeeded};
 ghost use Rattle.needed_values.specs.Consistent.{Goes, AllConsistent};
 ghost use Rattle.dead_theory.specs.Changes.{IsInProblem, IsEndOf};
@@ -22,7 +23,7 @@ use crate::needs::{
 };
 use crate::room::Room;
 use crate::sets::by_set;
-use bit_rows::unset_bit;
+use bit_rows::{has_bit, set_bit, unset_bit};
 use graph_rows::Problem;
 use graph_theory::direction::Direction;
 use needed_values::{
@@ -256,7 +257,7 @@ fn take_value(
     true
 }
 
-/// A value of `r` to which no value of `p` has an edge, in the direction in which one leads from `p` to `r`.
+/// A value of `r` to which no value of `p` has an edge as that from `p` to `r`, which leads in this direction.
 #[derive(Clone, Copy)]
 struct Lost {
     p: u16,
@@ -265,12 +266,34 @@ struct Lost {
     direction: Direction,
 }
 
-/// An edge takes one value, since all from which an edge leads to it are gone: these are needed where it is.
+/// Writes the values of `p` beside which the line of this pair lets `r` go to `u`. Where labels of edges are kept these are all that go together with
+/// it, and `u` itself if it has a loop, which local maps may leave out of these and the line does not; else all from which an edge leads to it.
+fn fill_support(q: &Problem, lost: Lost, set: &mut [u64], spare: &mut [u64])
+    requires joins { Joins q.now lost.direction lost.p lost.r }
+    requires u_in { lost.u < size q.now.target }
+    requires set { length set.old ≡ words_for (size q.now.target) }
+    requires spare { length spare.old ≡ words_for (size q.now.target) }
+    ensures { (w : ℕ) → w < size q.now.target
+        → is_compatible q.now lost.r lost.u lost.p w ≡ true → has set.new w ≡ true }
+{
+    let support = q.target().in_row_by(lost.direction, lost.u);
+    if !q.pattern().keeps_edge_labels() {
+        set.copy_from_slice(support);
+        return;
+    }
+    part_compatible(q, lost.r, lost.u, lost.p, support, spare, set);
+    if has_bit(support, usize::from(lost.u)) {
+        set_bit(set, usize::from(lost.u));
+    }
+}
+
+/// An edge takes one value, since all that may stand beside it are gone: these are needed where it is.
 fn by_edge(
     q: &Problem,
     lost: Lost,
     marked: &mut [bool],
     needed: &mut [u64],
+    set: &mut [u64],
     spare: &mut [u64],
     other: &mut [u64],
 ) -> bool
@@ -278,6 +301,7 @@ fn by_edge(
     requires size { length marked.old ≡ size q.now.pattern }
     requires joins { Joins q.now lost.direction lost.p lost.r }
     requires u_in { lost.u < size q.now.target }
+    requires set { length set.old ≡ words_for (size q.now.target) }
     requires spare { length spare.old ≡ words_for (size q.now.target) }
     requires other { length other.old ≡ words_for (size q.now.target) }
     ensures { (rows : List TheRow) (path : List (ℕ × ℕ)) (from : ℕ)
@@ -289,8 +313,8 @@ fn by_edge(
     if !take_value(q, (lost.r, lost.u), marked, needed, other) {
         return false;
     }
-    let support = q.target().in_row_by(lost.direction, lost.u);
-    need_set(marked, needed, count_values(q), lost.p, support, spare);
+    fill_support(q, lost, set, spare);
+    need_set(marked, needed, count_values(q), lost.p, set, spare);
     true
 }
 
@@ -422,6 +446,7 @@ pub(crate) fn go_back(
                 Lost { p, r, u, direction },
                 marked,
                 needed,
+                &mut room.set,
                 &mut room.spare,
                 &mut room.other,
             ))),

@@ -191,17 +191,27 @@ matched_some true None f m some = absurd cc
 matched_some true (Some l) None m some = absurd cc
 matched_some true (Some l) (Some k) m some = refl
 
-compatible_leads : (q : Problem) (direction : Direction) (p r u w : ℕ) → Joins q direction p r → u < size q.target → w < size q.target → is_compatible q r u p w ≡ true
-    → is_some (edge (turned direction q.target) w u) ≡ true
-compatible_leads q Out p r u w joins u_in w_in fits =
+-- Its label is the same.
+matched_same : (induced : Bool) (e f : Option ℕ) → is_match induced e f ≡ true → is_some e ≡ true → f ≡ e
+matched_same false None f m some = absurd cc
+matched_same false (Some l) None m some = absurd cc
+matched_same false (Some l) (Some k) m some = ap Some (eqb-true k l m)
+matched_same true None f m some = absurd cc
+matched_same true (Some l) None m some = absurd cc
+matched_same true (Some l) (Some k) m some = ap Some (eqb-true k l (and_parts (k == l) (l == k) m).0)
+
+pub compatible_alike : (q : Problem) (direction : Direction) (p r u w : ℕ) → Joins q direction p r → u < size q.target → w < size q.target → is_compatible q r u p w ≡ true
+    → edge (turned direction q.target) w u ≡ edge (turned direction q.pattern) p r
+compatible_alike q Out p r u w joins u_in w_in fits =
     let parts = and_parts (is_open q u w) (is_match q.induced (edge q.pattern r p) (edge q.target u w) && is_match q.induced (edge q.pattern p r) (edge q.target w u)) fits in
     let both = and_parts (is_match q.induced (edge q.pattern r p) (edge q.target u w)) (is_match q.induced (edge q.pattern p r) (edge q.target w u)) parts.1 in
-    matched_some q.induced (edge q.pattern p r) (edge q.target w u) both.1 joins.joined
-compatible_leads q In p r u w joins u_in w_in fits =
+    matched_same q.induced (edge q.pattern p r) (edge q.target w u) both.1 joins.joined
+compatible_alike q In p r u w joins u_in w_in fits =
     let parts = and_parts (is_open q u w) (is_match q.induced (edge q.pattern r p) (edge q.target u w) && is_match q.induced (edge q.pattern p r) (edge q.target w u)) fits in
     let both = and_parts (is_match q.induced (edge q.pattern r p) (edge q.target u w)) (is_match q.induced (edge q.pattern p r) (edge q.target w u)) parts.1 in
-    ap is_some (edge-reversed q.target w u w_in u_in)
-    ∙ matched_some q.induced (edge q.pattern r p) (edge q.target u w) both.0 (ap is_some (sym (edge-reversed q.pattern p r joins.vertex_in joins.other_in)) ∙ joins.joined)
+    let back = edge-reversed q.pattern p r joins.vertex_in joins.other_in in
+    edge-reversed q.target w u w_in u_in
+    ∙ (matched_same q.induced (edge q.pattern r p) (edge q.target u w) both.0 (ap is_some (sym back) ∙ joins.joined) ∙ sym back)
 
 -- and the same from the side of the first
 leads_beside : (q : Problem) (direction : Direction) (p t r u : ℕ) → Joins q direction p r → t < size q.target → u < size q.target → is_compatible q p t r u ≡ true
@@ -346,15 +356,15 @@ module _ (q : Problem) (rows : List Row) (sound : Sound q rows) (s : Option watc
             apart (inr other) = inr (other, most)
 
     -- The encoding's constraint on an edge, where no place that is left for p has one.
-    edge_gives : (p r u : ℕ) (direction : Direction) → IsUnsupported q old direction p r u → AllSupport q direction p u needed → Gives at (pair_form q r p u ∷ []) (variable q r u) false
+    edge_gives : (p r u : ℕ) (direction : Direction) → IsUnsupported q old direction p r u → AllSupport q p r u needed → Gives at (pair_form q r p u ∷ []) (variable q r u) false
     edge_gives p r u direction is support =
         one_gives at (pair_form q r p u) (variable q r u) false
         (leads_takes q at p r u (is_compatible q r u p)
-        (λ w w_in fits. let leads = compatible_leads q direction p r u w is.joins is.value_in w_in fits in out p w w_in (support w w_in leads) (gone w leads (in_domain old p w) refl)))
+        (λ w w_in fits. out p w w_in (support w w_in fits) (gone w (compatible_alike q direction p r u w is.joins is.value_in w_in fits) (in_domain old p w) refl)))
       where
-        gone : (w : ℕ) → is_some (edge (turned direction q.target) w u) ≡ true → (b : Bool) → in_domain old p w ≡ b → b ≡ false
-        gone w leads true here = absurd (true≢false (sym leads ∙ is.none w here))
-        gone w leads false here = refl
+        gone : (w : ℕ) → edge (turned direction q.target) w u ≡ edge (turned direction q.pattern) p r → (b : Bool) → in_domain old p w ≡ b → b ≡ false
+        gone w alike true here = absurd (is.none w here alike)
+        gone w alike false here = refl
 
     -- That of a pair that is to be in order, where no value on its side is left for the other vertex.
     order_gives : (k r u : ℕ) (side : Side) (own : List Form) → IsOutOfOrder q old k side r u → AllOnSide q k u side needed → IsOrdered q k side r u own → Gives at own (variable q r u) false

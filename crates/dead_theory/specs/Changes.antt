@@ -9,6 +9,7 @@ use Rattle.graph_theory.specs.declared.direction.Direction.{Direction}
 use Rattle.proof_theory.specs.Forms.{Form}
 use Rattle.log_theory.specs.Lookups.{is_among}
 use Rattle.encoding_theory.specs.Encoding.{at_least, at_most, leads_form, pair_form}
+use Rattle.encoding_theory.specs.Pairs.{is_compatible}
 use Rattle.explanation_theory.specs.Reasons.{pairs_clause, at_leasts, set_form, over_form, ForcesFirst, ForcesBeside, ForcesByEdges}
 use Rattle.search_theory.specs.Consistency.{IsFirstValue, AreConsistent}
 use Rattle.nogood_watch.specs.Nogoods as watched
@@ -220,10 +221,10 @@ abbrev pub AreKeptIn : List ℕ → List ℕ → (ℕ → ℕ → Bool) → Type
 AreKeptIn vertices values needed = (r u : ℕ) → is_among r vertices ≡ true
     → is_among u values ≡ false → needed r u ≡ true
 
--- All values of p from which an edge leads to u, in the direction.
-abbrev pub AllSupport : Problem → Direction → ℕ → ℕ → (ℕ → ℕ → Bool) → Type 0
-AllSupport q direction p u needed = (w : ℕ) → w < size q.target
-    → is_some (edge (turned direction q.target) w u) ≡ true → needed p w ≡ true
+-- All values of p that may stand beside u for r: those that the line of this pair lists.
+abbrev pub AllSupport : Problem → ℕ → ℕ → ℕ → (ℕ → ℕ → Bool) → Type 0
+AllSupport q p r u needed = (w : ℕ) → w < size q.target → is_compatible q r u p w ≡ true
+    → needed p w ≡ true
 
 -- All values of these vertices to which an edge leads from t, in the direction, t itself and the values of the set aside.
 abbrev pub AllBeside : Problem → Direction → ℕ → List ℕ → List ℕ → (ℕ → ℕ → Bool) → Type 0
@@ -243,7 +244,7 @@ NeedsBy (cause.Guess t) q rows path r needed = Unit {0}
 NeedsBy (cause.Vertex p t) q rows path r needed = IsUpheld path None needed (p, t)
 NeedsBy (cause.Nogood name) q rows path r needed = AreUpheld path (Some r) needed
     (path_at rows name)
-NeedsBy (cause.Edge p u direction) q rows path r needed = AllSupport q direction p u needed
+NeedsBy (cause.Edge p u direction) q rows path r needed = AllSupport q p r u needed
 NeedsBy (cause.Order k u side) q rows path r needed = AllOnSide q k u side needed
 
 abbrev pub Needs : Problem → List Row → List (ℕ × ℕ) → Change → (ℕ → ℕ → Bool) → Type 0

@@ -97,7 +97,7 @@ const FIRST_GUESS: Dead = Dead(
     Ended::Empty(1),
 );
 
-static DEATHS: [Deaths; 14] = [
+static DEATHS: [Deaths; 15] = [
     // The end rests on two changes of three, and the one between, whose vertex the path has, is not named.
     Deaths {
         sample: Sample(b"3 0 0 0", APART, LadKind::Lad, false),
@@ -444,6 +444,30 @@ u 1.9 ; 1.2 1.4 1.6 1.8 1 ;
             head: b"embedding proof 1\nm 10\n",
             lines: b"p 1.1 7 4 + ;\nu 1.2 ~x1 ; 1.1 3 ;\n",
             end: b"q\n",
+        },
+    },
+    // Nor has the second vertex support there. The value with that edge left the first one before, and is not named.
+    Deaths {
+        sample: Sample(
+            b"2 0 1 1 1 0 0",
+            b"2 0 1 1 2 0 0",
+            LadKind::LabelledLad,
+            false,
+        ),
+        numbers: &[],
+        paths: &[Dead(
+            &[],
+            &[
+                What::One(0, Cause::Edge(1, 0, Direction::In)),
+                What::One(1, Cause::Edge(0, 0, Direction::Out)),
+                What::One(1, Cause::Edge(0, 1, Direction::Out)),
+            ],
+            Ended::Empty(1),
+        )],
+        log: Log {
+            head: b"embedding proof 1\nm 10\n",
+            lines: b"u 1.1 ; 9 10 3 ;\n",
+            end: b"e 1.1\n",
         },
     },
     // What a neighbour has left has no edge to either value of the last vertex, whose places beside the first one are needed of that neighbour then.

@@ -1,6 +1,6 @@
 -- Edges between vertices that are not decided: which values have support.
 
-use Rattle.std.specs.Prelude.{◌≡◌, ℕ, ◌<◌, true, is_some, List}
+use Rattle.std.specs.Prelude.{◌≡◌, ℕ, ◌<◌, true, is_some, List, Some}
 use Rattle.graph_theory.specs.Graph.{Graph, size, edge}
 use Rattle.graph_theory.specs.Embedding.{Problem}
 use Rattle.graph_theory.specs.Reversed.{turned}
@@ -23,6 +23,18 @@ Unites target d direction p row = (w u : ℕ) → in_domain d p w ≡ true
 abbrev pub AreUnsupported : Problem → State → Direction → ℕ → ℕ → List ℕ → Type 0
 AreUnsupported q d direction p r row = (u : ℕ) → has row u ≡ true
     → IsUnsupported q d direction p r u
+
+-- ---- with labels
+
+-- No value below n that is left for p has an edge with this label to u.
+abbrev pub LacksBefore : Graph → State → Direction → ℕ → ℕ → ℕ → ℕ → Type 0
+LacksBefore target d direction p u label n = (w : ℕ) → w < n → in_domain d p w ≡ true
+    → edge (turned direction target) w u ≡ Some label → ⊥
+
+-- No value that is left for p has one.
+abbrev pub LacksSupport : Graph → State → Direction → ℕ → ℕ → ℕ → Type 0
+LacksSupport target d direction p u label = (w : ℕ) → in_domain d p w ≡ true
+    → edge (turned direction target) w u ≡ Some label → ⊥
 
 -- ---- memory
 

@@ -1,18 +1,18 @@
 //! Edges between vertices that are not decided: where an edge leads from `p` to `r`, each value left for `r` needs one left for `p` from which an
-//! edge leads to it. What has none leaves. (Arc consistency is that of A. Mackworth 1977; the union of the rows of all values that are left makes
-//! it one operation on rows for each neighbour, after J. R. Ullmann 2010.)
+//! edge with the same label leads to it. What has none leaves. (Arc consistency is that of A. Mackworth 1977; the union of the rows of all values
+//! that are left makes it one operation on rows for each neighbour, after J. R. Ullmann 2010. With labels of edges each value is asked by itself.)
 
-ghost use Rattle.std.specs.Prelude.{◌≡◌, ℕ, ◌*◌, ◌<◌, ◌≤◌, true, false, is_some, length, slice_index};
+ghost use Rattle.std.specs.Prelude.{◌≡◌, ℕ, ◌*◌, ◌<◌, ◌≤◌, ◌↔◌, true, false, is_some, length, slice_index, IsTrue, Some};
 ghost use Rattle.graph_theory.specs.Graph.{size, edge};
 ghost use Rattle.graph_theory.specs.Reversed.{turned};
 ghost use Rattle.bit_rows.specs.BitRows.{has, words_for};
-ghost use Rattle.recorder.specs.Telling.{Joins};
-ghost use Rattle.propagation.specs.Edges.{AreUnsupported, IsRoomFor, Unites, UnitesBefore};
+ghost use Rattle.recorder.specs.Telling.{IsOf, Joins};
+ghost use Rattle.propagation.specs.Edges.{AreUnsupported, IsRoomFor, LacksSupport, Unites};
 ghost use Rattle.propagation.specs.Taking.{AreFlagged, Takes};
 
 use crate::edge_room::EdgeRoom;
 use crate::removal::take_by;
-use bit_rows::{and_not_into, has_bit, next_member, or_into};
+use bit_rows::{and_not_into, has_bit, next_member, or_into, unset_bit};
 use domain_bits::{Domains, Trail};
 use graph_rows::{Graph, Problem};
 use graph_theory::direction::Direction;
@@ -212,8 +212,145 @@ fn support_near<T: Trail, R: Recorder>(
     Ok(())
 }
 
+/// Whether an edge with this label leads from `w` to `u`. Cost: that of `Graph::edge`.
+fn has_label(target: &Graph, direction: Direction, w: u16, u: u16, label: u32) -> bool
+    requires from { w < size target.now }
+    requires to { u < size target.now }
+    ensures { IsTrue result ↔ (edge (turned direction target.now) w u ≡ Some label) }
+{
+    match target.edge_by(direction, w, u) {
+        Some(other) => other == label,
+        None => false,
+    }
+}
+
+/// Whether an edge with this label leads to `u` from a value that is left for the first vertex. Cost: one step for each word of a row and for each
+/// value from which an edge leads to `u`, and that of `Graph::edge` for each of these that is left, up to the first with this label.
+fn has_support<T: Trail>(
+    target: &Graph,
+    d: &Domains<T>,
+    link: Link,
+    u: u16,
+    label: u32,
+    steps: &mut u64,
+) -> bool
+    requires p_in { link.p < d.now.vertices }
+    requires values { d.now.values ≡ size target.now }
+    requires u_in { u < size target.now }
+    ensures some { result ≡ true
+        → LacksSupport target.now d.now link.direction link.p u label → ⊥ }
+    ensures none { result ≡ false → LacksSupport target.now d.now link.direction link.p u label }
+{
+    let near = target.in_row_by(link.direction, u);
+    let domain = d.row(link.p);
+    *steps = steps.wrapping_add(row_cost(near.len())).wrapping_add(3);
+    let mut w = next_member(near, 0);
+    while w < 64 * near.len() {
+        if has_bit(domain, w) {
+            *steps = steps.wrapping_add(1 + near.len() as u64);
+            if has_label(target, link.direction, w as u16, u, label) {
+                return true;
+            }
+        }
+        w = next_member(near, w + 1);
+    }
+    false
+}
+
+/// Leaves of a row of values of the second vertex those that have no support by edges with the label of the pattern's. Cost: that of `has_support` for
+/// each value.
+fn leave_lacking<T: Trail>(
+    q: &Problem,
+    d: &Domains<T>,
+    link: Link,
+    label: u32,
+    row: &mut [u64],
+    steps: &mut u64,
+)
+    requires is_of { IsOf q.now d.now }
+    requires joins { Joins q.now link.direction link.p link.r }
+    requires label { edge (turned link.direction q.now.pattern) link.p link.r ≡ Some label }
+    requires long { length row.old ≡ words_for (size q.now.target) }
+    requires within { (u : ℕ) → has row.old u ≡ true → u < size q.now.target }
+    ensures unsupported { AreUnsupported q.now d.now link.direction link.p link.r row.new }
+{
+    let target = q.target();
+    let _size = target.size();
+    let mut u = next_member(row, 0);
+    while u < 64 * row.len() {
+        if has_support(target, d, link, u as u16, label, steps) {
+            unset_bit(row, u);
+        }
+        u = next_member(row, u + 1);
+    }
+}
+
+/// Takes from the domain of the second vertex what has no support by edges with the label of the pattern's. `gone` is room for a row. Cost: a few steps
+/// for each word of a row, that of `has_support` for each value, and one for each value that leaves.
+fn support_alike<T: Trail, R: Recorder>(
+    q: &Problem,
+    d: &mut Domains<T>,
+    waiting: &mut [bool],
+    told: &mut R,
+    link: Link,
+    gone: &mut [u64],
+    steps: &mut u64,
+) -> Result<(), Failure>
+    requires flagged { AreFlagged q.now d.old waiting.old }
+    requires joins { Joins q.now link.direction link.p link.r }
+    requires gone { length gone.old ≡ words_for (size q.now.target) }
+    ensures takes { Takes result q.now d.old waiting.old (R.changes told.old)
+        d.new waiting.new (R.changes told.new) }
+    ensures gone { length gone.new ≡ words_for (size q.now.target) }
+{
+    match q.pattern().edge_by(link.direction, link.p, link.r) {
+        None => Ok(()),
+        Some(label) => {
+            gone.copy_from_slice(d.row(link.r));
+            leave_lacking(q, d, link, label, gone, steps);
+            take_row(q, d, waiting, told, link, gone)
+        }
+    }
+}
+
+/// The same for all vertices that are not past to which an edge of the source leads.
+fn support_labelled<T: Trail, R: Recorder>(
+    q: &Problem,
+    d: &mut Domains<T>,
+    waiting: &mut [bool],
+    told: &mut R,
+    source: &Source<'_>,
+    gone: &mut [u64],
+    steps: &mut u64,
+) -> Result<(), Failure>
+    requires flagged { AreFlagged q.now d.old waiting.old }
+    requires p_in { source.now.p < size q.now.pattern }
+    requires members { (k : ℕ) → k < length source.now.members.now
+        → slice_index source.now.members.now k < size q.now.pattern }
+    requires near_long { size q.now.pattern ≤ 64 * length source.now.near.now }
+    requires near { (r : ℕ) → has source.now.near.now r
+        ≡ is_some (edge (turned source.now.direction q.now.pattern) source.now.p r) }
+    requires gone { length gone.old ≡ words_for (size q.now.target) }
+    ensures takes { Takes result q.now d.old waiting.old (R.changes told.old)
+        d.new waiting.new (R.changes told.new) }
+    ensures gone { length gone.new ≡ words_for (size q.now.target) }
+{
+    let members = source.members;
+    let p = source.p;
+    let direction = source.direction;
+    *steps = steps.wrapping_add(members.len() as u64);
+    for k in 0..members.len() {
+        let r = members[k];
+        if !leads_to(source, r) {
+            continue;
+        }
+        support_alike(q, d, waiting, told, Link { p, r, direction }, gone, steps)?;
+    }
+    Ok(())
+}
+
 /// Takes what the values left for `p` do not support along its edges in the direction. Cost: the words of a row for each value left for `p`, up to
-/// where all have support, and then for each vertex to which an edge leads.
+/// where all have support, and then for each vertex to which an edge leads. With labels of edges: that of `support_labelled`.
 fn support_from<T: Trail, R: Recorder>(
     q: &Problem,
     d: &mut Domains<T>,
@@ -239,6 +376,9 @@ fn support_from<T: Trail, R: Recorder>(
         members: undecided.members(),
     };
     let steps = &mut room.spent;
+    if q.pattern().keeps_edge_labels() {
+        return support_labelled(q, d, waiting, told, &source, &mut room.gone, steps);
+    }
     if !want(d, &source, &mut room.wanted, steps) {
         return Ok(());
     }

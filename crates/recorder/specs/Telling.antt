@@ -81,13 +81,13 @@ pub record Joins (q : Problem) (direction : Direction) (p r : ℕ) : Type 0 wher
   pub apart : p ≡ r → ⊥
   pub joined : is_some (edge (turned direction q.pattern) p r) ≡ true
 
--- An edge leads from p to r, but from no value that is left for p to u: so r, which goes where p's edge leads, does not go to u.
+-- An edge leads from p to r, but from no value that is left for p one with the same label to u: so r, which goes where p's edge leads, does not go to u.
 pub record IsUnsupported (q : Problem) (d : State) (direction : Direction)
     (p r u : ℕ) : Type 0 where
   pub joins : Joins q direction p r
   pub value_in : u < size q.target
   pub none : (w : ℕ) → in_domain d p w ≡ true
-      → is_some (edge (turned direction q.target) w u) ≡ false
+      → edge (turned direction q.target) w u ≡ edge (turned direction q.pattern) p r → ⊥
 
 -- Of a pair whose images are to be in order, the vertex at this end.
 abbrev pub end_at : Side → ℕ × ℕ → ℕ

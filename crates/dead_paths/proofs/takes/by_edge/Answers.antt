@@ -1,7 +1,5 @@
-use Rattle.std.proofs.Common.{◌≡◌, ℕ, is_some, false, refl, subst, rules}
-use Rattle.graph_theory.specs.Graph.{Graph, size, edge}
-use Rattle.graph_theory.specs.Reversed.{turned}
-use Rattle.bit_rows.specs.BitRows.{has}
+use Rattle.std.proofs.Common.{◌≡◌, false, refl, rules}
+use Rattle.graph_theory.specs.Graph.{size}
 use Rattle.recorder.specs.declared.change.Cause.TheVariants as cause
 use Rattle.recorder.specs.Recording.{LeftOne}
 use Rattle.dead_paths.proofs.Resting.{pass_value, step_edge}
@@ -16,5 +14,5 @@ returns-then-not-take_value c = λ rows path from.
 pub returns : goal.returns
 returns c = λ rows path from.
     step_edge c.args.q.now rows path (size c.args.q.now.target) c.count_values.result c.args.marked.now c.take_value.new.marked c.need_set.new.marked c.args.needed.now c.take_value.new.needed c.need_set.new.rows
-    c.args.lost.p c.args.lost.u c.args.lost.r from c.args.lost.direction c.in_row_by-support.result.now refl c.count_values.ensures.is c.take_value.ensures.left c.need_set.ensures.stays
-    (subst (λ (g : Graph). (w : ℕ) → has c.in_row_by-support.result.now w ≡ is_some (edge (turned c.args.lost.direction g) w c.args.lost.u)) c.target.ensures.target c.in_row_by-support.ensures.neighbours) c.need_set.ensures.needed
+    c.args.lost.p c.args.lost.u c.args.lost.r from c.args.lost.direction c.fill_support.new.set refl c.count_values.ensures.is c.take_value.ensures.left c.need_set.ensures.stays
+    c.fill_support.ensures c.need_set.ensures.needed

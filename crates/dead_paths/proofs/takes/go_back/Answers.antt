@@ -81,9 +81,9 @@ returns-in_ok-chosen-in-Nogood-clause-fit c = record {
 
 pub returns-in-Edge-clause-fit : goal.returns-in-Edge-clause-fit
 returns-in-Edge-clause-fit c = record {
-  spare = kept_long c.args.room.now.spare.len _ _ _ (c.by_edge.auto.spare ∙ c.deref_mut-in-Edge.ensures.len) (c.args.room.now.spare.ok.0 ∙ c.requires.fit.spare);
-  other = kept_long c.args.room.now.other.len _ _ _ (c.by_edge.auto.other ∙ c.deref_mut-in-Edge-2.ensures.len) (c.args.room.now.other.ok.0 ∙ c.requires.fit.other);
-  set = c.requires.fit.set;
+  spare = kept_long c.args.room.now.spare.len _ _ _ (c.by_edge.auto.spare ∙ c.deref_mut-in-Edge-2.ensures.len) (c.args.room.now.spare.ok.0 ∙ c.requires.fit.spare);
+  other = kept_long c.args.room.now.other.len _ _ _ (c.by_edge.auto.other ∙ c.deref_mut-in-Edge-3.ensures.len) (c.args.room.now.other.ok.0 ∙ c.requires.fit.other);
+  set = kept_long c.args.room.now.set.len _ _ _ (c.by_edge.auto.set ∙ c.deref_mut-in-Edge.ensures.len) (c.args.room.now.set.ok.0 ∙ c.requires.fit.set);
   counts = c.requires.fit.counts;
 }
 

@@ -12,7 +12,7 @@ use Rattle.propagation.proofs.edges.support_from.Goals as goal
 pub support_near-requires-clause-unites : goal.support_near-requires-clause-unites
 support_near-requires-clause-unites g c =
     let unites = subst (λ (t : Graph). Unites t c.args.d.now c.args.from.1 c.args.from.0 c.unite.new.union) c.target.ensures.target (c.if-unite.ensures.unites refl) in
-    let same = sym (c.deref-2.ensures.value ∙ with_items_is c.room.inside.union c.unite.new.union (c.unite.auto.union ∙ c.deref_mut-2.ensures.len)) in
+    let same = sym (c.deref-2.ensures.value ∙ with_items_is c.room.inside.union c.unite.new.union (c.unite.auto.union ∙ c.deref_mut-3.ensures.len)) in
     subst (λ (row : List ℕ). Unites c.args.q.now.target c.args.d.now c.args.from.1 c.args.from.0 row) same unites
 
 pub returns-then-not-want-clause-takes : goal.returns-then-not-want-clause-takes
@@ -64,7 +64,7 @@ invariant_of-room-2 g c = (
 pub want-requires-clause-long : goal.want-requires-clause-long
 want-requires-clause-long g c =
     let room = subst (λ (r : RoomSize). IsRoomFor c.args.q.now r) (sym c.room.view_is) c.requires.room in
-    ap length c.deref_mut.ensures.value ∙ c.room.invariant.0 ∙ room.words_is ∙ sym (ap words_for c.requires.flagged.is_of.values_is)
+    ap length c.deref_mut-2.ensures.value ∙ c.room.invariant.0 ∙ room.words_is ∙ sym (ap words_for c.requires.flagged.is_of.values_is)
 
 pub unite-requires-clause-wanted : goal.unite-requires-clause-wanted
 unite-requires-clause-wanted g c =
@@ -74,7 +74,7 @@ unite-requires-clause-wanted g c =
 pub unite-requires-clause-long : goal.unite-requires-clause-long
 unite-requires-clause-long g c =
     let room = subst (λ (r : RoomSize). IsRoomFor c.args.q.now r) (sym c.room.view_is) c.requires.room in
-    ap length c.deref_mut-2.ensures.value ∙ room.words_is ∙ sym (ap (λ (t : Graph). words_for (size t)) c.target.ensures.target)
+    ap length c.deref_mut-3.ensures.value ∙ room.words_is ∙ sym (ap (λ (t : Graph). words_for (size t)) c.target.ensures.target)
 
 pub support_near-requires-clause-union : goal.support_near-requires-clause-union
 support_near-requires-clause-union g c =
@@ -84,7 +84,7 @@ support_near-requires-clause-union g c =
 pub support_near-requires-clause-gone : goal.support_near-requires-clause-gone
 support_near-requires-clause-gone g c =
     let room = subst (λ (r : RoomSize). IsRoomFor c.args.q.now r) (sym c.room.view_is) c.requires.room in
-    ap length c.deref_mut-3.ensures.value ∙ c.room.invariant.1 ∙ room.words_is
+    ap length c.deref_mut-4.ensures.value ∙ c.room.invariant.1 ∙ room.words_is
 
 pub support_near-requires-clause-members : goal.support_near-requires-clause-members
 support_near-requires-clause-members g c k k_in = subst (λ (n : ℕ). slice_index c.members.result.now k < n) c.requires.count (member_below c.args.undecided.now _ (c.members.ensures.member k k_in))
