@@ -15,6 +15,7 @@ ghost use Rattle.graph_theory.specs.Asked.{asked_degree, room, asked_sequence};
 ghost use Rattle.graph_theory.specs.Reversed.{reversed, reversed_problem, AreMutual};
 ghost use Rattle.bit_rows.specs.BitRows.{has, words_for};
 ghost use Rattle.nds_filter.specs.Sequences.{sequences, sequence_at};
+ghost use Rattle.nds_filter.specs.Target.{AreOf};
 ghost use Rattle.search_theory.specs.Consistency.{IsFirstValue};
 ghost use Rattle.initial_domains.specs.Degrees.{KeepsNeighbours, KeepsDegrees, KeepsSequences};
 
@@ -23,7 +24,7 @@ use degree_filter::keep_degrees;
 use graph_rows::Problem;
 use graph_theory::direction::Direction;
 use graph_theory::embedding::Maps;
-use nds_filter::{KeptRows, SequenceAnswer, Sequences};
+use nds_filter::{KeptRows, SequenceAnswer, Sequences, TargetSequences};
 use std::alloc::{AllocError, Global};
 use std::marker::Model;
 
@@ -61,12 +62,17 @@ impl<'a> Model for SequenceRows<'a> {
 }
 
 impl<'a> SequenceRows<'a> {
-    /// The rows of a problem. Cost: that of `KeptRows::new`, twice where edges are not known to stand both ways.
-    fn new(alloc: Global, problem: &'a Problem) -> Result<SequenceRows<'a>, AllocError>
+    /// The rows of a problem. Cost: that of `KeptRows::beside`, twice where edges are not known to stand both ways.
+    fn beside(
+        alloc: Global,
+        problem: &'a Problem,
+        kept: Option<&TargetSequences>,
+    ) -> Result<SequenceRows<'a>, AllocError>
+        requires { IfSome kept (λ k. AreOf k.now problem.now.target) }
         ensures { IfOk result (λ k. k ≡ problem.entry.now) }
     {
-        let out = KeptRows::new(alloc, problem, Direction::Out)?;
-        let back = rows_back(alloc, problem)?;
+        let out = KeptRows::beside(alloc, problem, Direction::Out, kept)?;
+        let back = rows_back(alloc, problem, kept)?;
         Ok(SequenceRows { problem, out, back })
     }
 }
@@ -107,7 +113,19 @@ impl<'a> InitialDomains<'a> {
     pub fn new(alloc: Global, problem: &'a Problem) -> Result<InitialDomains<'a>, AllocError>
         ensures { IfOk result (λ k. k ≡ problem.entry.now) }
     {
-        let rows = sequence_rows(alloc, problem)?;
+        InitialDomains::beside(alloc, problem, None)
+    }
+
+    /// The same, where sequences of the target may be kept. Cost: that of `new`, less that of the sequences that are.
+    pub fn beside(
+        alloc: Global,
+        problem: &'a Problem,
+        kept: Option<&TargetSequences>,
+    ) -> Result<InitialDomains<'a>, AllocError>
+        requires { IfSome kept (λ k. AreOf k.now problem.now.target) }
+        ensures { IfOk result (λ k. k ≡ problem.entry.now) }
+    {
+        let rows = sequence_rows(alloc, problem, kept)?;
         Ok(InitialDomains { problem, rows })
     }
 }
@@ -116,7 +134,9 @@ impl<'a> InitialDomains<'a> {
 fn sequence_rows<'a>(
     alloc: Global,
     problem: &'a Problem,
+    kept: Option<&TargetSequences>,
 ) -> Result<Option<SequenceRows<'a>>, AllocError>
+    requires { IfSome kept (λ k. AreOf k.now problem.now.target) }
     ensures some { IfOk result (λ rows. IfSome rows (λ k. k ≡ problem.entry.now)) }
     ensures injective { IfOk result
         (λ rows. IfSome rows (λ k. is_injective problem.entry.now.maps ≡ true)) }
@@ -128,19 +148,24 @@ fn sequence_rows<'a>(
         Maps::Local => return Ok(None),
         Maps::Any => return Ok(None),
     }
-    let rows = SequenceRows::new(alloc, problem)?;
+    let rows = SequenceRows::beside(alloc, problem, kept)?;
     Ok(Some(rows))
 }
 
 /// The rows of the edges that lead in, where edges are not known to stand both ways.
-fn rows_back<'a>(alloc: Global, problem: &'a Problem) -> Result<Option<KeptRows<'a>>, AllocError>
+fn rows_back<'a>(
+    alloc: Global,
+    problem: &'a Problem,
+    kept: Option<&TargetSequences>,
+) -> Result<Option<KeptRows<'a>>, AllocError>
+    requires { IfSome kept (λ k. AreOf k.now problem.now.target) }
     ensures some { IfOk result (λ rows. IfSome rows (λ k. k ≡ reversed_problem problem.entry.now)) }
     ensures none { IfOk result (λ rows. IfNone rows (AreMutual problem.entry.now)) }
 {
     if problem.is_mutual() {
         return Ok(None);
     }
-    let rows = KeptRows::new(alloc, problem, Direction::In)?;
+    let rows = KeptRows::beside(alloc, problem, Direction::In, kept)?;
     Ok(Some(rows))
 }
 

@@ -80,7 +80,7 @@ fn find<'a>(
 ) -> Result<bool, AllocError>
     requires { kinds.now.problem ≡ q.now }
 {
-    match root::<WordTrail, Silent>(alloc, q, kinds, WORDS, Silent) {
+    match root::<WordTrail, Silent>(alloc, q, kinds, WORDS, None, Silent) {
         Rooted::Quiet(domains, _) => {
             let copy = domains.copy(alloc)?;
             let one = found_by_first(alloc, q, kinds, domains)?;

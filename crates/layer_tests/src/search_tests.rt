@@ -226,7 +226,7 @@ fn search<'a>(
 ) -> Result<End, AllocError>
     requires { kinds.now.problem ≡ q.now }
 {
-    match root::<WordTrail, Silent>(alloc, q, kinds, WORDS, Silent) {
+    match root::<WordTrail, Silent>(alloc, q, kinds, WORDS, None, Silent) {
         Rooted::Quiet(domains, _) => one_run(alloc, q, kinds, domains, budget, rows),
         Rooted::Failed(_, _) => Ok(End::None),
         Rooted::NoMemory => Err(AllocError),
@@ -331,7 +331,7 @@ fn fails_alike_from_root<'a>(
 ) -> Result<bool, AllocError>
     requires { kinds.now.problem ≡ q.now }
 {
-    match root::<WordTrail, Silent>(alloc, q, kinds, WORDS, Silent) {
+    match root::<WordTrail, Silent>(alloc, q, kinds, WORDS, None, Silent) {
         Rooted::Quiet(domains, _) => fails_alike(alloc, q, kinds, &domains),
         Rooted::Failed(_, _) => Ok(false),
         Rooted::NoMemory => Err(AllocError),
@@ -401,7 +401,7 @@ fn stops_from_root<'a>(
 ) -> Result<bool, AllocError>
     requires { kinds.now.problem ≡ q.now }
 {
-    match root::<WordTrail, Silent>(alloc, q, kinds, WORDS, Silent) {
+    match root::<WordTrail, Silent>(alloc, q, kinds, WORDS, None, Silent) {
         Rooted::Quiet(domains, _) => stops_and_goes_on(alloc, q, kinds, domains),
         Rooted::Failed(_, _) => Ok(false),
         Rooted::NoMemory => Err(AllocError),

@@ -2,14 +2,16 @@
 //! class and share a row, which is made once.
 
 ghost use Rattle.std.specs.Prelude.{◌≡◌, ℕ, ◌*◌, ◌<◌, ◌≤◌, ◌↔◌, true, [], length, IsTrue, IfOk, OnOk, IfSome, slice_index};
-ghost use Rattle.graph_theory.specs.Graph.{size};
+ghost use Rattle.graph_theory.specs.Graph.{Graph as TheGraph, size};
 ghost use Rattle.graph_theory.specs.Neighbours.{degree, sequence, IsKeptBy};
 ghost use Rattle.graph_theory.specs.Reversed.{turned, turned_problem};
 ghost use Rattle.bit_rows.specs.BitRows.{has, words_for};
 ghost use Rattle.nds_filter.specs.Sequences.{sequences, sequence_at};
+ghost use Rattle.nds_filter.specs.Target.{AreOf};
 ghost use Rattle.nds_filter.specs.Kept.{KeptRow, row_at, AreFirsts, RowsStay, AreKept};
 
 use crate::sequences::{SequenceAnswer, Sequences, compare};
+use crate::target::TargetSequences;
 use bit_rows::{fill_below, next_member, unset_bit, words_for};
 use degree_filter::keep_large;
 use graph_rows::Problem;
@@ -106,8 +108,24 @@ impl<'a> KeptRows<'a> {
         KeptRows::with_target(alloc, problem, direction, &ts)
     }
 
+    /// The same, where sequences of the target may be kept. Cost: that of `new`, without the target's sequences where those in this direction are kept.
+    pub fn beside(
+        alloc: Global,
+        problem: &'a Problem,
+        direction: Direction,
+        kept: Option<&TargetSequences>,
+    ) -> Result<KeptRows<'a>, AllocError>
+        requires { IfSome kept (λ k. AreOf k.now problem.now.target) }
+        ensures { IfOk result (λ k. k ≡ turned_problem direction problem.entry.now) }
+    {
+        match sequences_of(kept, direction) {
+            Some(ts) => KeptRows::with_target(alloc, problem, direction, ts),
+            None => KeptRows::new(alloc, problem, direction),
+        }
+    }
+
     /// The same, where the sequences of the target in this direction are there already. Cost: that of `new` without them.
-    pub fn with_target(
+    fn with_target(
         alloc: Global,
         problem: &'a Problem,
         direction: Direction,
@@ -149,6 +167,20 @@ impl<'a> KeptRows<'a> {
     {
         let class = self.classes[usize::from(p)];
         self.rows.of(class)
+    }
+}
+
+/// The sequences in a direction of what may be kept of a target, if they are.
+fn sequences_of<'k>(
+    kept: Option<&'k TargetSequences>,
+    direction: Direction,
+) -> Option<&'k Sequences>
+    ensures { (g : TheGraph) → IfSome kept.entry (λ k. AreOf k.now g)
+        → IfSome result (λ s. s.now ≡ sequences (turned direction g)) }
+{
+    match kept {
+        Some(target) => target.by(direction),
+        None => None,
     }
 }
 

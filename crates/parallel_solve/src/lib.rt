@@ -5,8 +5,8 @@
 //!
 //! It keeps nothing between calls. If a log is asked for, the answer carries it. It offers `solve`, and `solve_alone`, one
 //! search that needs no leave to make threads; `solve_with` and `solve_alone_with` are the same at a gate, which each worker passes
-//! and by which the caller may end the call. What an answer means is the same for every number of workers. Which embedding is
-//! found can differ.
+//! and by which the caller may end the call, and `solve_alone_beside` takes sequences that are kept of a target. What an answer
+//! means is the same for every number of workers. Which embedding is found can differ.
 //!
 //! Workers that differ in their random choices and share nogoods at restarts are those of Archibald et al. (2019). Each
 //! worker takes memory for its domains, its nogoods, 16 bytes for each row of the book and for each row that it keeps for itself
@@ -22,4 +22,4 @@ mod team;
 
 pub use answers::{Interrupted, Settings, Solved};
 pub use proof_collection::{Logged, Proof};
-pub use solving::{solve, solve_alone, solve_alone_with, solve_with};
+pub use solving::{solve, solve_alone, solve_alone_beside, solve_alone_with, solve_with};

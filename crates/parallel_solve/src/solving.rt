@@ -3,6 +3,7 @@
 ghost use Rattle.std.specs.Prelude.{◌≡◌, [], ◌≤◌, ◌<◌, ◌^◌, false, true, None, IfErr, IfOk, IfSome};
 ghost use Rattle.graph_theory.specs.Graph.{size};
 ghost use Rattle.graph_theory.specs.Embedding.{HasNone};
+ghost use Rattle.nds_filter.specs.Target.{AreOf};
 ghost use Rattle.domain_bits.specs.Removals.{full};
 ghost use Rattle.recorder.specs.Telling.{Tells};
 ghost use Rattle.restart_search.specs.Searching.{RootFails};
@@ -18,12 +19,14 @@ use dead_paths::Ground;
 use domain_bits::WordTrail;
 use fail_account::Account;
 use graph_rows::Problem;
+use nds_filter::TargetSequences;
 use pair_supports::{MOST_WORDS, PairKinds};
 use pb_encoding::Encoding;
 use proof_collection::{KeepsLines, KeepsNothing, OwnerLog, Proof, ProofMaker};
 use proof_logger::{ProofLogger, Unlogged};
 use recorder::{Causes, DeadEnd, Failure, Silent};
 use restart_search::root::{Rooted, root as take_root};
+use small_search::{SmallAnswer, search_small};
 use std::alloc::{AllocError, Global};
 use std::thread::Threads;
 use worker_gate::{Gate, OpenGate};
@@ -34,6 +37,10 @@ const SMALL: u32 = 16_384;
 /// The fails of the short search with which one worker begins at a small problem. It is below the 128 of a run, so the search never
 /// restarts, and what it decides, the search with a book would have decided in the same way.
 const SHORT_BUDGET: u64 = 64;
+
+/// The steps of the search for small problems, which is asked before any table of the general search is made. So many cost about as much
+/// as these tables do, so what it leaves open costs twice as much at most.
+const SMALL_STEPS: u32 = 200;
 
 /// Whether the problem has so few pairs of a pattern vertex and a target vertex that one worker begins with a short search.
 fn is_small(q: &Problem) -> bool {
@@ -54,8 +61,25 @@ fn short_of(q: &Problem, s: &Settings) -> Option<Settings>
     })
 }
 
+/// The answer of the search for small problems, where it has one and no log is asked for.
+fn small_answer(alloc: Global, q: &Problem, s: &Settings) -> Option<Solved>
+    ensures { IfSome result
+        (λ solved. IsSolved solved q.now s.now.threads s.now.budget s.now.prove) }
+{
+    let asks_log = s.prove;
+    if asks_log {
+        return None;
+    }
+    match search_small(alloc, q, SMALL_STEPS) {
+        SmallAnswer::Yes(map) => Some(Solved::Yes(map)),
+        SmallAnswer::NoEmbedding => Some(Solved::NoEmbedding(Proof::Unlogged)),
+        SmallAnswer::Open => None,
+    }
+}
+
 /// Decides a problem by the workers that the settings ask for, which search beside each other and share what they refute. One worker alone
-/// begins at a small problem with a search of 64 fails, for which no book is made. Memory: beside the target's own, for each
+/// begins at a small problem with a search of 64 fails, for which no book is made; where no log is asked for, `search_small` comes before it, and where
+/// that decides the problem no memory is taken but the map's. Memory: beside the target's own, for each
 /// worker its domains, the watches of its nogoods, 16 bytes for each row of the book, as much to twice as much for each row that it keeps
 /// behind a full book, and its part of 64 MiB for rows of pairs;
 /// where a log is kept, also the encoding, the rows of values that share neighbours, and the lines of each dead path.
@@ -64,6 +88,9 @@ pub fn solve<R: Threads + Sync>(rt: &R, alloc: Global, q: &Problem, s: &Settings
     ensures { IsSolved result q.now s.now.threads s.now.budget s.now.prove }
 {
     if let Some(short) = short_of(q, s) {
+        if let Some(decided) = small_answer(alloc, q, s) {
+            return decided;
+        }
         match solve_open(rt, alloc, q, &short) {
             Solved::Unknown(_) => (),
             decided => return decided,
@@ -72,7 +99,7 @@ pub fn solve<R: Threads + Sync>(rt: &R, alloc: Global, q: &Problem, s: &Settings
     solve_open(rt, alloc, q, s)
 }
 
-/// Decides a problem as `solve` does by one worker without a log. It needs no leave to make threads.
+/// Decides a problem as `solve` does by one worker without a log, a small one first by `search_small`. It needs no leave to make threads.
 pub fn solve_alone(alloc: Global, q: &Problem, seed: u64, budget: u64, rows: u32) -> Solved
     requires budget { budget < 2 ^ 63 }
     requires rows { rows ≤ 4194304 }
@@ -85,8 +112,8 @@ pub fn solve_alone(alloc: Global, q: &Problem, seed: u64, budget: u64, rows: u32
 }
 
 /// The same at a gate, to which the worker comes at its start, before each guess and at each restart. An error where the gate
-/// was closed before a guess, and then nothing is decided. All that precedes the first guess, as the root's propagation, is done also at a
-/// closed gate.
+/// was closed before a guess, and then nothing is decided. All that precedes the first guess is done also at a closed gate: the search for small
+/// problems, which may decide one there, and the root's propagation.
 pub fn solve_alone_with<G: Gate>(
     alloc: Global,
     q: &Problem,
@@ -100,6 +127,25 @@ pub fn solve_alone_with<G: Gate>(
     ensures solved { IfOk result (λ solved. IsSolved solved q.now 1 budget false) }
     ensures closed { IfErr result (λ _. G.may_close gate.now) }
 {
+    solve_alone_beside(alloc, q, None, seed, budget, rows, gate)
+}
+
+/// The same, where sequences of the target may be kept from problems before, which are most of what precedes the first guess in a large target.
+pub fn solve_alone_beside<G: Gate>(
+    alloc: Global,
+    q: &Problem,
+    kept: Option<&TargetSequences>,
+    seed: u64,
+    budget: u64,
+    rows: u32,
+    gate: &G,
+) -> Result<Solved, Interrupted>
+    requires kept { IfSome kept (λ k. AreOf k.now q.now.target) }
+    requires budget { budget < 2 ^ 63 }
+    requires rows { rows ≤ 4194304 }
+    ensures solved { IfOk result (λ solved. IsSolved solved q.now 1 budget false) }
+    ensures closed { IfErr result (λ _. G.may_close gate.now) }
+{
     let s = Settings {
         threads: 1,
         seed,
@@ -108,12 +154,15 @@ pub fn solve_alone_with<G: Gate>(
         prove: false,
     };
     if let Some(short) = short_of(q, &s) {
-        match search_alone(alloc, q, &short, gate) {
+        if let Some(decided) = small_answer(alloc, q, &s) {
+            return Ok(decided);
+        }
+        match search_alone(alloc, q, kept, &short, gate) {
             Ok(Solved::Unknown(_)) => (),
             ended => return ended,
         }
     }
-    search_alone(alloc, q, &s, gate)
+    search_alone(alloc, q, kept, &s, gate)
 }
 
 /// Decides a problem as `solve` does, but without a short search before; each worker comes to the gate at its start, before each guess and
@@ -201,7 +250,7 @@ where
         maker,
         settings: s,
     };
-    match team_of(&root, told) {
+    match team_of(&root, None, told) {
         Ok(team) => decide_beside(rt, &root, team, gate),
         Err(answer) => Ok(answer),
     }
@@ -211,9 +260,11 @@ where
 fn search_alone<G: Gate>(
     alloc: Global,
     q: &Problem,
+    kept: Option<&TargetSequences>,
     s: &Settings,
     gate: &G,
 ) -> Result<Solved, Interrupted>
+    requires kept { IfSome kept (λ k. AreOf k.now q.now.target) }
     requires one { s.now.threads ≡ 1 }
     requires unlogged { s.now.prove ≡ false }
     requires bounds { IsWithinBounds s.now }
@@ -231,19 +282,21 @@ fn search_alone<G: Gate>(
         maker: &maker,
         settings: s,
     };
-    match team_of::<Unlogged, KeepsNothing>(&root, Silent) {
+    match team_of::<Unlogged, KeepsNothing>(&root, kept, Silent) {
         Ok(team) => decide_in_turn(&root, team, gate),
         Err(answer) => Ok(answer),
     }
 }
 
 /// The team that is to search below the root, with a recorder that was told nothing; or the answer, where the root gives it or memory was
-/// refused.
+/// refused. Sequences of the target may be kept from before.
 fn team_of<'a, L: ProofLogger, M: ProofMaker<L>>(
     root: &Root<'_, 'a, M>,
+    kept: Option<&TargetSequences>,
     told: L::Told,
 ) -> Result<Team<'a, L>, Solved>
     requires kinds { root.now.kinds.now.problem ≡ root.now.q.now }
+    requires kept { IfSome kept (λ k. AreOf k.now root.now.q.now.target) }
     requires maker { M.problem root.now.maker.now ≡ root.now.q.now }
     requires told { Tells root.now.q.now None
         (full (size root.now.q.now.pattern) (size root.now.q.now.target)) (L.Told.changes told) }
@@ -253,7 +306,7 @@ fn team_of<'a, L: ProofLogger, M: ProofMaker<L>>(
     ensures answer { IfErr result (λ answer. IsSolved answer root.now.q.now
         root.now.settings.now.threads root.now.settings.now.budget (M.logged root.now.maker.now)) }
 {
-    match take_root::<WordTrail, L::Told>(root.alloc, root.q, root.kinds, MOST_WORDS, told) {
+    match take_root::<WordTrail, L::Told>(root.alloc, root.q, root.kinds, MOST_WORDS, kept, told) {
         Rooted::Quiet(domains, told) => match make_team(root, domains, told) {
             Ok(team) => Ok(team),
             Err(_) => Err(Solved::NoMemory),

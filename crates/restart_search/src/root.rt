@@ -1,9 +1,10 @@
 //! The root: the first domains of all vertices, and what follows from them before any guess.
 
-ghost use Rattle.std.specs.Prelude.{◌≡◌, ℕ, [], ◌<◌, ◌≤◌, length, true, false, None, IfOk, IfErr};
+ghost use Rattle.std.specs.Prelude.{◌≡◌, ℕ, [], ◌<◌, ◌≤◌, length, true, false, None, IfOk, IfErr, IfSome};
 ghost use Rattle.std.specs.Result.{is_ok};
 ghost use Rattle.graph_theory.specs.Graph.{size};
 ghost use Rattle.bit_rows.specs.BitRows.{words_for};
+ghost use Rattle.nds_filter.specs.Target.{AreOf};
 ghost use Rattle.domain_bits.specs.Removals.{full};
 ghost use Rattle.sparse_set.specs.Removals.{whole};
 ghost use Rattle.recorder.specs.Recording.{NoNewGuess};
@@ -15,6 +16,7 @@ use bit_rows::words_for;
 use domain_bits::{Domains, Trail};
 use graph_rows::Problem;
 use initial_domains::{InitialDomains, fill_first};
+use nds_filter::TargetSequences;
 use pair_supports::PairKinds;
 use propagation::{Filters, narrow_first, propagate};
 use recorder::{Failure, Recorder};
@@ -56,8 +58,13 @@ impl Drop for RootRoom<'_> {
     }
 }
 
-/// Room for the root of a problem: no vertex waits, and none is past. Cost: that of `InitialDomains::new`.
-fn root_room<'a>(alloc: Global, q: &'a Problem) -> Result<RootRoom<'a>, AllocError>
+/// Room for the root of a problem, of whose target sequences may be kept: no vertex waits, and none is past. Cost: that of `InitialDomains::beside`.
+fn root_room<'a>(
+    alloc: Global,
+    q: &'a Problem,
+    kept: Option<&TargetSequences>,
+) -> Result<RootRoom<'a>, AllocError>
+    requires kept { IfSome kept (λ k. AreOf k.now q.now.target) }
     ensures rows { IfOk result (λ r. r.kept ≡ q.entry.now) }
     ensures words { IfOk result
         (λ r. length r.row.items ≡ words_for (size q.entry.now.target)) }
@@ -68,7 +75,7 @@ fn root_room<'a>(alloc: Global, q: &'a Problem) -> Result<RootRoom<'a>, AllocErr
     let waiting = vec![in alloc; false; usize::from(vertices)]?;
     let row = vec![in alloc; 0u64; words_for(usize::from(q.target().size()))]?;
     let undecided = SparseSet::new(alloc, vertices)?;
-    let kept = InitialDomains::new(alloc, q)?;
+    let kept = InitialDomains::beside(alloc, q, kept)?;
     Ok(RootRoom {
         kept,
         row,
@@ -159,16 +166,18 @@ fn settle_filtered<T: Trail, R: Recorder>(
     Ok(settle_root(q, room, &mut filters, d, told))
 }
 
-/// The same, in room that is made for it too. Cost: that of `InitialDomains::new` beside it.
+/// The same, in room that is made for it too. Cost: that of `InitialDomains::beside` beside it.
 fn settle_full<T: Trail, R: Recorder>(
     alloc: Global,
     q: &Problem,
     kinds: &PairKinds,
     most: usize,
+    kept: Option<&TargetSequences>,
     d: &mut Domains<T>,
     told: &mut R,
 ) -> Result<Result<(), Failure>, AllocError>
     requires kinds { kinds.now.problem ≡ q.now }
+    requires kept { IfSome kept (λ k. AreOf k.now q.now.target) }
     requires is_full { d.old ≡ full (size q.now.pattern) (size q.now.target) }
     ensures roots { IfOk result (λ settled. Roots (is_ok settled) q.now d.new) }
     ensures is_of { IfOk result (λ _. IsOf q.now d.new) }
@@ -178,25 +187,27 @@ fn settle_full<T: Trail, R: Recorder>(
         → Tells q.now None d.new (R.changes told.new)) }
     ensures guesses { IfOk result (λ _. NoNewGuess (R.changes told.old) (R.changes told.new)) }
 {
-    let mut room = root_room(alloc, q)?;
+    let mut room = root_room(alloc, q, kept)?;
     settle_filtered(alloc, q, kinds, most, &mut room, d, told)
 }
 
-/// The first domains and what follows from them, with at most so many words of rows of pairs; all changes are told. Cost: that of
-/// `InitialDomains::new`, for each vertex that of `fill_first`, and the propagation.
+/// The first domains and what follows from them, with at most so many words of rows of pairs; all changes are told. Sequences of the target may be kept
+/// from before. Cost: that of `InitialDomains::beside`, for each vertex that of `fill_first`, and the propagation.
 pub fn root<T: Trail, R: Recorder>(
     alloc: Global,
     q: &Problem,
     kinds: &PairKinds,
     most: usize,
+    kept: Option<&TargetSequences>,
     told: R,
 ) -> Rooted<T, R>
     requires kinds { kinds.now.problem ≡ q.now }
+    requires kept { IfSome kept (λ k. AreOf k.now q.now.target) }
     requires told { Tells q.now None (full (size q.now.pattern) (size q.now.target))
         (R.changes told) }
     ensures { RootSays R.changes R.short result q.now }
 {
-    match take_root::<T, R>(alloc, q, kinds, most, told) {
+    match take_root::<T, R>(alloc, q, kinds, most, kept, told) {
         Ok(answer) => answer,
         Err(_) => Rooted::NoMemory,
     }
@@ -208,9 +219,11 @@ fn take_root<T: Trail, R: Recorder>(
     q: &Problem,
     kinds: &PairKinds,
     most: usize,
+    kept: Option<&TargetSequences>,
     told: R,
 ) -> Result<Rooted<T, R>, AllocError>
     requires kinds { kinds.now.problem ≡ q.now }
+    requires kept { IfSome kept (λ k. AreOf k.now q.now.target) }
     requires told { Tells q.now None (full (size q.now.pattern) (size q.now.target))
         (R.changes told) }
     ensures { IfOk result (λ answer. RootSays R.changes R.short answer q.now) }
@@ -219,7 +232,7 @@ fn take_root<T: Trail, R: Recorder>(
     let values = q.target().size();
     let mut told = told;
     let mut domains = Domains::<T>::with_trail(alloc, vertices, values)?;
-    let settled = settle_full(alloc, q, kinds, most, &mut domains, &mut told)?;
+    let settled = settle_full(alloc, q, kinds, most, kept, &mut domains, &mut told)?;
     match settled {
         Ok(()) => Ok(Rooted::Quiet(domains, told)),
         Err(failure) => Ok(Rooted::Failed(failure, told)),

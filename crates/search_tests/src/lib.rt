@@ -33,4 +33,6 @@ mod sequence_tests;
 #[cfg(test)]
 mod set_tests;
 #[cfg(test)]
+mod small_tests;
+#[cfg(test)]
 mod watch_tests;
