@@ -1,4 +1,5 @@
-/* Tests of flags from C: a question of about five seconds ends soon after its flag is raised by another thread. */
+/* Tests of flags from C: a question of about five seconds ends soon after its flag is raised by another thread, of a
+ * target's text and of a target that is open. */
 #define _POSIX_C_SOURCE 199309L
 #include <pthread.h>
 #include <stdio.h>
@@ -12,6 +13,7 @@ static char pattern[1000], target[20000];
 
 static subgraph_limits limits = SUBGRAPH_LIMITS;
 static subgraph_flag stopper = SUBGRAPH_FLAG;
+static subgraph_target held = SUBGRAPH_TARGET;
 static const subgraph_pair none = {0, 0};
 static uint32_t map[16], status;
 static subgraph_report report;
@@ -38,7 +40,11 @@ static double seconds(void) {
     return (double)at.tv_sec + (double)at.tv_nsec / 1e9;
 }
 
+/* Asks of the target that is open, if one is, and else of its text. */
 static uint32_t ask(void) {
+    if (held.there)
+        return subgraph_decide_in_until((const uint8_t *)pattern, strlen(pattern), &held, &limits, &none, 0, map, 16,
+                                        &report);
     return subgraph_decide_until((const uint8_t *)pattern, strlen(pattern), (const uint8_t *)target, strlen(target),
                                  &limits, &none, 0, map, 16, &report);
 }
@@ -68,11 +74,8 @@ static int try_raised_later(void) {
     return seconds() - begun < 5 ? 0 : wrong("a flag that is raised later: the call went on");
 }
 
-int main(void) {
-    size_t i;
-    write_parts(pattern, 12, 1);
-    write_parts(target, 11, 4);
-    for (i = 0; i < 16; i++) map[i] = (uint32_t)(1000 + i);
+/* Asks with a flag that is down, that another thread raises, that is up, that is closed elsewhere, and with none. */
+static int try_each(void) {
     if (subgraph_flag_open(&limits.flag, &stopper) != SUBGRAPH_OPENED) return wrong("a flag is not opened");
     if (subgraph_flag_open(&stopper, &limits.flag) != SUBGRAPH_OUT_OF_RANGE) return wrong("an open flag is opened");
     limits.options.budget = 1000;
@@ -87,4 +90,36 @@ int main(void) {
     subgraph_flag_raise(&limits.flag);
     limits.options.budget = 1000;
     return ask() == SUBGRAPH_UNKNOWN ? 0 : wrong("without a flag: another answer");
+}
+
+/* A target that is not open, or in another format, is told as without a flag, also while the flag is up. */
+static int try_refused(void) {
+    uint32_t of_closed, of_another;
+    if (subgraph_flag_open(&limits.flag, &stopper) != SUBGRAPH_OPENED) return wrong("a flag is not opened");
+    subgraph_flag_raise(&stopper);
+    limits.options.format = SUBGRAPH_DIRECTED_LAD;
+    of_another = ask();
+    if (report.cause != SUBGRAPH_BAD_FORMAT) return wrong("another format: another cause");
+    limits.options.format = SUBGRAPH_LAD;
+    subgraph_target_close(&held);
+    of_closed = subgraph_decide_in_until((const uint8_t *)pattern, strlen(pattern), &held, &limits, &none, 0, map, 16,
+                                         &report);
+    if (report.cause != SUBGRAPH_BAD_TARGET) return wrong("a closed target: another cause");
+    subgraph_flag_close(&stopper);
+    subgraph_flag_close(&limits.flag);
+    if (of_another != SUBGRAPH_OUT_OF_RANGE || of_closed != SUBGRAPH_OUT_OF_RANGE) return wrong("another status");
+    return 0;
+}
+
+int main(void) {
+    size_t i;
+    write_parts(pattern, 12, 1);
+    write_parts(target, 11, 4);
+    for (i = 0; i < 16; i++) map[i] = (uint32_t)(1000 + i);
+    if (try_each()) return 1;
+    if (subgraph_target_open((const uint8_t *)target, strlen(target), SUBGRAPH_LAD, &held, &report) != SUBGRAPH_OPENED)
+        return wrong("a target is not opened");
+    if (try_each()) return 1;
+    if (!held.there) return wrong("a target is closed by a call that a flag ended");
+    return try_refused();
 }

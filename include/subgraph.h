@@ -39,7 +39,7 @@ enum {
     SUBGRAPH_NO_MEMORY = 6,    /* memory was refused */
     SUBGRAPH_NO_EMBEDDING = 7, /* verify: `map` is no embedding */
     SUBGRAPH_LOG_REFUSED = 7,  /* check: the log has a faulty line, see `word` and `cause` */
-    SUBGRAPH_STOPPED = 8       /* decide_until: the flag was raised before it was decided */
+    SUBGRAPH_STOPPED = 8       /* decide_until, decide_in_until: the flag was raised before it was decided */
 };
 
 /* The formats of both texts. */
@@ -87,7 +87,8 @@ enum {
     SUBGRAPH_BAD_BUDGET = 7,       /* `budget` is 2^63 or more */
     SUBGRAPH_BAD_ROWS = 8,         /* `rows` is above 4,194,304 */
     SUBGRAPH_NO_ROOM = 9,          /* `map` or `bytes` has too little room: judged last, after the texts */
-    SUBGRAPH_BAD_TARGET = 10       /* target_open: the target is open already. decide_in: it is not open. Judged first */
+    SUBGRAPH_BAD_TARGET = 10       /* target_open: the target is open already. decide_in, decide_in_until: it is not
+                                      open. Judged first */
 };
 
 /* What an accepted log claims (check, status 0). */
@@ -240,15 +241,27 @@ void subgraph_flag_close(subgraph_flag *flag);
 /* Decides as `subgraph_decide` does, until the flag of `limits` is raised.
  *
  * At SUBGRAPH_STOPPED the texts, the numbers and the room are good, nothing is decided, all of `map` is as before, and
- * the report is zeros. The flag is looked at before each guess of the search: what precedes the first guess, as reading
- * the texts, is done also when the flag is up, and between two guesses a large question may take some milliseconds.
- * The flag stays open. A call for which it was raised before the first guess ends there, if the question needs a guess.
+ * the report is zeros. The flag is looked at before each guess of the search. What precedes, as reading the texts and a
+ * short look for the answer where the target has at most 64 vertices, is done also when the flag is up, so that a small
+ * question may be decided all the same. Between two guesses a large question may take some milliseconds. The flag stays
+ * open.
  *
  * Status: 0, 1, 2, 3, 4, 6 or 8; 8 only if `limits->flag` is open. Time and memory: those of `subgraph_decide`.
  */
 uint32_t subgraph_decide_until(const uint8_t *pattern, size_t pattern_bytes, const uint8_t *target, size_t target_bytes,
                                subgraph_limits *limits, const subgraph_pair *less, size_t pairs, uint32_t *map,
                                size_t room, subgraph_report *report);
+
+/* Decides as `subgraph_decide_in` does, until the flag of `limits` is raised. It then ends as `subgraph_decide_until`.
+ *
+ * It is first asked whether the target is open. Then all is judged as `subgraph_decide_in` has it. Target and flag stay
+ * open.
+ *
+ * Status: 0, 1, 2, 3, 4, 6 or 8; 8 only if `limits->flag` is open. Time and memory: those of `subgraph_decide_in`.
+ */
+uint32_t subgraph_decide_in_until(const uint8_t *pattern, size_t pattern_bytes, subgraph_target *target,
+                                  subgraph_limits *limits, const subgraph_pair *less, size_t pairs, uint32_t *map,
+                                  size_t room, subgraph_report *report);
 
 /* Tests whether `map`, with the image of each pattern vertex in order, is an embedding of the pattern into the
  * target. A `map` of another length than the pattern is none. It may come from anywhere.

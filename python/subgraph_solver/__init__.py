@@ -20,6 +20,7 @@ from .errors import (
     OutOfMemory,
     ProgramFailed,
     ProgramMissing,
+    Stopped,
     SubgraphError,
     TextRefused,
     Undecided,
@@ -33,6 +34,7 @@ from .questions import check, encode, find, trim, verify
 from .batch import batch
 from .draw import draw
 from .reading import read_graph
+from .stopping import Stop
 from .version import VERSION as __version__
 
 __all__ = [
@@ -52,6 +54,8 @@ __all__ = [
     "ProgramMissing",
     "Progress",
     "Proof",
+    "Stop",
+    "Stopped",
     "SubgraphError",
     "TextRefused",
     "Undecided",

@@ -66,6 +66,16 @@ class Undecided(SubgraphError):
         self.slices: List[int] = list(slices) or [spent]
 
 
+class Stopped(SubgraphError):
+    """The caller's `Stop` was set before it was decided whether an embedding exists."""
+
+    def __init__(self) -> None:
+        super().__init__("stopped before it was decided")
+
+    def __reduce__(self) -> Tuple[Any, ...]:
+        return type(self), ()
+
+
 class NotACommand(SubgraphError, ValueError):
     """The program refuses the command line (status 3).
 

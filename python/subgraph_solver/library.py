@@ -9,13 +9,14 @@ import weakref
 from dataclasses import dataclass
 from functools import lru_cache
 from pathlib import Path
-from typing import Any, List, Optional, Sequence, Tuple
+from typing import Any, List, Optional, Sequence, Tuple, Union
 
 from .asking import GREATEST_BUDGET, Question
-from .errors import LibraryMissing, NotACommand, OutOfMemory, ProgramMissing, SubgraphError, TextRefused, Undecided
+from .errors import LibraryMissing, NotACommand, OutOfMemory, Stopped, SubgraphError, TextRefused, Undecided
 from .maps import MAPS
 from .prepared import Prepared
-from .program import StrPath, find_program
+from .program import StrPath
+from .stopping import Stop, heard
 
 #: The environment variable that names the library. Where it is empty no library is asked.
 VARIABLE = "SUBGRAPH_LIBRARY"
@@ -31,14 +32,16 @@ LOG_CAUSES = (
     *("Stack", "Zero", "Wide", "NoConflict", "NotFalse", "NotSolution"),
 )
 CLAIMS = ("", "accepted unsatisfiable", "accepted satisfiable", "accepted undecided")
-YES, NONE, UNKNOWN, OUT_OF_RANGE, FAULT, NO_MEMORY, NO_EMBEDDING = 0, 1, 2, 3, 4, 6, 7
+YES, NONE, UNKNOWN, OUT_OF_RANGE, FAULT, NO_MEMORY, NO_EMBEDDING, STOPPED = 0, 1, 2, 3, 4, 6, 7, 8
 #: The cause of status 3 where there is too little room.
 NO_ROOM = 9
 #: The rows of the book, and the budget, that the program takes if none is named, and the most rows of all.
 ROWS = 65_536
 MOST_ROWS = 4_194_304
-#: The failed guesses after which a question goes on in the program: an interrupt ends that, and no call of the library.
+#: The failed guesses after which a question is asked again in a thread of its own, so that an interrupt ends it; and the bytes
+#: of its texts from which on it is so from its beginning. Up to both, a call takes milliseconds.
 FIRST_BUDGET = 1 << 12
+LARGE_TEXTS = 1 << 16
 #: The most images: those of a pattern of as many vertices as any has.
 ROOM = 1024
 #: The texts of a pattern and a target, and pairs of places of pattern vertices.
@@ -55,6 +58,18 @@ class _Options(ctypes.Structure):
         ("maps", ctypes.c_uint32),
         ("induced", ctypes.c_uint32),
     ]
+
+
+class _Flag(ctypes.Structure):
+    _fields_ = [("at", ctypes.c_void_p), ("there", ctypes.c_uint8)]
+
+
+class _Limits(ctypes.Structure):
+    _fields_ = [("options", _Options), ("flag", _Flag)]
+
+
+#: How a question is asked: without a flag, or with one.
+Asking = Union[_Options, _Limits]
 
 
 class _Pair(ctypes.Structure):
@@ -110,8 +125,6 @@ class Library:
     path : str
     version : int
         10,000 times the first number of its version, 100 times the second, and the third.
-    keeps : bool
-        Can it keep a target open?
     """
 
     def __init__(self, path: str) -> None:
@@ -128,28 +141,38 @@ class Library:
         self._calls.subgraph_encode.restype = ctypes.c_uint32
         self._calls.subgraph_check.argtypes = [text, size, text, size, report]
         self._calls.subgraph_check.restype = ctypes.c_uint32
-        self.keeps = hasattr(self._calls, "subgraph_target_open")
-        if self.keeps:
-            target = ctypes.POINTER(_Target)
-            self._calls.subgraph_target_open.argtypes = [text, size, ctypes.c_uint32, target, report]
-            self._calls.subgraph_target_open.restype = ctypes.c_uint32
-            self._calls.subgraph_decide_in.argtypes = [text, size, target, *asked[4:]]
-            self._calls.subgraph_decide_in.restype = ctypes.c_uint32
-            self._calls.subgraph_target_close.argtypes = [target]
-            self._calls.subgraph_target_close.restype = None
+        target, limits, flag = ctypes.POINTER(_Target), ctypes.POINTER(_Limits), ctypes.POINTER(_Flag)
+        self._calls.subgraph_target_open.argtypes = [text, size, ctypes.c_uint32, target, report]
+        self._calls.subgraph_target_open.restype = ctypes.c_uint32
+        self._calls.subgraph_decide_in.argtypes = [text, size, target, *asked[4:]]
+        self._calls.subgraph_decide_in.restype = ctypes.c_uint32
+        self._calls.subgraph_target_close.argtypes = [target]
+        self._calls.subgraph_target_close.restype = None
+        self._calls.subgraph_flag_open.argtypes = [flag, flag]
+        self._calls.subgraph_flag_open.restype = ctypes.c_uint32
+        self._calls.subgraph_decide_until.argtypes = [text, size, text, size, limits, *asked[5:]]
+        self._calls.subgraph_decide_until.restype = ctypes.c_uint32
+        self._calls.subgraph_decide_in_until.argtypes = [text, size, target, limits, *asked[5:]]
+        self._calls.subgraph_decide_in_until.restype = ctypes.c_uint32
+        for one in (self._calls.subgraph_flag_raise, self._calls.subgraph_flag_close):
+            one.argtypes = [flag]
+            one.restype = None
 
     def opened(self, text: bytes, format: str) -> Optional["Held"]:
-        """The target of a text, kept open; unless the library cannot keep one or refuses the text."""
+        """The target of a text, kept open; unless the library refuses the text."""
         target = _Target()
-        if not self.keeps:
-            return None
         if self._calls.subgraph_target_open(text, len(text), FORMATS.index(format), target, _Report()) != YES:
             return None
         return Held(self._calls, target)
 
-    def decide(self, texts: Texts, options: _Options, less: Pairs, room: int = ROOM) -> Said:
+    def flagged(self, options: _Options) -> "Flag":
+        """How a question is asked, with a flag that ends the call."""
+        return Flag(self._calls, options)
+
+    def decide(self, texts: Texts, how: Asking, less: Pairs, room: int = ROOM) -> Said:
         """Asks for an embedding."""
-        return self._ask(self._calls.subgraph_decide, texts, options, less, (ctypes.c_uint32 * max(room, 1))(), room)
+        call = self._calls.subgraph_decide if isinstance(how, _Options) else self._calls.subgraph_decide_until
+        return self._ask(call, texts, how, less, (ctypes.c_uint32 * max(room, 1))(), room)
 
     def verify(self, texts: Texts, options: _Options, less: Pairs, images: Sequence[int]) -> Said:
         """Asks whether these images are an embedding."""
@@ -175,10 +198,10 @@ class Library:
         return Said(status, [], report.role, report.word, report.cause)
 
     @staticmethod
-    def _ask(call: Any, texts: Texts, options: _Options, less: Pairs, held: Any, room: int) -> Said:
+    def _ask(call: Any, texts: Texts, how: Asking, less: Pairs, held: Any, room: int) -> Said:
         pairs, report = _pairs(less), _Report()
         pattern, target = texts
-        status = call(pattern, len(pattern), target, len(target), options, pairs, len(less), held, room, report)
+        status = call(pattern, len(pattern), target, len(target), how, pairs, len(less), held, room, report)
         return Said(status, list(held[: report.count]), report.role, report.word, report.cause)
 
 
@@ -186,21 +209,51 @@ class Held:
     """A target that the library keeps open as long as this object is there. One thread asks at a time."""
 
     def __init__(self, calls: Any, target: _Target) -> None:
-        self._call = calls.subgraph_decide_in
+        self._calls = calls
         self._target = target
         self._asking = threading.Lock()
         weakref.finalize(self, calls.subgraph_target_close, target)
 
-    def decide(self, pattern: bytes, options: _Options, less: Pairs, room: int = ROOM) -> Optional[Said]:
+    def decide(self, pattern: bytes, how: Asking, less: Pairs, room: int = ROOM) -> Optional[Said]:
         """Asks for an embedding; unless another thread is asking."""
+        call = self._calls.subgraph_decide_in if isinstance(how, _Options) else self._calls.subgraph_decide_in_until
         if not self._asking.acquire(blocking=False):
             return None
         try:
             pairs, report, images = _pairs(less), _Report(), (ctypes.c_uint32 * max(room, 1))()
-            status = self._call(pattern, len(pattern), self._target, options, pairs, len(less), images, room, report)
+            status = call(pattern, len(pattern), self._target, how, pairs, len(less), images, room, report)
         finally:
             self._asking.release()
         return Said(status, list(images[: report.count]), report.role, report.word, report.cause)
+
+
+class Flag:
+    """How a question is asked, with a flag that any thread may put up. It is closed when nobody knows this object.
+
+    Attributes
+    ----------
+    limits : what a call takes
+    """
+
+    def __init__(self, calls: Any, options: _Options) -> None:
+        self.limits = _Limits(options)
+        self._raise = calls.subgraph_flag_raise
+        self._stopper = _Flag()
+        # A handler of a signal may put it up while its own thread is in `up`.
+        self._raising = threading.RLock()
+        if calls.subgraph_flag_open(self.limits.flag, self._stopper) != YES:
+            raise OutOfMemory("memory: refused")
+        weakref.finalize(self, _close, calls, self.limits, self._stopper)
+
+    def up(self) -> None:
+        """Puts it up: a call that has it ends before its next guess."""
+        with self._raising:
+            self._raise(self._stopper)
+
+
+def _close(calls: Any, limits: _Limits, stopper: _Flag) -> None:
+    calls.subgraph_flag_close(limits.flag)
+    calls.subgraph_flag_close(stopper)
 
 
 def held_by(library: Library, target: Any) -> Optional[Held]:
@@ -273,10 +326,6 @@ def _load(path: str) -> Optional[Library]:
     return found if found.version in VERSIONS else None
 
 
-class GoesOn(Exception):
-    """The question takes long, and is the program's."""
-
-
 def find_by(
     library: Library,
     question: Question,
@@ -284,36 +333,37 @@ def find_by(
     budget: Optional[int],
     book: Optional[int],
     held: Optional[Held] = None,
+    stop: Optional[Stop] = None,
 ) -> Optional[List[int]]:
     """The images that the library finds, or ``None`` if no embedding exists. The target is read anew, if it is not held.
 
-    Raises
-    ------
-    GoesOn
-        It is not decided after `FIRST_BUDGET` failed guesses, more are allowed, and there is a program to go on.
+    A small question is asked with a small budget first. A search is the same as one with a larger budget up to where its own
+    is spent, so the answer is that of one call.
     """
     whole = GREATEST_BUDGET if budget is None else budget
     choice, rows = 0 if seed is None else seed, ROWS if book is None else book
     words = ["solve", *question.words()]
     if not (0 <= choice < 1 << 64 and 1 <= whole <= GREATEST_BUDGET and 0 <= rows <= MOST_ROWS):
         raise NotACommand("words: not a command", words)
-    part = min(whole, FIRST_BUDGET)
-    while True:
-        asked = options_of(question, choice, part, rows)
-        said = held.decide(question.texts[0], asked, question.less) if held is not None else None
-        if said is None:
-            said = library.decide(question.texts, asked, question.less)
-        if said.status == YES:
-            return said.images
-        if said.status == NONE:
-            return None
-        if said.status != UNKNOWN:
-            raise _error(said, words)
-        if part == whole:
-            raise Undecided(whole)
-        if _has_program():
-            raise GoesOn
-        part = min(2 * part, whole)
+    first, said = min(whole, FIRST_BUDGET), None
+    if len(question.texts[0]) + len(question.texts[1]) < LARGE_TEXTS:
+        said = _ask(library, held, question, options_of(question, choice, first, rows))
+    if said is None or (said.status == UNKNOWN and first < whole):
+        flag = library.flagged(options_of(question, choice, whole, rows))
+        said = heard(lambda: _ask(library, held, question, flag.limits), flag.up, stop)
+    if said.status == YES:
+        return said.images
+    if said.status == NONE:
+        return None
+    if said.status == UNKNOWN:
+        raise Undecided(whole)
+    raise Stopped() if said.status == STOPPED else _error(said, words)
+
+
+def _ask(library: Library, held: Optional[Held], question: Question, how: Asking) -> Said:
+    """What is said of the target that is held, unless another thread asks it, and else of its text."""
+    said = held.decide(question.texts[0], how, question.less) if held is not None else None
+    return library.decide(question.texts, how, question.less) if said is None else said
 
 
 def verify_by(library: Library, question: Question, images: Sequence[int]) -> bool:
@@ -328,11 +378,3 @@ def _error(said: Said, words: List[str]) -> SubgraphError:
     """The exception that the program's status would be."""
     kinds = {OUT_OF_RANGE: lambda line: NotACommand(line, words), FAULT: TextRefused, NO_MEMORY: OutOfMemory}
     return kinds[said.status](said.line())
-
-
-def _has_program() -> bool:
-    try:
-        find_program()
-    except ProgramMissing:
-        return False
-    return True

@@ -11,6 +11,7 @@ from pathlib import Path
 from typing import IO, Callable, List, Optional, Sequence, Tuple, Union
 
 from .errors import ProgramMissing
+from .stopping import Stop, ended_by, raise_if
 
 StrPath = Union[str, "os.PathLike[str]"]
 #: The environment variable that names the program.
@@ -87,10 +88,11 @@ def run(
     watcher: Optional[Watcher] = None,
     every: float = 0.5,
     cwd: Optional[str] = None,
+    stop: Optional[Stop] = None,
 ) -> Tuple[int, str, str]:
     """Runs the program. Answers its exit status, its output and its message.
 
-    When this call ends, also by an interrupt, the program has ended.
+    When this call ends, also by an interrupt, the program has ended. If the `stop` is set before, it is killed.
 
     Parameters
     ----------
@@ -104,7 +106,14 @@ def run(
     every : float
     cwd : str, optional
         The folder that the program runs in. A relative path of the program is one from there.
+    stop : Stop, optional
+
+    Raises
+    ------
+    Stopped
+        The `stop` was set before the program had ended.
     """
+    raise_if(stop)
     whole: List[str] = [program, *words]
     with subprocess.Popen(
         whole,
@@ -114,17 +123,19 @@ def run(
         cwd=cwd,
     ) as process:
         try:
-            while True:
-                try:
-                    told, error = process.communicate(timeout=every if watcher else None)
-                    break
-                except subprocess.TimeoutExpired:
-                    if watcher:
-                        watcher()
+            with ended_by(stop, process.kill):
+                while True:
+                    try:
+                        told, error = process.communicate(timeout=every if watcher else None)
+                        break
+                    except subprocess.TimeoutExpired:
+                        if watcher:
+                            watcher()
         except BaseException:
-            process.kill()
             process.wait()
             raise
+    if process.returncode < 0:
+        raise_if(stop)
     return process.returncode, (told or b"").decode("ascii", "replace"), _line(error)
 
 

@@ -12,9 +12,10 @@ from .answers import Embedding, Proof
 from .asking import GREATEST_BUDGET, question_of
 from .errors import SubgraphError, Undecided, error_of
 from .graph import EdgeLabel, Name, NodeLabel
-from .library import GoesOn, find_by, find_library, held_by, library_for, verify_by
+from .library import find_by, find_library, held_by, library_for, verify_by
 from .maps import Map, Pair
 from .program import Progress, StrPath, Teller, find_program, images_of, options, run
+from .stopping import Stop, raise_if
 
 #: Is progress told, and to which function?
 Told = Union[bool, Callable[[Progress], None]]
@@ -41,6 +42,7 @@ def find(
     book: Optional[int] = ...,
     map: Map = ...,
     less: Iterable[Pair] = ...,
+    stop: Optional[Stop] = ...,
 ) -> Optional[Embedding]: ...
 
 
@@ -61,6 +63,7 @@ def find(
     book: Optional[int] = ...,
     map: Map = ...,
     less: Iterable[Pair] = ...,
+    stop: Optional[Stop] = ...,
 ) -> Union[Embedding, Proof]: ...
 
 
@@ -79,6 +82,7 @@ def find(
     book: Optional[int] = None,
     map: Map = "injective",
     less: Iterable[Pair] = (),
+    stop: Optional[Stop] = None,
 ) -> Union[Embedding, None, Proof]:
     """Finds an embedding of the pattern in the target.
 
@@ -120,6 +124,8 @@ def find(
     less : iterable of pairs of pattern vertices
         Of each pair the image of the first comes before that of the second, in the order of the target's vertices. At
         most 64 pairs.
+    stop : Stop, optional
+        Another thread ends the search by ``stop.set()``. An interrupt ends it as well.
 
     Returns
     -------
@@ -130,16 +136,16 @@ def find(
     ------
     Undecided
         The budget is spent.
+    Stopped
+        The `stop` was set before.
     SubgraphError
         Anything else; each status of the program has an exception of its own.
     """
     question = question_of(pattern, target, (node_label, edge_label), induced, map, less)
     library = library_for(program, threads, prove is not False or bool(progress))
+    raise_if(stop)
     if library is not None:
-        try:
-            return question.named(find_by(library, question, seed, budget, book, held_by(library, question.target)))
-        except GoesOn:
-            pass
+        return question.named(find_by(library, question, seed, budget, book, held_by(library, question.target), stop))
     asked = find_program(program)
     with question.files() as files:
         words = [*options(seed=seed, threads=threads, book=_rows(book, threads)), *files.words]
@@ -147,12 +153,12 @@ def find(
         if proof is not None:
             words += ["--prove", str(proof.encoding), "--log", str(proof.log)]
         if progress:
-            answer = _in_slices(asked, words, budget, threads, progress)
+            answer = _in_slices(asked, words, budget, threads, progress, stop)
         else:
-            answer = _solve(asked, words, budget, threads)
+            answer = _solve(asked, words, budget, threads, stop)
         if answer is not None or proof is None:
             return question.named(None if answer is None else images_of(answer))
-        return _kept(asked, proof, prove)
+        return _kept(asked, proof, prove, stop)
 
 
 def _rows(book: Optional[int], threads: Optional[int]) -> Optional[int]:
@@ -165,11 +171,12 @@ def _solve(
     words: List[str],
     budget: Optional[int],
     threads: Optional[int],
+    stop: Optional[Stop],
     teller: Optional[Teller] = None,
 ) -> Optional[str]:
     """The output if an embedding was found, ``None`` if none exists."""
     whole = ["solve", *options(budget=budget), *words]
-    status, out, line = run(program, whole, watcher=teller.going if teller else None)
+    status, out, line = run(program, whole, watcher=teller.going if teller else None, stop=stop)
     if status == 0 and out.startswith("yes\n"):
         return out
     if status == 1 and out == "none\n":
@@ -185,6 +192,7 @@ def _in_slices(
     budget: Optional[int],
     threads: Optional[int],
     progress: Told,
+    stop: Optional[Stop],
 ) -> Optional[str]:
     """As `_solve`, with budgets that double up to the whole one."""
     whole = GREATEST_BUDGET if budget is None else budget
@@ -193,7 +201,7 @@ def _in_slices(
     while True:
         teller.begin(part)
         try:
-            return _solve(program, words, part, threads, teller)
+            return _solve(program, words, part, threads, stop, teller)
         except Undecided:
             teller.ended()
             if part == whole:
@@ -209,9 +217,9 @@ def _proof_paths(prove: Union[bool, StrPath], folder: str) -> Optional[Proof]:
     return Proof(here / "encoding.opb", here / "proof.log")
 
 
-def _kept(program: str, proof: Proof, prove: Union[bool, StrPath]) -> Proof:
+def _kept(program: str, proof: Proof, prove: Union[bool, StrPath], stop: Optional[Stop]) -> Proof:
     """The proof, accepted by the checker, in a folder that stays."""
-    verdict = check(proof.encoding, proof.log, program=program)
+    verdict = _verdict(program, proof.encoding, proof.log, stop)
     if verdict != "unsatisfiable":
         raise SubgraphError(f"the log of a search that found nothing is accepted {verdict}")
     if prove is not True:
@@ -328,8 +336,13 @@ def check(encoding: StrPath, log: StrPath, program: Optional[StrPath] = None) ->
     LogRefused
         The log has a faulty line.
     """
+    return _verdict(find_program(program), encoding, log)
+
+
+def _verdict(program: str, encoding: StrPath, log: StrPath, stop: Optional[Stop] = None) -> str:
+    """What `check` answers."""
     words = ["check", os.fspath(encoding), os.fspath(log)]
-    status, out, line = run(find_program(program), words)
+    status, out, line = run(program, words, stop=stop)
     head, _, verdict = out.strip().partition(" ")
     if status == 0 and head == "accepted":
         return verdict

@@ -16,7 +16,7 @@ from .asking import GREATEST_BUDGET, Question
 from .errors import NotACommand, ProgramMissing, SubgraphError, Undecided, error_of
 from .graph import Graph
 from .jobs import Chunk
-from .library import GoesOn, Held, Library, find_by
+from .library import Held, Library, find_by
 from .program import Watcher, find_program, images_of, options, run
 
 #: A line of the answer of `batch`.
@@ -218,28 +218,24 @@ def _accepted(program: str, names: Sequence[str], how: How, watcher: Watcher) ->
 
 
 def said_by(library: Library, chunk: Chunk, how: How) -> List[Said]:
-    """What the library says of each question, and the program of those that take long."""
-    said: Dict[int, Said] = {}
-    long: List[int] = []
+    """What the library says of each question."""
+    said: List[Said] = []
     held: Optional[Held] = None
     for at, number in enumerate(chunk.numbers):
         question = _question(chunk, at)
         held = _held(library, chunk, at, question, held)
         try:
             images = find_by(library, question, how.seed, how.budget, how.book, held)
-            said[at] = None if images is None else tuple(images)
-        except GoesOn:
-            long.append(at)
+            said.append(None if images is None else tuple(images))
         except Undecided:
-            said[at] = how.unknown()
+            said.append(how.unknown())
         except NotACommand:
             raise
         except SubgraphError as error:
             if not how.keeps_going:
                 raise of_job(error, number) from None
-            said[at] = Failed(of_job(error, number))
-    said.update(zip(long, said_of(chunk.part(long), how)))
-    return [said[at] for at in range(len(chunk.jobs))]
+            said.append(Failed(of_job(error, number)))
+    return said
 
 
 def _held(library: Library, chunk: Chunk, at: int, question: Question, last: Optional[Held]) -> Optional[Held]:

@@ -144,11 +144,6 @@ class ByLibrary(unittest.TestCase):
         (good, bad) = self.told(1, 4, errors="answer")
         self.assertEqual((good, str(bad)), ({0: 0}, "failed: job 2 pattern: word 1: TooMany"))
 
-    def test_long_ones_go_to_the_program(self) -> None:
-        with StandIn(0, "1: yes 2 1 0\n2: none\n") as program, mock.patch.dict("os.environ", SUBGRAPH_PROGRAM=program.path):
-            self.assertEqual(self.told(3, 2, 3), [{0: 2, 1: 1, 2: 0}, None, None])
-            self.assertEqual(program.words(), [["batch", "list"]])
-
 
 class Pieces(unittest.TestCase):
     """Questions are taken and answered piece by piece."""

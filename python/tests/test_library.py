@@ -132,12 +132,6 @@ class Kept(unittest.TestCase):
             self.assertIsNone(held.decide(b"0", options_of(question_of(PATH, kept, (None, None), False, "injective", ())), ()))
             self.assertIsNotNone(find(PATH, kept))
 
-    def test_library_without(self) -> None:
-        kept = prepare(CYCLE)
-        with mock.patch.object(self.library, "keeps", False):
-            self.assertIsNotNone(find(PATH, kept))
-        self.assertEqual(kept.held, (self.library, None))
-
     def test_refused(self) -> None:
         self.assertIsNone(self.library.opened(b"1", "lad"))
         self.assertIsNotNone(self.library.opened(b"0", "labelledlad"))
@@ -178,12 +172,10 @@ class Choice(unittest.TestCase):
             find(TRIANGLE, CYCLE)
 
     def test_long(self) -> None:
-        """What is not decided soon goes on in the program, or in larger slices where there is none."""
+        """What is not decided soon is asked again, by the library too."""
         self.assertEqual(self.asks(RING, GRID), [])
         with mock.patch.object(library_module, "FIRST_BUDGET", 1):
-            self.assertEqual(len(self.asks(RING, GRID)), 1)
-            with mock.patch.object(library_module, "_has_program", lambda: False):
-                self.assertEqual(self.asks(RING, GRID), [])
+            self.assertEqual(self.asks(RING, GRID), [])
 
     def test_room(self) -> None:
         question = question_of(PATH, TRIANGLE, (None, None), False, "injective", ())

@@ -1,7 +1,8 @@
 //! Deciding the problem that a call asks.
 
-ghost use Rattle.std.specs.Prelude.{◌≡◌, ◌<◌, ◌≤◌, ◌^◌, false, None, IfOk, IfErr, length};
+ghost use Rattle.std.specs.Prelude.{◌≡◌, ◌<◌, ◌≤◌, ◌^◌, false, None, IfOk, IfErr, IfSome, length};
 ghost use Rattle.graph_theory.specs.Graph.{size};
+ghost use Rattle.nds_filter.specs.Target.{AreOf};
 ghost use Rattle.parallel_solve.specs.Solving.{IsSolved};
 ghost use Rattle.subgraph_c.specs.Asking.{call};
 ghost use Rattle.subgraph_c.specs.Deciding.{ProblemSays, RoomSays, DecisionSays, EndSays, Fits};
@@ -11,7 +12,8 @@ use crate::numbers::{first_bad, first_bad_search};
 use crate::passed::Options;
 use crate::refusal::{OutOfRange, Refusal};
 use graph_rows::problem::Problem;
-use parallel_solve::{Interrupted, Solved, solve_alone_with};
+use nds_filter::TargetSequences;
+use parallel_solve::{Interrupted, Solved, solve_alone_beside};
 use std::alloc::Global;
 use worker_gate::{Gate, OpenGate};
 
@@ -43,15 +45,17 @@ fn decision_of(solved: Solved, q: &Problem, budget: u64, room: usize) -> Decisio
     }
 }
 
-/// Decides a problem at a gate, if there is room for an image of each pattern vertex, by one worker: a small one first
-/// with 64 fails and without rows of nogoods.
-fn decide_in_room_at<G: Gate>(
+/// Decides a problem at a gate, of whose target sequences may be kept, if there is room for an image of each pattern vertex,
+/// by one worker.
+pub(crate) fn decide_in_room_at<G: Gate>(
     alloc: Global,
     q: &Problem,
+    kept: Option<&TargetSequences>,
     options: &Options,
     room: usize,
     gate: &G,
 ) -> Result<Decision, Interrupted>
+    requires kept { IfSome kept (λ k. AreOf k.now q.now.target) }
     requires budget { options.now.budget < 2 ^ 63 }
     requires rows { options.now.rows ≤ 4194304 }
     ensures says { IfOk result (λ d. RoomSays d q.now options.now.budget room) }
@@ -68,22 +72,9 @@ fn decide_in_room_at<G: Gate>(
         rows,
         ..
     } = *options;
-    match solve_alone_with(alloc, q, seed, budget, rows, gate) {
+    match solve_alone_beside(alloc, q, kept, seed, budget, rows, gate) {
         Ok(solved) => Ok(decision_of(solved, q, budget, room)),
         Err(closed) => Err(closed),
-    }
-}
-
-/// Decides a problem, if there is room for an image of each pattern vertex.
-pub(crate) fn decide_in_room(alloc: Global, q: &Problem, options: &Options, room: usize) -> Decision
-    requires budget { options.now.budget < 2 ^ 63 }
-    requires rows { options.now.rows ≤ 4194304 }
-    ensures says { RoomSays result q.now options.now.budget room }
-    ensures fits { Fits result room }
-{
-    match decide_in_room_at(alloc, q, options, room, &OpenGate) {
-        Ok(decision) => decision,
-        Err(_) => unreachable!(),
     }
 }
 
@@ -107,7 +98,7 @@ pub(crate) fn decide_at<G: Gate>(
         return Ok(Decision::Refused(Refusal::Number(bad)));
     }
     match ask(alloc, asked) {
-        Ok(q) => decide_in_room_at(alloc, &q, asked.options, room, gate),
+        Ok(q) => decide_in_room_at(alloc, &q, None, asked.options, room, gate),
         Err(refusal) => Ok(Decision::Refused(refusal)),
     }
 }

@@ -1,13 +1,15 @@
-//! The exports that open a flag, put it up and close it, and the one that a flag ends.
+//! The exports that open a flag, put it up and close it, and those that a flag ends.
 
-ghost use Rattle.std.specs.Prelude.{◌≡◌, ◌≤◌, false, IfOk, length};
+ghost use Rattle.std.specs.Prelude.{◌≡◌, ◌≤◌, true, false, IfOk, IfErr, length};
+ghost use Rattle.target_handle.specs.Opened.{opened};
 ghost use Rattle.subgraph_c.specs.Asking.{call};
 ghost use Rattle.subgraph_c.specs.Deciding.{Fits};
-ghost use Rattle.subgraph_c.specs.Stopping.{FlagStatus, StopStatus, end_status, end_report, images_at_end};
+ghost use Rattle.subgraph_c.specs.Stopping.{FlagStatus, StopStatus, HeldEndSays, HeldStopStatus, end_status, end_report, images_at_end};
 
 use crate::asking::Asked;
 use crate::calls::tell;
 use crate::deciding::{Decision, decide, decide_at};
+use crate::holding::{decide_held, decide_held_at, tell_closed};
 use crate::passed::{Limits, Pair, Report};
 use crate::reports::report_images;
 use call_flag::gate::FlagGate;
@@ -16,6 +18,8 @@ use call_flag::opening::open;
 use graph_theory::lad_text::text_laws;
 use parallel_solve::Interrupted;
 use std::alloc::Global;
+use target_handle::handle::TargetHandle;
+use target_handle::open_target::OpenTarget;
 
 /// Tells a decision as `tell` does, or that a flag ended the call.
 fn tell_end(ended: &Result<Decision, Interrupted>, map: &mut [u32], report: &mut Report) -> u32
@@ -107,5 +111,69 @@ pub extern "C" fn subgraph_decide_until(
             let decision = decide(alloc, &asked, map.len());
             tell(&decision, map, report)
         }
+    }
+}
+
+/// Decides a question of a target that is open until the flag is up, and gives the target back.
+fn decide_held_until(
+    alloc: Global,
+    asked: &Asked,
+    target: OpenTarget,
+    room: usize,
+    flag: &mut FlagHandle,
+) -> (Result<Decision, Interrupted>, OpenTarget)
+    ensures says { HeldEndSays result.0 target asked.now.pattern.now asked.now.options.now
+        asked.now.less.now room }
+    ensures fits { IfOk result.0 (λ d. Fits d room) }
+    ensures there { IfErr result.0 (λ _. flag.old.there ≡ true) }
+    ensures flag { flag.new.there ≡ flag.old.there }
+    ensures same { result.1 ≡ target }
+{
+    match flag.take(alloc) {
+        Some(owner) => {
+            let ended = decide_held_at(alloc, asked, target, room, &FlagGate::new(&owner));
+            *flag = FlagHandle::with(owner);
+            ended
+        }
+        None => {
+            let (decision, target) = decide_held(alloc, asked, target, room);
+            (Ok(decision), target)
+        }
+    }
+}
+
+/// Decides as `subgraph_decide_in` does, until the flag is up: the status is then 8, as that of `subgraph_decide_until`.
+/// The handle holds the same target after it, and the flag's handle has an owner if it had one.
+#[unsafe(no_mangle)]
+pub extern "C" fn subgraph_decide_in_until(
+    alloc: Global,
+    pattern: &[u8],
+    target: &mut TargetHandle,
+    limits: &mut Limits,
+    less: &[Pair],
+    map: &mut [u32],
+    report: &mut Report,
+) -> u32
+    ensures says { HeldStopStatus result (opened target.old) pattern.now limits.old.options less.now
+        limits.old.flag.there map.old map.new report.new }
+    ensures held { opened target.new ≡ opened target.old }
+    ensures options { limits.new.options ≡ limits.old.options }
+    ensures flag { limits.new.flag.there ≡ limits.old.flag.there }
+{
+    text_laws();
+    let options = limits.options;
+    let asked = Asked {
+        pattern,
+        target: &[],
+        options: &options,
+        less,
+    };
+    match target.take(alloc) {
+        Some((held, place)) => {
+            let (ended, held) = decide_held_until(alloc, &asked, held, map.len(), &mut limits.flag);
+            target.put(place, held);
+            tell_end(&ended, map, report)
+        }
+        None => tell_closed(report),
     }
 }

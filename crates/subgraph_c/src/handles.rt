@@ -6,9 +6,9 @@ ghost use Rattle.subgraph_c.specs.Holding.{OpenStatus, HeldStatus, open_status, 
 
 use crate::asking::Asked;
 use crate::calls::tell;
-use crate::holding::{decide_held, open};
+use crate::holding::{decide_held, open, tell_closed};
 use crate::passed::{Options, Pair, Report};
-use crate::refusal::{OutOfRange, Refusal};
+use crate::refusal::Refusal;
 use crate::reports::{report_images, report_of, status_of};
 use graph_theory::lad_text::text_laws;
 use std::alloc::Global;
@@ -78,11 +78,7 @@ pub extern "C" fn subgraph_decide_in(
             target.put(place, held);
             tell(&decision, map, report)
         }
-        None => {
-            let refusal = Refusal::Number(OutOfRange::Handle);
-            *report = report_of(refusal);
-            status_of(refusal)
-        }
+        None => tell_closed(report),
     }
 }
 

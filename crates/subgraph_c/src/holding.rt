@@ -1,24 +1,30 @@
 //! Targets that are read once and asked many times.
 
-ghost use Rattle.std.specs.Prelude.{◌≡◌, ◌≤◌, ◌↔◌, IsTrue, IfOk, length};
+ghost use Rattle.std.specs.Prelude.{◌≡◌, ◌≤◌, ◌↔◌, IsTrue, IfOk, IfErr, length};
 ghost use Rattle.graph_theory.specs.Graph.{size};
 ghost use Rattle.target_handle.specs.Opened.{opened};
 ghost use Rattle.subgraph_c.specs.Asking.{call, format_of};
 ghost use Rattle.subgraph_c.specs.Deciding.{DecisionSays, Fits};
 ghost use Rattle.subgraph_c.specs.Holding.{IsTextOf, ReadSays, HoldSays, OpenSays, HasFormat, Premises, PremisesSay, HeldSays};
+ghost use Rattle.subgraph_c.specs.Reports.{refusal_report};
+ghost use Rattle.subgraph_c.specs.Stopping.{HeldEndSays};
 
 use crate::asking::{
     Asked, TARGET_LIMIT, format_named, graph_in, pairs_in, pattern_of, problem_of,
 };
-use crate::deciding::{Decision, decide_in_room};
+use crate::deciding::{Decision, decide_in_room_at};
 use crate::numbers::{first_bad, first_bad_search};
-use crate::passed::Options;
+use crate::passed::{Options, Report};
 use crate::refusal::{OutOfRange, Refusal};
+use crate::reports::{report_of, status_of};
 use graph_rows::graph::Graph;
+use graph_theory::lad_text::LadKind;
 use lad_reader::LadFault;
+use parallel_solve::Interrupted;
 use std::alloc::Global;
 use target_handle::handle::TargetHandle;
 use target_handle::open_target::OpenTarget;
+use worker_gate::{Gate, OpenGate};
 
 /// How many formats there are.
 const FORMATS: u32 = 4;
@@ -32,9 +38,21 @@ fn read_target(alloc: Global, text: &[u8], format: u32) -> Result<OpenTarget, Re
     }
     let kind = format_named(format);
     match graph_in(alloc, text, kind, TARGET_LIMIT) {
-        Ok(graph) => Ok(OpenTarget::new(kind, graph)),
+        Ok(graph) => keep_target(alloc, kind, graph),
         Err(LadFault::Word { word, cause }) => Err(Refusal::Target { word, cause }),
         Err(LadFault::NoMemory) => Err(Refusal::NoMemory),
+    }
+}
+
+/// The target of this graph, whose text was in this format, with what is kept of it for searches.
+fn keep_target(alloc: Global, kind: LadKind, graph: Graph) -> Result<OpenTarget, Refusal>
+    requires few { size graph ≤ 8192 }
+    ensures target { IfOk result (λ t. t ≡ record { kind = kind; graph = graph }) }
+    ensures refusal { IfErr result (λ refusal. refusal ≡ Refusal.NoMemory) }
+{
+    match OpenTarget::new(alloc, kind, graph) {
+        Ok(target) => Ok(target),
+        Err(_) => Err(Refusal::NoMemory),
     }
 }
 
@@ -95,33 +113,61 @@ fn premises(alloc: Global, asked: &Asked) -> Result<(Graph, Vec<(u16, u16)>), Re
     Ok((pattern, pairs))
 }
 
-/// Decides a question whose pattern and pairs were read, of a target that is open, and gives the target back.
-fn decide_read(
+/// Decides at a gate a question whose pattern and pairs were read, of a target that is open, and gives the target back.
+fn decide_read_at<G: Gate>(
     alloc: Global,
     asked: &Asked,
     pattern: Graph,
     pairs: Vec<(u16, u16)>,
     target: OpenTarget,
     room: usize,
-) -> (Decision, OpenTarget)
+    gate: &G,
+) -> (Result<Decision, Interrupted>, OpenTarget)
     requires few { size pattern ≤ 1024 }
     requires premises { Premises pattern pairs.items asked.now.pattern.now asked.now.options.now
         asked.now.less.now }
     requires format { HasFormat asked.now.options.now target }
-    ensures says { HeldSays result.0 target asked.now.pattern.now asked.now.options.now
+    ensures says { HeldEndSays result.0 target asked.now.pattern.now asked.now.options.now
         asked.now.less.now room }
-    ensures fits { Fits result.0 room }
+    ensures fits { IfOk result.0 (λ d. Fits d room) }
+    ensures closed { IfErr result.0 (λ _. G.may_close gate.now) }
     ensures same { result.1 ≡ target }
 {
     let kind = target.kind();
-    let graph = target.into_graph();
+    let (graph, sequences) = target.into_parts();
     let q = problem_of(pattern, graph, asked.options, asked.less, pairs);
-    let decision = decide_in_room(alloc, &q, asked.options, room);
-    (decision, OpenTarget::new(kind, q.into_target()))
+    let ended = decide_in_room_at(alloc, &q, Some(&sequences), asked.options, room, gate);
+    (ended, OpenTarget::of(kind, q.into_target(), sequences))
 }
 
-/// Decides a question of a target that is open, where there is room for so many images, and gives the target back. The
-/// format that the options name is held against the target's, and then all goes as where the target is a text.
+/// Decides at a gate a question of a target that is open, where there is room for so many images, and gives the target
+/// back. The format that the options name is held against the target's, and then all goes as where the target is a text.
+pub(crate) fn decide_held_at<G: Gate>(
+    alloc: Global,
+    asked: &Asked,
+    target: OpenTarget,
+    room: usize,
+    gate: &G,
+) -> (Result<Decision, Interrupted>, OpenTarget)
+    ensures says { HeldEndSays result.0 target asked.now.pattern.now asked.now.options.now
+        asked.now.less.now room }
+    ensures fits { IfOk result.0 (λ d. Fits d room) }
+    ensures closed { IfErr result.0 (λ _. G.may_close gate.now) }
+    ensures same { result.1 ≡ target }
+{
+    if !has_format(asked.options, &target) {
+        return (
+            Ok(Decision::Refused(Refusal::Number(OutOfRange::Format))),
+            target,
+        );
+    }
+    match premises(alloc, asked) {
+        Ok((pattern, pairs)) => decide_read_at(alloc, asked, pattern, pairs, target, room, gate),
+        Err(refusal) => (Ok(Decision::Refused(refusal)), target),
+    }
+}
+
+/// Decides a question of a target that is open, where there is room for so many images, and gives the target back.
 pub(crate) fn decide_held(
     alloc: Global,
     asked: &Asked,
@@ -133,14 +179,19 @@ pub(crate) fn decide_held(
     ensures fits { Fits result.0 room }
     ensures same { result.1 ≡ target }
 {
-    if !has_format(asked.options, &target) {
-        return (
-            Decision::Refused(Refusal::Number(OutOfRange::Format)),
-            target,
-        );
+    let (ended, target) = decide_held_at(alloc, asked, target, room, &OpenGate);
+    match ended {
+        Ok(decision) => (decision, target),
+        Err(_) => unreachable!(),
     }
-    match premises(alloc, asked) {
-        Ok((pattern, pairs)) => decide_read(alloc, asked, pattern, pairs, target, room),
-        Err(refusal) => (Decision::Refused(refusal), target),
-    }
+}
+
+/// Tells that no target is held: the status is returned, and the report is written.
+pub(crate) fn tell_closed(report: &mut Report) -> u32
+    ensures status { result ≡ 3 }
+    ensures report { report.new ≡ refusal_report (Refusal.Number OutOfRange.Handle) }
+{
+    let refusal = Refusal::Number(OutOfRange::Handle);
+    *report = report_of(refusal);
+    status_of(refusal)
 }

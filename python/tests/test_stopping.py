@@ -1,0 +1,178 @@
+"""Ending a question from outside: by an interrupt, and by a `Stop`."""
+from __future__ import annotations
+
+import os
+import pickle
+import random
+import signal
+import subprocess
+import sys
+import threading
+import time
+import unittest
+from typing import Any, Dict, List, Optional
+from unittest import mock
+
+from subgraph_solver import Stop, Stopped, batch, find, prepare
+from subgraph_solver import library as library_module
+from subgraph_solver.library import VARIABLE
+from subgraph_solver.program import run
+
+from .asked import CYCLE, PATH, TRIANGLE, StandIn, needs_program
+from .test_library import needs_library, random_question
+
+
+def in_parts(parts: int, size: int) -> List[Any]:
+    """A graph in which vertices of different parts are neighbours."""
+    names = [(part, n) for part in range(parts) for n in range(size)]
+    return [(a, b) for a in names for b in names if a[0] < b[0]]
+
+
+#: A question of seconds: twelve neighbours of each other, where eleven are the most.
+PATTERN, TARGET = in_parts(12, 1), in_parts(11, 4)
+#: How soon a call has to end, in seconds.
+SOON = 1.0
+#: A process that asks it and tells how it ended.
+ASKING = """
+from subgraph_solver import find, prepare, batch
+from tests.test_stopping import PATTERN, TARGET
+print("asks", flush=True)
+try:
+    {call}
+except KeyboardInterrupt:
+    print("interrupted", flush=True)
+"""
+
+
+def seconds(call: Any) -> float:
+    """How long a call takes that a `Stop` ends."""
+    begun = time.monotonic()
+    try:
+        call()
+    except Stopped:
+        return time.monotonic() - begun
+    raise AssertionError("it was not stopped")
+
+
+@needs_library
+class Interrupted(unittest.TestCase):
+    """An interrupt, as the terminal sends it."""
+
+    def ends(self, call: str, **variables: str) -> None:
+        """Interrupts a process that asks."""
+        words = [sys.executable, "-c", ASKING.format(call=call)]
+        folder = os.path.dirname(os.path.dirname(os.path.abspath(__file__)))
+        with subprocess.Popen(words, cwd=folder, stdout=subprocess.PIPE, env={**os.environ, **variables}) as asking:
+            assert asking.stdout is not None
+            self.assertEqual(asking.stdout.readline(), b"asks\n")
+            time.sleep(0.5)
+            begun = time.monotonic()
+            asking.send_signal(signal.SIGINT)
+            self.assertEqual(asking.stdout.readline(), b"interrupted\n")
+            self.assertLess(time.monotonic() - begun, SOON)
+
+    def test_text(self) -> None:
+        self.ends("find(PATTERN, TARGET)")
+
+    def test_kept(self) -> None:
+        self.ends("find(PATTERN, prepare(TARGET))")
+
+    def test_batch(self) -> None:
+        self.ends("list(batch([(PATTERN, TARGET)]))")
+
+    @needs_program
+    def test_program(self) -> None:
+        self.ends("find(PATTERN, TARGET)", **{VARIABLE: ""})
+
+
+class ByStop(unittest.TestCase):
+    """A `Stop` that another thread sets."""
+
+    def stopped(self, **how: Any) -> None:
+        """Stops a question while it is asked, and another one before."""
+        stop = Stop()
+        later = threading.Timer(0.3, stop.set)
+        later.start()
+        self.assertLess(seconds(lambda: find(PATTERN, TARGET, stop=stop, **how)), 0.3 + SOON)
+        later.join()
+        self.assertTrue(stop.is_set())
+        self.assertLess(seconds(lambda: find(PATH, CYCLE, stop=stop, **how)), SOON)
+
+    @needs_library
+    def test_library(self) -> None:
+        self.stopped()
+
+    @needs_library
+    def test_kept(self) -> None:
+        """The target stays open, and another question may follow."""
+        kept, stop = prepare(TARGET), Stop()
+        threading.Timer(0.3, stop.set).start()
+        self.assertLess(seconds(lambda: find(PATTERN, kept, stop=stop)), 0.3 + SOON)
+        self.assertIsNotNone(find(TRIANGLE, kept, stop=Stop()))
+
+    @needs_program
+    def test_program(self) -> None:
+        with mock.patch.dict(os.environ, {VARIABLE: ""}):
+            self.stopped()
+            self.stopped(threads=2)
+            self.stopped(progress=lambda _: None)
+
+    @needs_library
+    def test_two(self) -> None:
+        """One stop of two questions."""
+        stop, ended = Stop(), []
+
+        def ask() -> None:
+            ended.append(seconds(lambda: find(PATTERN, TARGET, stop=stop)))
+
+        asking = [threading.Thread(target=ask) for _ in range(2)]
+        for it in asking:
+            it.start()
+        time.sleep(0.3)
+        stop.set()
+        for it in asking:
+            it.join()
+        self.assertEqual(len(ended), 2)
+
+    def test_run(self) -> None:
+        """A program that ended by itself is not said to be stopped."""
+        with StandIn(3, "", "words: not a command") as program:
+            self.assertEqual(run(program.path, [], stop=Stop())[0], 3)
+
+    def test_pickle(self) -> None:
+        self.assertIsInstance(pickle.loads(pickle.dumps(Stopped())), Stopped)
+
+
+@needs_library
+class SameAnswer(unittest.TestCase):
+    """A question that is asked by two calls has the answer of one."""
+
+    def asked(self, first: int, large: int, *graphs: Any, **how: Any) -> Optional[Dict[Any, Any]]:
+        changed = {"FIRST_BUDGET": first, "LARGE_TEXTS": large}
+        with mock.patch.dict(library_module.__dict__, changed):
+            return find(*graphs, **how)
+
+    def test_random_questions(self) -> None:
+        for number in range(500):
+            rng = random.Random(number)
+            pattern, target, how = random_question(rng)
+            with self.subTest(number=number):
+                one = self.asked(1 << 62, 1 << 62, pattern, target, **how)
+                for first, large in ((1, 1 << 62), (70, 1 << 62), (1, 0)):
+                    self.assertEqual(self.asked(first, large, pattern, target, **how), one)
+
+    def test_hard_questions(self) -> None:
+        for number in range(30):
+            rng = random.Random(number)
+            target = [(a, b) for a in range(24) for b in range(a) if rng.random() < 0.5]
+            pattern = [(a, b) for a in range(9) for b in range(a) if rng.random() < 0.6]
+            with self.subTest(number=number):
+                one = self.asked(1 << 62, 1 << 62, pattern, prepare(target), induced=True)
+                for first in (1, 10, 70, 300):
+                    self.assertEqual(self.asked(first, 1 << 62, pattern, prepare(target), induced=True), one)
+
+    def test_batch(self) -> None:
+        questions = [(PATH, CYCLE), (TRIANGLE, CYCLE), (TRIANGLE, TARGET)]
+        due = list(batch(questions))
+        with mock.patch.object(library_module, "LARGE_TEXTS", 0):
+            self.assertEqual(list(batch(questions)), due)
