@@ -61,13 +61,13 @@ fn short_of(q: &Problem, s: &Settings) -> Option<Settings>
     })
 }
 
-/// The answer of the search for small problems, where it has one and no log is asked for.
+/// The answer of the search for small problems, where it has one, no log is asked for, and no seed: it makes no random choices.
 fn small_answer(alloc: Global, q: &Problem, s: &Settings) -> Option<Solved>
     ensures { IfSome result
         (λ solved. IsSolved solved q.now s.now.threads s.now.budget s.now.prove) }
 {
     let asks_log = s.prove;
-    if asks_log {
+    if asks_log || s.seed != 0 {
         return None;
     }
     match search_small(alloc, q, SMALL_STEPS) {
