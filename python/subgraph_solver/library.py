@@ -6,10 +6,9 @@ import ctypes.util
 import os
 import threading
 import weakref
-from dataclasses import dataclass
 from functools import lru_cache
 from pathlib import Path
-from typing import Any, List, Optional, Sequence, Tuple, Union
+from typing import Any, List, NamedTuple, Optional, Sequence, Tuple, Union
 
 from .asking import GREATEST_BUDGET, Question
 from .errors import LibraryMissing, NotACommand, OutOfMemory, Stopped, SubgraphError, TextRefused, Undecided
@@ -89,8 +88,7 @@ class _Target(ctypes.Structure):
     _fields_ = [("at", ctypes.c_void_p), ("there", ctypes.c_uint8)]
 
 
-@dataclass(frozen=True)
-class Said:
+class Said(NamedTuple):
     """What a call says: its status, the images that it wrote, and what its report tells of a fault."""
 
     status: int
@@ -202,7 +200,7 @@ class Library:
         pairs, report = _pairs(less), _Report()
         pattern, target = texts
         status = call(pattern, len(pattern), target, len(target), how, pairs, len(less), held, room, report)
-        return Said(status, list(held[: report.count]), report.role, report.word, report.cause)
+        return Said(status, held[: report.count], report.role, report.word, report.cause)
 
 
 class Held:
@@ -212,6 +210,7 @@ class Held:
         self._calls = calls
         self._target = target
         self._asking = threading.Lock()
+        self._images, self._report = (ctypes.c_uint32 * ROOM)(), _Report()
         weakref.finalize(self, calls.subgraph_target_close, target)
 
     def decide(self, pattern: bytes, how: Asking, less: Pairs, room: int = ROOM) -> Optional[Said]:
@@ -220,11 +219,11 @@ class Held:
         if not self._asking.acquire(blocking=False):
             return None
         try:
-            pairs, report, images = _pairs(less), _Report(), (ctypes.c_uint32 * max(room, 1))()
-            status = call(pattern, len(pattern), self._target, how, pairs, len(less), images, room, report)
+            images, report = self._images if room <= ROOM else (ctypes.c_uint32 * room)(), self._report
+            status = call(pattern, len(pattern), self._target, how, _pairs(less), len(less), images, room, report)
+            return Said(status, images[: report.count], report.role, report.word, report.cause)
         finally:
             self._asking.release()
-        return Said(status, list(images[: report.count]), report.role, report.word, report.cause)
 
 
 class Flag:
