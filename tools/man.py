@@ -88,7 +88,7 @@ $ subgraph solve --threads 4 --book 1048576 triangle.lad four-cycle.lad
 none
 $ printf 'triangle.lad triangle.lad induced\\ntriangle.lad four-cycle.lad\\n' > list
 $ subgraph batch --threads 2 list
-1: yes 1 2 0
+1: yes 0 1 2
 2: none
 $ subgraph solve triangle.lad triangle.lad > answer
 $ subgraph verify triangle.lad triangle.lad answer
