@@ -7,7 +7,7 @@ use Rattle.graph_theory.specs.Embedding.{Problem, Embeds, HasNone}
 use Rattle.graph_theory.specs.LadFault.{TextLaws}
 use Rattle.search_theory.specs.Bounds.{enough}
 use Rattle.subgraph_c.specs.Asking.{Call, Asks, IsFaulty}
-use Rattle.subgraph_c.specs.Reports.{FaultTold}
+use Rattle.subgraph_c.specs.Reports.{FaultTold, images_report}
 use Rattle.subgraph_c.specs.Deciding.{IsInRange, IsAsked, IsOutOfRange, LacksRoom, Refuted, Undecided, DecisionSays, FoundWritten, RangeTold, DecideStatus, decision_status, decision_report, images_after}
 use Rattle.subgraph_c.specs.declared.passed.Report.{Report}
 use Rattle.subgraph_c.specs.declared.refusal.OutOfRange.{OutOfRange}
@@ -63,6 +63,18 @@ fault_says Nothing c room report says told e = absurd (omega arith)
 fault_says Unknown c room report says told e = absurd (omega arith)
 fault_says (Refused (Number n)) c room report says told e = absurd (omega arith)
 fault_says (Refused NoMemory) c room report says told e = absurd (omega arith)
+
+-- Where nothing is to be told the report is zeros.
+zeros_says : (d : Decision) (report : Report) → report ≡ decision_report d → (decision_status d ≡ 1) ⊎ ((decision_status d ≡ 2) ⊎ (decision_status d ≡ 6))
+    → report ≡ images_report 0
+zeros_says Nothing report told quiet = told
+zeros_says Unknown report told quiet = told
+zeros_says (Refused NoMemory) report told quiet = told
+zeros_says (Yes m) report told quiet = absurd (omega (arith, quiet))
+zeros_says (Refused (Number n)) report told quiet = absurd (omega (arith, quiet))
+zeros_says (Refused (Pattern word cause)) report told quiet = absurd (omega (arith, quiet))
+zeros_says (Refused (Target word cause)) report told quiet = absurd (omega (arith, quiet))
+zeros_says (Refused (Vertex number)) report told quiet = absurd (omega (arith, quiet))
 
 -- At every other status than 0 the images are as before.
 kept_says : (d : Decision) (before after : List ℕ) → after ≡ images_after d before → decision_status d ≢ 0 → after ≡ before
@@ -185,6 +197,7 @@ decide_status_says laws d c before after report says left told = record {
   unknown = unknown_says d c (length before) says;
   range = range_says d c (length before) report says told;
   faulty = fault_says d c (length before) report says told;
+  zeros = zeros_says d report told;
   kept = kept_says d before after left;
   one_of = one_of d;
   leads = record {

@@ -5,8 +5,8 @@ use Rattle.std.proofs.Common.{inl, inr, sym, ap, subst, ◌∙◌, arith}
 use Rattle.graph_theory.specs.Embedding.{Problem}
 use Rattle.graph_theory.specs.LadFault.{TextLaws}
 use Rattle.pb_encoding.specs.Writing.{encoding_text}
-use Rattle.subgraph_c.specs.Asking.{Call, Asks, bad_question}
-use Rattle.subgraph_c.specs.Reports.{FaultTold}
+use Rattle.subgraph_c.specs.Asking.{Call, Asks, IsFaulty, bad_question}
+use Rattle.subgraph_c.specs.Reports.{FaultTold, images_report}
 use Rattle.subgraph_c.specs.Verifying.{IsUntested, QuestionTold}
 use Rattle.subgraph_c.specs.Encoding.{IsEncoding, EncodedSays, MadeOf, TextWritten, LengthTold, EncodeStatus, encoded_status, encoded_report, bytes_after}
 use Rattle.subgraph_c.specs.declared.passed.Report.{Report}
@@ -63,6 +63,22 @@ fault_says (TooLong count) c room report says told e = absurd (omega arith)
 fault_says (Refused (Number n)) c room report says told e = absurd (omega arith)
 fault_says (Refused NoMemory) c room report says told e = absurd (omega arith)
 
+-- Where memory was refused the report is zeros.
+zeros_says : (e : Encoded) (report : Report) → report ≡ encoded_report e → encoded_status e ≡ 6 → report ≡ images_report 0
+zeros_says (Refused NoMemory) report told e = told
+zeros_says (Text t) report told e = absurd (omega arith)
+zeros_says (TooLong count) report told e = absurd (omega arith)
+zeros_says (Refused (Number n)) report told e = absurd (omega arith)
+zeros_says (Refused (Pattern word cause)) report told e = absurd (omega arith)
+zeros_says (Refused (Target word cause)) report told e = absurd (omega arith)
+zeros_says (Refused (Vertex number)) report told e = absurd (omega arith)
+
+-- What was made has one of four statuses.
+one_of : (e : Encoded) → (encoded_status e ≡ 0) ⊎ ((encoded_status e ≡ 3) ⊎ ((encoded_status e ≡ 4) ⊎ (encoded_status e ≡ 6)))
+one_of (Text t) = inl refl
+one_of (TooLong count) = inr (inl refl)
+one_of (Refused r) = inr (refusal_status_is r)
+
 -- At every other status than 0 the bytes are as before.
 kept_says : (e : Encoded) (before after : List ℕ) → after ≡ bytes_after e before → encoded_status e ≢ 0 → after ≡ before
 kept_says (Text t) before after left other = absurd (other refl)
@@ -108,15 +124,16 @@ range_leads (Refused (Target word cause)) c room says out = absurd (out says.0)
 range_leads (Refused (Vertex number)) c room says out = absurd (out says.0)
 range_leads (Refused NoMemory) c room says out = absurd (out says)
 
--- A call that asks a problem is told no fault.
-fault_leads : TextLaws → (e : Encoded) (c : Call) (room : ℕ) → EncodedSays e c room → (q : Problem) → Asks c q → encoded_status e ≢ 4
-fault_leads laws (Text t) c room says q asks e = omega arith
-fault_leads laws (TooLong count) c room says q asks e = omega arith
-fault_leads laws (Refused (Number n)) c room says q asks e = omega arith
-fault_leads laws (Refused (Pattern word cause)) c room says q asks e = asks_not_faulty laws c q (Pattern word cause) asks says.1
-fault_leads laws (Refused (Target word cause)) c room says q asks e = asks_not_faulty laws c q (Target word cause) asks says.1
-fault_leads laws (Refused (Vertex number)) c room says q asks e = asks_not_faulty laws c q (Vertex number) asks says.1
-fault_leads laws (Refused NoMemory) c room says q asks e = omega arith
+-- A fault is told.
+fault_leads : TextLaws → (e : Encoded) (c : Call) (room : ℕ) → EncodedSays e c room → (refusal : Refusal) → bad_question c.options c.less ≡ None
+    → IsFaulty c refusal → (encoded_status e ≡ 4) ⊎ (encoded_status e ≡ 6)
+fault_leads laws (Text t) c room says refusal good faulty = absurd (asks_not_faulty laws c says.is.problem refusal says.is.asks faulty)
+fault_leads laws (TooLong count) c room says refusal good faulty = absurd (asks_not_faulty laws c says.is.problem refusal says.is.asks faulty)
+fault_leads laws (Refused (Number n)) c room says refusal good faulty = let no : None ≡ Some n = sym good ∙ says in cc
+fault_leads laws (Refused (Pattern word cause)) c room says refusal good faulty = inl refl
+fault_leads laws (Refused (Target word cause)) c room says refusal good faulty = inl refl
+fault_leads laws (Refused (Vertex number)) c room says refusal good faulty = inl refl
+fault_leads laws (Refused NoMemory) c room says refusal good faulty = inr refl
 
 -- The status of what was made says what it is.
 pub encode_status_says : TextLaws → (e : Encoded) (c : Call) (before after : List ℕ) (report : Report) → EncodedSays e c (length before)
@@ -125,7 +142,9 @@ encode_status_says laws e c before after report says left told = record {
   written = written_says e c before after report says left told;
   range = range_says e c (length before) report says told;
   faulty = fault_says e c (length before) report says told;
+  zeros = zeros_says e report told;
   kept = kept_says e before after left;
+  one_of = one_of e;
   leads = record {
     encoded = encoded_leads laws e c (length before) says;
     long = long_leads laws e c (length before) says;

@@ -9,6 +9,7 @@ use Rattle.graph_theory.specs.declared.lad_text.LadCause.{LadCause}
 use Rattle.graph_theory.specs.declared.lad_text.LadKind.{LadKind}
 use Rattle.target_handle.specs.Target.{Target}
 use Rattle.subgraph_c.specs.Asking.{format_of}
+use Rattle.subgraph_c.specs.Reports.{images_report}
 use Rattle.subgraph_c.specs.Holding.{IsRead, IsUnreadable, IsHeld, OpenSays, OpenRangeTold, OpenFaultTold, OpenStatus, open_status, open_report}
 use Rattle.subgraph_c.specs.declared.passed.Report.{Report}
 use Rattle.subgraph_c.specs.declared.refusal.Refusal.{Refusal}
@@ -54,6 +55,15 @@ fault_says (Err (Vertex number)) text format before after report says told e = a
 fault_says (Ok u) text format before after report says told e = absurd (omega arith)
 fault_says (Err (Number n)) text format before after report says told e = absurd (omega arith)
 fault_says (Err NoMemory) text format before after report says told e = absurd (omega arith)
+
+-- Where nothing is to be told the report is zeros.
+zeros_says : (r : Outcome) (report : Report) → report ≡ open_report r → (open_status r ≡ 0) ⊎ (open_status r ≡ 6) → report ≡ images_report 0
+zeros_says (Ok u) report told quiet = told
+zeros_says (Err NoMemory) report told quiet = told
+zeros_says (Err (Number n)) report told quiet = absurd (omega (arith, quiet))
+zeros_says (Err (Pattern word cause)) report told quiet = absurd (omega (arith, quiet))
+zeros_says (Err (InTarget word cause)) report told quiet = absurd (omega (arith, quiet))
+zeros_says (Err (Vertex number)) report told quiet = absurd (omega (arith, quiet))
 
 -- At every other status than 0 the handle holds what it held.
 kept_says : (r : Outcome) (text : List ℕ) (format : ℕ) (before after : Option Target) → OpenSays r text format before after → open_status r ≢ 0 → after ≡ before
@@ -120,6 +130,7 @@ open_status_says laws r text format before after report says told = record {
   opened = opened_says r text format before after says;
   range = range_says r text format before after report says told;
   faulty = fault_says r text format before after report says told;
+  zeros = zeros_says r report told;
   kept = kept_says r text format before after says;
   one_of = one_of r;
   leads = record {

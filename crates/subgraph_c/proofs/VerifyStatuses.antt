@@ -5,7 +5,7 @@ use Rattle.std.proofs.Common.{inl, inr, sym, subst, ◌∙◌, arith}
 use Rattle.graph_theory.specs.Embedding.{Problem, Embeds}
 use Rattle.graph_theory.specs.LadFault.{TextLaws}
 use Rattle.subgraph_c.specs.Asking.{Call, Asks, IsFaulty, bad_question}
-use Rattle.subgraph_c.specs.Reports.{FaultTold}
+use Rattle.subgraph_c.specs.Reports.{FaultTold, images_report}
 use Rattle.subgraph_c.specs.Verifying.{TestSays, IsGood, IsBad, QuestionTold, VerifyStatus, tested_status, tested_report}
 use Rattle.subgraph_c.specs.declared.passed.Report.{Report}
 use Rattle.subgraph_c.specs.declared.refusal.Refusal.{Refusal}
@@ -47,6 +47,17 @@ fault_says Embedding c m report says told e = absurd (omega arith)
 fault_says NoEmbedding c m report says told e = absurd (omega arith)
 fault_says (Refused (Number n)) c m report says told e = absurd (omega arith)
 fault_says (Refused NoMemory) c m report says told e = absurd (omega arith)
+
+-- Where nothing is to be told the report is zeros.
+zeros_says : (t : Tested) (report : Report) → report ≡ tested_report t → (tested_status t ≡ 0) ⊎ ((tested_status t ≡ 6) ⊎ (tested_status t ≡ 7))
+    → report ≡ images_report 0
+zeros_says Embedding report told quiet = told
+zeros_says NoEmbedding report told quiet = told
+zeros_says (Refused NoMemory) report told quiet = told
+zeros_says (Refused (Number n)) report told quiet = absurd (omega (arith, quiet))
+zeros_says (Refused (Pattern word cause)) report told quiet = absurd (omega (arith, quiet))
+zeros_says (Refused (Target word cause)) report told quiet = absurd (omega (arith, quiet))
+zeros_says (Refused (Vertex number)) report told quiet = absurd (omega (arith, quiet))
 
 -- A test has one of five statuses.
 one_of : (t : Tested) → (tested_status t ≡ 0) ⊎ ((tested_status t ≡ 3) ⊎ ((tested_status t ≡ 4) ⊎ ((tested_status t ≡ 6) ⊎ (tested_status t ≡ 7))))
@@ -113,6 +124,7 @@ verify_status_says laws t c m report says told = record {
   no_embedding = bad_says t c m says;
   range = range_says t c m report says told;
   faulty = fault_says t c m report says told;
+  zeros = zeros_says t report told;
   one_of = one_of t;
   leads = record {
     embedding = good_leads laws t c m says;

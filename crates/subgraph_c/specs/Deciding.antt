@@ -164,6 +164,7 @@ pub record DecideStatus (status : ℕ) (c : Call) (before after : List ℕ)
   pub unknown : status ≡ 2 → Undecided c (length before)
   pub range : status ≡ 3 → RangeTold c (length before) report
   pub faulty : status ≡ 4 → IsInRange c × FaultTold c report
+  pub zeros : (status ≡ 1) ⊎ ((status ≡ 2) ⊎ (status ≡ 6)) → report ≡ images_report 0
   pub kept : status ≢ 0 → after ≡ before
   pub one_of : (status ≤ 4) ⊎ (status ≡ 6)
   pub leads : DecideLeads status c (length before)

@@ -3,12 +3,13 @@
 use Rattle.std.specs.Prelude.{◌≡◌, ◌≢◌, ℕ, ◌<◌, ◌≤◌, ◌⊎◌, List, ◌++◌, length, drop, None}
 use Rattle.graph_theory.specs.Embedding.{Problem}
 use Rattle.pb_encoding.specs.Writing.{encoding_text}
-use Rattle.subgraph_c.specs.Asking.{Call, Asks, bad_question}
+use Rattle.subgraph_c.specs.Asking.{Call, Asks, IsFaulty, bad_question}
 use Rattle.subgraph_c.specs.Reports.{refusal_status, refusal_report, images_report, long_report, FaultTold}
 use Rattle.subgraph_c.specs.Verifying.{IsUntested, QuestionTold}
 use Rattle.subgraph_c.specs.declared.encoding.Encoded.{Encoded}
 use Rattle.subgraph_c.specs.declared.encoding.Encoded.TheVariants.{Text, TooLong, Refused}
 use Rattle.subgraph_c.specs.declared.passed.Report.{Report}
+use Rattle.subgraph_c.specs.declared.refusal.Refusal.{Refusal}
 use Rattle.subgraph_c.specs.declared.refusal.Refusal.TheVariants.{NoMemory}
 
 -- This is the text of the encoding of the problem that is asked.
@@ -85,7 +86,8 @@ pub record EncodeLeads (status : ℕ) (c : Call) (room : ℕ) : Type 0 where
   pub long : (q : Problem) → Asks c q → room < length (encoding_text q)
       → (status ≡ 3) ⊎ (status ≡ 6)
   pub range : (bad_question c.options c.less ≡ None → ⊥) → status ≡ 3
-  pub faulty : (q : Problem) → Asks c q → status ≢ 4
+  pub faulty : (refusal : Refusal) → bad_question c.options c.less ≡ None → IsFaulty c refusal
+      → (status ≡ 4) ⊎ (status ≡ 6)
 
 -- What the status of a call says of what was passed, of the bytes and of the report.
 pub record EncodeStatus (status : ℕ) (c : Call) (before after : List ℕ)
@@ -93,5 +95,7 @@ pub record EncodeStatus (status : ℕ) (c : Call) (before after : List ℕ)
   pub written : status ≡ 0 → TextWritten c before after report
   pub range : status ≡ 3 → QuestionTold c report ⊎ LengthTold c (length before) report
   pub faulty : status ≡ 4 → (bad_question c.options c.less ≡ None) × FaultTold c report
+  pub zeros : status ≡ 6 → report ≡ images_report 0
   pub kept : status ≢ 0 → after ≡ before
+  pub one_of : (status ≡ 0) ⊎ ((status ≡ 3) ⊎ ((status ≡ 4) ⊎ (status ≡ 6)))
   pub leads : EncodeLeads status c (length before)

@@ -110,6 +110,7 @@ pub record OpenStatus (status : ℕ) (text : List ℕ) (format : ℕ) (before af
   pub opened : status ≡ 0 → IsHeld after text format
   pub range : status ≡ 3 → OpenRangeTold format before report
   pub faulty : status ≡ 4 → OpenFaultTold text format report
+  pub zeros : (status ≡ 0) ⊎ (status ≡ 6) → report ≡ images_report 0
   pub kept : status ≢ 0 → after ≡ before
   pub one_of : (status ≡ 0) ⊎ ((status ≡ 3) ⊎ ((status ≡ 4) ⊎ (status ≡ 6)))
   pub leads : OpenLeads status text format before

@@ -65,5 +65,6 @@ pub record VerifyStatus (status : ℕ) (c : Call) (m : List ℕ) (report : Repor
   pub no_embedding : status ≡ 7 → IsBad c m
   pub range : status ≡ 3 → QuestionTold c report
   pub faulty : status ≡ 4 → (bad_question c.options c.less ≡ None) × FaultTold c report
+  pub zeros : (status ≡ 0) ⊎ ((status ≡ 6) ⊎ (status ≡ 7)) → report ≡ images_report 0
   pub one_of : (status ≡ 0) ⊎ ((status ≡ 3) ⊎ ((status ≡ 4) ⊎ ((status ≡ 6) ⊎ (status ≡ 7))))
   pub leads : VerifyLeads status c m
