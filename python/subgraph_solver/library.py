@@ -6,9 +6,10 @@ import ctypes.util
 import os
 import threading
 import weakref
+from dataclasses import dataclass
 from functools import lru_cache
 from pathlib import Path
-from typing import Any, List, NamedTuple, Optional, Sequence, Tuple, Union
+from typing import Any, List, Optional, Sequence, Tuple, Union
 
 from .asking import GREATEST_BUDGET, Question
 from .errors import LibraryMissing, NotACommand, OutOfMemory, Stopped, SubgraphError, TextRefused, Undecided
@@ -48,7 +49,7 @@ Texts = Tuple[bytes, bytes]
 Pairs = Sequence[Tuple[int, int]]
 
 
-class _Options(ctypes.Structure):
+class _Numbers(ctypes.Structure):
     _fields_ = [
         ("seed", ctypes.c_uint64),
         ("budget", ctypes.c_uint64),
@@ -64,11 +65,7 @@ class _Flag(ctypes.Structure):
 
 
 class _Limits(ctypes.Structure):
-    _fields_ = [("options", _Options), ("flag", _Flag)]
-
-
-#: How a question is asked: without a flag, or with one.
-Asking = Union[_Options, _Limits]
+    _fields_ = [("options", _Numbers), ("flag", _Flag)]
 
 
 class _Pair(ctypes.Structure):
@@ -88,14 +85,42 @@ class _Target(ctypes.Structure):
     _fields_ = [("at", ctypes.c_void_p), ("there", ctypes.c_uint8)]
 
 
-class Said(NamedTuple):
+#: A length, or a number of places, for the calls that decide. They have no `argtypes`: to convert ten arguments takes ctypes as
+#: long as a small search. So each argument is given as ctypes passes it, bytes or what `byref` and this function make.
+_size = ctypes.c_size_t.from_param
+_ROOM = _size(ROOM)
+_NO_PAIRS = ctypes.byref(_Pair()), _size(0)
+
+
+class _Options:
+    """How a question is asked, without a flag.
+
+    Attributes
+    ----------
+    numbers : the fields of `subgraph_options`
+    at : what a call takes
+    """
+
+    flagged = False
+
+    def __init__(self, *numbers: int) -> None:
+        self.numbers = _Numbers(*numbers)
+        self.at = ctypes.byref(self.numbers)
+
+
+#: How a question is asked: without a flag, or with one.
+Asking = Union[_Options, "Flag"]
+
+
+@dataclass
+class Said:
     """What a call says: its status, the images that it wrote, and what its report tells of a fault."""
 
     status: int
     images: List[int]
-    role: int
-    word: int
-    cause: int
+    role: int = 0
+    word: int = 0
+    cause: int = 0
 
     def line(self) -> str:
         """The message of the program for the same fault."""
@@ -115,6 +140,27 @@ def told_of_log(said: Said) -> str:
     return said.line() if said.status == NO_MEMORY else f"log: line {said.word}: {LOG_CAUSES[said.cause]}"
 
 
+class _Room:
+    """Where a call writes its images and its report: for one call at a time.
+
+    Attributes
+    ----------
+    images, report : what a call takes
+    """
+
+    def __init__(self) -> None:
+        images, self._report = (ctypes.c_uint32 * ROOM)(), _Report()
+        self._images = memoryview(images).cast("B").cast("I")
+        self.images, self.report = ctypes.byref(images), ctypes.byref(self._report)
+
+    def said(self, status: int) -> Said:
+        """What the call said that ended with this status."""
+        report = self._report
+        if status == YES:
+            return Said(YES, self._images[: report.count].tolist())
+        return Said(NONE, []) if status == NONE else Said(status, [], report.role, report.word, report.cause)
+
+
 class Library:
     """A loaded library. Other threads of Python run while a call does.
 
@@ -129,32 +175,22 @@ class Library:
         self.path = path
         self._calls = ctypes.CDLL(path)
         self.version = int(self._calls.subgraph_version())
-        text, size = ctypes.c_char_p, ctypes.c_size_t
-        images, report = ctypes.POINTER(ctypes.c_uint32), ctypes.POINTER(_Report)
-        asked: List[Any] = [text, size, text, size, ctypes.POINTER(_Options), ctypes.POINTER(_Pair), size, images, size, report]
-        for call in (self._calls.subgraph_decide, self._calls.subgraph_verify):
-            call.argtypes = asked
-            call.restype = ctypes.c_uint32
-        self._calls.subgraph_encode.argtypes = [*asked[:7], text, size, report]
-        self._calls.subgraph_encode.restype = ctypes.c_uint32
+        # A call takes it out, so that no other has it.
+        self._free = [_Room()]
+        deciding = "decide", "decide_in", "decide_until", "decide_in_until"
+        for name in (*deciding, "verify", "encode", "check", "target_open", "flag_open"):
+            getattr(self._calls, f"subgraph_{name}").restype = ctypes.c_uint32
+        text, size, report = ctypes.c_char_p, ctypes.c_size_t, ctypes.POINTER(_Report)
+        asked: List[Any] = [text, size, text, size, ctypes.POINTER(_Numbers), ctypes.POINTER(_Pair), size]
+        self._calls.subgraph_verify.argtypes = [*asked, ctypes.POINTER(ctypes.c_uint32), size, report]
+        self._calls.subgraph_encode.argtypes = [*asked, text, size, report]
         self._calls.subgraph_check.argtypes = [text, size, text, size, report]
-        self._calls.subgraph_check.restype = ctypes.c_uint32
-        target, limits, flag = ctypes.POINTER(_Target), ctypes.POINTER(_Limits), ctypes.POINTER(_Flag)
+        target, flag = ctypes.POINTER(_Target), ctypes.POINTER(_Flag)
         self._calls.subgraph_target_open.argtypes = [text, size, ctypes.c_uint32, target, report]
-        self._calls.subgraph_target_open.restype = ctypes.c_uint32
-        self._calls.subgraph_decide_in.argtypes = [text, size, target, *asked[4:]]
-        self._calls.subgraph_decide_in.restype = ctypes.c_uint32
-        self._calls.subgraph_target_close.argtypes = [target]
-        self._calls.subgraph_target_close.restype = None
         self._calls.subgraph_flag_open.argtypes = [flag, flag]
-        self._calls.subgraph_flag_open.restype = ctypes.c_uint32
-        self._calls.subgraph_decide_until.argtypes = [text, size, text, size, limits, *asked[5:]]
-        self._calls.subgraph_decide_until.restype = ctypes.c_uint32
-        self._calls.subgraph_decide_in_until.argtypes = [text, size, target, limits, *asked[5:]]
-        self._calls.subgraph_decide_in_until.restype = ctypes.c_uint32
-        for one in (self._calls.subgraph_flag_raise, self._calls.subgraph_flag_close):
-            one.argtypes = [flag]
-            one.restype = None
+        for name, kind in (("target_close", target), ("flag_raise", flag), ("flag_close", flag)):
+            call = getattr(self._calls, f"subgraph_{name}")
+            call.argtypes, call.restype = [kind], None
 
     def opened(self, text: bytes, format: str) -> Optional["Held"]:
         """The target of a text, kept open; unless the library refuses the text."""
@@ -165,23 +201,37 @@ class Library:
 
     def flagged(self, options: _Options) -> "Flag":
         """How a question is asked, with a flag that ends the call."""
-        return Flag(self._calls, options)
+        return Flag(self._calls, options.numbers)
 
     def decide(self, texts: Texts, how: Asking, less: Pairs, room: int = ROOM) -> Said:
         """Asks for an embedding."""
-        call = self._calls.subgraph_decide if isinstance(how, _Options) else self._calls.subgraph_decide_until
-        return self._ask(call, texts, how, less, (ctypes.c_uint32 * max(room, 1))(), room)
+        call = self._calls.subgraph_decide_until if how.flagged else self._calls.subgraph_decide
+        pairs, count = _pairs_of(less) if less else _NO_PAIRS
+        places = _ROOM if room >= ROOM else _size(room)
+        pattern, target = texts
+        try:
+            here = self._free.pop()
+        except IndexError:
+            # Another call has it. The last one that ends is kept.
+            here = _Room()
+        one, other = _size(len(pattern)), _size(len(target))
+        said = here.said(call(pattern, one, target, other, how.at, pairs, count, here.images, places, here.report))
+        self._free = [here]
+        return said
 
     def verify(self, texts: Texts, options: _Options, less: Pairs, images: Sequence[int]) -> Said:
         """Asks whether these images are an embedding."""
-        held = (ctypes.c_uint32 * max(len(images), 1))(*images)
-        return self._ask(self._calls.subgraph_verify, texts, options, less, held, len(images))
+        held, report = (ctypes.c_uint32 * max(len(images), 1))(*images), _Report()
+        pattern, target = texts
+        asked = pattern, len(pattern), target, len(target), options.at, _pairs(less), len(less)
+        status = self._calls.subgraph_verify(*asked, held, len(images), report)
+        return Said(status, [], report.role, report.word, report.cause)
 
     def encode(self, texts: Texts, options: _Options, less: Pairs) -> Tuple[Said, bytes]:
         """Asks for the question as constraints: first for the length of the text, and then for the text."""
         pairs, report = _pairs(less), _Report()
         pattern, target = texts
-        asked = pattern, len(pattern), target, len(target), options, pairs, len(less)
+        asked = pattern, len(pattern), target, len(target), options.at, pairs, len(less)
         status, held = self._calls.subgraph_encode(*asked, ctypes.create_string_buffer(1), 0, report), b""
         if status == OUT_OF_RANGE and report.cause == NO_ROOM:
             buffer = ctypes.create_string_buffer(report.count)
@@ -195,35 +245,30 @@ class Library:
         status = self._calls.subgraph_check(encoding, len(encoding), log, len(log), report)
         return Said(status, [], report.role, report.word, report.cause)
 
-    @staticmethod
-    def _ask(call: Any, texts: Texts, how: Asking, less: Pairs, held: Any, room: int) -> Said:
-        pairs, report = _pairs(less), _Report()
-        pattern, target = texts
-        status = call(pattern, len(pattern), target, len(target), how, pairs, len(less), held, room, report)
-        return Said(status, held[: report.count], report.role, report.word, report.cause)
-
 
 class Held:
     """A target that the library keeps open as long as this object is there. One thread asks at a time."""
 
     def __init__(self, calls: Any, target: _Target) -> None:
-        self._calls = calls
-        self._target = target
-        self._asking = threading.Lock()
-        self._images, self._report = (ctypes.c_uint32 * ROOM)(), _Report()
+        self._decide, self._decide_until = calls.subgraph_decide_in, calls.subgraph_decide_in_until
+        self._target = ctypes.byref(target)
+        # Who asks takes it out: it stands for the target too, and costs less than a lock.
+        self._free = [_Room()]
         weakref.finalize(self, calls.subgraph_target_close, target)
 
     def decide(self, pattern: bytes, how: Asking, less: Pairs, room: int = ROOM) -> Optional[Said]:
         """Asks for an embedding; unless another thread is asking."""
-        call = self._calls.subgraph_decide_in if isinstance(how, _Options) else self._calls.subgraph_decide_in_until
-        if not self._asking.acquire(blocking=False):
+        call = self._decide_until if how.flagged else self._decide
+        pairs, count = _pairs_of(less) if less else _NO_PAIRS
+        places, size = _ROOM if room >= ROOM else _size(room), _size(len(pattern))
+        try:
+            here = self._free.pop()
+        except IndexError:
             return None
         try:
-            images, report = self._images if room <= ROOM else (ctypes.c_uint32 * room)(), self._report
-            status = call(pattern, len(pattern), self._target, how, _pairs(less), len(less), images, room, report)
-            return Said(status, images[: report.count], report.role, report.word, report.cause)
+            return here.said(call(pattern, size, self._target, how.at, pairs, count, here.images, places, here.report))
         finally:
-            self._asking.release()
+            self._free.append(here)
 
 
 class Flag:
@@ -231,18 +276,21 @@ class Flag:
 
     Attributes
     ----------
-    limits : what a call takes
+    at : what a call takes
     """
 
-    def __init__(self, calls: Any, options: _Options) -> None:
-        self.limits = _Limits(options)
+    flagged = True
+
+    def __init__(self, calls: Any, numbers: _Numbers) -> None:
+        limits = _Limits(numbers)
+        self.at = ctypes.byref(limits)
         self._raise = calls.subgraph_flag_raise
         self._stopper = _Flag()
         # A handler of a signal may put it up while its own thread is in `up`.
         self._raising = threading.RLock()
-        if calls.subgraph_flag_open(self.limits.flag, self._stopper) != YES:
+        if calls.subgraph_flag_open(limits.flag, self._stopper) != YES:
             raise OutOfMemory("memory: refused")
-        weakref.finalize(self, _close, calls, self.limits, self._stopper)
+        weakref.finalize(self, _close, calls, limits, self._stopper)
 
     def up(self) -> None:
         """Puts it up: a call that has it ends before its next guess."""
@@ -270,9 +318,20 @@ def _pairs(less: Pairs) -> Any:
     return (_Pair * max(len(less), 1))(*(_Pair(*it) for it in less))
 
 
+def _pairs_of(less: Pairs) -> Tuple[Any, Any]:
+    """The pairs, and how many there are, as a call takes both."""
+    return ctypes.byref(_pairs(less)), _size(len(less))
+
+
 def options_of(question: Question, seed: int = 0, budget: int = GREATEST_BUDGET, rows: int = ROWS) -> _Options:
     """How a question is asked. The numbers have to be in their ranges."""
-    return _Options(seed, budget, rows, FORMATS.index(question.format), MAPS.index(question.map), question.induced)
+    return _options(seed, budget, rows, question.format, question.map, question.induced)
+
+
+@lru_cache(maxsize=64)
+def _options(seed: int, budget: int, rows: int, format: str, map: str, induced: bool) -> _Options:
+    """These are only read, so calls of several threads may share them."""
+    return _Options(seed, budget, rows, FORMATS.index(format), MAPS.index(map), induced)
 
 
 def find_library() -> Optional[Library]:
@@ -341,22 +400,21 @@ def find_by(
     """
     whole = GREATEST_BUDGET if budget is None else budget
     choice, rows = 0 if seed is None else seed, ROWS if book is None else book
-    words = ["solve", *question.words()]
     if not (0 <= choice < 1 << 64 and 1 <= whole <= GREATEST_BUDGET and 0 <= rows <= MOST_ROWS):
-        raise NotACommand("words: not a command", words)
+        raise NotACommand("words: not a command", ["solve", *question.words()])
     first, said = min(whole, FIRST_BUDGET), None
     if len(question.texts[0]) + len(question.texts[1]) < LARGE_TEXTS:
         said = _ask(library, held, question, options_of(question, choice, first, rows))
     if said is None or (said.status == UNKNOWN and first < whole):
         flag = library.flagged(options_of(question, choice, whole, rows))
-        said = heard(lambda: _ask(library, held, question, flag.limits), flag.up, stop)
+        said = heard(lambda: _ask(library, held, question, flag), flag.up, stop)
     if said.status == YES:
         return said.images
     if said.status == NONE:
         return None
     if said.status == UNKNOWN:
         raise Undecided(whole)
-    raise Stopped() if said.status == STOPPED else _error(said, words)
+    raise Stopped() if said.status == STOPPED else _error(said, ["solve", *question.words()])
 
 
 def _ask(library: Library, held: Optional[Held], question: Question, how: Asking) -> Said:

@@ -128,9 +128,11 @@ class Kept(unittest.TestCase):
         find(PATH, kept)
         held = kept.held[1] if kept.held else None
         self.assertIsNotNone(held)
-        with held._asking:
-            self.assertIsNone(held.decide(b"0", options_of(question_of(PATH, kept, (None, None), False, "injective", ())), ()))
-            self.assertIsNotNone(find(PATH, kept))
+        room = held._free.pop()
+        self.assertIsNone(held.decide(b"0", options_of(question_of(PATH, kept, (None, None), False, "injective", ())), ()))
+        self.assertIsNotNone(find(PATH, kept))
+        held._free.append(room)
+        self.assertIsNotNone(held.decide(b"0", options_of(question_of(PATH, kept, (None, None), False, "injective", ())), ()))
 
     def test_refused(self) -> None:
         self.assertIsNone(self.library.opened(b"1", "lad"))
