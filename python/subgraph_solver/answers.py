@@ -4,7 +4,7 @@ from __future__ import annotations
 from dataclasses import dataclass
 from html import escape
 from pathlib import Path
-from typing import Dict, Optional
+from typing import Dict, Iterable, Optional, Tuple, Union
 
 from .errors import SubgraphError, TextRefused
 from .graph import Graph, Name
@@ -14,6 +14,8 @@ MOST_VERTICES = 400
 MOST_EDGES = 4000
 #: And at most so many images.
 MOST_LISTED = 100
+#: What a dict of images can be made of.
+Images = Union[Dict[Name, Name], Iterable[Tuple[Name, Name]]]
 
 
 class Embedding(Dict[Name, Name]):
@@ -32,7 +34,7 @@ class Embedding(Dict[Name, Name]):
     target: Optional[Graph] = None
 
     @classmethod
-    def of(cls, images: Dict[Name, Name], pattern: Graph, target: Graph) -> "Embedding":
+    def of(cls, images: Images, pattern: Graph, target: Graph) -> "Embedding":
         """These images, with both graphs."""
         made = cls(images)
         made.pattern, made.target = pattern, target

@@ -58,7 +58,7 @@ class Question:
         """The images in the names of both graphs, where there are any."""
         if images is None:
             return None
-        named = {p: self.target.names[t] for p, t in zip(self.pattern.names, images)}
+        named = zip(self.pattern.names, map(self.target.names.__getitem__, images))
         return Embedding.of(named, self.pattern, self.target)
 
 

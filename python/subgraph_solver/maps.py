@@ -29,8 +29,8 @@ def map_options(pattern: Graph, induced: bool, map: str, less: Iterable[Pair]) -
     words = ["--induced"] if induced else []
     if map != "injective":
         words += ["--map", map]
-    pairs = ":".join(f"{a},{b}" for a, b in less_places(pattern, less))
-    return words + (["--less", pairs] if pairs else [])
+    pairs = less_places(pattern, less)
+    return [*words, "--less", ":".join(f"{a},{b}" for a, b in pairs)] if pairs else words
 
 
 def less_places(pattern: Graph, less: Iterable[Pair]) -> List[Tuple[int, int]]:

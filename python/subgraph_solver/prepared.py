@@ -1,6 +1,7 @@
 """A target that many questions name: it is read and written once."""
 from __future__ import annotations
 
+from copy import copy
 from itertools import count
 from typing import Any, Dict, Hashable, Iterable, Optional, Tuple
 
@@ -47,20 +48,31 @@ class Prepared(Graph):
         return as_graph(source, *labels)
 
     def text_of(self, pattern: Graph) -> bytes:
-        """The text of a pattern, in the target's numbers of labels."""
-        numbers = _with(self._numbers, pattern.labels or ())
-        edge_numbers = _with(self._edge_numbers, (pattern.edge_labels or {}).values())
-        return lad_text(pattern, numbers, edge_numbers).encode("ascii")
+        """The text of a pattern, in the target's numbers of labels.
+
+        The pattern keeps it, with copies of all that it was made of: while these are as they were it is not written again.
+        """
+        labels, edge_labels = pattern.labels, pattern.edge_labels
+        numbers = _numbers_of(labels or (), self._numbers)
+        edge_numbers = _numbers_of((edge_labels or {}).values(), self._edge_numbers)
+        kept = pattern.written
+        if kept is None or kept[0] != (pattern.directed, pattern.neighbours, labels, edge_labels, numbers, edge_numbers):
+            near = [set(it) for it in pattern.neighbours]
+            made_of = pattern.directed, near, copy(labels), copy(edge_labels), numbers, edge_numbers
+            kept = pattern.written = made_of, lad_text(pattern, numbers, edge_numbers).encode("ascii")
+        return kept[1]
 
 
-def _with(numbers: Numbers, labels: Iterable[Hashable]) -> Numbers:
-    """The numbers, and for each further label one that no other has."""
+def _numbers_of(labels: Iterable[Hashable], numbers: Numbers) -> Numbers:
+    """The numbers of these labels: of one that has none, one that no other has."""
     if numbers is None:
         return None
-    further = [it for it in dict.fromkeys(labels) if it not in numbers]
-    taken = set(numbers.values()) if further else set()
-    free = (it for it in count() if it not in taken)
-    return {**numbers, **dict(zip(further, free))} if further else numbers
+    found = {it: numbers.get(it, -1) for it in labels}
+    if -1 in found.values():
+        taken = set(numbers.values())
+        free = (it for it in count() if it not in taken)
+        found.update(zip([it for it, number in found.items() if number < 0], free))
+    return found
 
 
 def prepare(target: Any, node_label: NodeLabel = None, edge_label: EdgeLabel = None) -> Prepared:

@@ -1,9 +1,12 @@
 """Graphs, their texts and files; no program and no library is asked."""
+import copy
 import os
 import tempfile
 import unittest
+from unittest import mock
 
-from subgraph_solver import Graph, as_graph, draw, read_graph
+from subgraph_solver import Graph, as_graph, draw, prepare, read_graph
+from subgraph_solver import prepared as prepared_module
 from subgraph_solver.graph import edge_label_numbers, label_numbers, lad_text, read_lad
 from subgraph_solver.layout import layout, turned_like
 
@@ -69,6 +72,34 @@ class Graphs(unittest.TestCase):
         self.assertEqual(label_numbers(of("C", "O"), of("O", "N")), {"C": 0, "O": 1, "N": 2})
         self.assertEqual(label_numbers(of(-1), of(4)), {-1: 0, 4: 1})
         self.assertEqual(label_numbers(of(True), of(False)), {True: 0, False: 1})
+
+    def test_text_of_a_pattern(self) -> None:
+        """It is written once, and anew where the pattern or the numbers of its labels are others."""
+        edges = {(0, 1): "s", (1, 2): "t"}
+        pattern = Graph(edges, range(3), dict(enumerate("xyx")), edge_labels=edges)
+        targets = [prepare(Graph(edges, range(3), dict(enumerate(it)), edge_labels=edges)) for it in ("xyz", "xyx", "yxx", "zzy")]
+        # Whether the text is another one for the first target.
+        changes = (
+            (lambda: None, False),
+            (lambda: pattern.labels.__setitem__(2, "w"), True),
+            (lambda: pattern.edge_labels.__setitem__((0, 1), "t"), True),
+            (lambda: [pattern.neighbours[it].discard(1 - it) for it in (0, 1)], True),
+            (lambda: pattern.names.__setitem__(0, "name"), False),
+        )
+        for change, other in changes:
+            before = targets[0].text_of(pattern)
+            change()
+            self.assertEqual(targets[0].text_of(pattern) != before, other)
+            for target in targets:
+                fresh = copy.copy(pattern)
+                fresh.written = None
+                self.assertEqual(target.text_of(pattern), target.text_of(fresh))
+        # Both targets have the same numbers for these labels.
+        pattern.labels[2] = "x"
+        targets[0].text_of(pattern)
+        with mock.patch.object(prepared_module, "lad_text", side_effect=AssertionError("it is written again")):
+            for target in targets[:2]:
+                target.text_of(pattern)
 
     def test_faults(self) -> None:
         with self.assertRaisesRegex(ValueError, "'b' has no label"):
