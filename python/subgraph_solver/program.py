@@ -132,6 +132,8 @@ def run(
                         if watcher:
                             watcher()
         except BaseException:
+            # An interrupt may come before `ended_by` has begun.
+            process.kill()
             process.wait()
             raise
     if process.returncode < 0:
