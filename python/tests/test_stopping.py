@@ -8,9 +8,9 @@ import signal
 import subprocess
 import sys
 import threading
-import time
 import unittest
-from typing import Any, Dict, List, Optional
+from contextlib import contextmanager
+from typing import Any, Callable, Dict, Iterator, List, Optional, Tuple
 from unittest import mock
 
 from subgraph_solver import Stop, Stopped, batch, find, prepare
@@ -30,46 +30,62 @@ def in_parts(parts: int, size: int) -> List[Any]:
 
 #: A question of seconds: twelve neighbours of each other, where eleven are the most.
 PATTERN, TARGET = in_parts(12, 1), in_parts(11, 4)
-#: How soon a call has to end, in seconds.
-SOON = 1.0
+#: What is called as soon as a question is put to the library, and to the program.
+Place = Tuple[Any, str]
+LIBRARY: Place = (library_module, "_ask")
+PROGRAM: Place = (subprocess.Popen, "communicate")
 #: A process that asks it and tells how it ended.
 ASKING = """
 from subgraph_solver import find, prepare, batch
-from tests.test_stopping import PATTERN, TARGET
-print("asks", flush=True)
+from tests.test_stopping import LIBRARY, PATTERN, PROGRAM, TARGET, told_by
 try:
-    {call}
+    with told_by({place}, lambda: print("asks", flush=True)):
+        {call}
 except KeyboardInterrupt:
     print("interrupted", flush=True)
 """
 
 
-def seconds(call: Any) -> float:
-    """How long a call takes that a `Stop` ends."""
-    begun = time.monotonic()
+@contextmanager
+def told_by(place: Place, tell: Callable[[], Any]) -> Iterator[None]:
+    """Tells of each call at this place, before it goes on. No small budget is spent before."""
+    called = getattr(*place)
+
+    def telling(*words: Any, **more: Any) -> Any:
+        tell()
+        return called(*words, **more)
+
+    with mock.patch.object(*place, telling), mock.patch.object(library_module, "LARGE_TEXTS", 0):
+        yield
+
+
+@contextmanager
+def set_at(place: Place, stop: Stop) -> Iterator[None]:
+    """Another thread sets the stop as soon as there is a call at this place."""
+    asked = threading.Event()
+    setting = threading.Thread(target=lambda: (asked.wait(), stop.set()))
+    setting.start()
     try:
-        call()
-    except Stopped:
-        return time.monotonic() - begun
-    raise AssertionError("it was not stopped")
+        with told_by(place, asked.set):
+            yield
+    finally:
+        asked.set()
+        setting.join()
 
 
 @needs_library
 class Interrupted(unittest.TestCase):
     """An interrupt, as the terminal sends it."""
 
-    def ends(self, call: str, **variables: str) -> None:
-        """Interrupts a process that asks."""
-        words = [sys.executable, "-c", ASKING.format(call=call)]
+    def ends(self, call: str, place: str = "LIBRARY", **variables: str) -> None:
+        """Interrupts a process as soon as it asks."""
+        words = [sys.executable, "-c", ASKING.format(call=call, place=place)]
         folder = os.path.dirname(os.path.dirname(os.path.abspath(__file__)))
         with subprocess.Popen(words, cwd=folder, stdout=subprocess.PIPE, env={**os.environ, **variables}) as asking:
             assert asking.stdout is not None
             self.assertEqual(asking.stdout.readline(), b"asks\n")
-            time.sleep(0.5)
-            begun = time.monotonic()
             asking.send_signal(signal.SIGINT)
-            self.assertEqual(asking.stdout.readline(), b"interrupted\n")
-            self.assertLess(time.monotonic() - begun, SOON)
+            self.assertEqual(asking.stdout.read(), b"interrupted\n")
 
     def test_text(self) -> None:
         self.ends("find(PATTERN, TARGET)")
@@ -82,56 +98,59 @@ class Interrupted(unittest.TestCase):
 
     @needs_program
     def test_program(self) -> None:
-        self.ends("find(PATTERN, TARGET)", **{VARIABLE: ""})
+        self.ends("find(PATTERN, TARGET)", "PROGRAM", **{VARIABLE: ""})
 
 
 class ByStop(unittest.TestCase):
     """A `Stop` that another thread sets."""
 
-    def stopped(self, **how: Any) -> None:
+    def stopped(self, place: Place, target: Any = TARGET, **how: Any) -> None:
         """Stops a question while it is asked, and another one before."""
         stop = Stop()
-        later = threading.Timer(0.3, stop.set)
-        later.start()
-        self.assertLess(seconds(lambda: find(PATTERN, TARGET, stop=stop, **how)), 0.3 + SOON)
-        later.join()
+        with set_at(place, stop), self.assertRaises(Stopped):
+            find(PATTERN, target, stop=stop, **how)
         self.assertTrue(stop.is_set())
-        self.assertLess(seconds(lambda: find(PATH, CYCLE, stop=stop, **how)), SOON)
+        with self.assertRaises(Stopped):
+            find(PATH, CYCLE, stop=stop, **how)
 
     @needs_library
     def test_library(self) -> None:
-        self.stopped()
+        self.stopped(LIBRARY)
 
     @needs_library
     def test_kept(self) -> None:
         """The target stays open, and another question may follow."""
-        kept, stop = prepare(TARGET), Stop()
-        threading.Timer(0.3, stop.set).start()
-        self.assertLess(seconds(lambda: find(PATTERN, kept, stop=stop)), 0.3 + SOON)
+        kept = prepare(TARGET)
+        self.stopped(LIBRARY, kept)
         self.assertIsNotNone(find(TRIANGLE, kept, stop=Stop()))
 
     @needs_program
     def test_program(self) -> None:
         with mock.patch.dict(os.environ, {VARIABLE: ""}):
-            self.stopped()
-            self.stopped(threads=2)
-            self.stopped(progress=lambda _: None)
+            self.stopped(PROGRAM)
+            self.stopped(PROGRAM, threads=2)
+            self.stopped(PROGRAM, progress=lambda _: None)
 
     @needs_library
     def test_two(self) -> None:
-        """One stop of two questions."""
-        stop, ended = Stop(), []
+        """One stop of two questions: it is set once both are asked."""
+        stop, asked = Stop(), threading.Barrier(3)
+        ended: List[BaseException] = []
 
         def ask() -> None:
-            ended.append(seconds(lambda: find(PATTERN, TARGET, stop=stop)))
+            try:
+                find(PATTERN, TARGET, stop=stop)
+            except Stopped as error:
+                ended.append(error)
 
         asking = [threading.Thread(target=ask) for _ in range(2)]
-        for it in asking:
-            it.start()
-        time.sleep(0.3)
-        stop.set()
-        for it in asking:
-            it.join()
+        with told_by(LIBRARY, asked.wait):
+            for it in asking:
+                it.start()
+            asked.wait()
+            stop.set()
+            for it in asking:
+                it.join()
         self.assertEqual(len(ended), 2)
 
     def test_run(self) -> None:
